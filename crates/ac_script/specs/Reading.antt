@@ -66,14 +66,23 @@ abbrev pub number_at : List Placed → Option (ℕ × List Placed)
 number_at [] = None
 number_at (first ∷ rest) = number_in first.token rest
 
+-- an integer of this magnitude, where one can be
+abbrev pub positive : ℕ → Option ℤ
+positive n = if nat_lt n (2 ^ 63) then Some (pos n) else None
+
+abbrev pub negative : ℕ → Option ℤ
+negative n = if nat_le n (2 ^ 63) then Some (neg_ℤ (pos n)) else None
+
+abbrev pub integer_at : (ℕ → Option ℤ) → List Placed → Option (ℤ × List Placed)
+integer_at integer tokens = do
+  n ← number_at tokens
+  z ← integer n.0
+  Some (z, n.1)
+
 -- a literal, where the tokens after its minus are given, or there is none
 abbrev pub signed_at : Option (List Placed) → List Placed → Option (ℤ × List Placed)
-signed_at None tokens = do
-  n ← number_at tokens
-  if nat_lt n.0 (2 ^ 63) then Some (pos n.0, n.1) else None
-signed_at (Some tokens) _ = do
-  n ← number_at tokens
-  if nat_le n.0 (2 ^ 63) then Some (neg_ℤ (pos n.0), n.1) else None
+signed_at None tokens = integer_at positive tokens
+signed_at (Some digits) _ = integer_at negative digits
 
 unfoldable pub literal_at : List Placed → Option (ℤ × List Placed)
 literal_at tokens = signed_at (after (is_mark Minus) tokens) tokens
@@ -91,6 +100,10 @@ type_at tokens = do
   rest ← after (is_mark Semicolon) rest
   Some (name.0, rest)
 
+-- a name and what follows it, where it isn't the type's
+abbrev pub named_apart : List ℕ → List ℕ → List Placed → Option (List ℕ × List Placed)
+named_apart name T rest = if bytes_eq name T then None else Some (name, rest)
+
 -- the name of the declared object of a type
 unfoldable pub object_at : List ℕ → List Placed → Option (List ℕ × List Placed)
 object_at T tokens = do
@@ -98,7 +111,7 @@ object_at T tokens = do
   rest ← after (is_mark Colon) name.1
   rest ← after (is_word T) rest
   rest ← after (is_mark Semicolon) rest
-  if bytes_eq name.0 T then None else Some (name.0, rest)
+  named_apart name.0 T rest
 
 -- the argument of an Append, after the operation's name
 unfoldable pub argument_at : List Placed → Option (Action × List Placed)
@@ -127,14 +140,20 @@ command_after line V tokens = do
   rest ← after (is_mark Semicolon) action.1
   Some (record { line = line; action = action.0 }, rest)
 
+abbrev pub front_command : List ℕ → List Placed → Option (Command × List Placed)
+front_command V [] = None
+front_command V (first ∷ rest) = command_after first.line V (first ∷ rest)
+
+-- a command that was read, and then those of the rest, which is given the tokens still to be passed over
+abbrev pub with_command : Option (Command × List Placed) → List Placed → (ℕ → Option (List Command)) → Option (List Command)
+with_command None rest others = None
+with_command (Some command) rest others = option_map (λ commands. command.0 ∷ commands) (others (length rest - length command.1))
+
 -- all commands on the object V, where `skip` tokens are still of the command before
 abbrev pub commands_from : ℕ → List ℕ → List Placed → Option (List Command)
 commands_from skip V [] = Some []
 commands_from (suc skip) V (first ∷ rest) = commands_from skip V rest
-commands_from zero V (first ∷ rest) = before (command_after first.line V (first ∷ rest)) (λ skip. commands_from skip V rest) where
-  before : Option (Command × List Placed) → (ℕ → Option (List Command)) → Option (List Command)
-  before None others = None
-  before (Some command) others = option_map (λ commands. command.0 ∷ commands) (others (length rest - length command.1))
+commands_from zero V (first ∷ rest) = with_command (front_command V (first ∷ rest)) rest (λ skip. commands_from skip V rest)
 
 -- what follows the declaration of the type T
 abbrev pub body_at : List ℕ → List Placed → Option (List Command)

@@ -1,5 +1,5 @@
 -- A text as tokens: the piece at its front, taken as long as possible, then the piece at the front of what follows, and so on. The standard's 2.2 is followed where it applies.
-use Rattle.std.specs.Prelude.{ℕ, ◌==◌, ◌+◌, ◌-◌, ◌^◌, zero, suc, min, Bool, List, [], ◌∷◌, map, take, drop, Option, Some, None, if◌then◌else◌}
+use Rattle.std.specs.Prelude.{ℕ, ◌==◌, ◌+◌, ◌-◌, ◌^◌, zero, suc, min, Bool, List, [], ◌∷◌, ◌++◌, map, take, drop, Option, Some, None, if◌then◌else◌}
 use Rattle.std.specs.Option.{option_map}
 use Rattle.std.specs.List.{prefix_len, list_any}
 use Rattle.std.specs.Char.{is_ascii_alphabetic, is_ascii_digit, to_ascii_lowercase}
@@ -76,18 +76,21 @@ front_piece (b ∷ rest) = piece_at b rest
 abbrev pub line_after : ℕ → ℕ → ℕ
 line_after line b = if is_line_feed b then line + 1 else line
 
+-- a piece's token with its line, if the piece is a token
+abbrev pub placed_at : ℕ → Option Token → List Placed
+placed_at line None = []
+placed_at line (Some token) = (record { token = token; line = line }) ∷ []
+
+-- the tokens of a piece on this line, and then those of the rest, which is given the bytes of the piece still to be passed over
+abbrev pub with_piece : Option Piece → ℕ → (ℕ → Option (List Placed)) → Option (List Placed)
+with_piece None line rest = None
+with_piece (Some piece) line rest = option_map (λ others. placed_at line piece.token ++ others) (rest (piece.len - 1))
+
 -- the tokens of a text on whose first byte the line is `line`, where `skip` bytes are still of the piece before
 abbrev pub tokens_from : ℕ → ℕ → List ℕ → Option (List Placed)
 tokens_from skip line [] = Some []
 tokens_from (suc skip) line (b ∷ rest) = tokens_from skip (line_after line b) rest
-tokens_from zero line (b ∷ rest) = after (piece_at b rest) line (λ skip. tokens_from skip (line_after line b) rest) where
-  noted : Option Token → ℕ → Option (List Placed) → Option (List Placed)
-  noted None line others = others
-  noted (Some token) line others = option_map (λ placed. (record { token = token; line = line }) ∷ placed) others
-
-  after : Option Piece → ℕ → (ℕ → Option (List Placed)) → Option (List Placed)
-  after None line others = None
-  after (Some piece) line others = noted piece.token line (others (piece.len - 1))
+tokens_from zero line (b ∷ rest) = with_piece (piece_at b rest) line (λ skip. tokens_from skip (line_after line b) rest)
 
 -- the tokens of a whole text, each with its line, from 1; None where a piece is malformed
 abbrev pub tokens_of : List ℕ → Option (List Placed)

@@ -7,7 +7,7 @@ mod declaration;
 mod fault;
 mod ident;
 mod literal;
-mod parse;
+mod parser;
 mod piece;
 mod reader;
 mod reserved;
@@ -16,6 +16,7 @@ mod token;
 
 pub use fault::ScriptFault;
 pub use ident::Ident;
+pub use parser::parse;
 
 pub use script::{Action, Command, Script};
 pub use token::{Mark, Placed, Token};

@@ -1,4 +1,4 @@
-ghost use Rattle.std.specs.Prelude.{◌≡◌, ◌≤◌, ◌≢◌, length, map, IfOk};
+ghost use Rattle.std.specs.Prelude.{◌≡◌, ◌<◌, ◌≤◌, length, map, IfOk};
 ghost use Rattle.std.specs.List.{prefix_len, AllPass};
 ghost use Rattle.std.specs.Char.{is_ascii_digit, to_ascii_lowercase};
 ghost use Rattle.ac_script.specs.Characters as characters;
@@ -136,9 +136,7 @@ fn mark_piece(first: u8) -> Option<Piece>
     }
 }
 
-/// The piece at the front of a byte and what follows it.
-pub fn piece_at(alloc: Global, text: &[u8]) -> Result<Piece, ScriptFault>
-    requires { length text.now ≢ 0 }
+fn any_piece(alloc: Global, text: &[u8]) -> Result<Piece, ScriptFault>
     ensures { Gives (λ piece. piece) result (tokens.front_piece text.now) }
 {
     let piece = match text {
@@ -154,4 +152,13 @@ pub fn piece_at(alloc: Global, text: &[u8]) -> Result<Piece, ScriptFault>
         [] => None,
     };
     piece.ok_or(ScriptFault::Refused)
+}
+
+/// The piece at the front of a text.
+pub fn piece_at(alloc: Global, text: &[u8]) -> Result<Piece, ScriptFault>
+    ensures piece { Gives (λ piece. piece) result (tokens.front_piece text.now) }
+    ensures some { IfOk result (λ piece. 0 < piece.len) }
+    ensures within { IfOk result (λ piece. piece.len ≤ length text.now) }
+{
+    any_piece(alloc, text)
 }
