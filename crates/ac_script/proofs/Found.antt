@@ -1,5 +1,5 @@
 -- What is read stands in the grammar.
-use Rattle.std.proofs.Common.{◌≡◌, ◌≢◌, ◌<◌, ◌≤◌, ◌^◌, ℕ, ℤ, pos, neg_ℤ, Bool, true, false, List, [], ◌∷◌, ◌++◌, refl, sym, ap, ◌∙◌, cond, Option, Some, None, arith, ◌⊎◌, inl, inr, map, codes, nat_lt, nat_le, append_assoc, subst}
+use Rattle.std.proofs.Common.{◌≡◌, ◌≢◌, ◌<◌, ◌≤◌, ◌^◌, ℕ, ℤ, pos, neg_ℤ, true, List, [], ◌∷◌, ◌++◌, refl, sym, ap, ◌∙◌, Option, Some, None, arith, inl, inr, codes, nat_lt, nat_le, append_assoc, subst}
 use Rattle.std.proofs.lemmas.Option.{none-some, same_Some}
 use Rattle.std.proofs.lemmas.Slice.Eq.{bytes_eq-Decides}
 use Rattle.std.specs.Str.{bytes_eq}
@@ -11,8 +11,8 @@ use Rattle.ac_script.specs.declared.token.Placed.{Placed}
 use Rattle.ac_script.specs.declared.script.Action.{Action}
 use Rattle.ac_script.specs.declared.script.Action.TheVariants.{Append, Print}
 use Rattle.ac_script.specs.declared.script.Command.{Command}
-use Rattle.ac_script.specs.Grammar.{tokens, IsLiteral, IsSpelled, IsCommand, BeginsOn, type_declaration, object_declaration}
-use Rattle.ac_script.specs.Reading.{after, is_word, is_mark, is_identifier, identifier_at, number_at, positive, negative, integer_at, signed_at, literal_at, type_at, named_apart, object_at, argument_at, operation_at, action_at, command_after}
+use Rattle.ac_script.specs.Grammar.{tokens, IsLiteral, IsSpelled, IsCommand, type_declaration, object_declaration}
+use Rattle.ac_script.specs.Reading.{after, is_word, is_mark, is_identifier, positive, negative, integer_at, signed_at, literal_at, type_at, named_apart, object_at, argument_at, operation_at, action_at, command_after}
 use Rattle.ac_script.proofs.Pieces.{if_cases}
 use Rattle.ac_script.proofs.Readers.{bound, mark_found, word_found, mark_step, word_step, identifier_step, number_step}
 
@@ -77,8 +77,8 @@ type_found placed read e =
 apart_found : (name T : List ℕ) (rest : List Placed) (read : List ℕ × List Placed) → named_apart name T rest ≡ Some read → ((name, rest) ≡ read) × (name ≢ T)
 apart_found name T rest read e =
     if_cases (((name, rest) ≡ read) × (name ≢ T)) (bytes_eq name T) _ _ _ e
-      (λ _ f. absurd (none-some read f))
-      (λ h f. (same_Some _ read f, λ q. absurd (cc (h, (bytes_eq-Decides name T).1 q))))
+    (λ _ f. absurd (none-some read f))
+    (λ h f. (same_Some _ read f, λ q. absurd (cc (h, (bytes_eq-Decides name T).1 q))))
 
 -- a declared object's name, apart from its type's
 pub record Declares (T name : List ℕ) (front : List Placed) : Type 0 where
@@ -167,5 +167,5 @@ command_found V first others read e =
       front = a ∷ b ∷ (operation ++ c ∷ []);
       whole = rw (ea, eb, whole, ec, append_assoc) (ap (λ (r : Command × List Placed). a ∷ b ∷ (operation ++ c ∷ r.1)) same);
       part = subst (λ (command : Command). IsCommand V (a ∷ b ∷ (operation ++ c ∷ [])) command) (ap (λ (r : Command × List Placed). r.0) same)
-        (record { begins = (let head : a ≡ first = cc in ap (λ (p : Placed). p.line) head); spelled = rw spelled (spelled_of V action.0 (tokens operation) part) });
+          (record { begins = (let head : a ≡ first = cc in ap (λ (p : Placed). p.line) head); spelled = rw spelled (spelled_of V action.0 (tokens operation) part) });
     })))))

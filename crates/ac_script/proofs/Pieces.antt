@@ -1,14 +1,13 @@
 -- No piece but the LF itself has an LF past its first byte, so its other bytes can be passed over at once.
-use Rattle.std.proofs.Common.{◌≡◌, ◌+◌, ◌-◌, ◌<◌, ◌≤◌, ℕ, zero, suc, Bool, true, false, not, ◌||◌, ◌&&◌, ◌==◌, List, [], ◌∷◌, refl, sym, ap, subst, ◌∙◌, cond, take, drop, length, Option, Some, None, arith, length-drop}
+use Rattle.std.proofs.Common.{◌≡◌, ◌+◌, ◌-◌, ◌<◌, ◌≤◌, ℕ, zero, suc, Bool, true, false, not, ◌||◌, ◌&&◌, ◌==◌, List, [], ◌∷◌, refl, ap, ◌∙◌, cond, take, drop, length, Option, Some, None, arith}
 use Rattle.std.specs.List.{prefix_len, list_all}
 use Rattle.std.proofs.lemmas.List.Sums.{prefix_len-le-length}
 use Rattle.std.proofs.lemmas.Option.{none-some}
 use Rattle.std.specs.Int.{is_in_range}
-use Rattle.std.specs.Char.{is_ascii_alphabetic, is_ascii_digit, is_ascii_alphanumeric}
+use Rattle.std.specs.Char.{is_ascii_alphabetic, is_ascii_digit}
 use Rattle.ac_script.specs.Characters.{is_word_byte, is_line_feed, is_blank, is_comment_byte}
-use Rattle.ac_script.specs.Tokens.{piece_at, tokens_from, line_after, word_piece, number_piece, colon_piece, minus_piece, mark_piece, blank_of, token_of, mark_of}
+use Rattle.ac_script.specs.Tokens.{piece_at, tokens_from, line_after, word_piece, number_piece, colon_piece, minus_piece, mark_piece}
 use Rattle.ac_script.specs.declared.piece.Piece.{Piece}
-use Rattle.ac_script.specs.declared.token.Placed.{Placed}
 use Rattle.ac_script.specs.declared.token.Token.{Token}
 use Rattle.ac_script.proofs.Fronts.{list_all_front, list_all_weaker}
 
@@ -67,7 +66,7 @@ plain_run : (p : ℕ → Bool) (b : ℕ) (rest : List ℕ) (token : Option Token
 plain_run p b rest token piece none first e =
     let len : prefix_len p (b ∷ rest) ≡ 1 + prefix_len p rest = rw first refl in
     plain_at rest (1 + prefix_len p rest) token piece (rw (← len) e) (omega arith) (omega (arith, prefix_len-le-length p rest))
-      (let skip : (1 + prefix_len p rest) - 1 ≡ prefix_len p rest = omega arith in rw skip (list_all_weaker p is_comment_byte none (take (prefix_len p rest) rest) (list_all_front p rest)))
+    (let skip : (1 + prefix_len p rest) - 1 ≡ prefix_len p rest = omega arith in rw skip (list_all_weaker p is_comment_byte none (take (prefix_len p rest) rest) (list_all_front p rest)))
 
 word_byte : (b : ℕ) → is_ascii_alphabetic b ≡ true → is_word_byte b ≡ true
 word_byte b h = letter_in_word (is_in_range 65 90 b) (is_in_range 97 122 b) (is_in_range 48 57 b) (b == 95) h
@@ -83,15 +82,15 @@ plain_colon : (rest : List ℕ) (piece : Piece) → colon_piece rest ≡ Some pi
 plain_colon [] piece e = plain_one [] _ piece e
 plain_colon (b ∷ rest) piece e =
     if_cases (IsPlain (b ∷ rest) piece) (b == 61) _ _ _ e
-      (λ is f. plain_at (b ∷ rest) 2 _ piece f (omega arith) (omega arith) (rw (no_line_feed (λ c. c == 61) refl b is) refl))
-      (λ _ f. plain_one (b ∷ rest) _ piece f)
+    (λ is f. plain_at (b ∷ rest) 2 _ piece f (omega arith) (omega arith) (rw (no_line_feed (λ c. c == 61) refl b is) refl))
+    (λ _ f. plain_one (b ∷ rest) _ piece f)
 
 plain_minus : (rest : List ℕ) (piece : Piece) → minus_piece rest ≡ Some piece → IsPlain rest piece
 plain_minus [] piece e = plain_one [] _ piece e
 plain_minus (b ∷ rest) piece e =
     if_cases (IsPlain (b ∷ rest) piece) (b == 45) _ _ _ e
-      (λ is f. plain_at (b ∷ rest) (2 + prefix_len is_comment_byte rest) _ piece f (omega arith) (omega (arith, prefix_len-le-length is_comment_byte rest)) (plain_comment b rest (no_line_feed (λ c. c == 45) refl b is)))
-      (λ _ f. plain_one (b ∷ rest) _ piece f)
+    (λ is f. plain_at (b ∷ rest) (2 + prefix_len is_comment_byte rest) _ piece f (omega arith) (omega (arith, prefix_len-le-length is_comment_byte rest)) (plain_comment b rest (no_line_feed (λ c. c == 45) refl b is)))
+    (λ _ f. plain_one (b ∷ rest) _ piece f)
   where
     plain_comment : (b : ℕ) (rest : List ℕ) → is_comment_byte b ≡ true → list_all is_comment_byte (take ((2 + prefix_len is_comment_byte rest) - 1) (b ∷ rest)) ≡ true
     plain_comment b rest h =

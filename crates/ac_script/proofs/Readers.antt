@@ -1,9 +1,8 @@
 -- What the readers of one token find, and that they find it again.
-use Rattle.std.proofs.Common.{◌≡◌, ◌<◌, ℕ, Bool, true, false, List, [], ◌∷◌, ◌++◌, refl, sym, ap, ◌∙◌, cond, Option, Some, None, rules, not, ◌&&◌, ◌≤◌}
+use Rattle.std.proofs.Common.{◌≡◌, ℕ, Bool, true, List, [], ◌∷◌, refl, sym, ap, ◌∙◌, Option, Some, None, rules}
 use Rattle.std.proofs.lemmas.Option.{none-some, same_Some}
 use Rattle.std.proofs.lemmas.Slice.Eq.{bytes_eq-Decides}
-use Rattle.std.specs.Str.{bytes_eq}
-use denote.Enum.Bare.{sameb, same_true, true_same}
+use denote.Enum.Bare.{same_true, true_same}
 use Rattle.ac_script.specs.contracts.token.Mark.{the_type}
 use Rattle.ac_script.specs.declared.token.Token.{Token}
 use Rattle.ac_script.specs.declared.token.Token.TheVariants.{Word, Number}
@@ -38,8 +37,8 @@ after_found : (test : Token → Bool) (wanted : Token) → ((t : Token) → test
 after_found test wanted is [] rest e = absurd (none-some rest e)
 after_found test wanted is (first ∷ others) rest e =
     if_cases (Starts wanted (first ∷ others) rest) (test first.token) _ _ _ e
-      (λ h f. record { first = first; is = ap (λ r. first ∷ r) (same_Some others rest f); token = is first.token h })
-      (λ _ f. absurd (none-some rest f))
+    (λ h f. record { first = first; is = ap (λ r. first ∷ r) (same_Some others rest f); token = is first.token h })
+    (λ _ f. absurd (none-some rest f))
 
 pub mark_found : (mark : Mark) (placed rest : List Placed) → after (is_mark mark) placed ≡ Some rest → Starts (token.Mark mark) placed rest
 mark_found mark placed rest e = after_found (is_mark mark) (token.Mark mark) (mark_is mark) placed rest e
@@ -55,9 +54,9 @@ pub record Named (placed : List Placed) (read : List ℕ × List Placed) : Type 
 identifier_in_found : (first : Placed) (t : Token) (rest : List Placed) (read : List ℕ × List Placed) → first.token ≡ t → identifier_in t rest ≡ Some read → Named (first ∷ rest) read
 identifier_in_found first (Word word) rest read is e =
     if_cases (Named (first ∷ rest) read) (is_identifier word) _ _ _ e
-      (λ h f. let same : (word, rest) ≡ read = same_Some _ read f in
-        record { starts = record { first = first; is = ap (λ (r : List ℕ × List Placed). first ∷ r.1) same; token = is ∙ ap (λ (r : List ℕ × List Placed). Word r.0) same }; free = ap (λ (r : List ℕ × List Placed). is_identifier r.0) (sym same) ∙ h })
-      (λ _ f. absurd (none-some read f))
+    (λ h f. let same : (word, rest) ≡ read = same_Some _ read f in
+    record { starts = record { first = first; is = ap (λ (r : List ℕ × List Placed). first ∷ r.1) same; token = is ∙ ap (λ (r : List ℕ × List Placed). Word r.0) same }; free = ap (λ (r : List ℕ × List Placed). is_identifier r.0) (sym same) ∙ h })
+    (λ _ f. absurd (none-some read f))
 identifier_in_found first (Number _) rest read is e = absurd (none-some read e)
 identifier_in_found first (token.Mark _) rest read is e = absurd (none-some read e)
 

@@ -1,5 +1,5 @@
 -- One turn of each loop over a text or over tokens.
-use Rattle.std.proofs.Common.{◌≡◌, ◌+◌, ◌-◌, ◌<◌, ◌≤◌, ℕ, zero, suc, List, [], ◌∷◌, ◌++◌, refl, sym, ap, ◌∙◌, take, drop, length, get_or, Option, Some, None, Result, Ok, Err, IfOk, IfSome, arith, append_assoc, length-append, Bool, true, false, cond}
+use Rattle.std.proofs.Common.{◌≡◌, ◌+◌, ◌-◌, ◌<◌, ◌≤◌, ℕ, zero, suc, List, [], ◌∷◌, ◌++◌, refl, sym, ap, ◌∙◌, drop, length, get_or, Option, Some, None, Result, Ok, Err, IfOk, IfSome, arith, append_assoc, length-append, Bool, true, false, cond}
 use Rattle.std.specs.Option.{option_map}
 use Rattle.std.proofs.lemmas.Option.{none-some}
 use Rattle.ac_script.specs.declared.fault.ScriptFault.{ScriptFault}

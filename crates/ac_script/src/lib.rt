@@ -17,6 +17,5 @@ mod token;
 pub use fault::ScriptFault;
 pub use ident::Ident;
 pub use parser::parse;
-
 pub use script::{Action, Command, Script};
 pub use token::{Mark, Placed, Token};

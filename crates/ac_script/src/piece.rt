@@ -33,7 +33,9 @@ fn word_len(text: &[u8]) -> usize
     ensures len { result ≡ prefix_len is_word_byte text.now }
     ensures within { result ≤ length text.now }
 {
-    text.iter().take_while(|b| b.is_ascii_alphanumeric() || **b == b'_').count()
+    text.iter()
+        .take_while(|b| b.is_ascii_alphanumeric() || **b == b'_')
+        .count()
 }
 
 fn digits_len(text: &[u8]) -> usize
@@ -74,7 +76,9 @@ fn number_value(digits: &[u8]) -> u64
 {
     let mut value: u64 = 0;
     for b in digits {
-        value = value.saturating_mul(10).saturating_add(u64::from(*b - b'0'));
+        value = value
+            .saturating_mul(10)
+            .saturating_add(u64::from(*b - b'0'));
     }
     value
 }
