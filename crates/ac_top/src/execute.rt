@@ -56,11 +56,7 @@ fn run_action(list: &mut Vec<i64>, action: Action, text: &mut Vec<u8>) -> Result
 }
 
 /// Runs a command on the list, and makes the text its line.
-fn run_command(
-    list: &mut Vec<i64>,
-    command: Command,
-    text: &mut Vec<u8>,
-) -> Result<(), AllocError>
+fn run_command(list: &mut Vec<i64>, command: Command, text: &mut Vec<u8>) -> Result<(), AllocError>
     ensures list { OnOk result (list.new.items ≡ list_after list.old.items command.action) }
     ensures text { OnOk result (text.new.items ≡ line_of command.line (answer list.old.items command.action)) }
 {
@@ -71,11 +67,7 @@ fn run_command(
 }
 
 /// Runs commands in order, from an empty list on, and writes the line of each as soon as it has run.
-pub fn execute<K: Sink>(
-    alloc: Global,
-    commands: &[Command],
-    sink: &mut K,
-) -> Result<(), HostEnd>
+pub fn execute<K: Sink>(alloc: Global, commands: &[Command], sink: &mut K) -> Result<(), HostEnd>
     ensures whole { OnOk result (GrewBy (K.held sink.old) (K.held sink.new) (lines_from [] commands.now)) }
     ensures front { OnErr result (GrewByFront (K.held sink.old) (K.held sink.new) (lines_from [] commands.now)) }
     ensures fault { result ≡ Err HostEnd.WriteFault → Rose (K.faults sink.old) (K.faults sink.new) }

@@ -2,6 +2,7 @@
 #![tactic(auto)]
 
 mod entry;
+mod examples;
 mod execute;
 mod gate;
 mod limits;
@@ -9,6 +10,10 @@ mod line;
 mod status;
 
 pub use entry::run;
+pub use examples::worked_rows;
 pub use gate::{FreeGate, Gate};
 pub use limits::{INPUT_LIMIT, LENGTH_LIMIT};
 pub use status::Status;
+
+#[cfg(test)]
+mod tests;
