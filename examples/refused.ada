@@ -1,0 +1,3 @@
+type L is list (integer);
+A : L;
+A.Append (7, 2);
