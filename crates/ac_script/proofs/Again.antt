@@ -72,8 +72,8 @@ literal_next literal ts z (sign ∷ first ∷ left) rest (inr (n, small, value, 
       spelled = cc;
     }
 
--- two lists with nothing after them
-nothing_left : (left rest : List Placed) → tokens left ≡ [] → left ++ rest ≡ rest
+-- a list of tokens that are none is empty
+pub nothing_left : (left rest : List Placed) → tokens left ≡ [] → left ++ rest ≡ rest
 nothing_left [] rest e = refl
 nothing_left (p ∷ left) rest e = absurd (cc e)
 
