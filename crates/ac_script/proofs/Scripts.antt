@@ -1,14 +1,16 @@
 -- A script is read from the tokens that derive it, and from no others.
-use Rattle.std.proofs.Common.{◌≡◌, ◌≢◌, ◌<◌, ◌≤◌, ℕ, zero, suc, true, List, [], ◌∷◌, ◌++◌, refl, sym, ap, ◌∙◌, Option, Some, None, arith, length, subst, append_assoc}
+use Rattle.std.proofs.Common.{◌≡◌, ◌≢◌, ◌<◌, ◌≤◌, ℕ, zero, suc, true, List, [], ◌∷◌, ◌++◌, refl, sym, ap, ◌∙◌, Option, Some, None, Result, Ok, Err, IfOk, arith, length, subst, append_assoc}
 use Rattle.std.specs.Option.{option_map}
 use Rattle.std.proofs.lemmas.List.{append-nil}
 use Rattle.std.proofs.lemmas.Option.{none-some, same_Some}
+use Rattle.ac_script.specs.declared.fault.ScriptFault.{ScriptFault}
+use Rattle.ac_script.specs.declared.fault.ScriptFault.TheVariants.{Refused, NoMemory}
 use Rattle.ac_script.specs.declared.token.Placed.{Placed}
 use Rattle.ac_script.specs.declared.script.Command.{Command}
 use Rattle.ac_script.specs.Tokens.{tokens_of}
 use Rattle.ac_script.specs.Grammar.{tokens, AreCommands, IsHead, IsScript, Spells, type_declaration, object_declaration, IsIdentifier}
 use Rattle.ac_script.specs.Grammar.IsScript.{empty, type_alone, with_object}
-use Rattle.ac_script.specs.Reading.{◌>>=◌, type_at, object_at, front_command, with_command, commands_from, body_at, script_at, script_of}
+use Rattle.ac_script.specs.Reading.{Gives, ◌>>=◌, type_at, object_at, front_command, with_command, commands_from, body_at, script_at, script_of}
 use Rattle.ac_script.proofs.Readers.{bound}
 use Rattle.ac_script.proofs.Found.{Splits, Declares, tokens-append, type_found, object_found, command_found}
 use Rattle.ac_script.proofs.Again.{type_again, object_again, commands_again, nothing_left}
@@ -88,3 +90,16 @@ read_spells script text e = bound (Spells script text) (tokens_of text) script_a
 
 pub one : (script other : List Command) (text : List ℕ) → Spells script text → Spells other text → script ≡ other
 one script other text is also = same_Some script other (sym (spells_read script text is) ∙ spells_read other text also)
+
+pub given_found : (r : Result (List Command) ScriptFault) (text : List ℕ) → Gives (λ script. script) r (script_of text) → IfOk r (λ script. Spells script text)
+given_found (Ok script) text e = read_spells script text e
+given_found (Err _) text e = tt
+
+pub given_only : (r : Result (List Command) ScriptFault) (text : List ℕ) → Gives (λ script. script) r (script_of text) → IfOk r (λ script. (other : List Command) → Spells other text → other ≡ script)
+given_only (Ok script) text e = λ other is. one other script text is (read_spells script text e)
+given_only (Err _) text e = tt
+
+pub given_refused : (r : Result (List Command) ScriptFault) (text : List ℕ) → Gives (λ script. script) r (script_of text) → r ≡ Err Refused → (script : List Command) → Spells script text → ⊥
+given_refused (Ok _) text e refused script is = absurd (cc refused)
+given_refused (Err Refused) text e refused script is = none-some script (sym e ∙ spells_read script text is)
+given_refused (Err NoMemory) text e refused script is = absurd (cc refused)
