@@ -1,7 +1,6 @@
 -- What stands in the grammar is read.
-use Rattle.std.proofs.Common.{◌≡◌, ◌≢◌, ◌<◌, ◌≤◌, ◌^◌, ℕ, ℤ, pos, neg_ℤ, true, false, List, [], ◌∷◌, ◌++◌, refl, sym, ap, ◌∙◌, Option, Some, None, arith, inl, inr, codes, nat_lt, nat_le, append_assoc, subst, Contains}
+use Rattle.std.proofs.Common.{◌≡◌, ◌≢◌, ◌<◌, ◌≤◌, ◌^◌, ℕ, ℤ, pos, neg_ℤ, true, false, List, [], ◌∷◌, ◌++◌, refl, ap, ◌∙◌, Option, Some, arith, inl, inr, codes, nat_lt, nat_le}
 use Rattle.std.specs.Option.{option_map}
-use Rattle.std.proofs.lemmas.Option.{none-some, same_Some}
 use Rattle.std.proofs.lemmas.Slice.Eq.{bytes_eq-Decides}
 use Rattle.std.proofs.lemmas.Bool.{false_from_ne_true}
 use Rattle.std.specs.Str.{bytes_eq}
@@ -15,8 +14,8 @@ use Rattle.ac_script.specs.declared.script.Action.{Action}
 use Rattle.ac_script.specs.declared.script.Action.TheVariants.{Append, Print}
 use Rattle.ac_script.specs.declared.script.Command.{Command}
 use Rattle.ac_script.specs.Grammar.{tokens, IsLiteral, IsSpelled, IsCommand, AreCommands, type_declaration, object_declaration}
-use Rattle.ac_script.specs.Reading.{◌>>=◌, after, is_word, is_mark, is_identifier, identifier_at, positive, negative, integer_at, signed_at, literal_at, type_at, named_apart, object_at, argument_at, operation_at, action_at, command_after, front_command, commands_from}
-use Rattle.ac_script.proofs.Readers.{mark_again, word_again, identifier_again, number_again}
+use Rattle.ac_script.specs.Reading.{◌>>=◌, after, is_word, is_mark, is_identifier, identifier_at, positive, negative, literal_at, type_at, named_apart, object_at, argument_at, action_at, command_after, front_command, commands_from}
+use Rattle.ac_script.proofs.Readers.{mark_again, word_again, identifier_again}
 use Rattle.ac_script.proofs.Steps.{command_step}
 
 -- what was read, and what is left before the rest

@@ -1,5 +1,5 @@
 -- A script is read from the tokens that derive it, and from no others.
-use Rattle.std.proofs.Common.{◌≡◌, ◌≢◌, ◌<◌, ◌≤◌, ℕ, zero, suc, true, List, [], ◌∷◌, ◌++◌, refl, sym, ap, ◌∙◌, Option, Some, None, Result, Ok, Err, IfOk, arith, length, subst, append_assoc}
+use Rattle.std.proofs.Common.{◌≡◌, ◌≤◌, ℕ, zero, suc, List, [], ◌∷◌, ◌++◌, refl, sym, ap, ◌∙◌, Option, Some, None, Result, Ok, Err, IfOk, arith, length, subst, append_assoc}
 use Rattle.std.specs.Option.{option_map}
 use Rattle.std.proofs.lemmas.List.{append-nil}
 use Rattle.std.proofs.lemmas.Option.{none-some, same_Some}
@@ -8,11 +8,11 @@ use Rattle.ac_script.specs.declared.fault.ScriptFault.TheVariants.{Refused, NoMe
 use Rattle.ac_script.specs.declared.token.Placed.{Placed}
 use Rattle.ac_script.specs.declared.script.Command.{Command}
 use Rattle.ac_script.specs.Tokens.{tokens_of}
-use Rattle.ac_script.specs.Grammar.{tokens, AreCommands, IsHead, IsScript, Spells, type_declaration, object_declaration, IsIdentifier}
+use Rattle.ac_script.specs.Grammar.{tokens, AreCommands, IsScript, Spells, type_declaration, object_declaration, IsIdentifier}
 use Rattle.ac_script.specs.Grammar.IsScript.{empty, type_alone, with_object}
 use Rattle.ac_script.specs.Reading.{Gives, ◌>>=◌, type_at, object_at, front_command, with_command, commands_from, body_at, script_at, script_of}
 use Rattle.ac_script.proofs.Readers.{bound}
-use Rattle.ac_script.proofs.Found.{Splits, Declares, tokens-append, type_found, object_found, command_found}
+use Rattle.ac_script.proofs.Found.{tokens-append, type_found, object_found, command_found}
 use Rattle.ac_script.proofs.Again.{type_again, object_again, commands_again, nothing_left}
 use Rattle.ac_script.proofs.Names.{name_found, name_again}
 use Rattle.ac_script.proofs.Steps.{command_step, shorter}
@@ -49,9 +49,9 @@ body_found placed front T (first ∷ rest) script whole named spelled e =
     let split = object_found T (first ∷ rest) object found in
     let declares = split.part in
     with_object T object.0 (front ++ split.front) object.1
-        (whole ∙ ap (λ r. front ++ r) split.whole ∙ sym (append_assoc front split.front object.1))
-        (record { type_name = named; object_name = name_found object.0 declares.free; differ = λ q. declares.differ (sym q); spelled = rw (tokens-append, spelled, declares.spelled) refl })
-        (commands_found object.0 object.1 script e))
+    (whole ∙ ap (λ r. front ++ r) split.whole ∙ sym (append_assoc front split.front object.1))
+    (record { type_name = named; object_name = name_found object.0 declares.free; differ = λ q. declares.differ (sym q); spelled = rw (tokens-append, spelled, declares.spelled) refl })
+    (commands_found object.0 object.1 script e))
 
 pub script_found : (placed : List Placed) (script : List Command) → script_at placed ≡ Some script → IsScript placed script
 script_found [] script e = empty refl (sym (same_Some [] script e))

@@ -1,5 +1,5 @@
 -- Texts and the scripts that they spell, or that they spell none.
-use Rattle.std.specs.Prelude.{◌≡◌, ◌^◌, ℕ, ℤ, pos, neg_ℤ, codes, List, [], ◌∷◌, ◌++◌, Some, None}
+use Rattle.std.specs.Prelude.{◌≡◌, ◌^◌, ℕ, pos, neg_ℤ, codes, List, [], ◌∷◌, ◌++◌, Some, None}
 use Rattle.ac_script.specs.declared.script.Action.{Action}
 use Rattle.ac_script.specs.declared.script.Action.TheVariants.{Append, Print}
 use Rattle.ac_script.specs.declared.script.Command.{Command}

@@ -10,8 +10,7 @@ pub fn one_script()
     ensures read { (script : List Command) (text : List ℕ) → Spells script text → script_of text ≡ Some script }
     ensures spelled { (script : List Command) (text : List ℕ) → script_of text ≡ Some script → Spells script text }
     ensures one { (script other : List Command) (text : List ℕ) → Spells script text → Spells other text → script ≡ other }
-{
-}
+{}
 
 /// Texts whose scripts were worked out by hand.
 pub fn examples()
@@ -24,5 +23,4 @@ pub fn examples()
     ensures other_return { RefusesOtherReturn }
     ensures least { TakesLeast }
     ensures past_greatest { RefusesPastGreatest }
-{
-}
+{}

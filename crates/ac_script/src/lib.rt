@@ -21,3 +21,6 @@ pub use law::{examples, one_script};
 pub use parser::parse;
 pub use script::{Action, Command, Script};
 pub use token::{Mark, Placed, Token};
+
+#[cfg(test)]
+mod tests;
