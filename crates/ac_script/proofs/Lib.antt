@@ -2,5 +2,7 @@ pub mod Fronts
 pub mod Pieces
 pub mod Readers
 pub mod Found
-pub mod Again
 pub mod Steps
+pub mod Again
+pub mod Names
+pub mod Scripts

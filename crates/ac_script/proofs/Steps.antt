@@ -70,7 +70,7 @@ command_leaves V first rest read e =
     let split = command_found V first rest read e in
     leaves_by V first rest read.1 split.front read.0 split.part split.whole
 
-shorter : (V : List ℕ) (placed : List Placed) (read : Command × List Placed) → front_command V placed ≡ Some read → length read.1 < length placed
+pub shorter : (V : List ℕ) (placed : List Placed) (read : Command × List Placed) → front_command V placed ≡ Some read → length read.1 < length placed
 shorter V [] read e = absurd (none-some read e)
 shorter V (first ∷ rest) read e =
     let leaves = command_leaves V first rest read e in
@@ -82,7 +82,7 @@ skip_tokens V (p ∷ used) left =
     let more : suc (length (used ++ left)) - length left ≡ suc (length (used ++ left) - length left) = omega (arith, length-append used left) in
     rw more (skip_tokens V used left)
 
-command_step : (V : List ℕ) (first : Placed) (rest : List Placed) (read : Command × List Placed) → front_command V (first ∷ rest) ≡ Some read
+pub command_step : (V : List ℕ) (first : Placed) (rest : List Placed) (read : Command × List Placed) → front_command V (first ∷ rest) ≡ Some read
     → commands_from 0 V (first ∷ rest) ≡ option_map (λ others. read.0 ∷ others) (commands_from 0 V read.1)
 command_step V first rest read e =
     let leaves = command_leaves V first rest read e in

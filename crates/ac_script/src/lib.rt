@@ -6,6 +6,7 @@ mod cut;
 mod declaration;
 mod fault;
 mod ident;
+mod law;
 mod literal;
 mod parser;
 mod piece;
@@ -16,6 +17,10 @@ mod token;
 
 pub use fault::ScriptFault;
 pub use ident::Ident;
+pub use law::{examples, one_script};
 pub use parser::parse;
 pub use script::{Action, Command, Script};
 pub use token::{Mark, Placed, Token};
+
+#[cfg(test)]
+mod tests;

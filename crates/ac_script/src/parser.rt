@@ -1,6 +1,7 @@
-ghost use Rattle.std.specs.Prelude.{◌≡◌, ℕ, List, IfOk};
+ghost use Rattle.std.specs.Prelude.{◌≡◌, ℕ, List, IfOk, Err};
 ghost use Rattle.ac_script.specs.Reading.{Gives, commands_from, body_at, script_at, script_of};
 ghost use Rattle.ac_script.specs.Grammar.{Spells};
+ghost use Rattle.ac_script.specs.declared.fault.ScriptFault.TheVariants.{Refused};
 ghost use Rattle.ac_script.specs.declared.script.Command.{Command as Row};
 
 use crate::command::command;
@@ -47,10 +48,19 @@ fn script(alloc: Global, tokens: &[Placed]) -> Result<Vec<Command>, ScriptFault>
     body(alloc, name, rest)
 }
 
-/// The script that the bytes spell.
-pub fn parse(alloc: Global, bytes: &[u8]) -> Result<Script, ScriptFault>
+fn read(alloc: Global, bytes: &[u8]) -> Result<Script, ScriptFault>
     ensures { Gives (λ script. script) result (script_of bytes.now) }
 {
     let tokens = tokens(alloc, bytes)?;
     Ok(Script::from_vec(script(alloc, &tokens)?))
+}
+
+/// The script that the bytes spell. Bytes that spell none are refused.
+pub fn parse(alloc: Global, bytes: &[u8]) -> Result<Script, ScriptFault>
+    ensures found { IfOk result (λ script. Spells script bytes.now) }
+    ensures only { IfOk result (λ script. (other : List Row) → Spells other bytes.now → other ≡ script) }
+    ensures refused { result ≡ Err Refused → (script : List Row) → Spells script bytes.now → ⊥ }
+    ensures exact { Gives (λ script. script) result (script_of bytes.now) }
+{
+    read(alloc, bytes)
 }
