@@ -20,7 +20,6 @@ pub use ident::Ident;
 pub use law::{examples, one_script};
 pub use parser::parse;
 pub use script::{Action, Command, Script};
-pub use token::{Mark, Placed, Token};
 
 #[cfg(test)]
 mod tests;
