@@ -1,0 +1,7 @@
+//! A pool of values under names: slots in chunks that never move, used again under fresh serials.
+#![tactic(auto)]
+
+mod cells;
+
+#[doc(hidden)]
+pub use cells::{Base, Cells, Deed};
