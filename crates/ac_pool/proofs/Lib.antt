@@ -1,3 +1,4 @@
 pub mod Crosses
+pub mod Labelled
 pub mod Memory
 pub mod Sharing

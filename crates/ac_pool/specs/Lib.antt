@@ -1,3 +1,6 @@
+pub mod Chunk
+pub mod ChunkFields
+pub mod ChunkLends
 pub mod Lends
 pub mod Ownership
 pub mod Places

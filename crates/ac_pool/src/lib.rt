@@ -2,6 +2,9 @@
 #![tactic(auto)]
 
 mod cells;
+mod chunk;
 
 #[doc(hidden)]
 pub use cells::{Base, Cells, Deed};
+#[doc(hidden)]
+pub use chunk::Chunk;

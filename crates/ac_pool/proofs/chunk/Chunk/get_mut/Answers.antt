@@ -1,0 +1,31 @@
+use Rattle.std.proofs.Common.{◌≡◌, ◌<◌, ◌≤◌, ℕ, List, length, set, get_or, replicate, Option, Some, None, refl, sym, ap, ◌∙◌, subst, inl, inr, arith, length-set, vec_len, get_or-set_same, get_or-set_other}
+use Rattle.std.proofs.lemmas.List.{get_or_read_under, get_or_past}
+use Rattle.std.proofs.lemmas.Bool.{cases_eq, cases_lt}
+use Rattle.ac_pool.specs.Chunk.{cells_of, serial_at, IsKept}
+use Rattle.ac_pool.proofs.Labelled.{within, length-cells_of, get_or-cells_of, cells_of-set, cells_of-write, cells_of-replicate, empty_places, serial_at-cells_of, kept_place, read_cell, empty_place, IsLabelled-put, IsLabelled-take, IsLabelled-write, IsLabelled-new}
+use Rattle.ac_pool.proofs.chunk.Chunk.get_mut.Goals as goal
+
+pub get_mut-requires : goal.get_mut-requires
+get_mut-requires g c =
+    let h = c.self.invariant.labelled in let a = c.self.inside in let i = c.args.index in
+    let kept : IsKept (cells_of a.serials.items a.cells.slots) i = rw c.self.view_is c.requires in
+    (sym c.self.invariant.places_at, kept_place a.serials.items a.cells.slots h i kept)
+
+pub invariant_of-self-lent : goal.invariant_of-self-lent
+invariant_of-self-lent g c =
+    λ w. let v = c.self.invariant in let a = c.self.inside in let i = c.args.index in let e = c.get_mut.ensures.value in
+    record {
+      places_at = v.places_at;
+      deed_at = v.deed_at;
+      deed_len = v.deed_len ∙ sym (length-set a.cells.slots i (Some w));
+      deed_alloc = v.deed_alloc;
+      labelled = IsLabelled-write a.serials.items a.cells.slots v.labelled i c.get_mut.result.now w e (within a.cells.slots i c.get_mut.result.now e);
+    }
+
+pub returns : goal.returns
+returns g c =
+    let h = c.self.invariant.labelled in let a = c.self.inside in let i = c.args.index in
+    rw (← c.self.view_is) (
+      (refl, λ w. cells_of-write a.serials.items a.cells.slots i (Some w) ∙ ap (λ s. set (cells_of a.serials.items a.cells.slots) i (Some (s, w))) (serial_at-cells_of a.serials.items a.cells.slots h i)),
+      record { writes_back = tt; value = read_cell a.serials.items a.cells.slots h i c.get_mut.result.now c.get_mut.ensures.value },
+    )

@@ -1,0 +1,8 @@
+use Rattle.std.proofs.Common.{◌≡◌, ◌<◌, ◌≤◌, ℕ, List, length, set, get_or, replicate, Option, Some, None, refl, sym, ap, ◌∙◌, arith, length-set, vec_len}
+use Rattle.ac_pool.proofs.Labelled.{length-cells_of}
+use Rattle.ac_pool.proofs.chunk.Chunk.len.Goals as goal
+
+pub returns : goal.returns
+returns g c =
+    let h = c.self.invariant.labelled in let a = c.self.inside in
+    rw (← c.self.view_is) (omega (arith, length-cells_of a.serials.items a.cells.slots h.count, h.count, c.len.ensures))

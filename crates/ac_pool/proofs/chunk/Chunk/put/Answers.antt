@@ -1,0 +1,25 @@
+use Rattle.std.proofs.Common.{◌≡◌, ◌<◌, ◌≤◌, ℕ, List, length, set, get_or, replicate, Option, Some, None, refl, sym, ap, ◌∙◌, subst, inl, inr, arith, length-set, vec_len, get_or-set_same, get_or-set_other}
+use Rattle.std.proofs.lemmas.List.{get_or_read_under, get_or_past}
+use Rattle.std.proofs.lemmas.Bool.{cases_eq, cases_lt}
+use Rattle.ac_pool.specs.Chunk.{cells_of, serial_at, IsKept}
+use Rattle.ac_pool.proofs.Labelled.{within, length-cells_of, get_or-cells_of, cells_of-set, cells_of-write, cells_of-replicate, empty_places, serial_at-cells_of, kept_place, read_cell, empty_place, IsLabelled-put, IsLabelled-take, IsLabelled-write, IsLabelled-new}
+use Rattle.ac_pool.proofs.chunk.Chunk.put.Goals as goal
+
+pub write-requires : goal.write-requires
+write-requires g c =
+    let h = c.self.invariant.labelled in let a = c.self.inside in let i = c.args.index in
+    let lt : i < length (cells_of a.serials.items a.cells.slots) = rw c.self.view_is c.requires.within in
+    let short : i < length a.cells.slots = omega (arith, length-cells_of a.serials.items a.cells.slots h.count, h.count) in
+    let none : get_or (cells_of a.serials.items a.cells.slots) i None ≡ None = rw c.self.view_is c.requires.empty in
+    (sym c.self.invariant.places_at, short, empty_place a.serials.items a.cells.slots h i none)
+
+pub index_mut-requires : goal.index_mut-requires
+index_mut-requires g c =
+    let h = c.self.invariant.labelled in let a = c.self.inside in let i = c.args.index in
+    let lt : i < length (cells_of a.serials.items a.cells.slots) = rw c.self.view_is c.requires.within in
+    omega (arith, length-cells_of a.serials.items a.cells.slots h.count, h.count)
+
+pub returns : goal.returns
+returns g c =
+    let a = c.self.inside in let i = c.args.index in
+    rw (← c.self.view_is) (ap (cells_of (set a.serials.items i c.args.serial)) c.write.ensures.1 ∙ cells_of-set a.serials.items a.cells.slots i c.args.serial (Some c.args.value))

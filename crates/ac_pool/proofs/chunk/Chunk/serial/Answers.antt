@@ -1,0 +1,26 @@
+use Rattle.std.proofs.Common.{◌≡◌, ◌<◌, ◌≤◌, ℕ, List, length, set, get_or, replicate, Option, Some, None, refl, sym, ap, ◌∙◌, subst, inl, inr, arith, length-set, vec_len, get_or-set_same, get_or-set_other}
+use Rattle.std.proofs.lemmas.List.{get_or_read_under, get_or_past}
+use Rattle.std.proofs.lemmas.Bool.{cases_eq, cases_lt}
+use Rattle.ac_pool.specs.Chunk.{cells_of, serial_at, IsKept}
+use Rattle.ac_pool.proofs.Labelled.{within, length-cells_of, get_or-cells_of, cells_of-set, cells_of-write, cells_of-replicate, empty_places, serial_at-cells_of, kept_place, read_cell, empty_place, empty_cell, IsLabelled-put, IsLabelled-take, IsLabelled-write, IsLabelled-new}
+use Rattle.ac_pool.proofs.chunk.Chunk.serial.Goals as goal
+
+pub index-requires : goal.index-requires
+index-requires g c =
+    let h = c.self.invariant.labelled in let a = c.self.inside in
+    let lt : c.args.index < length (cells_of a.serials.items a.cells.slots) = rw c.self.view_is c.requires in
+    omega (arith, length-cells_of a.serials.items a.cells.slots h.count, h.count)
+
+pub returns-clause-serial : goal.returns-clause-serial
+returns-clause-serial g c =
+    let h = c.self.invariant.labelled in let a = c.self.inside in let i = c.args.index in
+    let lt : i < length (cells_of a.serials.items a.cells.slots) = rw c.self.view_is c.requires in
+    let short : i < length a.serials.items = omega (arith, length-cells_of a.serials.items a.cells.slots h.count, h.count) in
+    rw (← c.self.view_is) (get_or_read_under _ i _ _ 0 c.index.ensures short refl ∙ serial_at-cells_of a.serials.items a.cells.slots h i)
+
+pub returns-clause-empty : goal.returns-clause-empty
+returns-clause-empty g c = λ z.
+    let h = c.self.invariant.labelled in let a = c.self.inside in let i = c.args.index in
+    let lt : i < length (cells_of a.serials.items a.cells.slots) = rw c.self.view_is c.requires in
+    let short : i < length a.serials.items = omega (arith, length-cells_of a.serials.items a.cells.slots h.count, h.count) in
+    rw (← c.self.view_is) (empty_cell a.serials.items a.cells.slots h i (sym (get_or_read_under _ i _ _ 0 c.index.ensures short refl) ∙ z))
