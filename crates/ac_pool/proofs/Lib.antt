@@ -1,4 +1,5 @@
 pub mod Crosses
 pub mod Labelled
+pub mod Laid
 pub mod Memory
 pub mod Sharing

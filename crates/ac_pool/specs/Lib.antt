@@ -4,3 +4,5 @@ pub mod ChunkLends
 pub mod Lends
 pub mod Ownership
 pub mod Places
+pub mod Slots
+pub mod SlotsLends

@@ -54,7 +54,7 @@ impl<T> Chunk<T> {
     }
 
     /// Gives the block back, when all cells are empty.
-    fn free(self)
+    pub(crate) fn free(self)
         requires { (i : ℕ) → get_or self i None ≡ None }
     {
         let Chunk {

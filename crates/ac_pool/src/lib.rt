@@ -3,8 +3,11 @@
 
 mod cells;
 mod chunk;
+mod slots;
 
 #[doc(hidden)]
 pub use cells::{Base, Cells, Deed};
 #[doc(hidden)]
 pub use chunk::Chunk;
+#[doc(hidden)]
+pub use slots::{Place, Slots};
