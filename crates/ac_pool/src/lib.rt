@@ -3,11 +3,14 @@
 
 mod cells;
 mod chunk;
+mod growth;
+mod pool;
 mod slots;
 
 #[doc(hidden)]
 pub use cells::{Base, Cells, Deed};
 #[doc(hidden)]
 pub use chunk::Chunk;
+pub use pool::{Pool, PutFault};
 #[doc(hidden)]
 pub use slots::{Place, Slots};

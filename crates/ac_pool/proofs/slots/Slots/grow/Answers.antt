@@ -20,4 +20,4 @@ invariant_of-self-in-Ok g c =
     (IsLaid-push _ a.places.items c.resize.new.self.items n by p h c.requires.0 (omega (arith, length-all_cells chunks, h.count))
       (omega (arith, c.len.ensures, length-map chunks (λ cells. length cells))) refl (omega (arith, e.len))
       (λ i d lt. e.by_index.0 i d (omega arith) (omega arith) ∙ t.by_index i d lt)
-      (λ i d le lt. e.by_index.1 i d tt (omega arith) lt))
+      (λ i d le lt. e.by_index.1 i d refl (omega arith) lt))
