@@ -1,12 +1,13 @@
 -- What each change of a pool's contents leaves under each name.
 use Rattle.std.proofs.Common.{◌≡◌, ◌≢◌, ℕ, ◌+◌, ◌-◌, ◌<◌, ◌≤◌, ◌⊎◌, Bool, true, false, Option, Some, None, IsSome, is_some, refl, sym, ap, ◌∙◌, subst, inl, inr, cond, leb, arith}
-use Rattle.std.proofs.lemmas.Bool.{cond-true, cond-false, cases_Bool, cond_both}
+use Rattle.std.proofs.lemmas.Bool.{cond-true, cond-false, cases_lt, le-leb, lt-leb}
 use Rattle.std.proofs.lemmas.Option.{same_Some}
 use Rattle.std.specs.FinMap as map
 use Rattle.ac_base.specs.declared.name.Name.{Name}
 use Rattle.ac_pool.specs.Names.{name_cmp}
 use Rattle.ac_pool.specs.Growth.{pow8}
 use Rattle.ac_pool.specs.Contents.{Contents, contents, value_of, IsLive, live_count, slot_count, no_values, with_value, added, taken, exchanged, swapped, reserved, cleared, IsFresh, IsSound}
+use Rattle.ac_pool.proofs.Powers.{IsLeastPow8-pow8}
 use Rattle.ac_pool.proofs.NameLaws.{cases_name, name_cmp_total, get-insert_same, get-insert_other, get-remove_same, get-remove_other, same_names}
 
 -- the value of a live name
@@ -60,6 +61,25 @@ module _ {X : Type 0} (c : Contents X) where
 
   pub value_of-reserved : (n : ℕ) (q : Name) → value_of (reserved c n) q ≡ value_of c q
   value_of-reserved n q = ap (λ m. map.get m q) (entries-reserved n)
+
+  pub reserved_kept : (n : ℕ) → n ≤ c.spare → reserved c n ≡ c
+  reserved_kept n h = cond-true _ _ _ (le-leb n c.spare h)
+
+  pub reserved_grown : (n : ℕ) → c.spare < n → reserved c n ≡ contents c.entries c.next_serial (pow8 (live_count c + n) - live_count c)
+  reserved_grown n h = cond-false _ _ _ (lt-leb n c.spare h)
+
+  pub spare-reserved : (n : ℕ) → n ≤ (reserved c n).spare
+  spare-reserved n = elim (cases_lt c.spare n) [
+    | inl lt ↦ let is : (reserved c n).spare ≡ pow8 (live_count c + n) - live_count c = ap (λ (d : Contents X). d.spare) (reserved_grown n lt) in
+      let enough = (IsLeastPow8-pow8 (live_count c + n)).enough in omega arith
+    | inr le ↦ let is : (reserved c n).spare ≡ c.spare = ap (λ (d : Contents X). d.spare) (reserved_kept n le) in omega arith
+  ]
+
+  pub IsFresh-reserved : (n : ℕ) (k : Name) → IsFresh (reserved c n) k → IsFresh c k
+  IsFresh-reserved n k f = record {
+    slot = λ q live. f.slot q (ap is_some (value_of-reserved n q) ∙ live);
+    serial = f.serial ∙ next_serial-reserved n;
+  }
 
   -- a value written over itself
   pub with_value-same : (k : Name) (x : X) → value_of c k ≡ Some x → with_value c k x ≡ c

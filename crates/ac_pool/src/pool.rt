@@ -73,6 +73,7 @@ impl<T> Pool<T> {
         requires { (0 < by) × (slot_count self.old + by ≤ 2 ^ 30) }
         ensures ok { OnOk result (self.new ≡ contents self.old.entries self.old.next_serial (self.old.spare + by)) }
         ensures err { OnErr result (self.new ≡ self.old) }
+        ensures sound { IsSound self.new }
     {
         let len = self.slots.len();
         self.free.resize(len + by, 0)?;
@@ -114,10 +115,10 @@ impl<T> Pool<T> {
         if self.next_serial() == u64::MAX {
             return Err(PutFault::Spent(v));
         }
-        if self.reserve(1).is_err() {
-            return Err(PutFault::NoMemory(v));
+        match self.reserve(1) {
+            Ok(()) => Ok(self.put_reserved(v)),
+            Err(NoMemory) => Err(PutFault::NoMemory(v)),
         }
-        Ok(self.put_reserved(v))
     }
 
     /// As `put`, where a slot is spare and a serial is left.

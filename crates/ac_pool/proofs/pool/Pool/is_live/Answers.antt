@@ -1,5 +1,6 @@
 use Rattle.std.proofs.Common.{◌≡◌, ◌≢◌, ◌<◌, ◌≤◌, ◌^◌, ℕ, ◌+◌, ◌-◌, ◌⊎◌, Bool, true, false, not, List, [], ◌∷◌, ◌++◌, length, set, get_or, take, drop, replicate, Option, Some, None, IsSome, is_some, refl, sym, ap, ◌∙◌, subst, inl, inr, arith, length-set, vec_len, get_or-set_same, get_or-set_other}
 use Rattle.std.proofs.lemmas.List.{with_items_is, set-set, set_comm}
+use Rattle.std.proofs.lemmas.Option.{same_Some}
 use Rattle.std.proofs.lemmas.Bool.{eqb-true, eq-eqb, cases_eq, false≢true}
 use Rattle.std.specs.FinMap as map
 use Rattle.ac_pool.specs.Chunk.{serial_in, serial_at, IsKept}
