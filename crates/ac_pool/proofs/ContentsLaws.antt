@@ -6,7 +6,7 @@ use Rattle.std.specs.FinMap as map
 use Rattle.ac_base.specs.declared.name.Name.{Name}
 use Rattle.ac_pool.specs.Names.{name_cmp}
 use Rattle.ac_pool.specs.Growth.{pow8}
-use Rattle.ac_pool.specs.Contents.{Contents, contents, value_of, IsLive, live_count, slot_count, no_values, with_value, added, taken, exchanged, swapped, reserved, cleared, IsFresh, IsSound}
+use Rattle.ac_pool.specs.Contents.{Contents, contents, value_of, IsLive, live_count, slot_count, no_values, with_value, added, taken, exchanged, swapped, reserved, cleared, IsFresh, IsSound, Vacates}
 use Rattle.ac_pool.proofs.Powers.{IsLeastPow8-pow8}
 use Rattle.ac_pool.proofs.NameLaws.{cases_name, name_cmp_total, get-insert_same, get-insert_other, get-remove_same, get-remove_other, same_names}
 
@@ -18,6 +18,9 @@ live_value (Some x) h = (x, refl)
 dead_or_live : {X : Type 0} (o : Option X) → (o ≡ None) ⊎ (IsSome o)
 dead_or_live None = inl refl
 dead_or_live (Some x) = inr refl
+
+pub slot_count-no_values : (X : Type 0) (next spare : ℕ) → slot_count (no_values {X = X} next spare) ≡ spare
+slot_count-no_values X next spare = omega (arith, map.len-empty name_cmp X)
 
 module _ {X : Type 0} (c : Contents X) where
   pub value_of-with_value_same : (k : Name) (w : X) → value_of (with_value c k w) k ≡ Some w
@@ -157,3 +160,28 @@ module _ {X : Type 0} (c : Contents X) where
     next = s.next;
     few = omega (arith, s.few, live_count-with_value k w live);
   }
+
+  -- a name that is taken was the only one of its slot
+  pub Vacates-taken : (k : Name) → IsSound c → IsLive c k → Vacates c (taken c k) k.slot
+  Vacates-taken k s live = record {
+    gone = λ a at. elim (cases_name a k) [
+      | inl same ↦ ap (value_of (taken c k)) same ∙ value_of-taken_same k
+      | inr n ↦ value_of-taken_other k a n ∙ elim (dead_or_live (value_of c a)) [ inl none ↦ none | inr alive ↦ absurd (n (s.slots a k alive live at)) ]
+    ];
+    others = λ a apart. value_of-taken_other k a (λ same. apart (ap (λ (n : Name). n.slot) same));
+    slots = slot_count-taken k;
+    next = next_serial-taken k;
+  }
+
+  pub Vacates-empty : (slot : ℕ) → ((a : Name) → a.slot ≡ slot → value_of c a ≡ None) → Vacates c c slot
+  Vacates-empty slot h = record { gone = h; others = λ a apart. refl; slots = refl; next = refl }
+
+  pub cleared_is : (d : Contents X) → IsSound d → slot_count d ≡ slot_count c → d.next_serial ≡ c.next_serial → ((a : Name) → a.slot < slot_count d → value_of d a ≡ None) → d ≡ cleared c
+  cleared_is d s slots next none =
+      let empty : d.entries ≡ map.empty = same_names d.entries map.empty (λ q. elim (dead_or_live (value_of d q)) [
+        | inl dead ↦ dead ∙ sym (map.get-empty name_cmp q)
+        | inr live ↦ none q (s.within q live) ∙ sym (map.get-empty name_cmp q)
+      ]) in
+      let zero_live : live_count d ≡ 0 = ap map.len empty ∙ map.len-empty name_cmp X in
+      let spare : d.spare ≡ slot_count c = omega arith in
+      λ i. contents (empty i) (next i) (spare i)

@@ -1,7 +1,7 @@
 -- What holds of a pool's fields is kept by each change, and gives what holds of its contents.
 use Rattle.std.proofs.Common.{◌≡◌, ◌≢◌, ℕ, zero, suc, ◌+◌, ◌-◌, ◌<◌, ◌≤◌, ◌^◌, ◌⊎◌, List, [], ◌∷◌, ◌++◌, length, set, get_or, replicate, Option, Some, None, is_some, IsSome, refl, sym, ap, ◌∙◌, subst, inl, inr, arith, length-append, length-set, get_or-set_same, get_or-set_other}
 use Rattle.std.proofs.lemmas.Bool.{cases_eq, cases_lt}
-use Rattle.std.proofs.lemmas.List.{length-replicate, get_or_past, get_or_read}
+use Rattle.std.proofs.lemmas.List.{length-replicate, get_or_past, get_or_read, set-set, set_comm}
 use Rattle.std.proofs.lemmas.Option.{same_Some}
 use Rattle.std.specs.FinMap as map
 use Rattle.ac_base.specs.declared.name.Name.{Name}
@@ -225,6 +225,9 @@ module _ {X : Type 0} where
         pub live_from : (q : Name) → serial_at cells q.slot ≢ 0 → serial_at cells q.slot ≡ q.serial → IsLive (contents (entries_in cells) next n) q
         live_from q some is = ap is_some (get-entries_in cells q) ∙ value_some (get_or cells q.slot None) q.serial some is
 
+        pub live_count-cells : live_count (contents (entries_in cells) next n) + n ≡ length cells
+        live_count-cells = omega (arith, h.count, len-entries_in cells)
+
         pub slot_count-cells : slot_count (contents (entries_in cells) next n) ≡ length cells
         slot_count-cells = omega (arith, h.count, len-entries_in cells)
 
@@ -247,6 +250,33 @@ module _ {X : Type 0} where
           slot = λ q live is. let x = live_cell q live in let no : None ≡ Some (q.serial, x.0) = sym none ∙ (ap (λ j. get_or cells j None) (sym is) ∙ x.1) in cc;
           serial = refl;
         }
+
+-- two values change places
+module _ {X : Type 0} (cells : List (Option (ℕ × X))) (i j s t : ℕ) (x y : X) (apart : i ≢ j) (at_i : get_or cells i None ≡ Some (s, x)) (at_j : get_or cells j None ≡ Some (t, y)) where
+  abbrev one_written : List (Option (ℕ × X))
+  one_written = set cells i (Some (s, y))
+
+  abbrev pub exchanged_cells : List (Option (ℕ × X))
+  exchanged_cells = set one_written j (Some (t, x))
+
+  pub exchanged_is : set (set (set (set cells i None) j None) i (Some (s, y))) j (Some (t, x)) ≡ exchanged_cells
+  exchanged_is =
+      ap (λ l. set l j (Some (t, x))) (ap (λ l. set l i (Some (s, y))) (set_comm cells i j None None apart) ∙ set-set (set cells j None) i None (Some (s, y)))
+      ∙ ap (λ l. set l j (Some (t, x))) (set_comm cells j i None (Some (s, y)) (λ e. apart (sym e))) ∙ set-set one_written j None (Some (t, x))
+
+  still_at_j : get_or one_written j None ≡ Some (t, y)
+  still_at_j = get_or-set_other cells i j (Some (s, y)) None (λ e. apart (sym e)) ∙ at_j
+
+  pub IsPool-exchanged : (free : List ℕ) (n next : ℕ) → IsPool cells free n next → IsPool exchanged_cells free n next
+  IsPool-exchanged free n next h = IsPool-write one_written free n next (IsPool-write cells free n next h i s x y at_i) j t y x still_at_j
+
+  same_serial : (e : ℕ × X) (r : ℕ) (z : X) (o : Option (ℕ × X)) → o ≡ Some (r, z) → o ≡ Some e → e.0 ≡ r
+  same_serial e r z o p q = ap (λ (d : ℕ × X). d.0) (same_Some e (r, z) (sym q ∙ p))
+
+  pub entries_in-exchanged : entries_in exchanged_cells ≡ map.insert (map.insert (entries_in cells) (name_at i s) y) (name_at j t) x
+  entries_in-exchanged =
+      entries_in-some one_written j t x (within one_written j (t, y) still_at_j) (λ e q. same_serial e t y _ still_at_j q)
+      ∙ ap (λ m. map.insert m (name_at j t) x) (entries_in-some cells i s y (within cells i (s, x) at_i) (λ e q. same_serial e s x _ at_i q))
 
 -- the last free slot is taken for a new value
 module _ {X : Type 0} (cells : List (Option (ℕ × X))) (free : List ℕ) (n next : ℕ) (h : IsPool cells free n next) (i : ℕ) (some : 0 < n) (is : i ≡ get_or free (n - 1) i) where

@@ -1,5 +1,5 @@
 //! The pool. A contract sees a finite map from names to values, with the next serial and the number of spare slots.
-ghost use Rattle.std.specs.Prelude.{◌≡◌, ℕ, ◌+◌, ◌-◌, ◌^◌, ◌<◌, ◌≤◌, ◌↔◌, IsTrue, IsOk, IfOk, IfErr, OnOk, OnErr, option_copied};
+ghost use Rattle.std.specs.Prelude.{◌≡◌, ◌≢◌, ℕ, ◌+◌, ◌-◌, ◌^◌, ◌<◌, ◌≤◌, ◌↔◌, IsTrue, IsOk, IfOk, IfErr, OnOk, OnErr, option_copied};
 ghost use Rattle.std.specs.Option.{option_copied_mut};
 ghost use Rattle.std.specs.Borrow.{sem};
 ghost use Rattle.ac_pool.specs.Contents.{contents, value_of, IsLive, live_count, slot_count, no_values, added, taken, swapped, reserved, cleared, IsFresh, IsSound, Vacates};
@@ -138,7 +138,8 @@ impl<T> Pool<T> {
     }
 
     fn is_live(&self, name: Name) -> bool
-        ensures { IsTrue result ↔ IsLive self.now name }
+        ensures live { IsTrue result ↔ IsLive self.now name }
+        ensures sound { IsSound self.now }
     {
         let slot = name.slot as usize;
         if slot >= self.slots.len() {
@@ -197,12 +198,21 @@ impl<T> Pool<T> {
             return false;
         }
         if a.slot != b.slot {
-            let at_a = self.slots.take(a.slot as usize);
-            let at_b = self.slots.take(b.slot as usize);
-            self.slots.put(a.slot as usize, a.serial, at_b);
-            self.slots.put(b.slot as usize, b.serial, at_a);
+            self.exchange(a, b);
         }
         true
+    }
+
+    fn exchange(&mut self, a: Name, b: Name)
+        requires live { IsLive self.old a × IsLive self.old b }
+        requires apart { a.slot ≢ b.slot }
+        ensures swapped { self.new ≡ swapped self.old a b }
+        ensures sound { IsSound self.new }
+    {
+        let at_a = self.slots.take(a.slot as usize);
+        let at_b = self.slots.take(b.slot as usize);
+        self.slots.put(a.slot as usize, a.serial, at_b);
+        self.slots.put(b.slot as usize, b.serial, at_a);
     }
 
     /// How many names are live.

@@ -3,26 +3,25 @@ use Rattle.std.proofs.lemmas.List.{with_items_is, set-set, set_comm}
 use Rattle.std.proofs.lemmas.Option.{same_Some}
 use Rattle.std.proofs.lemmas.Bool.{eqb-true, eq-eqb, cases_eq, false≢true}
 use Rattle.std.specs.FinMap as map
+use Rattle.std.specs.Result.{OnOk}
+use Rattle.ac_base.specs.declared.name.Name.{Name}
+use Rattle.ac_pool.specs.Growth.{pow8}
 use Rattle.ac_pool.specs.Chunk.{serial_in, serial_at, IsKept}
 use Rattle.ac_pool.specs.Contents.{Contents, contents, value_of, IsLive, live_count, slot_count, no_values, with_value, added, taken, swapped, reserved, cleared, IsFresh, IsSound, Vacates}
 use Rattle.ac_pool.specs.PoolFields.{name_at, entries_in, empty_count, IsPool}
-use Rattle.ac_pool.proofs.ContentsLaws.{live_value, taken_live, with_value-same, swapped_dead, swapped_live, swapped_itself}
+use Rattle.ac_pool.proofs.ContentsLaws.{slot_count-no_values, Vacates-taken, Vacates-empty, cleared_is, live_value, taken_live, with_value-same, swapped_dead, swapped_live, swapped_itself, spare-reserved, reserved_grown, reserved_kept, IsFresh-reserved}
 use Rattle.ac_pool.proofs.Labelled.{within, kept_at}
 use Rattle.ac_pool.proofs.Entries.{value_in, value_in_same, value_in_other, get-entries_in, len-entries_in, entries_in-nil, entries_in-some, entries_in-none, entries_in-grown}
-use Rattle.ac_pool.proofs.Pooled.{sound, fresh, slot_count-cells, live_cell, live_serial, live_from, room_for_slot, spare_slot, empty_count_within, IsPool-relist, IsPool-grow, IsPool-write, IsPool-take, IsPool-put, IsPool-new, last_spare, IsPool-put_last, entries_in-put}
+use Rattle.ac_pool.proofs.Pooled.{sound, fresh, slot_count-cells, live_count-cells, live_cell, live_serial, live_from, room_for_slot, spare_slot, empty_count_within, IsPool-relist, IsPool-grow, IsPool-write, IsPool-take, IsPool-put, IsPool-new, exchanged_cells, exchanged_is, IsPool-exchanged, entries_in-exchanged, last_spare, IsPool-put_last, entries_in-put}
 use Rattle.ac_pool.proofs.pool.Pool.take.Goals as goal
-
-pub returns-then-not-is_live-clause-sound : goal.returns-then-not-is_live-clause-sound
-returns-then-not-is_live-clause-sound g c =
-    let a = c.self.inside in let h = c.self.invariant in subst (λ x. IsSound x) c.self.view_is (sound a.slots a.free.items a.spare a.next_serial h)
 
 pub take-value-requires : goal.take-value-requires
 take-value-requires g c =
-    let a = c.self.inside in let h = c.self.invariant in let live : IsLive (contents (entries_in a.slots) a.next_serial a.spare) c.args.name = subst (λ x. IsLive x c.args.name) (sym c.self.view_is) (c.is_live.ensures.0 (c.if-not-is_live.false)) in let k = live_cell a.slots a.free.items a.spare a.next_serial h c.args.name live in let i = c.args.name.slot in let e : ℕ × g.row.T.Denot = (c.args.name.serial, k.0) in (e, k.1)
+    let a = c.self.inside in let h = c.self.invariant in let live : IsLive (contents (entries_in a.slots) a.next_serial a.spare) c.args.name = subst (λ x. IsLive x c.args.name) (sym c.self.view_is) (c.is_live.ensures.live.0 (c.if-not-is_live.false)) in let k = live_cell a.slots a.free.items a.spare a.next_serial h c.args.name live in let i = c.args.name.slot in let e : ℕ × g.row.T.Denot = (c.args.name.serial, k.0) in (e, k.1)
 
 pub index_mut-requires : goal.index_mut-requires
 index_mut-requires g c =
-    let a = c.self.inside in let h = c.self.invariant in let live : IsLive (contents (entries_in a.slots) a.next_serial a.spare) c.args.name = subst (λ x. IsLive x c.args.name) (sym c.self.view_is) (c.is_live.ensures.0 (c.if-not-is_live.false)) in let k = live_cell a.slots a.free.items a.spare a.next_serial h c.args.name live in let i = c.args.name.slot in let e : ℕ × g.row.T.Denot = (c.args.name.serial, k.0) in omega (arith, (room_for_slot a.slots a.free.items a.spare a.next_serial h i e k.1).0)
+    let a = c.self.inside in let h = c.self.invariant in let live : IsLive (contents (entries_in a.slots) a.next_serial a.spare) c.args.name = subst (λ x. IsLive x c.args.name) (sym c.self.view_is) (c.is_live.ensures.live.0 (c.if-not-is_live.false)) in let k = live_cell a.slots a.free.items a.spare a.next_serial h c.args.name live in let i = c.args.name.slot in let e : ℕ × g.row.T.Denot = (c.args.name.serial, k.0) in omega (arith, (room_for_slot a.slots a.free.items a.spare a.next_serial h i e k.1).0)
 
 pub overflow_add-self : goal.overflow_add-self
 overflow_add-self g c =
@@ -30,19 +29,19 @@ overflow_add-self g c =
 
 pub invariant_of-self : goal.invariant_of-self
 invariant_of-self g c =
-    let a = c.self.inside in let h = c.self.invariant in let live : IsLive (contents (entries_in a.slots) a.next_serial a.spare) c.args.name = subst (λ x. IsLive x c.args.name) (sym c.self.view_is) (c.is_live.ensures.0 (c.if-not-is_live.false)) in let k = live_cell a.slots a.free.items a.spare a.next_serial h c.args.name live in let i = c.args.name.slot in let e : ℕ × g.row.T.Denot = (c.args.name.serial, k.0) in rw c.take-value.ensures.cells (IsPool-take a.slots a.free.items a.spare a.next_serial h i e k.1)
+    let a = c.self.inside in let h = c.self.invariant in let live : IsLive (contents (entries_in a.slots) a.next_serial a.spare) c.args.name = subst (λ x. IsLive x c.args.name) (sym c.self.view_is) (c.is_live.ensures.live.0 (c.if-not-is_live.false)) in let k = live_cell a.slots a.free.items a.spare a.next_serial h c.args.name live in let i = c.args.name.slot in let e : ℕ × g.row.T.Denot = (c.args.name.serial, k.0) in rw c.take-value.ensures.cells (IsPool-take a.slots a.free.items a.spare a.next_serial h i e k.1)
 
 pub returns-clause-value : goal.returns-clause-value
 returns-clause-value g c =
-    let a = c.self.inside in let h = c.self.invariant in let live : IsLive (contents (entries_in a.slots) a.next_serial a.spare) c.args.name = subst (λ x. IsLive x c.args.name) (sym c.self.view_is) (c.is_live.ensures.0 (c.if-not-is_live.false)) in let k = live_cell a.slots a.free.items a.spare a.next_serial h c.args.name live in let i = c.args.name.slot in let e : ℕ × g.row.T.Denot = (c.args.name.serial, k.0) in let v = c.take-value.result in
+    let a = c.self.inside in let h = c.self.invariant in let live : IsLive (contents (entries_in a.slots) a.next_serial a.spare) c.args.name = subst (λ x. IsLive x c.args.name) (sym c.self.view_is) (c.is_live.ensures.live.0 (c.if-not-is_live.false)) in let k = live_cell a.slots a.free.items a.spare a.next_serial h c.args.name live in let i = c.args.name.slot in let e : ℕ × g.row.T.Denot = (c.args.name.serial, k.0) in let v = c.take-value.result in
     subst (λ x. Some v ≡ value_of x c.args.name) c.self.view_is (sym (get-entries_in a.slots c.args.name ∙ ap (λ o. value_in o c.args.name.serial) c.take-value.ensures.value ∙ value_in_same (serial_at a.slots i, v) c.args.name.serial (ap serial_in k.1)))
 
 pub returns-clause-taken : goal.returns-clause-taken
 returns-clause-taken g c =
-    let a = c.self.inside in let h = c.self.invariant in let live : IsLive (contents (entries_in a.slots) a.next_serial a.spare) c.args.name = subst (λ x. IsLive x c.args.name) (sym c.self.view_is) (c.is_live.ensures.0 (c.if-not-is_live.false)) in let k = live_cell a.slots a.free.items a.spare a.next_serial h c.args.name live in let i = c.args.name.slot in let e : ℕ × g.row.T.Denot = (c.args.name.serial, k.0) in subst (λ x. contents (entries_in c.take-value.new.self) a.next_serial (a.spare + 1) ≡ taken x c.args.name) c.self.view_is
+    let a = c.self.inside in let h = c.self.invariant in let live : IsLive (contents (entries_in a.slots) a.next_serial a.spare) c.args.name = subst (λ x. IsLive x c.args.name) (sym c.self.view_is) (c.is_live.ensures.live.0 (c.if-not-is_live.false)) in let k = live_cell a.slots a.free.items a.spare a.next_serial h c.args.name live in let i = c.args.name.slot in let e : ℕ × g.row.T.Denot = (c.args.name.serial, k.0) in subst (λ x. contents (entries_in c.take-value.new.self) a.next_serial (a.spare + 1) ≡ taken x c.args.name) c.self.view_is
     (ap (λ m. contents m a.next_serial (a.spare + 1)) (ap entries_in c.take-value.ensures.cells ∙ entries_in-none a.slots i e k.1) ∙ sym (taken_live (contents (entries_in a.slots) a.next_serial a.spare) c.args.name live))
 
 pub returns-clause-sound : goal.returns-clause-sound
 returns-clause-sound g c =
-    let a = c.self.inside in let h = c.self.invariant in let live : IsLive (contents (entries_in a.slots) a.next_serial a.spare) c.args.name = subst (λ x. IsLive x c.args.name) (sym c.self.view_is) (c.is_live.ensures.0 (c.if-not-is_live.false)) in let k = live_cell a.slots a.free.items a.spare a.next_serial h c.args.name live in let i = c.args.name.slot in let e : ℕ × g.row.T.Denot = (c.args.name.serial, k.0) in subst (λ cells. IsSound (contents (entries_in cells) a.next_serial (a.spare + 1))) (sym c.take-value.ensures.cells)
+    let a = c.self.inside in let h = c.self.invariant in let live : IsLive (contents (entries_in a.slots) a.next_serial a.spare) c.args.name = subst (λ x. IsLive x c.args.name) (sym c.self.view_is) (c.is_live.ensures.live.0 (c.if-not-is_live.false)) in let k = live_cell a.slots a.free.items a.spare a.next_serial h c.args.name live in let i = c.args.name.slot in let e : ℕ × g.row.T.Denot = (c.args.name.serial, k.0) in subst (λ cells. IsSound (contents (entries_in cells) a.next_serial (a.spare + 1))) (sym c.take-value.ensures.cells)
     (sound _ (set a.free.items a.spare i) (a.spare + 1) a.next_serial (IsPool-take a.slots a.free.items a.spare a.next_serial h i e k.1))
