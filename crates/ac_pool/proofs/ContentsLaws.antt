@@ -1,7 +1,6 @@
 -- What each change of a pool's contents leaves under each name.
-use Rattle.std.proofs.Common.{◌≡◌, ◌≢◌, ℕ, ◌+◌, ◌-◌, ◌<◌, ◌≤◌, ◌⊎◌, Bool, true, false, Option, Some, None, IsSome, is_some, refl, sym, ap, ◌∙◌, subst, inl, inr, cond, leb, arith}
+use Rattle.std.proofs.Common.{◌≡◌, ◌≢◌, ℕ, ◌+◌, ◌-◌, ◌<◌, ◌≤◌, ◌⊎◌, true, false, Option, Some, None, IsSome, is_some, refl, sym, ap, ◌∙◌, inl, inr, cond, leb, arith}
 use Rattle.std.proofs.lemmas.Bool.{cond-true, cond-false, cases_lt, le-leb, lt-leb}
-use Rattle.std.proofs.lemmas.Option.{same_Some}
 use Rattle.std.specs.FinMap as map
 use Rattle.ac_base.specs.declared.name.Name.{Name}
 use Rattle.ac_pool.specs.Names.{name_cmp}
@@ -74,7 +73,7 @@ module _ {X : Type 0} (c : Contents X) where
   pub spare-reserved : (n : ℕ) → n ≤ (reserved c n).spare
   spare-reserved n = elim (cases_lt c.spare n) [
     | inl lt ↦ let is : (reserved c n).spare ≡ pow8 (live_count c + n) - live_count c = ap (λ (d : Contents X). d.spare) (reserved_grown n lt) in
-      let enough = (IsLeastPow8-pow8 (live_count c + n)).enough in omega arith
+        let enough = (IsLeastPow8-pow8 (live_count c + n)).enough in omega arith
     | inr le ↦ let is : (reserved c n).spare ≡ c.spare = ap (λ (d : Contents X). d.spare) (reserved_kept n le) in omega arith
   ]
 
@@ -141,7 +140,7 @@ module _ {X : Type 0} (c : Contents X) where
   swapped_itself a = elim (dead_or_live (value_of c a)) [
     | inl none ↦ swapped_dead a a (λ both. let no : is_some {T = X} None ≡ true = ap is_some (sym none) ∙ both.0 in cc)
     | inr live ↦ let x = live_value (value_of c a) live in
-      swapped_live a a x.0 x.0 x.1 x.1 ∙ ap (λ d. with_value d a x.0) (with_value-same a x.0 x.1) ∙ with_value-same a x.0 x.1
+        swapped_live a a x.0 x.0 x.1 x.1 ∙ ap (λ d. with_value d a x.0) (with_value-same a x.0 x.1) ∙ with_value-same a x.0 x.1
   ]
 
   live_before : (k q : Name) (w : X) → IsLive c k → IsLive (with_value c k w) q → IsLive c q

@@ -1,14 +1,13 @@
 -- The map that the cells of a pool stand for, name by name.
-use Rattle.std.proofs.Common.{◌≡◌, ◌≢◌, ℕ, zero, suc, ◌+◌, ◌-◌, ◌<◌, ◌≤◌, ◌⊎◌, Bool, true, false, List, [], ◌∷◌, ◌++◌, length, set, get_or, replicate, Option, Some, None, is_some, IsSome, refl, sym, ap, ◌∙◌, subst, inl, inr, cond, eqb, arith, length-append, length-set, get_or-set_same, get_or-set_other}
-use Rattle.std.proofs.lemmas.Bool.{cases_eq, cases_lt, cond-true, cond-false, eq-eqb, ne_eqb, cases_Bool, eqb-true}
-use Rattle.std.proofs.lemmas.List.{length-replicate, get_or_append_left, get_or-append_right, get_or_past}
+use Rattle.std.proofs.Common.{◌≡◌, ◌≢◌, ℕ, zero, suc, ◌+◌, ◌-◌, ◌<◌, true, false, List, [], ◌∷◌, ◌++◌, length, set, get_or, replicate, Option, Some, None, is_some, IsSome, refl, sym, ap, ◌∙◌, inl, inr, cond, eqb, arith, get_or-set_same, get_or-set_other}
+use Rattle.std.proofs.lemmas.Bool.{cases_eq, cases_lt, cond-true, cond-false, eq-eqb, ne_eqb}
+use Rattle.std.proofs.lemmas.List.{get_or_append_left, get_or-append_right, get_or_past}
 use Rattle.std.specs.FinMap as map
 use Rattle.ac_base.specs.declared.name.Name.{Name}
 use Rattle.ac_pool.specs.Names.{name_cmp}
-use Rattle.ac_pool.specs.Chunk.{serial_in, serial_at, IsKept}
 use Rattle.ac_pool.specs.PoolFields.{name_at, entries_from, entries_in, empty_count}
 use Rattle.ac_pool.proofs.Labelled.{within}
-use Rattle.ac_pool.proofs.NameLaws.{same_name, cases_name, name_cmp_total, get-insert_same, get-insert_other, get-remove_same, get-remove_other, same_names}
+use Rattle.ac_pool.proofs.NameLaws.{same_name, name_cmp_total, get-insert_same, get-insert_other, get-remove_same, get-remove_other, same_names}
 
 other_slot : (a b : Name) → a.slot ≢ b.slot → a ≢ b
 other_slot a b n e = n (ap (λ (c : Name). c.slot) e)
@@ -48,9 +47,9 @@ module _ {X : Type 0} where
   value_from (None ∷ cells) i zero q at = below_none cells (suc i) q (omega arith)
   value_from (Some e ∷ cells) i zero q at = elim (cases_eq e.0 q.serial) [
     | inl is ↦ let same : q ≡ name_at i e.0 = same_name q (name_at i e.0) (omega arith) (sym is) in
-      ap (map.get (map.insert (entries_from (suc i) cells) (name_at i e.0) e.1)) same ∙ get-insert_same (entries_from (suc i) cells) (name_at i e.0) e.1 ∙ sym (value_in_same e q.serial is)
+        ap (map.get (map.insert (entries_from (suc i) cells) (name_at i e.0) e.1)) same ∙ get-insert_same (entries_from (suc i) cells) (name_at i e.0) e.1 ∙ sym (value_in_same e q.serial is)
     | inr n ↦ get-insert_other (entries_from (suc i) cells) (name_at i e.0) q e.1 (other_serial q (name_at i e.0) (λ is. n (sym is)))
-      ∙ below_none cells (suc i) q (omega arith) ∙ sym (value_in_other e q.serial n)
+        ∙ below_none cells (suc i) q (omega arith) ∙ sym (value_in_other e q.serial n)
   ]
   value_from (None ∷ cells) i (suc j) q at = value_from cells (suc i) j q (omega arith)
   value_from (Some e ∷ cells) i (suc j) q at =
@@ -91,14 +90,14 @@ module _ {X : Type 0} where
     pub entries_in-some : (i s : ℕ) (w : X) → i < length cells → ((e : ℕ × X) → get_or cells i None ≡ Some e → e.0 ≡ s) → entries_in (set cells i (Some (s, w))) ≡ map.insert (entries_in cells) (name_at i s) w
     entries_in-some i s w lt only = same_names _ _ (λ q. get-entries_in (set cells i (Some (s, w))) q ∙ elim (cases_eq q.slot i) [
       | inl at ↦ let here = ap (λ k. value_in (get_or (set cells i (Some (s, w))) k None) q.serial) at ∙ ap (λ c. value_in c q.serial) (get_or-set_same cells i (Some (s, w)) None lt) in
-        elim (cases_eq s q.serial) [
-          | inl is ↦ let same : q ≡ name_at i s = same_name q (name_at i s) at (sym is) in
-            here ∙ value_in_same (s, w) q.serial is ∙ sym (ap (map.get (map.insert (entries_in cells) (name_at i s) w)) same ∙ get-insert_same (entries_in cells) (name_at i s) w)
-          | inr n ↦ here ∙ value_in_other (s, w) q.serial n ∙ sym (get-insert_other (entries_in cells) (name_at i s) q w (other_serial q (name_at i s) (λ is. n (sym is)))
-              ∙ get-entries_in cells q ∙ ap (λ k. value_in (get_or cells k None) q.serial) at ∙ nothing_other (get_or cells i None) s q.serial n (λ e. only e))
-        ]
+          elim (cases_eq s q.serial) [
+            | inl is ↦ let same : q ≡ name_at i s = same_name q (name_at i s) at (sym is) in
+                here ∙ value_in_same (s, w) q.serial is ∙ sym (ap (map.get (map.insert (entries_in cells) (name_at i s) w)) same ∙ get-insert_same (entries_in cells) (name_at i s) w)
+            | inr n ↦ here ∙ value_in_other (s, w) q.serial n ∙ sym (get-insert_other (entries_in cells) (name_at i s) q w (other_serial q (name_at i s) (λ is. n (sym is)))
+                ∙ get-entries_in cells q ∙ ap (λ k. value_in (get_or cells k None) q.serial) at ∙ nothing_other (get_or cells i None) s q.serial n (λ e. only e))
+          ]
       | inr apart ↦ ap (λ c. value_in c q.serial) (get_or-set_other cells i q.slot (Some (s, w)) None apart)
-        ∙ sym (get-insert_other (entries_in cells) (name_at i s) q w (other_slot q (name_at i s) apart) ∙ get-entries_in cells q)
+          ∙ sym (get-insert_other (entries_in cells) (name_at i s) q w (other_slot q (name_at i s) apart) ∙ get-entries_in cells q)
     ])
 
     pub entries_in-none : (i : ℕ) (e : ℕ × X) → get_or cells i None ≡ Some e → entries_in (set cells i None) ≡ map.remove (entries_in cells) (name_at i e.0)
@@ -106,7 +105,7 @@ module _ {X : Type 0} where
       | inl at ↦ ap (λ j. value_in (get_or (set cells i None) j None) q.serial) at ∙ ap (λ c. value_in c q.serial) (get_or-set_same cells i None None (within cells i e full)) ∙ sym (elim (cases_eq e.0 q.serial) [
         | inl is ↦ let same : q ≡ k = same_name q k at (sym is) in ap (map.get (map.remove (entries_in cells) k)) same ∙ get-remove_same (entries_in cells) k
         | inr n ↦ get-remove_other (entries_in cells) k q (other_serial q k (λ is. n (sym is))) ∙ get-entries_in cells q
-          ∙ ap (λ j. value_in (get_or cells j None) q.serial) at ∙ ap (λ c. value_in c q.serial) full ∙ value_in_other e q.serial n
+            ∙ ap (λ j. value_in (get_or cells j None) q.serial) at ∙ ap (λ c. value_in c q.serial) full ∙ value_in_other e q.serial n
       ])
       | inr apart ↦ ap (λ c. value_in c q.serial) (get_or-set_other cells i q.slot None None apart) ∙ sym (get-remove_other (entries_in cells) k q (other_slot q k apart) ∙ get-entries_in cells q)
     ])

@@ -1,7 +1,7 @@
 -- The cells of a chunk, read and changed index by index.
-use Rattle.std.proofs.Common.{◌≡◌, ◌≢◌, ℕ, zero, suc, ◌<◌, ◌≤◌, ◌⊎◌, List, [], ◌∷◌, length, set, get_or, replicate, Option, Some, None, refl, sym, ap, ◌∙◌, inl, inr, arith, length-set, get_or-set_same, get_or-set_other}
+use Rattle.std.proofs.Common.{◌≡◌, ◌≢◌, ℕ, zero, suc, ◌<◌, List, [], ◌∷◌, length, set, get_or, replicate, Option, Some, None, refl, sym, ap, ◌∙◌, inl, inr, arith, length-set, get_or-set_same, get_or-set_other}
 use Rattle.std.proofs.lemmas.Bool.{cases_eq}
-use Rattle.std.proofs.lemmas.List.{length-replicate, get_or-replicate}
+use Rattle.std.proofs.lemmas.List.{length-replicate}
 use Rattle.ac_pool.specs.Chunk.{under, cells_of, serial_in, serial_at, IsLabelled, IsKept}
 use Rattle.ac_pool.specs.Places.{IsFilled}
 
@@ -102,7 +102,7 @@ module _ {X : Type 0} where
       above_where_full = λ k y e. elim (cases_eq k i) [
         | inl is ↦ let at : get_or (set ss i s) k 0 ≡ s = ap (λ j. get_or (set ss i s) j 0) is ∙ get_or-set_same ss i s 0 (omega arith) in omega arith
         | inr ne ↦ let at : get_or (set ss i s) k 0 ≡ get_or ss k 0 = get_or-set_other ss i k s 0 ne in
-          let up : 0 < get_or ss k 0 = h.above_where_full k y (sym (get_or-set_other cs i k (Some x) None ne) ∙ e) in omega arith
+            let up : 0 < get_or ss k 0 = h.above_where_full k y (sym (get_or-set_other cs i k (Some x) None ne) ∙ e) in omega arith
       ];
     }
 
@@ -116,7 +116,7 @@ module _ {X : Type 0} where
       above_where_full = λ k y e. elim (cases_eq k i) [
         | inl is ↦ let no : None ≡ Some y = sym (get_or-set_same cs i None None lt) ∙ (ap (λ j. get_or (set cs i None) j None) (sym is) ∙ e) in cc
         | inr ne ↦ let at : get_or (set ss i 0) k 0 ≡ get_or ss k 0 = get_or-set_other ss i k 0 0 ne in
-          let up : 0 < get_or ss k 0 = h.above_where_full k y (sym (get_or-set_other cs i k None None ne) ∙ e) in omega arith
+            let up : 0 < get_or ss k 0 = h.above_where_full k y (sym (get_or-set_other cs i k None None ne) ∙ e) in omega arith
       ];
     }
 

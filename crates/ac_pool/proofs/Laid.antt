@@ -1,7 +1,7 @@
 -- A slot is found in its chunk, and a write there is a write to the list of all cells.
-use Rattle.std.proofs.Common.{◌≡◌, ℕ, zero, suc, ◌+◌, ◌-◌, ◌<◌, ◌≤◌, ◌^◌, ◌⊎◌, List, [], ◌∷◌, ◌++◌, length, set, get_or, take, map, replicate, refl, sym, ap, ◌∙◌, subst, inl, inr, arith, length-append, length-set}
+use Rattle.std.proofs.Common.{◌≡◌, ℕ, zero, suc, ◌+◌, ◌-◌, ◌<◌, ◌≤◌, ◌^◌, List, [], ◌∷◌, ◌++◌, length, set, get_or, take, map, refl, sym, ap, ◌∙◌, subst, inl, inr, arith, length-append, length-set}
 use Rattle.std.proofs.lemmas.Bool.{cases_lt}
-use Rattle.std.proofs.lemmas.List.{length-map, get_or_append_left, get_or-append-add, get_or-append_right, set-append_left, set-append_right, get_or_default, take-append-le, map-append, get_or-map, get_or_push, map_push, append-nil, append_assoc, take_all}
+use Rattle.std.proofs.lemmas.List.{length-map, get_or_append_left, get_or-append-add, set-append_left, set-append_right, get_or_default, take-append-le, get_or_push, map_push, append-nil, append_assoc, take_all}
 use Rattle.ac_pool.specs.declared.slots.Place.{Place}
 use Rattle.ac_pool.specs.Slots.{all_cells, total, IsAt, IsLaid}
 

@@ -5,8 +5,8 @@ use Rattle.std.proofs.lemmas.List.{length-replicate, get_or_past, get_or_read, s
 use Rattle.std.proofs.lemmas.Option.{same_Some}
 use Rattle.std.specs.FinMap as map
 use Rattle.ac_base.specs.declared.name.Name.{Name}
-use Rattle.ac_pool.specs.Chunk.{serial_in, serial_at, IsKept}
-use Rattle.ac_pool.specs.Contents.{contents, value_of, IsLive, live_count, slot_count, IsFresh, IsSound}
+use Rattle.ac_pool.specs.Chunk.{serial_in, serial_at}
+use Rattle.ac_pool.specs.Contents.{contents, IsLive, live_count, slot_count, IsFresh, IsSound}
 use Rattle.ac_pool.specs.PoolFields.{name_at, entries_in, empty_count, IsPool}
 use Rattle.ac_pool.proofs.Labelled.{within}
 use Rattle.ac_pool.proofs.NameLaws.{same_name}
@@ -110,9 +110,9 @@ module _ {X : Type 0} where
               room = omega (arith, h.room);
               count = omega (arith, h.count, empty_count-fill cells slot e lt spare_slot.1);
               empties = λ k less.
-                let apart : get_or free k 0 ≢ slot = λ is. let same : k ≡ n = h.once k n (omega arith) (omega arith) is in omega arith in
-                let old = h.empties k (omega arith) in
-                (omega (arith, old.0), get_or-set_other cells slot (get_or free k 0) (Some e) None apart ∙ old.1);
+                  let apart : get_or free k 0 ≢ slot = λ is. let same : k ≡ n = h.once k n (omega arith) (omega arith) is in omega arith in
+                  let old = h.empties k (omega arith) in
+                  (omega (arith, old.0), get_or-set_other cells slot (get_or free k 0) (Some e) None apart ∙ old.1);
               once = λ j k a b same. h.once j k (omega arith) (omega arith) same;
             }
 
@@ -138,9 +138,9 @@ module _ {X : Type 0} where
               count = omega (arith, h.count, empty_count-vacate cells i e full);
               empties = λ k less. elim (cases_eq k n) [
                 | inl is ↦ let at : get_or (set free n i) k 0 ≡ i = ap (λ j. get_or (set free n i) j 0) is ∙ here in
-                  (omega arith, ap (λ j. get_or (set cells i None) j None) at ∙ get_or-set_same cells i None None lt)
+                    (omega arith, ap (λ j. get_or (set cells i None) j None) at ∙ get_or-set_same cells i None None lt)
                 | inr apart ↦ let at = there k apart in let old = h.empties k (omega arith) in
-                  (omega (arith, old.0), ap (λ j. get_or (set cells i None) j None) at ∙ get_or-set_other cells i (get_or free k 0) None None (fresh k (omega arith)) ∙ old.1)
+                    (omega (arith, old.0), ap (λ j. get_or (set cells i None) j None) at ∙ get_or-set_other cells i (get_or free k 0) None None (fresh k (omega arith)) ∙ old.1)
               ];
               once = λ j k a b same. elim (cases_eq j n) [
                 | inl jn ↦ elim (cases_eq k n) [
@@ -168,8 +168,8 @@ module _ {X : Type 0} where
               room = omega (arith, h.room);
               count = omega (arith, h.count, empty_count-write cells i (s, x) e full);
               empties = λ k less. let o = h.empties k less in
-                let apart : get_or free k 0 ≢ i = λ is. let nothing : Option (ℕ × X) = None in let none : nothing ≡ Some (s, x) = sym o.1 ∙ (ap (λ j. get_or cells j None) is ∙ full) in cc in
-                (omega (arith, o.0), get_or-set_other cells i (get_or free k 0) (Some e) None apart ∙ o.1);
+                  let apart : get_or free k 0 ≢ i = λ is. let nothing : Option (ℕ × X) = None in let none : nothing ≡ Some (s, x) = sym o.1 ∙ (ap (λ j. get_or cells j None) is ∙ full) in cc in
+                  (omega (arith, o.0), get_or-set_other cells i (get_or free k 0) (Some e) None apart ∙ o.1);
               once = h.once;
             }
 
@@ -200,9 +200,9 @@ module _ {X : Type 0} where
               count = omega (arith, h.count, empty_count-grow cells m);
               empties = λ k less. elim (cases_lt k n) [
                 | inl lower ↦ let o = h.empties k lower in let at = below k lower in
-                  (omega (arith, o.0), get_grown cells m (get_or news k 0) ∙ ap (λ j. get_or cells j None) at ∙ o.1)
+                    (omega (arith, o.0), get_grown cells m (get_or news k 0) ∙ ap (λ j. get_or cells j None) at ∙ o.1)
                 | inr upper ↦ let at = late k upper less in
-                  (omega arith, get_grown cells m (get_or news k 0) ∙ get_or_past cells (get_or news k 0) None (omega arith))
+                    (omega arith, get_grown cells m (get_or news k 0) ∙ get_or_past cells (get_or news k 0) None (omega arith))
               ];
               once = λ j k a b same. elim (cases_lt j n) [
                 | inl jl ↦ elim (cases_lt k n) [
@@ -234,10 +234,10 @@ module _ {X : Type 0} where
         pub sound : IsSound (contents (entries_in cells) next n)
         sound = record {
           slots = λ a b p q same. let x = live_cell a p in let y = live_cell b q in
-            let both : Some (a.serial, x.0) ≡ Some (b.serial, y.0) = sym x.1 ∙ (ap (λ j. get_or cells j None) same ∙ y.1) in
-            same_name a b same (ap (λ (e : ℕ × X). e.0) (same_Some (a.serial, x.0) (b.serial, y.0) both));
+              let both : Some (a.serial, x.0) ≡ Some (b.serial, y.0) = sym x.1 ∙ (ap (λ j. get_or cells j None) same ∙ y.1) in
+              same_name a b same (ap (λ (e : ℕ × X). e.0) (same_Some (a.serial, x.0) (b.serial, y.0) both));
           serials = λ a b p q same. let x = live_cell a p in let y = live_cell b q in
-            same_name a b (h.serials a.slot b.slot (a.serial, x.0) (b.serial, y.0) x.1 y.1 same) same;
+              same_name a b (h.serials a.slot b.slot (a.serial, x.0) (b.serial, y.0) x.1 y.1 same) same;
           within = λ a p. let x = live_cell a p in omega (arith, slot_count-cells, within cells a.slot (a.serial, x.0) x.1);
           issued = λ a p. let x = live_cell a p in h.issued a.slot (a.serial, x.0) x.1;
           next = h.next;

@@ -1,5 +1,5 @@
 -- What a growth makes is the least 8 * 2 ^ k that is enough.
-use Rattle.std.proofs.Common.{◌≡◌, ℕ, zero, suc, ◌+◌, ◌-◌, ◌*◌, ◌^◌, ◌<◌, ◌≤◌, ◌⊎◌, Bool, true, false, refl, sym, ap, ◌∙◌, subst, inl, inr, cond, leb, arith}
+use Rattle.std.proofs.Common.{◌≡◌, ℕ, zero, suc, ◌+◌, ◌-◌, ◌*◌, ◌^◌, ◌<◌, ◌≤◌, true, false, refl, sym, ap, subst, inl, inr, cond, leb, arith}
 use Rattle.std.proofs.lemmas.Bool.{cases_lt, leb-true, leb-false}
 use Rattle.std.proofs.Math.Nat.{pow-succ'}
 use Rattle.ac_pool.specs.Growth.{doubled, pow8, IsLeastPow8}
@@ -19,9 +19,9 @@ powers_rise a (suc d) = let same : a + suc d ≡ suc (a + d) = omega arith in le
 pub next_power : (j k : ℕ) → 8 * 2 ^ j < 8 * 2 ^ k → 2 * (8 * 2 ^ j) ≤ 8 * 2 ^ k
 next_power j k h = elim (cases_lt j k) [
   | inl lt ↦ let d : (d : ℕ) × (k ≡ suc j + d) = ((k - suc j), omega arith) in
-    let up : 2 ^ suc j ≤ 2 ^ k = subst (λ m. 2 ^ suc j ≤ 2 ^ m) (sym d.1) (powers_rise (suc j) d.0) in omega (arith, power_more j)
+      let up : 2 ^ suc j ≤ 2 ^ k = subst (λ m. 2 ^ suc j ≤ 2 ^ m) (sym d.1) (powers_rise (suc j) d.0) in omega (arith, power_more j)
   | inr le ↦ let d : (d : ℕ) × (j ≡ k + d) = ((j - k), omega arith) in
-    let up : 2 ^ k ≤ 2 ^ j = subst (λ m. 2 ^ k ≤ 2 ^ m) (sym d.1) (powers_rise k d.0) in absurd (omega arith)
+      let up : 2 ^ k ≤ 2 ^ j = subst (λ m. 2 ^ k ≤ 2 ^ m) (sym d.1) (powers_rise k d.0) in absurd (omega arith)
 ]
 
 -- s is such a power, and none below it is enough

@@ -1,5 +1,5 @@
 -- How the values of a chunk stand under their serials. A cell is nothing, or a serial with a value.
-use Rattle.std.specs.Prelude.{◌≡◌, ◌↔◌, ℕ, ◌<◌, get_or, List, [], ◌∷◌, length, Option, Some, None}
+use Rattle.std.specs.Prelude.{◌≡◌, ℕ, ◌<◌, get_or, List, [], ◌∷◌, length, Option, Some, None}
 
 module _ {X : Type 0} where
   abbrev pub under : ℕ → Option X → Option (ℕ × X)

@@ -14,3 +14,6 @@ pub use chunk::Chunk;
 pub use pool::{Pool, PutFault};
 #[doc(hidden)]
 pub use slots::{Place, Slots};
+
+#[cfg(test)]
+mod tests;

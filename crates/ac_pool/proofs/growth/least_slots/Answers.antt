@@ -1,4 +1,4 @@
-use Rattle.std.proofs.Common.{◌≡◌, ◌-◌, ◌*◌, ◌^◌, ◌≤◌, arith}
+use Rattle.std.proofs.Common.{◌*◌, ◌^◌, ◌≤◌, arith}
 use Rattle.ac_pool.proofs.Powers.{IsLow, IsLow-first, IsLow-more, IsLeastPow8-low, pow8-unique}
 use Rattle.ac_pool.proofs.growth.least_slots.Goals as goal
 

@@ -1,4 +1,4 @@
-use Rattle.std.proofs.Common.{◌≡◌, ◌≢◌, ◌<◌, ℕ, ◌+◌, length, set, get_or, None, sym, ap, ◌∙◌, below_more, arith, length-set, get_or-set_same, get_or-set_other}
+use Rattle.std.proofs.Common.{◌≢◌, ◌<◌, length, get_or, None, sym, ap, ◌∙◌, below_more, arith, length-set, get_or-set_same, get_or-set_other}
 use Rattle.ac_pool.proofs.Labelled.{kept_at}
 use Rattle.ac_pool.proofs.chunk.Chunk.drop.Goals as goal
 use Rattle.ac_pool.proofs.chunk.Chunk.drop.Goals.{then-serial-ne0, else-serial-ne0}

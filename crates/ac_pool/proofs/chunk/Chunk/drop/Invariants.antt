@@ -1,4 +1,4 @@
-use Rattle.std.proofs.Common.{◌≡◌, ℕ, ◌<◌, List, length, get_or, Option, None}
+use Rattle.std.proofs.Common.{◌≡◌, ℕ, ◌<◌, length, get_or, None}
 use Rattle.ac_pool.proofs.chunk.Chunk.drop.Given as goal
 
 abbrev pub invariant-loop-index : goal.invariant-loop-index

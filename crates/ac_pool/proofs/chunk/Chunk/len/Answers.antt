@@ -1,4 +1,4 @@
-use Rattle.std.proofs.Common.{◌≡◌, ◌<◌, ◌≤◌, ℕ, List, length, set, get_or, replicate, Option, Some, None, refl, sym, ap, ◌∙◌, arith, length-set, vec_len}
+use Rattle.std.proofs.Common.{arith}
 use Rattle.ac_pool.proofs.Labelled.{length-cells_of}
 use Rattle.ac_pool.proofs.chunk.Chunk.len.Goals as goal
 

@@ -1,8 +1,7 @@
-use Rattle.std.proofs.Common.{◌≡◌, ◌<◌, ◌≤◌, ℕ, List, length, set, get_or, replicate, Option, Some, None, refl, sym, ap, ◌∙◌, subst, inl, inr, arith, length-set, vec_len, get_or-set_same, get_or-set_other}
-use Rattle.std.proofs.lemmas.List.{get_or_read_under, get_or_past}
-use Rattle.std.proofs.lemmas.Bool.{cases_eq, cases_lt}
-use Rattle.ac_pool.specs.Chunk.{cells_of, serial_at, IsKept}
-use Rattle.ac_pool.proofs.Labelled.{within, length-cells_of, get_or-cells_of, cells_of-set, cells_of-write, cells_of-replicate, empty_places, serial_at-cells_of, kept_place, read_cell, empty_place, empty_cell, IsLabelled-put, IsLabelled-take, IsLabelled-write, IsLabelled-new}
+use Rattle.std.proofs.Common.{◌<◌, length, refl, sym, ◌∙◌, arith}
+use Rattle.std.proofs.lemmas.List.{get_or_read_under}
+use Rattle.ac_pool.specs.Chunk.{cells_of}
+use Rattle.ac_pool.proofs.Labelled.{length-cells_of, serial_at-cells_of, empty_cell}
 use Rattle.ac_pool.proofs.chunk.Chunk.serial.Goals as goal
 
 pub index-requires : goal.index-requires

@@ -1,18 +1,11 @@
-use Rattle.std.proofs.Common.{◌≡◌, ◌≢◌, ◌<◌, ◌≤◌, ◌^◌, ℕ, ◌+◌, ◌-◌, ◌⊎◌, Bool, true, false, not, List, [], ◌∷◌, ◌++◌, length, set, get_or, take, drop, replicate, Option, Some, None, IsSome, is_some, refl, sym, ap, ◌∙◌, subst, inl, inr, arith, length-set, vec_len, get_or-set_same, get_or-set_other}
-use Rattle.std.proofs.lemmas.List.{with_items_is, set-set, set_comm}
-use Rattle.std.proofs.lemmas.Option.{same_Some}
-use Rattle.std.proofs.lemmas.Bool.{eqb-true, eq-eqb, cases_eq, false≢true}
-use Rattle.std.specs.FinMap as map
-use Rattle.std.specs.Result.{OnOk}
+use Rattle.std.proofs.Common.{◌≡◌, set, get_or, Some, None, refl, sym, ap, ◌∙◌, subst, get_or-set_other}
 use Rattle.ac_base.specs.declared.name.Name.{Name}
-use Rattle.ac_pool.specs.Growth.{pow8}
-use Rattle.ac_pool.specs.Chunk.{serial_in, serial_at, IsKept}
-use Rattle.ac_pool.specs.Contents.{Contents, contents, value_of, IsLive, live_count, slot_count, no_values, with_value, added, taken, swapped, reserved, cleared, IsFresh, IsSound, Vacates}
-use Rattle.ac_pool.specs.PoolFields.{name_at, entries_in, empty_count, IsPool}
-use Rattle.ac_pool.proofs.ContentsLaws.{slot_count-no_values, Vacates-taken, Vacates-empty, cleared_is, live_value, taken_live, with_value-same, swapped_dead, swapped_live, swapped_itself, spare-reserved, reserved_grown, reserved_kept, IsFresh-reserved}
-use Rattle.ac_pool.proofs.Labelled.{within, kept_at}
-use Rattle.ac_pool.proofs.Entries.{value_in, value_in_same, value_in_other, get-entries_in, len-entries_in, entries_in-nil, entries_in-some, entries_in-none, entries_in-grown}
-use Rattle.ac_pool.proofs.Pooled.{sound, fresh, slot_count-cells, live_count-cells, live_cell, live_serial, live_from, room_for_slot, spare_slot, empty_count_within, IsPool-relist, IsPool-grow, IsPool-write, IsPool-take, IsPool-put, IsPool-new, exchanged_cells, exchanged_is, IsPool-exchanged, entries_in-exchanged, last_spare, IsPool-put_last, entries_in-put}
+use Rattle.ac_pool.specs.Chunk.{serial_in}
+use Rattle.ac_pool.specs.Contents.{contents, value_of, IsLive, swapped, IsSound}
+use Rattle.ac_pool.specs.PoolFields.{entries_in, IsPool}
+use Rattle.ac_pool.proofs.ContentsLaws.{swapped_live}
+use Rattle.ac_pool.proofs.Entries.{value_in, value_in_same, get-entries_in}
+use Rattle.ac_pool.proofs.Pooled.{sound, live_cell, live_serial, exchanged_cells, exchanged_is, IsPool-exchanged, entries_in-exchanged}
 use Rattle.ac_pool.proofs.pool.Pool.exchange.Goals as goal
 
 pub take-at_a-requires : goal.take-at_a-requires
@@ -48,8 +41,8 @@ invariant_of-self g c =
     let at_i : get_or a.slots i None ≡ Some (s, x) = c.take-at_a.ensures.value ∙ ap (λ r. Some (r, x)) (ap serial_in ka.1) in
     let at_j : get_or a.slots j None ≡ Some (t, y) = sym same_at_j ∙ c.take-at_b.ensures.value ∙ ap (λ r. Some (r, y)) (ap serial_in (same_at_j ∙ kb.1)) in
     let is : c.put-2.new.self ≡ exchanged_cells a.slots i j s t x y apart at_i at_j =
-      c.put-2.ensures ∙ ap (λ l. set l j (Some (t, x))) (c.put.ensures ∙ ap (λ l. set l i (Some (s, y))) (c.take-at_b.ensures.cells ∙ ap (λ l. set l j None) gone))
-      ∙ exchanged_is a.slots i j s t x y apart at_i at_j in
+    c.put-2.ensures ∙ ap (λ l. set l j (Some (t, x))) (c.put.ensures ∙ ap (λ l. set l i (Some (s, y))) (c.take-at_b.ensures.cells ∙ ap (λ l. set l j None) gone))
+    ∙ exchanged_is a.slots i j s t x y apart at_i at_j in
     subst (λ cells. IsPool cells a.free.items a.spare a.next_serial) (sym is) (IsPool-exchanged a.slots i j s t x y apart at_i at_j a.free.items a.spare a.next_serial h)
 
 pub returns-clause-swapped : goal.returns-clause-swapped
@@ -61,12 +54,12 @@ returns-clause-swapped g c =
     let at_i : get_or a.slots i None ≡ Some (s, x) = c.take-at_a.ensures.value ∙ ap (λ r. Some (r, x)) (ap serial_in ka.1) in
     let at_j : get_or a.slots j None ≡ Some (t, y) = sym same_at_j ∙ c.take-at_b.ensures.value ∙ ap (λ r. Some (r, y)) (ap serial_in (same_at_j ∙ kb.1)) in
     let is : c.put-2.new.self ≡ exchanged_cells a.slots i j s t x y apart at_i at_j =
-      c.put-2.ensures ∙ ap (λ l. set l j (Some (t, x))) (c.put.ensures ∙ ap (λ l. set l i (Some (s, y))) (c.take-at_b.ensures.cells ∙ ap (λ l. set l j None) gone))
-      ∙ exchanged_is a.slots i j s t x y apart at_i at_j in
+    c.put-2.ensures ∙ ap (λ l. set l j (Some (t, x))) (c.put.ensures ∙ ap (λ l. set l i (Some (s, y))) (c.take-at_b.ensures.cells ∙ ap (λ l. set l j None) gone))
+    ∙ exchanged_is a.slots i j s t x y apart at_i at_j in
     let value : (q : Name) (r : g.row.T.Denot) → get_or a.slots q.slot None ≡ Some (q.serial, r) → value_of (contents (entries_in a.slots) a.next_serial a.spare) q ≡ Some r = λ q r at. get-entries_in a.slots q ∙ ap (λ o. value_in o q.serial) at ∙ value_in_same (q.serial, r) q.serial refl in
     subst (λ z. contents (entries_in c.put-2.new.self) a.next_serial a.spare ≡ swapped z c.args.a c.args.b) c.self.view_is
     (ap (λ m. contents m a.next_serial a.spare) (ap entries_in is ∙ entries_in-exchanged a.slots i j s t x y apart at_i at_j)
-      ∙ sym (swapped_live (contents (entries_in a.slots) a.next_serial a.spare) c.args.a c.args.b x y (value c.args.a x at_i) (value c.args.b y at_j)))
+    ∙ sym (swapped_live (contents (entries_in a.slots) a.next_serial a.spare) c.args.a c.args.b x y (value c.args.a x at_i) (value c.args.b y at_j)))
 
 pub returns-clause-sound : goal.returns-clause-sound
 returns-clause-sound g c =
@@ -77,6 +70,6 @@ returns-clause-sound g c =
     let at_i : get_or a.slots i None ≡ Some (s, x) = c.take-at_a.ensures.value ∙ ap (λ r. Some (r, x)) (ap serial_in ka.1) in
     let at_j : get_or a.slots j None ≡ Some (t, y) = sym same_at_j ∙ c.take-at_b.ensures.value ∙ ap (λ r. Some (r, y)) (ap serial_in (same_at_j ∙ kb.1)) in
     let is : c.put-2.new.self ≡ exchanged_cells a.slots i j s t x y apart at_i at_j =
-      c.put-2.ensures ∙ ap (λ l. set l j (Some (t, x))) (c.put.ensures ∙ ap (λ l. set l i (Some (s, y))) (c.take-at_b.ensures.cells ∙ ap (λ l. set l j None) gone))
-      ∙ exchanged_is a.slots i j s t x y apart at_i at_j in
+    c.put-2.ensures ∙ ap (λ l. set l j (Some (t, x))) (c.put.ensures ∙ ap (λ l. set l i (Some (s, y))) (c.take-at_b.ensures.cells ∙ ap (λ l. set l j None) gone))
+    ∙ exchanged_is a.slots i j s t x y apart at_i at_j in
     subst (λ cells. IsSound (contents (entries_in cells) a.next_serial a.spare)) (sym is) (sound _ a.free.items a.spare a.next_serial (IsPool-exchanged a.slots i j s t x y apart at_i at_j a.free.items a.spare a.next_serial h))

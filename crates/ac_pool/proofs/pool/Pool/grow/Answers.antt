@@ -1,18 +1,9 @@
-use Rattle.std.proofs.Common.{◌≡◌, ◌≢◌, ◌<◌, ◌≤◌, ◌^◌, ℕ, ◌+◌, ◌-◌, ◌⊎◌, Bool, true, false, not, List, [], ◌∷◌, ◌++◌, length, set, get_or, take, drop, replicate, Option, Some, None, IsSome, is_some, refl, sym, ap, ◌∙◌, subst, inl, inr, arith, length-set, vec_len, get_or-set_same, get_or-set_other}
-use Rattle.std.proofs.lemmas.List.{with_items_is, set-set, set_comm}
-use Rattle.std.proofs.lemmas.Option.{same_Some}
-use Rattle.std.proofs.lemmas.Bool.{eqb-true, eq-eqb, cases_eq, false≢true}
-use Rattle.std.specs.FinMap as map
-use Rattle.std.specs.Result.{OnOk}
-use Rattle.ac_base.specs.declared.name.Name.{Name}
-use Rattle.ac_pool.specs.Growth.{pow8}
-use Rattle.ac_pool.specs.Chunk.{serial_in, serial_at, IsKept}
-use Rattle.ac_pool.specs.Contents.{Contents, contents, value_of, IsLive, live_count, slot_count, no_values, with_value, added, taken, swapped, reserved, cleared, IsFresh, IsSound, Vacates}
-use Rattle.ac_pool.specs.PoolFields.{name_at, entries_in, empty_count, IsPool}
-use Rattle.ac_pool.proofs.ContentsLaws.{slot_count-no_values, Vacates-taken, Vacates-empty, cleared_is, live_value, taken_live, with_value-same, swapped_dead, swapped_live, swapped_itself, spare-reserved, reserved_grown, reserved_kept, IsFresh-reserved}
-use Rattle.ac_pool.proofs.Labelled.{within, kept_at}
-use Rattle.ac_pool.proofs.Entries.{value_in, value_in_same, value_in_other, get-entries_in, len-entries_in, entries_in-nil, entries_in-some, entries_in-none, entries_in-grown}
-use Rattle.ac_pool.proofs.Pooled.{sound, fresh, slot_count-cells, live_count-cells, live_cell, live_serial, live_from, room_for_slot, spare_slot, empty_count_within, IsPool-relist, IsPool-grow, IsPool-write, IsPool-take, IsPool-put, IsPool-new, exchanged_cells, exchanged_is, IsPool-exchanged, entries_in-exchanged, last_spare, IsPool-put_last, entries_in-put}
+use Rattle.std.proofs.Common.{◌≡◌, ◌≤◌, ◌^◌, ◌+◌, ◌++◌, length, get_or, replicate, None, sym, ap, ◌∙◌, subst, arith}
+use Rattle.std.proofs.lemmas.List.{with_items_is}
+use Rattle.ac_pool.specs.Contents.{contents, slot_count, IsSound}
+use Rattle.ac_pool.specs.PoolFields.{entries_in, IsPool}
+use Rattle.ac_pool.proofs.Entries.{entries_in-grown}
+use Rattle.ac_pool.proofs.Pooled.{sound, slot_count-cells, empty_count_within, IsPool-relist, IsPool-grow}
 use Rattle.ac_pool.proofs.pool.Pool.grow.Goals as goal
 
 pub grow-requires : goal.grow-requires
@@ -23,7 +14,7 @@ pub invariant_of-self-in_err-grow : goal.invariant_of-self-in_err-grow
 invariant_of-self-in_err-grow g c =
     let a = c.self.inside in let h = c.self.invariant in let e = c.in_ok-resize.ensures in
     rw c.in_err-grow.ensures.err (IsPool-relist a.slots a.free.items a.spare a.next_serial h c.resize.new.self.items (omega (arith, c.len-len.ensures.count, e.len))
-      (λ k less. e.by_index.0 k 0 (omega (arith, c.len-len.ensures.count, h.count, empty_count_within a.slots)) (omega (arith, h.room, h.count, empty_count_within a.slots))))
+    (λ k less. e.by_index.0 k 0 (omega (arith, c.len-len.ensures.count, h.count, empty_count_within a.slots)) (omega (arith, h.room, h.count, empty_count_within a.slots))))
 
 pub list_free-requires-clause-room : goal.list_free-requires-clause-room
 list_free-requires-clause-room g c =
@@ -38,10 +29,10 @@ invariant_of-self-2 g c =
     let a = c.self.inside in let h = c.self.invariant in let fits : slot_count (contents (entries_in a.slots) a.next_serial a.spare) + c.args.by ≤ 2 ^ 30 = subst (λ x. slot_count x + c.args.by ≤ 2 ^ 30) (sym c.self.view_is) c.requires.1 in let ws = c.list_free.new.free in let v = c.resize.new.self in
     let e = c.in_ok-resize.ensures in let l = c.as_mut_slice.ensures in let f = c.list_free.ensures in
     let grown : IsPool (a.slots ++ replicate c.args.by None) ws (a.spare + c.args.by) a.next_serial = IsPool-grow a.slots a.free.items a.spare a.next_serial h ws c.args.by
-      (omega (arith, slot_count-cells a.slots a.free.items a.spare a.next_serial h)) (omega (arith, e.len, c.len-len.ensures.count, c.list_free.auto.free, l.len))
-      (λ k less. f.below k less ∙ ap (λ l. get_or l k 0) l.value
-        ∙ e.by_index.0 k 0 (omega (arith, c.len-len.ensures.count, h.count, empty_count_within a.slots)) (omega (arith, h.room, h.count, empty_count_within a.slots)))
-      (λ k less. f.listed k less ∙ ap (λ n. n + k) c.len-len.ensures.count) in
+    (omega (arith, slot_count-cells a.slots a.free.items a.spare a.next_serial h)) (omega (arith, e.len, c.len-len.ensures.count, c.list_free.auto.free, l.len))
+    (λ k less. f.below k less ∙ ap (λ l. get_or l k 0) l.value
+    ∙ e.by_index.0 k 0 (omega (arith, c.len-len.ensures.count, h.count, empty_count_within a.slots)) (omega (arith, h.room, h.count, empty_count_within a.slots)))
+    (λ k less. f.listed k less ∙ ap (λ n. n + k) c.len-len.ensures.count) in
     let long : length ws ≡ v.len = omega (arith, c.list_free.auto.free, l.len) in
     subst (λ l. IsPool c.grow.new.self l (a.spare + c.args.by) a.next_serial) (sym (with_items_is v ws long)) (rw c.in_ok-grow.ensures.ok grown)
 
@@ -64,8 +55,8 @@ returns-clause-sound g c =
     let a = c.self.inside in let h = c.self.invariant in let fits : slot_count (contents (entries_in a.slots) a.next_serial a.spare) + c.args.by ≤ 2 ^ 30 = subst (λ x. slot_count x + c.args.by ≤ 2 ^ 30) (sym c.self.view_is) c.requires.1 in let ws = c.list_free.new.free in let v = c.resize.new.self in
     let e = c.in_ok-resize.ensures in let l = c.as_mut_slice.ensures in let f = c.list_free.ensures in
     let grown : IsPool (a.slots ++ replicate c.args.by None) ws (a.spare + c.args.by) a.next_serial = IsPool-grow a.slots a.free.items a.spare a.next_serial h ws c.args.by
-      (omega (arith, slot_count-cells a.slots a.free.items a.spare a.next_serial h)) (omega (arith, e.len, c.len-len.ensures.count, c.list_free.auto.free, l.len))
-      (λ k less. f.below k less ∙ ap (λ l. get_or l k 0) l.value
-        ∙ e.by_index.0 k 0 (omega (arith, c.len-len.ensures.count, h.count, empty_count_within a.slots)) (omega (arith, h.room, h.count, empty_count_within a.slots)))
-      (λ k less. f.listed k less ∙ ap (λ n. n + k) c.len-len.ensures.count) in
+    (omega (arith, slot_count-cells a.slots a.free.items a.spare a.next_serial h)) (omega (arith, e.len, c.len-len.ensures.count, c.list_free.auto.free, l.len))
+    (λ k less. f.below k less ∙ ap (λ l. get_or l k 0) l.value
+    ∙ e.by_index.0 k 0 (omega (arith, c.len-len.ensures.count, h.count, empty_count_within a.slots)) (omega (arith, h.room, h.count, empty_count_within a.slots)))
+    (λ k less. f.listed k less ∙ ap (λ n. n + k) c.len-len.ensures.count) in
     subst (λ cells. IsSound (contents (entries_in cells) a.next_serial (a.spare + c.args.by))) (sym c.in_ok-grow.ensures.ok) (sound _ ws (a.spare + c.args.by) a.next_serial grown)

@@ -1,9 +1,7 @@
-use Rattle.std.proofs.Common.{◌≡◌, ◌<◌, ◌≤◌, ℕ, ◌+◌, ◌-◌, ◌^◌, List, [], ◌∷◌, ◌++◌, length, set, get_or, map, replicate, Option, Some, None, refl, sym, ap, ◌∙◌, subst, inl, inr, arith, length-set, length-append, vec_len}
+use Rattle.std.proofs.Common.{◌≡◌, ◌≤◌, ◌+◌, ◌^◌, [], ◌∷◌, ◌++◌, length, map, None, refl, sym, ap, ◌∙◌, subst, arith, vec_len}
 use Rattle.std.proofs.lemmas.List.{length-replicate, length-map}
-use Rattle.ac_pool.specs.Slots.{all_cells, IsAt, IsLaid}
-use Rattle.ac_pool.specs.Chunk.{serial_in, serial_at, IsKept}
-use Rattle.ac_pool.proofs.Labelled.{within}
-use Rattle.ac_pool.proofs.Laid.{found, chunk_within, within_chunk, cell_is, all_cells-write, sizes-write, length-all_cells, all_cells_push, sizes_push, IsLaid-push}
+use Rattle.ac_pool.specs.Slots.{all_cells, IsLaid}
+use Rattle.ac_pool.proofs.Laid.{length-all_cells, sizes_push, IsLaid-push}
 use Rattle.ac_pool.specs.declared.slots.Place.{Place}
 use Rattle.ac_pool.proofs.slots.Slots.grow.Goals as goal
 
@@ -18,6 +16,6 @@ invariant_of-self-in-Ok g c =
     let p : Place = record { chunk = c.len.result; start = n } in
     subst (λ ns. IsLaid ns c.resize.new.self.items (n + by)) (sym (ap (map (λ cells. length cells)) pushed ∙ sizes_push chunks cs ∙ ap (λ m. map (λ cells. length cells) chunks ++ m ∷ []) long))
     (IsLaid-push _ a.places.items c.resize.new.self.items n by p h c.requires.0 (omega (arith, length-all_cells chunks, h.count))
-      (omega (arith, c.len.ensures, length-map chunks (λ cells. length cells))) refl (omega (arith, e.len))
-      (λ i d lt. e.by_index.0 i d (omega arith) (omega arith) ∙ t.by_index i d lt)
-      (λ i d le lt. e.by_index.1 i d refl (omega arith) lt))
+    (omega (arith, c.len.ensures, length-map chunks (λ cells. length cells))) refl (omega (arith, e.len))
+    (λ i d lt. e.by_index.0 i d (omega arith) (omega arith) ∙ t.by_index i d lt)
+    (λ i d le lt. e.by_index.1 i d refl (omega arith) lt))
