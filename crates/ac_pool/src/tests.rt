@@ -146,3 +146,24 @@ fn values_may_take_no_bytes(rt: HostRuntime) {
     let name = put(&rt, &mut pool, ());
     assert_eq!(rt; pool.take(name), Some(()));
 }
+
+// `rt try --test --fail-alloc N` makes one of the growths fail.
+#[test]
+fn a_failed_growth_changes_nothing(rt: HostRuntime) {
+    let mut pool = Pool::new(rt.alloc());
+    for v in 0..20u64 {
+        assert!(rt; pool.live() < 1000);
+        let before = (pool.live(), pool.spare(), pool.next_serial());
+        match pool.put(v) {
+            Ok(_) => {}
+            Err(PutFault::NoMemory(back)) => {
+                assert_eq!(rt; back, v);
+                assert_eq!(rt; (pool.live(), pool.spare(), pool.next_serial()), before);
+                put(&rt, &mut pool, back);
+            }
+            Err(PutFault::Spent(_)) => panic!(rt; "serials are left"),
+        }
+    }
+    assert_eq!(rt; pool.slots(), 32);
+    assert_eq!(rt; pool.next_serial(), 21);
+}
