@@ -184,3 +184,14 @@ module _ {X : Type 0} (c : Contents X) where
       let zero_live : live_count d ≡ 0 = ap map.len empty ∙ map.len-empty name_cmp X in
       let spare : d.spare ≡ slot_count c = omega arith in
       λ i. contents (empty i) (next i) (spare i)
+
+-- what stands under a name after a change
+pub ruleset values = (
+  value_of-with_value_same,
+  value_of-with_value_other,
+  value_of-added_same,
+  value_of-added_other,
+  value_of-taken_same,
+  value_of-taken_other,
+  value_of-reserved,
+)

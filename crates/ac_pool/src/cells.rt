@@ -1,5 +1,5 @@
-//! The block, as Rust's `[MaybeUninit<T>]`: a row of places, each empty or holding a value.
-ghost use Rattle.std.specs.Prelude.{◌≡◌, ℕ, ◌<◌, List, Option, Some, None, map, length, take, drop, replicate, get_or, slice_set, IfOk, ⊤};
+//! The block of a chunk, as Rust's `[MaybeUninit<T>]`: a row of places, each empty or holding a value. Only these functions use pointers.
+ghost use Rattle.std.specs.Prelude.{◌≡◌, ℕ, ◌<◌, List, Option, Some, None, length, replicate, get_or, slice_set, IfOk, ⊤};
 ghost use Rattle.std.specs.Borrow.{sem};
 ghost use Rattle.std.specs.Vec.Ownership.{FitsInBlock};
 ghost use base.Fml.{ftrue};
@@ -32,17 +32,17 @@ unsafe impl<T> Send for Base<T> {}
 
 unsafe impl<T> Sync for Base<T> {}
 
-/// The owner of the places. It takes no space: the buffer holds the pointer and the capacity.
+/// The owner of the places. It takes no space: the chunk holds the pointer and the length.
 pub struct Cells<T> {
     mark: PhantomData<*const T>,
     ghost at: { Ptr },
-    ghost slots: { List (Option T) },
+    ghost places: { List (Option T) },
 }
 
 impl<T> Model for Cells<T> {
-    ghost also_owns = { λ c. cells_own T.row c.at c.slots };
+    ghost also_owns = { λ c. cells_own T.row c.at c.places };
 
-    ghost also_shares = { λ c _ κ. cells_lent T.row c.at c.slots κ };
+    ghost also_shares = { λ c _ κ. cells_lent T.row c.at c.places κ };
 }
 
 unsafe impl<T: Send> Send for Cells<T> {}
@@ -73,7 +73,7 @@ pub(crate) fn allocate<T, A: Allocator>(
     len: usize,
 ) -> Result<(Base<T>, Cells<T>, Deed<T, A>), AllocError>
     requires { FitsInBlock T.row len }
-    ensures { IfOk result (λ r. (r.1.at ≡ r.0.ptr) × (r.1.slots ≡ replicate len None) × (r.2.at ≡ r.0.ptr) × (r.2.len ≡ len) × (r.2.alloc ≡ alloc.now)) }
+    ensures { IfOk result (λ r. (r.1.at ≡ r.0.ptr) × (r.1.places ≡ replicate len None) × (r.2.at ≡ r.0.ptr) × (r.2.len ≡ len) × (r.2.alloc ≡ alloc.now)) }
 {
     match alloc.allocate(len * size_of::<T>(), align_of::<T>()) {
         Ok(block) => {
@@ -97,7 +97,7 @@ pub(crate) fn deallocate<T, A: Allocator>(
     cells: Cells<T>,
     deed: Deed<T, A>,
 )
-    requires { (cells.at ≡ base.ptr) × (cells.slots ≡ replicate len None) × (deed.at ≡ base.ptr) × (deed.len ≡ len) × (deed.alloc ≡ alloc.now) }
+    requires { (cells.at ≡ base.ptr) × (cells.places ≡ replicate len None) × (deed.at ≡ base.ptr) × (deed.len ≡ len) × (deed.alloc ≡ alloc.now) }
 {
     let Cells { mark: _ } = cells;
     let Deed { mark: _ } = deed;
@@ -107,34 +107,34 @@ pub(crate) fn deallocate<T, A: Allocator>(
 }
 
 impl<T> Cells<T> {
-    ghost use Rattle.ac_pool.specs.Lends.{lends_slot};
+    ghost use Rattle.ac_pool.specs.Lends.{lends_place};
 
     pub(crate) fn write(&mut self, base: Base<T>, index: usize, item: T)
-        requires { (base.ptr ≡ self.old.at) × (index < length self.old.slots) × (get_or self.old.slots index None ≡ None) }
-        ensures { (self.new.at ≡ self.old.at) × (self.new.slots ≡ slice_set self.old.slots index (Some item)) }
+        requires { (base.ptr ≡ self.old.at) × (index < length self.old.places) × (get_or self.old.places index None ≡ None) }
+        ensures { (self.new.at ≡ self.old.at) × (self.new.places ≡ slice_set self.old.places index (Some item)) }
     {
         unsafe { base.ptr.add(index).write(item) }
     }
 
     pub(crate) fn read(&mut self, base: Base<T>, index: usize) -> T
-        requires { (base.ptr ≡ self.old.at) × IsFilled self.old.slots index }
-        ensures value { get_or self.old.slots index None ≡ Some result }
-        ensures slots { (self.new.at ≡ self.old.at) × (self.new.slots ≡ slice_set self.old.slots index None) }
+        requires { (base.ptr ≡ self.old.at) × IsFilled self.old.places index }
+        ensures value { get_or self.old.places index None ≡ Some result }
+        ensures places { (self.new.at ≡ self.old.at) × (self.new.places ≡ slice_set self.old.places index None) }
     {
         unsafe { base.ptr.add(index).read() }
     }
 
     pub(crate) fn get(&self, base: Base<T>, index: usize) -> &T
-        requires { (base.ptr ≡ self.now.at) × IsFilled self.now.slots index }
-        ensures { get_or self.now.slots index None ≡ Some result.now }
+        requires { (base.ptr ≡ self.now.at) × IsFilled self.now.places index }
+        ensures { get_or self.now.places index None ≡ Some result.now }
     {
         unsafe { &*base.ptr.add(index) }
     }
 
     pub(crate) fn get_mut(&mut self, base: Base<T>, index: usize) -> &mut T
-        requires { (base.ptr ≡ self.old.at) × IsFilled self.old.slots index }
-        ensures* writes_back { sem 𝓛 (lends_slot T.row self.entry index result) }
-        ensures value { get_or self.old.slots index None ≡ Some result.now }
+        requires { (base.ptr ≡ self.old.at) × IsFilled self.old.places index }
+        ensures* writes_back { sem 𝓛 (lends_place T.row self.entry index result) }
+        ensures value { get_or self.old.places index None ≡ Some result.now }
     {
         unsafe { &mut *base.ptr.add(index) }
     }

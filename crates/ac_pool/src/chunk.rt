@@ -28,7 +28,7 @@ impl<T> Model for Chunk<T> {
     ghost use Rattle.ac_pool.specs.Chunk.{cells_of};
     ghost use Rattle.ac_pool.specs.ChunkFields.{IsChunk};
 
-    ghost view = { λ c. cells_of c.serials.items c.cells.slots };
+    ghost view = { λ c. cells_of c.serials.items c.cells.places };
 
     ghost invariant = { λ c. IsChunk c };
 }

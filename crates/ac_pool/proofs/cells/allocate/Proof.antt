@@ -44,7 +44,7 @@ use denote.Builtin.{usize}
 use Rattle.std.specs.Prelude.{None}
 use Rattle.core.proofs.mem.Param.{El, R, elτ}
 use Rattle.std_alloc.proofs.RawLayout.{as_written}
-use Rattle.ac_pool.specs.Ownership.{slots}
+use Rattle.ac_pool.specs.Ownership.{places}
 use Rattle.ac_pool.proofs.Memory.{Cr, Bs, Mark, sz, mark, mark_made, word_made}
 use base.Fml.{Incl-trans}
 use lib.ListN.{replicate, length-replicate}
@@ -120,7 +120,7 @@ module _ (E : El) (Z : Al) {M : Type 1} {𝓤 : Ura M} (𝓛 : Logic 𝓤) (at_m
   abbrev Post : Val → SProp 𝓤
   Post = (walk_of 𝓛 (ended E Z) (stayed E Z) (clauses E Z 𝓛 at_mem run)).post bound
 
-  exits : (r : (Out E Z).Denot) (v : Val) → IfOk r (λ t. (t.1.at ≡ t.0.ptr) × (t.1.slots ≡ replicate len None) × (t.2.at ≡ t.0.ptr) × (t.2.len ≡ len) × (t.2.alloc ≡ a))
+  exits : (r : (Out E Z).Denot) (v : Val) → IfOk r (λ t. (t.1.at ≡ t.0.ptr) × (t.1.places ≡ replicate len None) × (t.2.at ≡ t.0.ptr) × (t.2.len ≡ len) × (t.2.alloc ≡ a))
       → ent 𝓤 (⋆ 𝓛 (‵ ((Out E Z).own_val r (v ∷ [])) ∷ ‵ (flft κ q) ∷ others ∷ [])) (Post v)
   exits r v g =
       qed 𝓛 (‵ ((Out E Z).own_val r (v ∷ [])) ∷ ‵ (flft κ q) ∷ others ∷ []) ∵
@@ -147,7 +147,7 @@ module _ (E : El) (Z : Al) {M : Type 1} {𝓤 : Ura M} (𝓛 : Logic 𝓤) (at_m
       (λ b o e.
       let p : Ptr = block_ptr b o in
       let base : (Bs E).Denot = record { ptr = p } in
-      let cells : (Cr E).Denot = record { mark = record {}; at = p; slots = replicate len None } in
+      let cells : (Cr E).Denot = record { mark = record {}; at = p; places = replicate len None } in
       let deed : (Dd E Z).Denot = record { mark = record {}; at = p; len = len; alloc = a } in
       let made : Val = three_val (word p) mark mark in
       let typed : Good (layout (Three E Z)) made = (tt, ((tt, tt), ((tt, tt), ((tt, tt), tt)))) in
@@ -161,8 +161,8 @@ module _ (E : El) (Z : Al) {M : Type 1} {𝓤 : Ura M} (𝓛 : Logic 𝓤) (at_m
       sets_last ! (agg ! (and_then ! (lit ! tt) (and_then ! (get ! refl) (no_more !)))) refl ok $
       exec ! C Λ En (after 3 (function E Z).body) (at_ret En Post) $ sets ! (of_opd ! (get ! refl)) refl ok $
       move ! (1 ∷ []) $ use0 𝓛 (‵ ((Mark E).own_val (tt, tt) (mark ∷ []))) (mark_made E 𝓛) $ fjoin ! $ move ! (1 ∷ []) $
-      as_written ! (ty_array (elτ E) len) b o $ use1 𝓛 (‵ (slots (R E) b o cells.slots)) (of_room E 𝓛 b len o) $
-      flt_i ! (length cells.slots * s) (2 ^ 63) (subst (λ k. k * s < 2 ^ 63) (sym (length-replicate len None)) small) $ fjoin ! $
+      as_written ! (ty_array (elτ E) len) b o $ use1 𝓛 (‵ (places (R E) b o cells.places)) (of_room E 𝓛 b len o) $
+      flt_i ! (length cells.places * s) (2 ^ 63) (subst (λ k. k * s < 2 ^ 63) (sym (length-replicate len None)) small) $ fjoin ! $
       use0 𝓛 (‵ ((Mark E).own_val (tt, tt) (mark ∷ []))) (mark_made E 𝓛) $ fjoin ! $ word_made ! p $
       use3 𝓛 (‵ ((Three E Z).own_val (base, cells, deed) (made ∷ []))) (three_of 𝓛 (Bs E) (Cr E) (Dd E Z) base cells deed (word p) mark mark) $
       use1 𝓛 (‵ ((Out E Z).own_val (Ok (base, cells, deed)) (live 0 (vcons made vnil) ∷ []))) (ok_of 𝓛 (Three E Z) AE.the_row (base, cells, deed) made) $

@@ -46,8 +46,8 @@ use Rattle.std.specs.Prelude.{Some, None}
 use Rattle.core.proofs.mem.Param.{El, R, args, el_x}
 use Rattle.core.proofs.ptr.Rows.{times_below, one_below}
 use Rattle.ac_pool.specs.Places.{IsFilled}
-use Rattle.ac_pool.specs.Ownership.{slot_lent, cells_lent}
-use Rattle.ac_pool.proofs.Memory.{Cr, Bs, sz, Place, word_had, filled_within, slot_seen}
+use Rattle.ac_pool.specs.Ownership.{place_lent, cells_lent}
+use Rattle.ac_pool.proofs.Memory.{Cr, Bs, sz, Place, word_had, filled_within, place_seen}
 use Rattle.ac_pool.specs.contracts.cells.Cells.get.Key.{name as #self}
 use Rattle.ac_pool.proofs.cells.Cells.get.Statement as stated
 use Rattle.ac_pool.proofs.cells.Cells.get.Code as code
@@ -63,10 +63,10 @@ module _ (E : El) where
   stayed = (stay_dropped (RefOf (0 ∷ []) tt (plain (λ _. Cr E)) (λ _. tt)) yes, (stay_dropped (plain (λ _. Bs E)) no, (stay_dropped (plain (λ _. usize)) no, tt)))
 
   abbrev Asks : (Cr E).Denot → (Bs E).Denot → (usize).Denot → Type 0
-  Asks d base index = (base.ptr ≡ d.at) × IsFilled d.slots index
+  Asks d base index = (base.ptr ≡ d.at) × IsFilled d.places index
 
   abbrev Gives0 : (Cr E).Denot → (Bs E).Denot → (usize).Denot → Bor (el_x E) → Type 0
-  Gives0 d base index r = get_or d.slots index None ≡ Some r.now
+  Gives0 d base index r = get_or d.places index None ≡ Some r.now
 
   abbrev spec : {M : Type 1} {𝓤 : Ura M} (𝓛 : Logic 𝓤) → Clauses 𝓤 ended
   spec {𝓤 = 𝓤} 𝓛 κs a = record { ghost = Unit {0}; requires = λ _. fact 𝓤 (Asks a.0.now a.1.0 a.1.1.0); ensures = λ _ r w. fact 𝓤 (Gives0 a.0.now a.1.0 a.1.1.0 r) }
@@ -94,17 +94,17 @@ module _ (E : El) {M : Type 1} {𝓤 : Ura M} (𝓛 : Logic 𝓤) (C : Calls �
 
   walk : Asks E d base index → index < 2 ^ 64 → ent 𝓤 (⋆ 𝓛 Had) (WpFn 𝓤 H C Λ (function E) (vptr rb ro ∷ word base.ptr ∷ vint w64 index ∷ []) Post)
   walk asked fits_index =
-      let x = asked.1.0 in let within = filled_within d.slots index x asked.1.1 in
+      let x = asked.1.0 in let within = filled_within d.places index x asked.1.1 in
       qed 𝓛 Had ∵ enter ! C Λ (function E) (vptr rb ro ∷ word base.ptr ∷ vint w64 index ∷ []) _ $ alloc_all ! (λ l. pass_all ! refl ((tt, tt), (word-Good [] base.ptr, ((tt, record { fits = fits_index }), tt))) $
       let En : Env 𝓤 H = env (function E).locals l in
-      unhide ! $ fsplit ! $ drop ! $ in_a_block ! d.at (λ p. cells_lent (R E) p d.slots κ) (id⊢ 𝓤 (never 𝓤)) (λ b o e. fsplit ! $ flt_l ! (λ small.
-      let s = sz E in let tiny : s < 2 ^ 64 = omega (arith, one_below (length d.slots) s (2 ^ 63) (omega arith) small) in
-      let far : index * s < 2 ^ 64 = omega (arith, times_below index (length d.slots) s (2 ^ 63) (omega arith) small) in
+      unhide ! $ fsplit ! $ drop ! $ in_a_block ! d.at (λ p. cells_lent (R E) p d.places κ) (id⊢ 𝓤 (never 𝓤)) (λ b o e. fsplit ! $ flt_l ! (λ small.
+      let s = sz E in let tiny : s < 2 ^ 64 = omega (arith, one_below (length d.places) s (2 ^ 63) (omega arith) small) in
+      let far : index * s < 2 ^ 64 = omega (arith, times_below index (length d.places) s (2 ^ 63) (omega arith) small) in
       take_at ! 2 $ rewrite ! 0 (λ (p : Ptr). ‵ (fat full_share (layout (Bs E)) (l 2) 0 (word p))) (asked.0 ∙ e) refl $ give_at ! 2 $ first ! $ blocks ! $
       sets ! (bin ! (get ! refl) (size_lit ! (record { fits = tiny })) (record { fits = far })) refl (tt, record { fits = far }) $
       sets ! (bin ! (get_in ! (fld ! refl (stop !)) (sub ! 0 refl (whole !))) (get ! refl) tt) refl (tt, tt) $
-      use1 𝓛 (‵ (slot_lent (R E) b (index * s + o) (get_or d.slots index None) κ)) (slot_seen E 𝓛 b κ o d.slots index within) $
-      rewrite ! 0 (λ (c : Place E). ‵ (slot_lent (R E) b (index * s + o) c κ)) asked.1.1 refl $ hide ! $
+      use1 𝓛 (‵ (place_lent (R E) b (index * s + o) (get_or d.places index None) κ)) (place_seen E 𝓛 b κ o d.places index within) $
+      rewrite ! 0 (λ (c : Place E). ‵ (place_lent (R E) b (index * s + o) c κ)) asked.1.1 refl $ hide ! $
       sets_last ! (addr ! (through ! refl (stop !))) refl (tt, tt) $ exec ! C Λ En (after 1 (function E).body) (at_ret En Post) $ sets ! (of_opd ! (get ! refl)) refl (tt, tt) $
       feq_i ! (List Val) (vptr b (index * s + o) ∷ []) (vptr b (index * s + o) ∷ []) refl $ fjoin ! $
       returns ! (look_at ! 0 refl) $ free_all ! refl $ keep ! (1 ∷ 0 ∷ []) $ by ! (exits (record { ref_ptr = (b, index * s + o); now = x }) (vptr b (index * s + o)) asked.1.1))))

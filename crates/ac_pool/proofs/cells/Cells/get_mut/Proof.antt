@@ -46,10 +46,10 @@ use Rattle.std.specs.Prelude.{Some, None}
 use Rattle.core.proofs.mem.Param.{El, R, args, el_x}
 use Rattle.core.proofs.ptr.Rows.{times_below, one_below}
 use Rattle.ac_pool.specs.Places.{IsFilled}
-use Rattle.ac_pool.specs.Ownership.{slot, slots, cells_own}
-use Rattle.ac_pool.proofs.Memory.{Cr, Bs, Mark, sz, Place, word_had, filled_within, Besides, slot_out, slot_in}
+use Rattle.ac_pool.specs.Ownership.{place, places, cells_own}
+use Rattle.ac_pool.proofs.Memory.{Cr, Bs, Mark, sz, Place, word_had, filled_within, Besides, place_out, place_in}
 use denote.Follow.{follows, Part, lends_Part}
-use Rattle.ac_pool.specs.Lends.{with_slots}
+use Rattle.ac_pool.specs.Lends.{with_places}
 use Rattle.ac_pool.specs.contracts.cells.Cells.get_mut.Key.{name as #self}
 use Rattle.ac_pool.proofs.cells.Cells.get_mut.Statement as stated
 use Rattle.ac_pool.proofs.cells.Cells.get_mut.Code as code
@@ -65,13 +65,13 @@ module _ (E : El) where
   stayed = (stay_dropped (mut_ref_to (0 ∷ []) tt (plain (λ _. Cr E))) no, (stay_dropped (plain (λ _. Bs E)) no, (stay_dropped (plain (λ _. usize)) no, tt)))
 
   abbrev Asks : (Cr E).Denot → (Bs E).Denot → (usize).Denot → Type 0
-  Asks d base index = (base.ptr ≡ d.at) × IsFilled d.slots index
+  Asks d base index = (base.ptr ≡ d.at) × IsFilled d.places index
 
   abbrev Gives0 : (Cr E).Denot → (Bs E).Denot → (usize).Denot → MutBor (el_x E) → Type 0
-  Gives0 d base index r = get_or d.slots index None ≡ Some r.now
+  Gives0 d base index r = get_or d.places index None ≡ Some r.now
 
   abbrev spec : {M : Type 1} {𝓤 : Ura M} (𝓛 : Logic 𝓤) → Clauses 𝓤 ended
-  spec {𝓤 = 𝓤} 𝓛 κs a = record { ghost = Unit {0}; requires = λ _. fact 𝓤 (Asks a.0.now a.1.0 a.1.1.0); ensures = λ _ r w. sep 𝓤 (sem 𝓛 (follows (Cr E) (R E) a.0.ghost_name r.ghost_name (λ w. with_slots a.0.now (set a.0.now.slots a.1.1.0 (Some w))))) (fact 𝓤 (Gives0 a.0.now a.1.0 a.1.1.0 r)) }
+  spec {𝓤 = 𝓤} 𝓛 κs a = record { ghost = Unit {0}; requires = λ _. fact 𝓤 (Asks a.0.now a.1.0 a.1.1.0); ensures = λ _ r w. sep 𝓤 (sem 𝓛 (follows (Cr E) (R E) a.0.ghost_name r.ghost_name (λ w. with_places a.0.now (set a.0.now.places a.1.1.0 (Some w))))) (fact 𝓤 (Gives0 a.0.now a.1.0 a.1.1.0 r)) }
 
 module _ (E : El) {M : Type 1} {𝓤 : Ura M} (𝓛 : Logic 𝓤) (C : Calls 𝓤 𝓛.H) (Λ : Loops 𝓤 𝓛.H) (κ : Lft) (q : Share) (rb ro : ℕ) (γ : GName) (d : (Cr E).Denot) (base : (Bs E).Denot) (index : (usize).Denot) (us0 us1 us2 : List Val) where
   open 𝓛 use {H, A}
@@ -86,22 +86,22 @@ module _ (E : El) {M : Type 1} {𝓤 : Ura M} (𝓛 : Logic 𝓤) (C : Calls �
   Post = (walk_of 𝓛 (ended E) (stayed E) (spec E 𝓛)).post bound
 
   abbrev new : el_x E → (Cr E).Denot
-  new w = with_slots d (set d.slots index (Some w))
+  new w = with_places d (set d.places index (Some w))
 
   module _ (vs : List Val) (b o : ℕ) where
     -- all but the value
     abbrev Rest : Fml
-    Rest = fsep (Besides E 𝓛 b o d.slots index) (fsep ((Mark E).own_val (tt, tt) vs) (cell_at full_share (Cr E).mir vs rb ro))
+    Rest = fsep (Besides E 𝓛 b o d.places index) (fsep ((Mark E).own_val (tt, tt) vs) (cell_at full_share (Cr E).mir vs rb ro))
 
-    back : d.at ≡ block_ptr b o → index < length d.slots → length d.slots * sz E < 2 ^ 63
+    back : d.at ≡ block_ptr b o → index < length d.places → length d.places * sz E < 2 ^ 63
         → (w : el_x E) → ent 𝓤 (sep 𝓤 (sem 𝓛 ((mem (R E)).own_at w b (index * sz E + o))) (sem 𝓛 Rest)) (sem 𝓛 ((mem (Cr E)).own_at (new w) rb ro))
     unfolding part_of
     back e within small w =
-        let long = length-set d.slots index (Some w) in
-        qed 𝓛 (‵ (slot (R E) b (index * sz E + o) (Some w)) ∷ ‵ Rest ∷ []) ∵ move ! (1 ∷ []) $ fsplit3 ! $ move ! (3 ∷ 0 ∷ []) $
-        use2 𝓛 (‵ (slots (R E) b o (new w).slots)) (slot_in E 𝓛 b o d.slots index within (Some w)) $
-        flt_i ! (length (new w).slots * sz E) (2 ^ 63) (subst (λ k. k * sz E < 2 ^ 63) (sym long) small) $ fjoin ! $
-        rewrite ! 0 (λ (p : Ptr). ‵ (cells_own (R E) p (new w).slots)) (sym e) refl $ move ! (1 ∷ 0 ∷ []) $ fjoin ! $ move ! (1 ∷ 0 ∷ []) $ fjoin ! $
+        let long = length-set d.places index (Some w) in
+        qed 𝓛 (‵ (place (R E) b (index * sz E + o) (Some w)) ∷ ‵ Rest ∷ []) ∵ move ! (1 ∷ []) $ fsplit3 ! $ move ! (3 ∷ 0 ∷ []) $
+        use2 𝓛 (‵ (places (R E) b o (new w).places)) (place_in E 𝓛 b o d.places index within (Some w)) $
+        flt_i ! (length (new w).places * sz E) (2 ^ 63) (subst (λ k. k * sz E < 2 ^ 63) (sym long) small) $ fjoin ! $
+        rewrite ! 0 (λ (p : Ptr). ‵ (cells_own (R E) p (new w).places)) (sym e) refl $ move ! (1 ∷ 0 ∷ []) $ fjoin ! $ move ! (1 ∷ 0 ∷ []) $ fjoin ! $
         fpack ! (List Val) (λ us. fsep (cell_at full_share (Cr E).mir us rb ro) ((Cr E).own_val (new w) us)) vs $ done !
 
   exits : (v : Val) (r : MutBor (el_x E)) → Gives0 E d base index r
@@ -116,17 +116,17 @@ module _ (E : El) {M : Type 1} {𝓤 : Ura M} (𝓛 : Logic 𝓤) (C : Calls �
 
   walk : Asks E d base index → index < 2 ^ 64 → ent 𝓤 (⋆ 𝓛 Had) (WpFn 𝓤 H C Λ (function E) (vptr rb ro ∷ word base.ptr ∷ vint w64 index ∷ []) Post)
   walk asked fits_index =
-      let x = asked.1.0 in let within = filled_within d.slots index x asked.1.1 in let code = (Cr E).coded.code d in
+      let x = asked.1.0 in let within = filled_within d.places index x asked.1.1 in let code = (Cr E).coded.code d in
       qed 𝓛 Had ∵ enter ! C Λ (function E) (vptr rb ro ∷ word base.ptr ∷ vint w64 index ∷ []) _ $ alloc_all ! (λ l. pass_all ! refl ((tt, tt), (word-Good [] base.ptr, ((tt, record { fits = fits_index }), tt))) $
       let En : Env 𝓤 H = env (function E).locals l in
       opens ! tt (Cr E) {h = d} rb ro (λ vs. move ! (1 ∷ []) $ fsplit ! $ move ! (1 ∷ []) $
-      in_a_block ! d.at (λ p. cells_own (R E) p d.slots) (id⊢ 𝓤 (never 𝓤)) (λ b o e. fsplit ! $ flt_l ! (λ small.
-      let s = sz E in let tiny : s < 2 ^ 64 = omega (arith, one_below (length d.slots) s (2 ^ 63) (omega arith) small) in
-      let far : index * s < 2 ^ 64 = omega (arith, times_below index (length d.slots) s (2 ^ 63) (omega arith) small) in
+      in_a_block ! d.at (λ p. cells_own (R E) p d.places) (id⊢ 𝓤 (never 𝓤)) (λ b o e. fsplit ! $ flt_l ! (λ small.
+      let s = sz E in let tiny : s < 2 ^ 64 = omega (arith, one_below (length d.places) s (2 ^ 63) (omega arith) small) in
+      let far : index * s < 2 ^ 64 = omega (arith, times_below index (length d.places) s (2 ^ 63) (omega arith) small) in
       take_at ! 2 $ rewrite ! 0 (λ (p : Ptr). ‵ (fat full_share (layout (Bs E)) (l 2) 0 (word p))) (asked.0 ∙ e) refl $ give_at ! 2 $ first ! $ blocks ! $
       sets ! (bin ! (get ! refl) (size_lit ! (record { fits = tiny })) (record { fits = far })) refl (tt, record { fits = far }) $
       sets ! (bin ! (get_in ! (fld ! refl (stop !)) (sub ! 0 refl (whole !))) (get ! refl) tt) refl (tt, tt) $
-      use1 𝓛 (‵ (slot (R E) b (index * s + o) (get_or d.slots index None)) ⊛ ‵ (Besides E 𝓛 b o d.slots index)) (slot_out E 𝓛 b o d.slots index within) $ split ! $ rewrite ! 0 (λ (c : Place E). ‵ (slot (R E) b (index * s + o) c)) asked.1.1 refl $
+      use1 𝓛 (‵ (place (R E) b (index * s + o) (get_or d.places index None)) ⊛ ‵ (Besides E 𝓛 b o d.places index)) (place_out E 𝓛 b o d.places index within) $ split ! $ rewrite ! 0 (λ (c : Place E). ‵ (place (R E) b (index * s + o) c)) asked.1.1 refl $
       let way = back vs b o e within small in let at = index * s + o in
       sets_last ! (addr ! (through ! refl (stop !))) refl (tt, tt) $ exec ! C Λ En (after 1 (function E).body) (at_ret En Post) $ sets ! (of_opd ! (get ! refl)) refl (tt, tt) $
       move ! (1 ∷ 2 ∷ 3 ∷ []) $ fjoin3 ! $ move ! (2 ∷ 3 ∷ 4 ∷ 1 ∷ 0 ∷ []) $ group ! 5 $

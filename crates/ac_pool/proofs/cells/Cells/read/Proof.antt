@@ -47,8 +47,8 @@ use Rattle.core.proofs.mem.Param.{El, R, args, elτ}
 use Rattle.core.proofs.ptr.Rows.{times_below, one_below}
 use Rattle.std_alloc.proofs.RawLayout.{as_raw}
 use Rattle.ac_pool.specs.Places.{IsFilled}
-use Rattle.ac_pool.specs.Ownership.{slot, slots, cells_own}
-use Rattle.ac_pool.proofs.Memory.{Cr, Bs, sz, Place, word_had, says_both, value_out, filled_within, Besides, slot_out, slot_in}
+use Rattle.ac_pool.specs.Ownership.{place, places, cells_own}
+use Rattle.ac_pool.proofs.Memory.{Cr, Bs, sz, Place, word_had, says_both, value_out, filled_within, Besides, place_out, place_in}
 use Rattle.ac_pool.specs.contracts.cells.Cells.read.Key.{name as #self}
 use Rattle.ac_pool.proofs.cells.Cells.read.Statement as stated
 use Rattle.ac_pool.proofs.cells.Cells.read.Code as code
@@ -64,13 +64,13 @@ module _ (E : El) where
   stayed = (stay_ref (0 ∷ []) tt (plain (λ _. Cr E)), (stay_dropped (plain (λ _. Bs E)) no, (stay_dropped (plain (λ _. usize)) no, tt)))
 
   abbrev Asks : (Cr E).Denot → (Bs E).Denot → (usize).Denot → Type 0
-  Asks d base index = (base.ptr ≡ d.at) × IsFilled d.slots index
+  Asks d base index = (base.ptr ≡ d.at) × IsFilled d.places index
 
   abbrev Gives0 : (Cr E).Denot → (Bs E).Denot → (usize).Denot → (R E).Denot → (Cr E).Denot → Type 0
-  Gives0 d base index r new = get_or d.slots index None ≡ Some r
+  Gives0 d base index r new = get_or d.places index None ≡ Some r
 
   abbrev Gives1 : (Cr E).Denot → (Bs E).Denot → (usize).Denot → (R E).Denot → (Cr E).Denot → Type 0
-  Gives1 d base index r new = (new.at ≡ d.at) × (new.slots ≡ set d.slots index None)
+  Gives1 d base index r new = (new.at ≡ d.at) × (new.places ≡ set d.places index None)
 
   abbrev spec : {M : Type 1} {𝓤 : Ura M} (𝓛 : Logic 𝓤) → Clauses 𝓤 ended
   spec {𝓤 = 𝓤} 𝓛 κs a = record { ghost = Unit {0}; requires = λ _. fact 𝓤 (Asks a.0.now a.1.0 a.1.1.0); ensures = λ _ r w. sep 𝓤 (fact 𝓤 (Gives0 a.0.now a.1.0 a.1.1.0 r w.0.now)) (fact 𝓤 (Gives1 a.0.now a.1.0 a.1.1.0 r w.0.now)) }
@@ -98,25 +98,25 @@ module _ (E : El) {M : Type 1} {𝓤 : Ura M} (𝓛 : Logic 𝓤) (C : Calls �
 
   walk : us0 ≡ vptr rb ro ∷ [] → Asks E d base index → index < 2 ^ 64 → ent 𝓤 (⋆ 𝓛 Had) (WpFn 𝓤 H C Λ (function E) (vptr rb ro ∷ word base.ptr ∷ vint w64 index ∷ []) Post)
   walk passed asked fits_index =
-      let x = asked.1.0 in let within = filled_within d.slots index x asked.1.1 in
-      let new : (Cr E).Denot = record { mark = d.mark; at = d.at; slots = set d.slots index None } in
+      let x = asked.1.0 in let within = filled_within d.places index x asked.1.1 in
+      let new : (Cr E).Denot = record { mark = d.mark; at = d.at; places = set d.places index None } in
       qed 𝓛 Had ∵ enter ! C Λ (function E) (vptr rb ro ∷ word base.ptr ∷ vint w64 index ∷ []) _ $ alloc_all ! (λ l. pass_all ! refl ((tt, tt), (word-Good [] base.ptr, ((tt, record { fits = fits_index }), tt))) $
       let En : Env 𝓤 H = env (function E).locals l in
       opens ! tt (Cr E) {h = d} rb ro (λ vs. move ! (1 ∷ []) $ fsplit ! $ move ! (1 ∷ []) $
-      in_a_block ! d.at (λ p. cells_own (R E) p d.slots) (id⊢ 𝓤 (never 𝓤)) (λ b o e. fsplit ! $ flt_l ! (λ small.
-      let s = sz E in let tiny : s < 2 ^ 64 = omega (arith, one_below (length d.slots) s (2 ^ 63) (omega arith) small) in
-      let far : index * s < 2 ^ 64 = omega (arith, times_below index (length d.slots) s (2 ^ 63) (omega arith) small) in
+      in_a_block ! d.at (λ p. cells_own (R E) p d.places) (id⊢ 𝓤 (never 𝓤)) (λ b o e. fsplit ! $ flt_l ! (λ small.
+      let s = sz E in let tiny : s < 2 ^ 64 = omega (arith, one_below (length d.places) s (2 ^ 63) (omega arith) small) in
+      let far : index * s < 2 ^ 64 = omega (arith, times_below index (length d.places) s (2 ^ 63) (omega arith) small) in
       take_at ! 2 $ rewrite ! 0 (λ (p : Ptr). ‵ (fat full_share (layout (Bs E)) (l 2) 0 (word p))) (asked.0 ∙ e) refl $ give_at ! 2 $ first ! $ blocks ! $
       sets ! (bin ! (get ! refl) (size_lit ! (record { fits = tiny })) (record { fits = far })) refl (tt, record { fits = far }) $
       sets ! (bin ! (get_in ! (fld ! refl (stop !)) (sub ! 0 refl (whole !))) (get ! refl) tt) refl (tt, tt) $
-      use1 𝓛 (‵ (slot (R E) b (index * s + o) (get_or d.slots index None)) ⊛ ‵ (Besides E 𝓛 b o d.slots index)) (slot_out E 𝓛 b o d.slots index within) $ split ! $ rewrite ! 0 (λ (c : Place E). ‵ (slot (R E) b (index * s + o) c)) asked.1.1 refl $
+      use1 𝓛 (‵ (place (R E) b (index * s + o) (get_or d.places index None)) ⊛ ‵ (Besides E 𝓛 b o d.places index)) (place_out E 𝓛 b o d.places index within) $ split ! $ rewrite ! 0 (λ (c : Place E). ‵ (place (R E) b (index * s + o) c)) asked.1.1 refl $
       use1 𝓛 (some (λ (v : Val). given (Good (elτ E) v) (‵ (fat full_share (elτ E) b (index * s + o) v) ⊛ ‵ (E.row.own_val x (v ∷ []))))) (value_out 0 E.row E.laws 𝓛 x b (index * s + o)) $
       pick ! (λ v. learn ! (λ good. split ! $ sets_last ! (of_opd ! (load ! (through ! refl (stop !)) (look ! 0 refl))) refl good $
       exec ! C Λ En (after 1 (function E).body) (at_ret En Post) $ sets ! (of_opd ! (get ! refl)) refl good $
       use1 𝓛 (‵ (froom (elτ E) b (index * s + o))) (𝓛.laws.at_room (elτ E) b (index * s + o) v) $ as_raw ! (elτ E) b (index * s + o) $ move ! (0 ∷ 2 ∷ 3 ∷ 4 ∷ 5 ∷ 6 ∷ 7 ∷ []) $
-      use2 𝓛 (‵ (slots (R E) b o new.slots)) (slot_in E 𝓛 b o d.slots index within None) $
-      flt_i ! (length new.slots * s) (2 ^ 63) (subst (λ k. k * s < 2 ^ 63) (sym (length-set d.slots index None)) small) $ fjoin ! $
-      rewrite ! 0 (λ (p : Ptr). ‵ (cells_own (R E) p new.slots)) (sym e) refl $ move ! (1 ∷ 0 ∷ []) $ fjoin ! $ move ! (1 ∷ 0 ∷ []) $ closes ! tt (Cr E) new vs rb ro $
+      use2 𝓛 (‵ (places (R E) b o new.places)) (place_in E 𝓛 b o d.places index within None) $
+      flt_i ! (length new.places * s) (2 ^ 63) (subst (λ k. k * s < 2 ^ 63) (sym (length-set d.places index None)) small) $ fjoin ! $
+      rewrite ! 0 (λ (p : Ptr). ‵ (cells_own (R E) p new.places)) (sym e) refl $ move ! (1 ∷ 0 ∷ []) $ fjoin ! $ move ! (1 ∷ 0 ∷ []) $ closes ! tt (Cr E) new vs rb ro $
       returns ! (look_at ! 0 refl) $ free_all ! refl $ keep ! (0 ∷ 1 ∷ 2 ∷ 3 ∷ []) $ by ! (exits passed x v new asked.1.1 (refl, refl))))))))
 
   entry : Asks E d base index → ent 𝓤 (on_entry 𝓛 (ended E).signature (κ, tt) (q, tt) (self, (base, (index, tt))) (us0, (us1, (us2, tt)))) (WpFn 𝓤 H C Λ (function E) (us0 ++ (us1 ++ (us2 ++ []))) Post)

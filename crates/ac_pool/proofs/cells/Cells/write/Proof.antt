@@ -46,8 +46,8 @@ use Rattle.std.specs.Prelude.{Some, None}
 use Rattle.core.proofs.mem.Param.{El, R, args, elτ}
 use Rattle.core.proofs.ptr.Rows.{times_below, one_below}
 use Rattle.std_alloc.proofs.RawLayout.{as_written}
-use Rattle.ac_pool.specs.Ownership.{slot, slots, cells_own}
-use Rattle.ac_pool.proofs.Memory.{Cr, Bs, sz, Place, word_had, value_in, tells, Besides, slot_out, slot_in}
+use Rattle.ac_pool.specs.Ownership.{place, places, cells_own}
+use Rattle.ac_pool.proofs.Memory.{Cr, Bs, sz, Place, word_had, value_in, tells, Besides, place_out, place_in}
 use Rattle.ac_pool.specs.contracts.cells.Cells.write.Key.{name as #self}
 use Rattle.ac_pool.proofs.cells.Cells.write.Statement as stated
 use Rattle.ac_pool.proofs.cells.Cells.write.Code as code
@@ -63,10 +63,10 @@ module _ (E : El) where
   stayed = (stay_ref (0 ∷ []) tt (plain (λ _. Cr E)), (stay_dropped (plain (λ _. Bs E)) no, (stay_dropped (plain (λ _. usize)) no, (stay_dropped (plain (λ _. R E)) no, tt))))
 
   abbrev Asks : (Cr E).Denot → (Bs E).Denot → (usize).Denot → (R E).Denot → Type 0
-  Asks d base index item = (base.ptr ≡ d.at) × (index < length d.slots) × (get_or d.slots index None ≡ None)
+  Asks d base index item = (base.ptr ≡ d.at) × (index < length d.places) × (get_or d.places index None ≡ None)
 
   abbrev Gives0 : (Cr E).Denot → (Bs E).Denot → (usize).Denot → (R E).Denot → (unit).Denot → (Cr E).Denot → Type 0
-  Gives0 d base index item r new = (new.at ≡ d.at) × (new.slots ≡ set d.slots index (Some item))
+  Gives0 d base index item r new = (new.at ≡ d.at) × (new.places ≡ set d.places index (Some item))
 
   abbrev spec : {M : Type 1} {𝓤 : Ura M} (𝓛 : Logic 𝓤) → Clauses 𝓤 ended
   spec {𝓤 = 𝓤} 𝓛 κs a = record { ghost = Unit {0}; requires = λ _. fact 𝓤 (Asks a.0.now a.1.0 a.1.1.0 a.1.1.1.0); ensures = λ _ r w. fact 𝓤 (Gives0 a.0.now a.1.0 a.1.1.0 a.1.1.1.0 r w.0.now) }
@@ -95,24 +95,24 @@ module _ (E : El) {M : Type 1} {𝓤 : Ura M} (𝓛 : Logic 𝓤) (C : Calls �
   walk : us0 ≡ vptr rb ro ∷ [] → Asks E d base index item → index < 2 ^ 64 → (v_item : Val) → Good (layout (R E)) v_item → ent 𝓤 (⋆ 𝓛 (Had v_item)) (WpFn 𝓤 H C Λ (function E) (vptr rb ro ∷ word base.ptr ∷ vint w64 index ∷ v_item ∷ []) Post)
   walk passed asked fits_index v_item good_item =
       let within = asked.1 in
-      let new : (Cr E).Denot = record { mark = d.mark; at = d.at; slots = set d.slots index (Some item) } in
+      let new : (Cr E).Denot = record { mark = d.mark; at = d.at; places = set d.places index (Some item) } in
       qed 𝓛 (Had v_item) ∵ enter ! C Λ (function E) (vptr rb ro ∷ word base.ptr ∷ vint w64 index ∷ v_item ∷ []) _ $ alloc_all ! (λ l. pass_all ! refl ((tt, tt), (word-Good [] base.ptr, ((tt, record { fits = fits_index }), (good_item, tt)))) $
       let En : Env 𝓤 H = env (function E).locals l in
       opens ! tt (Cr E) {h = d} rb ro (λ vs. move ! (1 ∷ []) $ fsplit ! $ move ! (1 ∷ []) $
-      in_a_block ! d.at (λ p. cells_own (R E) p d.slots) (id⊢ 𝓤 (never 𝓤)) (λ b o e. fsplit ! $ flt_l ! (λ small.
-      let s = sz E in let tiny : s < 2 ^ 64 = omega (arith, one_below (length d.slots) s (2 ^ 63) (omega arith) small) in
-      let far : index * s < 2 ^ 64 = omega (arith, times_below index (length d.slots) s (2 ^ 63) (omega arith) small) in
+      in_a_block ! d.at (λ p. cells_own (R E) p d.places) (id⊢ 𝓤 (never 𝓤)) (λ b o e. fsplit ! $ flt_l ! (λ small.
+      let s = sz E in let tiny : s < 2 ^ 64 = omega (arith, one_below (length d.places) s (2 ^ 63) (omega arith) small) in
+      let far : index * s < 2 ^ 64 = omega (arith, times_below index (length d.places) s (2 ^ 63) (omega arith) small) in
       take_at ! 2 $ rewrite ! 0 (λ (p : Ptr). ‵ (fat full_share (layout (Bs E)) (l 2) 0 (word p))) (asked.0 ∙ e) refl $ give_at ! 2 $ first ! $ blocks ! $
       sets ! (bin ! (get ! refl) (size_lit ! (record { fits = tiny })) (record { fits = far })) refl (tt, record { fits = far }) $
       sets ! (bin ! (get_in ! (fld ! refl (stop !)) (sub ! 0 refl (whole !))) (get ! refl) tt) refl (tt, tt) $
-      use1 𝓛 (‵ (slot (R E) b (index * s + o) (get_or d.slots index None)) ⊛ ‵ (Besides E 𝓛 b o d.slots index)) (slot_out E 𝓛 b o d.slots index within) $ split ! $ rewrite ! 0 (λ (c : Place E). ‵ (slot (R E) b (index * s + o) c)) asked.2 refl $ as_written ! (elτ E) b (index * s + o) $
+      use1 𝓛 (‵ (place (R E) b (index * s + o) (get_or d.places index None)) ⊛ ‵ (Besides E 𝓛 b o d.places index)) (place_out E 𝓛 b o d.places index within) $ split ! $ rewrite ! 0 (λ (c : Place E). ‵ (place (R E) b (index * s + o) c)) asked.2 refl $ as_written ! (elτ E) b (index * s + o) $
       -- [the room; the other places; the mark; its cell; the open borrow; obs; auth; what the item owns]
       sets ! (of_opd ! (get ! refl)) refl good_item $ assigns_last ! (of_opd ! (get ! refl)) (through ! refl (stop !)) (init ! 0 refl good_item) $
       exec ! C Λ En (after 1 (function E).body) (at_ret En Post) $ sets ! (of_opd ! (unit_lit !)) refl (tt, tt) $
-      move ! (0 ∷ 7 ∷ []) $ use2 𝓛 (‵ (slot (R E) b (index * s + o) (Some item))) (value_in 0 E.row E.laws 𝓛 item b (index * s + o) v_item) $
-      use2 𝓛 (‵ (slots (R E) b o new.slots)) (slot_in E 𝓛 b o d.slots index within (Some item)) $
-      flt_i ! (length new.slots * s) (2 ^ 63) (subst (λ k. k * s < 2 ^ 63) (sym (length-set d.slots index (Some item))) small) $ fjoin ! $
-      rewrite ! 0 (λ (p : Ptr). ‵ (cells_own (R E) p new.slots)) (sym e) refl $ move ! (1 ∷ 0 ∷ []) $ fjoin ! $ move ! (1 ∷ 0 ∷ []) $ closes ! tt (Cr E) new vs rb ro $
+      move ! (0 ∷ 7 ∷ []) $ use2 𝓛 (‵ (place (R E) b (index * s + o) (Some item))) (value_in 0 E.row E.laws 𝓛 item b (index * s + o) v_item) $
+      use2 𝓛 (‵ (places (R E) b o new.places)) (place_in E 𝓛 b o d.places index within (Some item)) $
+      flt_i ! (length new.places * s) (2 ^ 63) (subst (λ k. k * s < 2 ^ 63) (sym (length-set d.places index (Some item))) small) $ fjoin ! $
+      rewrite ! 0 (λ (p : Ptr). ‵ (cells_own (R E) p new.places)) (sym e) refl $ move ! (1 ∷ 0 ∷ []) $ fjoin ! $ move ! (1 ∷ 0 ∷ []) $ closes ! tt (Cr E) new vs rb ro $
       returns ! (look_at ! 0 refl) $ free_all ! refl $ keep ! (0 ∷ 1 ∷ 2 ∷ []) $ feq_i ! (List Val) (vunit ∷ []) (vunit ∷ []) refl $ move ! (1 ∷ 2 ∷ 3 ∷ 0 ∷ []) $
       by ! (exits passed tt vunit new (refl, refl))))))
 
