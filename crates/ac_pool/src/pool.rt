@@ -101,38 +101,38 @@ impl<T> Pool<T> {
     }
 
     /// Puts a value under a fresh name. Where no slot is spare it grows as `reserve(1)` does.
-    pub fn put(&mut self, v: T) -> Result<Name, PutFault<T>>
+    pub fn put(&mut self, value: T) -> Result<Name, PutFault<T>>
         requires { live_count self.old < 2 ^ 30 }
         ensures fresh { IfOk result (IsFresh self.old) }
-        ensures ok { IfOk result (λ name. self.new ≡ added (reserved self.old 1) name v) }
+        ensures ok { IfOk result (λ name. self.new ≡ added (reserved self.old 1) name value) }
         ensures unspent { OnOk result (self.old.next_serial < 2 ^ 64 - 1) }
 
         // The value comes back: Spent where the next serial is the last number, and else NoMemory, where no slot was spare.
-        ensures refused { IfErr result (RefusesPut self.old v) }
+        ensures refused { IfErr result (RefusesPut self.old value) }
         ensures err { OnErr result (self.new ≡ self.old) }
         ensures sound { IsSound self.new }
     {
         if self.next_serial() == u64::MAX {
-            return Err(PutFault::Spent(v));
+            return Err(PutFault::Spent(value));
         }
         match self.reserve(1) {
-            Ok(()) => Ok(self.put_reserved(v)),
-            Err(NoMemory) => Err(PutFault::NoMemory(v)),
+            Ok(()) => Ok(self.put_reserved(value)),
+            Err(NoMemory) => Err(PutFault::NoMemory(value)),
         }
     }
 
     /// As `put`, where a slot is spare and a serial is left.
-    pub fn put_reserved(&mut self, v: T) -> Name
+    pub fn put_reserved(&mut self, value: T) -> Name
         requires spare { 0 < self.old.spare }
         requires unspent { self.old.next_serial < 2 ^ 64 - 1 }
         ensures fresh { IsFresh self.old result }
-        ensures added { self.new ≡ added self.old result v }
+        ensures added { self.new ≡ added self.old result value }
         ensures sound { IsSound self.new }
     {
         self.spare -= 1;
         let slot = self.free[self.spare];
         let serial = self.next_serial;
-        self.slots.put(slot as usize, serial, v);
+        self.slots.put(slot as usize, serial, value);
         self.next_serial += 1;
         Name { slot, serial }
     }

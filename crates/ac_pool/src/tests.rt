@@ -4,9 +4,9 @@ use std::cell::Cell;
 use std::process::Abort;
 use std::test::Fail;
 
-fn put<T: Drop>(rt: &impl Abort, pool: &mut Pool<T>, v: T) -> Name {
+fn put<T: Drop>(rt: &impl Abort, pool: &mut Pool<T>, value: T) -> Name {
     assert!(rt; pool.live() < 1000);
-    match pool.put(v) {
+    match pool.put(value) {
         Ok(name) => name,
         Err(_) => panic!(rt; "no memory"),
     }
@@ -140,11 +140,14 @@ fn a_long_churn_keeps_its_slots(rt: HostRuntime) -> Result<(), Fail> {
     Ok(())
 }
 
+fn crosses_threads<X: Send + Sync>(_x: &X) {}
+
 #[test]
 fn values_may_take_no_bytes(rt: HostRuntime) {
     let mut pool = Pool::new(rt.alloc());
     let name = put(&rt, &mut pool, ());
     assert_eq!(rt; pool.take(name), Some(()));
+    crosses_threads(&pool);
 }
 
 // `rt try --test --fail-alloc N` makes one of the growths fail.
