@@ -1,7 +1,7 @@
 #!/usr/bin/env python3
-"""Times the built program on generated scripts, beside a plain Rust program on the same machine in the same run.
+"""Times the built programs beside plain Rust programs on the same machine in the same run.
 
-Prints for each script the program's time, the ratio to the baseline's, and the growth from half the script to the whole: 2 is linear. Needs rustc; isn't part of the gate.
+Prints the program's time for each generated script, the ratio to the baseline's, and the growth from half the script to the whole: 2 is linear. Then the time of a put and a take of the pool, and the ratio. Needs rustc; isn't part of the gate.
 """
 import os
 import subprocess
@@ -32,38 +32,65 @@ def prints(count):
     return HEAD + "".join(f"A.Append ({n});\n" + ("A.Print;\n" if n % 20 == 19 else "") for n in range(count))
 
 
-def seconds(program, script):
+def seconds(command, script=os.devnull):
+    """The least time of some runs."""
     best = None
     for _ in range(RUNS):
         with open(script) as text, open(os.devnull, "w") as nowhere:
             start = time.perf_counter()
-            subprocess.run([program], stdin=text, stdout=nowhere, check=True)
+            subprocess.run(command, stdin=text, stdout=nowhere, check=True)
             took = time.perf_counter() - start
         best = took if best is None else min(best, took)
     return best
 
 
+def build(source, place):
+    """A plain Rust program."""
+    program = os.path.join(place, os.path.splitext(os.path.basename(source))[0])
+    subprocess.run(["rustc", "-O", "-o", program, os.path.join(TOP, "bench", source)], check=True)
+    return program
+
+
+def workload(program, name, rounds):
+    """Seconds for each round of a workload, without what a program takes to start."""
+    return (seconds([program, name, str(rounds)]) - seconds([program, name, "0"])) / rounds
+
+
+def scripts(place):
+    program = os.path.join(TOP, "crates/adacont/out/adacont")
+    baseline = build("baseline.rs", place)
+    rows = [
+        ("1 MiB of appends, a print at the end", appends(1048576), appends(524288)),
+        ("20,000 appends with 1,000 prints", prints(20000), None),
+    ]
+    print(f"{'script':<40}{'adacont s':>12}{'ratio':>8}{'growth':>8}")
+    for name, whole, half in rows:
+        paths = []
+        for text in (whole, half):
+            path = os.path.join(place, f"script{len(paths)}.ada")
+            with open(path, "w") as file:
+                file.write(text or "")
+            paths.append(path)
+        ours, theirs = seconds([program], paths[0]), seconds([baseline], paths[0])
+        growth = f"{ours / seconds([program], paths[1]):.2f}" if half else "-"
+        print(f"{name:<40}{ours:>12.4f}{ours / theirs:>8.2f}{growth:>8}")
+
+
+def churn(program, place):
+    rounds = 10_000_000
+    ours = workload(program, "pool", rounds)
+    theirs = workload(build("pool_baseline.rs", place), "pool", rounds)
+    print(f"{'workload':<40}{'ns a round':>12}{'ratio':>8}")
+    print(f"{'a put and a take, 1,000 live':<40}{ours * 1e9:>12.1f}{ours / theirs:>8.2f}")
+
+
 def main():
     subprocess.run([os.path.join(TOP, "adacont")], stdin=subprocess.DEVNULL, check=True)
-    program = os.path.join(TOP, "crates/adacont/out/adacont")
+    folder = os.path.join(TOP, "crates/ac_bench")
+    subprocess.run(["rt", "run"], cwd=folder, stdin=subprocess.DEVNULL, stdout=subprocess.DEVNULL, stderr=subprocess.DEVNULL)
     with tempfile.TemporaryDirectory() as place:
-        baseline = os.path.join(place, "baseline")
-        subprocess.run(["rustc", "-O", "-o", baseline, os.path.join(TOP, "bench/baseline.rs")], check=True)
-        rows = [
-            ("1 MiB of appends, a print at the end", appends(1048576), appends(524288)),
-            ("20,000 appends with 1,000 prints", prints(20000), None),
-        ]
-        print(f"{'script':<40}{'adacont s':>12}{'ratio':>8}{'growth':>8}")
-        for name, whole, half in rows:
-            paths = []
-            for text in (whole, half):
-                path = os.path.join(place, f"script{len(paths)}.ada")
-                with open(path, "w") as file:
-                    file.write(text or "")
-                paths.append(path)
-            ours, theirs = seconds(program, paths[0]), seconds(baseline, paths[0])
-            growth = f"{ours / seconds(program, paths[1]):.2f}" if half else "-"
-            print(f"{name:<40}{ours:>12.4f}{ours / theirs:>8.2f}{growth:>8}")
+        scripts(place)
+        churn(os.path.join(folder, "out/ac_bench"), place)
     return 0
 
 
