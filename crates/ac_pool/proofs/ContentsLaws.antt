@@ -143,6 +143,41 @@ module _ {X : Type 0} (c : Contents X) where
         swapped_live a a x.0 x.0 x.1 x.1 ∙ ap (λ d. with_value d a x.0) (with_value-same a x.0 x.1) ∙ with_value-same a x.0 x.1
   ]
 
+  -- what a swap leaves under each name
+  module _ (a b : Name) (x y : X) (at_a : value_of c a ≡ Some x) (at_b : value_of c b ≡ Some y) where
+    written : swapped c a b ≡ with_value (with_value c a y) b x
+    written = swapped_live a b x y at_a at_b
+
+    pub value_of-swapped_second : value_of (swapped c a b) b ≡ Some x
+    value_of-swapped_second = ap (λ d. value_of d b) written ∙ get-insert_same (with_value c a y).entries b x
+
+    pub value_of-swapped_first : value_of (swapped c a b) a ≡ Some y
+    value_of-swapped_first = ap (λ d. value_of d a) written ∙ elim (cases_name a b) [
+      | inl same ↦ ap (λ (q : Name). value_of (with_value (with_value c a y) b x) q) same ∙ get-insert_same (with_value c a y).entries b x ∙ sym at_a ∙ ap (value_of c) same ∙ at_b
+      | inr n ↦ get-insert_other (with_value c a y).entries b a x n ∙ get-insert_same c.entries a y
+    ]
+
+    pub value_of-swapped_other : (q : Name) → q ≢ a → q ≢ b → value_of (swapped c a b) q ≡ value_of c q
+    value_of-swapped_other q m n = ap (λ d. value_of d q) written ∙ get-insert_other (with_value c a y).entries b q x n ∙ get-insert_other c.entries a q y m
+
+    pub live_count-swapped : live_count (swapped c a b) ≡ live_count c
+    live_count-swapped =
+        let live_a : IsLive c a = ap is_some at_a in
+        let live_b : IsLive (with_value c a y) b = elim (cases_name b a) [
+          | inl same ↦ ap (λ (q : Name). is_some (value_of (with_value c a y) q)) same ∙ ap is_some (get-insert_same c.entries a y)
+          | inr n ↦ ap is_some (get-insert_other c.entries a b y n ∙ at_b)
+        ] in
+        ap live_count written ∙ (map.len-insert name_cmp_total (with_value c a y).entries b x ∙ cond-true _ _ _ live_b) ∙ live_count-with_value a y live_a
+
+  pub slot_count-reserved_grown : (n : ℕ) → c.spare < n → slot_count (reserved c n) ≡ pow8 (live_count c + n)
+  slot_count-reserved_grown n lt = let enough = (IsLeastPow8-pow8 (live_count c + n)).enough in ap slot_count (reserved_grown n lt) ∙ omega arith
+
+  pub value_of-cleared : (q : Name) → value_of (cleared c) q ≡ None
+  value_of-cleared q = map.get-empty name_cmp q
+
+  pub slot_count-cleared : slot_count (cleared c) ≡ slot_count c
+  slot_count-cleared = slot_count-no_values X c.next_serial (slot_count c)
+
   live_before : (k q : Name) (w : X) → IsLive c k → IsLive (with_value c k w) q → IsLive c q
   live_before k q w live h = elim (cases_name q k) [
     | inl same ↦ ap (λ (n : Name). is_some (value_of c n)) same ∙ live
@@ -194,4 +229,8 @@ pub ruleset values = (
   value_of-taken_same,
   value_of-taken_other,
   value_of-reserved,
+  value_of-swapped_first,
+  value_of-swapped_second,
+  value_of-swapped_other,
+  value_of-cleared,
 )

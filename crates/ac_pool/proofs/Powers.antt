@@ -58,3 +58,16 @@ pub pow8-unique : (n s : ℕ) → IsLeastPow8 n s → s ≡ pow8 n
 pow8-unique n s h = let p = IsLeastPow8-pow8 n in
     let a : s ≤ pow8 n = subst (λ m. s ≤ m) (sym p.power.1) (h.least p.power.0 (subst (λ m. n ≤ m) p.power.1 p.enough)) in
     let b : pow8 n ≤ s = subst (λ m. pow8 n ≤ m) (sym h.power.1) (p.least h.power.0 (subst (λ m. n ≤ m) h.power.1 h.enough)) in omega arith
+
+-- a power that is enough bounds the least
+pub pow8-within : (n k : ℕ) → n ≤ 8 * 2 ^ k → pow8 n ≤ 8 * 2 ^ k
+pow8-within n k h = (IsLeastPow8-pow8 n).least k h
+
+pub pow8-enough : (n : ℕ) → n ≤ pow8 n
+pow8-enough n = (IsLeastPow8-pow8 n).enough
+
+pub pow8-rises : (m n : ℕ) → m ≤ n → pow8 m ≤ pow8 n
+pow8-rises m n h =
+    let p = IsLeastPow8-pow8 n in
+    let enough : m ≤ pow8 n = omega (arith, p.enough) in
+    subst (λ s. pow8 m ≤ s) (sym p.power.1) (pow8-within m p.power.0 (subst (λ s. m ≤ s) p.power.1 enough))
