@@ -1,10 +1,10 @@
 -- What an input means, by its length and by the script that it spells.
-use Rattle.std.proofs.Common.{◌≡◌, ◌<◌, ◌≤◌, ℕ, List, length, Option, Some, None, ap, ◌∙◌, refl, codes, arith, nat_lt, Bool, true, false, IfSome, [], ◌∷◌, ◌++◌}
+use Rattle.std.proofs.Common.{◌≡◌, ◌<◌, ◌≤◌, ℕ, List, length, Option, ap, refl, codes, arith, nat_lt, true, false}
 use Rattle.std.proofs.lemmas.Bool.Decides.{nat_tests}
 use Rattle.ac_script.specs.declared.script.Command.{Command}
 use Rattle.ac_script.specs.Reading.{script_of}
 use Rattle.ac_top.specs.declared.limits.TheConstants.{INPUT_LIMIT}
-use Rattle.ac_top.specs.Meaning.{Meaning, meaning_of, meaning_of_script, refusal}
+use Rattle.ac_top.specs.Meaning.{meaning_of, meaning_of_script, refusal}
 
 not_longer : (limit n : ℕ) → n ≤ limit → nat_lt limit n ≡ false
 not_longer limit n h = grind (arith, nat_tests)

@@ -1,7 +1,7 @@
 -- A text that is written piece by piece: its beginning, one piece more, and its end.
-use Rattle.std.proofs.Common.{◌≡◌, ◌+◌, ◌-◌, ◌≤◌, ℕ, List, [], ◌∷◌, ◌++◌, refl, sym, ap, ◌∙◌, length, Option, Some, None, IfSome, Result, Ok, Err, IsOk, OnErr, arith, append_assoc, append-nil, length-append, subst}
+use Rattle.std.proofs.Common.{◌≡◌, ◌+◌, ◌-◌, ◌≤◌, ℕ, List, [], ◌++◌, refl, sym, ap, ◌∙◌, length, Option, Some, None, IfSome, Result, Ok, Err, OnErr, arith, append_assoc, append-nil, length-append, subst}
 use Rattle.std.proofs.lemmas.Option.{none-some, same_Some, IfSome_then}
-use Rattle.ac_io.specs.Outside.{GrewBy, GrewByFront, IsFront}
+use Rattle.ac_io.specs.Outside.{GrewBy, GrewByFront}
 use Rattle.ac_top.specs.Told.{IsTold}
 
 grew_nothing : (held : Option (List ℕ)) → GrewBy held held []

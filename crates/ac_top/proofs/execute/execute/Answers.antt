@@ -1,9 +1,9 @@
-use Rattle.std.proofs.Common.{◌≡◌, ◌+◌, ◌++◌, [], drop, subst, arith, ◌∙◌}
+use Rattle.std.proofs.Common.{[], subst, arith, ◌∙◌}
 use Rattle.std.proofs.lemmas.Result.{err_from_is_err_and}
 use Rattle.ac_top.specs.Meaning.{lines_from}
 use Rattle.ac_top.specs.Told.{IsTold}
 use Rattle.ac_top.proofs.Lines.{next_line}
-use Rattle.ac_top.proofs.Telling.{told_front, told_broken, told_more, told_stuck, told_all, on_err_of, if_some_of}
+use Rattle.ac_top.proofs.Telling.{told_front, told_broken, told_more, on_err_of, if_some_of}
 use Rattle.ac_top.proofs.execute.execute.Goals as goal
 
 pub returns-in_err-run_command-clause-front : goal.returns-in_err-run_command-clause-front
