@@ -1,0 +1,38 @@
+-- Objects for the examples.
+use Rattle.std.specs.Prelude.{ℕ, true, false, List, length}
+use Rattle.ac_base.specs.declared.limit.Limit.TheVariants.{Unbounded, Bounded}
+use Rattle.ac_base.specs.declared.name.Name.{Name}
+use Rattle.ac_model.specs.Rows.{fresh}
+use Rattle.ac_model.specs.Objects.{Object, grown, empty_object}
+
+-- the object with this number that holds the values under the names from 1 on: with no Capacity, and with one
+abbrev pub holding : {V : Type 0} → ℕ → List V → Object ℕ V
+holding number vs = grown (empty_object false number Unbounded) (fresh 1 vs) (length vs)
+
+abbrev pub vector_holding : {V : Type 0} → ℕ → List V → Object ℕ V
+vector_holding number vs = grown (empty_object true number Unbounded) (fresh 1 vs) (length vs)
+
+-- the same with a limit
+abbrev pub bounded_holding : {V : Type 0} → ℕ → ℕ → List V → Object ℕ V
+bounded_holding number most vs = grown (empty_object true number (Bounded most)) (fresh 1 vs) (length vs)
+
+-- the object under so many cursor guards and so many element guards
+abbrev pub guarded : {N V : Type 0} → ℕ → ℕ → Object N V → Object N V
+guarded cursor_guards element_guards o = record o { cursor_guards = cursor_guards; element_guards = element_guards }
+
+-- the object with only so many names left
+abbrev pub with_next : {N V : Type 0} → ℕ → Object N V → Object N V
+with_next next o = record o { next = next }
+
+abbrev pub name_in_slot : ℕ → ℕ → Name
+name_in_slot slot serial = record { slot = slot; serial = serial }
+
+-- a list, a vector and a bounded vector of numbers
+abbrev pub list_of : ℕ → List ℕ → Object ℕ ℕ
+list_of number vs = holding number vs
+
+abbrev pub vector_of : ℕ → List ℕ → Object ℕ ℕ
+vector_of number vs = vector_holding number vs
+
+abbrev pub bounded_vector_of : ℕ → ℕ → List ℕ → Object ℕ ℕ
+bounded_vector_of number most vs = bounded_holding number most vs

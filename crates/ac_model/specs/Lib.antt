@@ -1,0 +1,9 @@
+pub mod Rows
+pub mod Objects
+pub mod Letters
+pub mod Calls
+pub mod Common
+pub mod Sequences
+pub mod Lists
+pub mod Vectors
+pub mod Examples

@@ -1,0 +1,9 @@
+//! What every container call means: definitions alone, in `specs/`. The functions here have empty bodies.
+//! Their contracts are laws of the definitions and worked examples, so that the check proves them.
+#![tactic(auto)]
+
+pub mod list_examples;
+pub mod order_examples;
+pub mod row_laws;
+pub mod validity;
+pub mod vector_examples;
