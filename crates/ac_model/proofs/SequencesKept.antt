@@ -2,18 +2,19 @@
 use Rattle.std.proofs.Common.{◌≡◌, ◌+◌, ◌-◌, ℕ, ℤ, Bool, [], ◌∷◌, length, replicate, arith, Option, None}
 use Rattle.std.proofs.lemmas.List.{length-replicate}
 use Rattle.ac_base.specs.declared.reason.Reason.{Reason}
+use Rattle.ac_base.specs.declared.reason.Reason.TheVariants.{CapacityFull}
 use Rattle.ac_cursor.specs.Steps.{first_reason}
 use Rattle.ac_model.specs.Rows.{cut, value_at, with_value, with_some_value, with_exchanged_values, merged, fresh}
-use Rattle.ac_model.specs.Objects.{Object, IsValid, contents, with_rows, grown}
-use Rattle.ac_model.specs.Letters.{Mark, room, count_of, may, in_range, tampers_cursors, name_of, place_at}
+use Rattle.ac_model.specs.Objects.{is_past, Object, IsValid, contents, with_rows, grown}
+use Rattle.ac_model.specs.Letters.{reason_if, Mark, room, count_of, may, in_range, tampers_cursors, name_of, place_at}
 use Rattle.ac_model.specs.Calls.{Keeps, KeepsBoth}
 use Rattle.ac_model.specs.Common as common
 use Rattle.ac_model.specs.Sequences as sequence
 use Rattle.ac_model.specs.Sequences.{with_new, with_copies}
 use Rattle.ac_model.proofs.Times.{times-cut, times-with_value, times-with_some_value, times-merged}
 use Rattle.ac_model.proofs.Lengths.{length-fresh, length-cut, length-with_value, length-with_some_value, length-merged, length-values}
-use Rattle.ac_model.proofs.Reasons.{none_others, after_two, after_three, room_none}
-use Rattle.ac_model.proofs.Kept.{kept, grew, new_kept}
+use Rattle.ac_model.proofs.Reasons.{in_range_none, none_first, none_others, after_two, after_three, room_none}
+use Rattle.ac_model.proofs.Kept.{capacity-asked, kept, grew, new_kept}
 
 pub cleared : {V : Type 0} (o : Object ℕ V) → IsValid o → IsValid (with_rows o [])
 cleared o v = kept o [] v (λ name. omega arith) (omega arith)
@@ -99,3 +100,18 @@ merge_keeps less target source v w none =
       grew target rows (contents source) more v (length-values source.rows) (rw len fits) (λ name. omega (arith, times-merged less name target.rows (fresh target.next (contents source)))),
       cleared source w,
     )
+
+pub reserve_capacity_keeps : {V : Type 0} (o : Object ℕ V) (count : ℤ) → Keeps o (common.reserve_capacity_call o count)
+reserve_capacity_keeps o count v none =
+    let full = reason_if (is_past o.limit (count_of count)) CapacityFull in
+    let asked = in_range_none count (none_first (in_range count) (full ∷ []) (none_others (tampers_cursors o) (in_range count ∷ full ∷ []) none)) in
+    record {
+      names_differ = v.names_differ;
+      names_below_next = v.names_below_next;
+      names_from_one = v.names_from_one;
+      next_from_one = v.next_from_one;
+      next_in_range = v.next_in_range;
+      within_limit = v.within_limit;
+      within_greatest = v.within_greatest;
+      capacity_fits = capacity-asked o.limit o.capacity (length o.rows) (count_of count) asked v.capacity_fits;
+    }

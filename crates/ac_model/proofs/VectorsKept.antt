@@ -14,7 +14,7 @@ use Rattle.ac_model.specs.Vectors.{name_in}
 use Rattle.ac_model.proofs.Times.{times-over, times-take_less}
 use Rattle.ac_model.proofs.Lengths.{length-over, length-values}
 use Rattle.ac_model.proofs.Reasons.{none_first, none_others, after_two, in_range_none}
-use Rattle.ac_model.proofs.Kept.{kept, new_kept, capacity-asked}
+use Rattle.ac_model.proofs.Kept.{kept, new_kept}
 use Rattle.ac_model.proofs.SequencesKept.{cut_kept, with_value_kept, exchanged_kept, copies_kept, after_judging}
 
 over_kept : {T : Type 0} (o : Object ℕ T) (vs : List T) → IsValid o → IsValid (with_rows o (over o.rows vs))
@@ -25,21 +25,6 @@ reverse_elements_keeps o v none = over_kept o (reverse (contents o)) v
 
 pub sort_keeps : {T : Type 0} (less : T → T → Bool) (o : Object ℕ T) → Keeps o (vector.sort_call less o)
 sort_keeps less o v none = over_kept o (values (sorted less o.rows)) v
-
-pub reserve_capacity_keeps : {V : Type 0} (o : Object ℕ V) (count : ℤ) → Keeps o (vector.reserve_capacity_call o count)
-reserve_capacity_keeps o count v none =
-    let full = reason_if (is_past o.limit (count_of count)) CapacityFull in
-    let asked = in_range_none count (none_first (in_range count) (full ∷ []) (none_others (tampers_cursors o) (in_range count ∷ full ∷ []) none)) in
-    record {
-      names_differ = v.names_differ;
-      names_below_next = v.names_below_next;
-      names_from_one = v.names_from_one;
-      next_from_one = v.next_from_one;
-      next_in_range = v.next_in_range;
-      within_limit = v.within_limit;
-      within_greatest = v.within_greatest;
-      capacity_fits = capacity-asked o.limit o.capacity (length o.rows) (count_of count) asked v.capacity_fits;
-    }
 
 set_length_kept : {T : Type 0} (o : Object ℕ T) (blank : T) (n : ℕ) → IsValid o → first_reason (room o n (n - length o.rows)) ≡ None → (b : Bool) → nat_le n (length o.rows) ≡ b →
     IsValid (if b then with_rows o (take n o.rows) else grown o (put o.rows (length o.rows) (fresh o.next (replicate (n - length o.rows) blank))) (n - length o.rows))

@@ -1,8 +1,11 @@
 -- Objects for the examples.
-use Rattle.std.specs.Prelude.{ℕ, true, false, List, length}
+use Rattle.std.specs.Prelude.{◌/◌, nat_eq, nat_lt, ℕ, true, false, List, length}
 use Rattle.ac_base.specs.declared.limit.Limit.TheVariants.{Unbounded, Bounded}
 use Rattle.ac_base.specs.declared.name.Name.{Name}
-use Rattle.ac_model.specs.Rows.{fresh}
+use Rattle.ac_model.specs.Maps as maps
+use Rattle.ac_model.specs.KeyedSets as keyed_sets
+use Rattle.ac_model.specs.Keyed.{Order, by_arrival, ascending}
+use Rattle.ac_model.specs.Rows.{Entry, fresh}
 use Rattle.ac_model.specs.Objects.{Object, grown, empty_object}
 
 -- the object with this number that holds the values under the names from 1 on: with no Capacity, and with one
@@ -36,3 +39,33 @@ vector_of number vs = vector_holding number vs
 
 abbrev pub bounded_vector_of : ℕ → ℕ → List ℕ → Object ℕ ℕ
 bounded_vector_of number most vs = bounded_holding number most vs
+
+-- maps from numbers to numbers: a hashed and an ordered one, of these entries in this order
+abbrev pub hashed_map_of : ℕ → List (Entry ℕ ℕ) → Object ℕ (Entry ℕ ℕ)
+hashed_map_of number entries = vector_holding number entries
+
+abbrev pub ordered_map_of : ℕ → List (Entry ℕ ℕ) → Object ℕ (Entry ℕ ℕ)
+ordered_map_of number entries = holding number entries
+
+-- how the examples' maps and sets of numbers are ordered
+abbrev pub hashed_entries : Order (Entry ℕ ℕ)
+hashed_entries = maps.hashed nat_eq
+
+abbrev pub ordered_entries : Order (Entry ℕ ℕ)
+ordered_entries = maps.ordered nat_lt
+
+abbrev pub hashed_numbers : Order ℕ
+hashed_numbers = by_arrival nat_eq
+
+abbrev pub ordered_numbers : Order ℕ
+ordered_numbers = ascending nat_lt
+
+-- numbers with a key, which is all their digits but the last
+abbrev pub tens : ℕ → ℕ
+tens n = n / 10
+
+abbrev pub hashed_tens : Order ℕ
+hashed_tens = keyed_sets.hashed tens nat_eq
+
+abbrev pub ordered_tens : Order ℕ
+ordered_tens = keyed_sets.ordered tens nat_lt

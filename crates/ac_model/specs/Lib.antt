@@ -7,3 +7,8 @@ pub mod Sequences
 pub mod Lists
 pub mod Vectors
 pub mod Examples
+pub mod Keyed
+pub mod Maps
+pub mod Ordered
+pub mod Sets
+pub mod KeyedSets

@@ -21,24 +21,6 @@ abbrev pub sort_call : {T : Type 0} → (T → T → Bool) → Object ℕ T → 
 sort_call less o =
     call takes_some (first_reason (tampers_cursors o ∷ [])) (with_rows o (over o.rows (values (sorted less o.rows)))) tt
 
--- Capacity (A.18.2)
-abbrev pub capacity_call : {V : Type 0} → Object ℕ V → ℤ
-capacity_call o = pos (unwrap_or o.capacity 0)
-
--- a capacity that is asked for: within the Capacity it takes no memory
-abbrev pub asks_for_memory : Limit → Option ℕ → ℕ → Bool
-asks_for_memory Unbounded (Some capacity) need = nat_lt capacity need
-asks_for_memory Unbounded None need = false
-asks_for_memory (Bounded most) capacity need = false
-
--- Reserve_Capacity (A.18.2)
-abbrev pub reserve_capacity_call : {V : Type 0} → Object ℕ V → ℤ → Call (Object ℕ V) Done
-reserve_capacity_call o count =
-    call (asks_for_memory o.limit o.capacity (count_of count))
-    (first_reason (tampers_cursors o ∷ in_range count ∷ reason_if (is_past o.limit (count_of count)) CapacityFull ∷ []))
-    (record o { capacity = capacity_after o.limit o.capacity (count_of count) })
-    tt
-
 -- Set_Length (A.18.2): the blank element is 0, or the empty text
 abbrev pub set_length_call : {T : Type 0} → Object ℕ T → T → ℤ → Call (Object ℕ T) Done
 set_length_call o blank count =

@@ -3,7 +3,9 @@
 #![tactic(auto)]
 
 pub mod list_examples;
+pub mod map_examples;
 pub mod order_examples;
 pub mod row_laws;
+pub mod set_examples;
 pub mod validity;
 pub mod vector_examples;

@@ -25,6 +25,7 @@ pub fn common_calls<V>()
     ensures assign { (target source : Object ℕ V) → Keeps target (common.assign_call target source) }
     ensures assign_self { (o : Object ℕ V) → Keeps o (common.assign_self_call o) }
     ensures move_from { (target source : Object ℕ V) → KeepsBoth target source (common.move_from_call target source) }
+    ensures reserve_capacity { (o : Object ℕ V) (count : ℤ) → Keeps o (common.reserve_capacity_call o count) }
     ensures move_from_self { (o : Object ℕ V) → Keeps o (common.move_from_self_call o) }
 {}
 
@@ -61,7 +62,6 @@ pub fn list_calls<T>()
 pub fn vector_calls<T>()
     ensures reverse_elements { (o : Object ℕ T) → Keeps o (vector.reverse_elements_call o) }
     ensures sort { (less : T → T → Bool) (o : Object ℕ T) → Keeps o (vector.sort_call less o) }
-    ensures reserve_capacity { (o : Object ℕ T) (count : ℤ) → Keeps o (vector.reserve_capacity_call o count) }
     ensures set_length { (o : Object ℕ T) (blank : T) (count : ℤ) → Keeps o (vector.set_length_call o blank count) }
     ensures replace_index { (o : Object ℕ T) (index : ℤ) (element : T) → Keeps o (vector.replace_index_call o index element) }
     ensures swap_index { (o : Object ℕ T) (first second : ℤ) → Keeps o (vector.swap_index_call o first second) }

@@ -29,7 +29,7 @@ pub fn deleted_by_index()
     ensures then_outside { let left = (vector.delete_index_call (vector_of 1 (1 ∷ 2 ∷ 2 ∷ [])) (pos 2) (pos 9)).after in
         ((vector.element_index_call left (pos 2)).reason ≡ Some IndexRange)
         × (vector.last_index_call left ≡ pos 1)
-        × (vector.capacity_call left ≡ pos 8) }
+        × (common.capacity_call left ≡ pos 8) }
 {}
 
 /// A cursor follows its element through insertions, and an exchange of values leaves it in place.
@@ -47,8 +47,8 @@ pub fn bounded()
     ensures full { let c = sequence.append_call (bounded_vector_of 1 3 (1 ∷ 1 ∷ [])) 9 (pos 2) in c.reason ≡ Some CapacityFull }
     ensures last { let c = sequence.append_call (bounded_vector_of 1 3 (1 ∷ 1 ∷ [])) 9 (pos 1) in
         (c.reason ≡ None) × (contents c.after ≡ 1 ∷ 1 ∷ 9 ∷ []) }
-    ensures capacity { vector.capacity_call (bounded_vector_of 1 3 (1 ∷ 1 ∷ [])) ≡ pos 3 }
-    ensures more_capacity { (vector.reserve_capacity_call (bounded_vector_of 1 3 []) (pos 4)).reason ≡ Some CapacityFull }
+    ensures capacity { common.capacity_call (bounded_vector_of 1 3 (1 ∷ 1 ∷ [])) ≡ pos 3 }
+    ensures more_capacity { (common.reserve_capacity_call (bounded_vector_of 1 3 []) (pos 4)).reason ≡ Some CapacityFull }
     ensures no_memory { (sequence.append_call (bounded_vector_of 1 3 (1 ∷ 1 ∷ [])) 9 (pos 1)).memory ≡ false }
 {}
 
@@ -62,14 +62,14 @@ pub fn counts()
 /// The Capacity is the least 8 * 2 ^ k that isn't below what was needed so far, and nothing lowers it.
 #[tactic(auto, unfolding(crate::specs::Objects::room_for))]
 pub fn capacities()
-    ensures first { vector.capacity_call (vector_of 1 []) ≡ pos 0 }
-    ensures of_one { vector.capacity_call (vector_of 1 (4 ∷ [])) ≡ pos 8 }
-    ensures of_nine { vector.capacity_call (vector_of 1 (1 ∷ 2 ∷ 3 ∷ 4 ∷ 5 ∷ 6 ∷ 7 ∷ 8 ∷ 9 ∷ [])) ≡ pos 16 }
-    ensures reserved { vector.capacity_call (vector.reserve_capacity_call (vector_of 1 (4 ∷ [])) (pos 100)).after ≡ pos 128 }
-    ensures less { vector.capacity_call (vector.reserve_capacity_call (vector_of 1 (4 ∷ [])) (pos 2)).after ≡ pos 8 }
-    ensures cleared { vector.capacity_call (common.clear_call (vector_of 1 (4 ∷ []))).after ≡ pos 8 }
-    ensures nothing_more { vector.capacity_call (sequence.append_call (vector_of 1 []) 4 (pos 0)).after ≡ pos 0 }
-    ensures moved_from { vector.capacity_call (common.move_from_call (vector_of 1 []) (vector_of 2 (4 ∷ []))).after.source ≡ pos 8 }
+    ensures first { common.capacity_call (vector_of 1 []) ≡ pos 0 }
+    ensures of_one { common.capacity_call (vector_of 1 (4 ∷ [])) ≡ pos 8 }
+    ensures of_nine { common.capacity_call (vector_of 1 (1 ∷ 2 ∷ 3 ∷ 4 ∷ 5 ∷ 6 ∷ 7 ∷ 8 ∷ 9 ∷ [])) ≡ pos 16 }
+    ensures reserved { common.capacity_call (common.reserve_capacity_call (vector_of 1 (4 ∷ [])) (pos 100)).after ≡ pos 128 }
+    ensures less { common.capacity_call (common.reserve_capacity_call (vector_of 1 (4 ∷ [])) (pos 2)).after ≡ pos 8 }
+    ensures cleared { common.capacity_call (common.clear_call (vector_of 1 (4 ∷ []))).after ≡ pos 8 }
+    ensures nothing_more { common.capacity_call (sequence.append_call (vector_of 1 []) 4 (pos 0)).after ≡ pos 0 }
+    ensures moved_from { common.capacity_call (common.move_from_call (vector_of 1 []) (vector_of 2 (4 ∷ []))).after.source ≡ pos 8 }
 {}
 
 /// Values move and cursors stay, where a vector is sorted or turned round.

@@ -1,4 +1,4 @@
-use Rattle.ac_model.proofs.VectorsKept.{reverse_elements_keeps, sort_keeps, reserve_capacity_keeps, set_length_keeps, replace_index_keeps, swap_index_keeps, insert_index_keeps, insert_vector_index_keeps, insert_vector_keeps, insert_vector_pos_keeps, append_vector_keeps, prepend_vector_keeps, delete_index_keeps}
+use Rattle.ac_model.proofs.VectorsKept.{reverse_elements_keeps, sort_keeps, set_length_keeps, replace_index_keeps, swap_index_keeps, insert_index_keeps, insert_vector_index_keeps, insert_vector_keeps, insert_vector_pos_keeps, append_vector_keeps, prepend_vector_keeps, delete_index_keeps}
 use Rattle.ac_model.proofs.validity.vector_calls.Goals as goal
 
 pub returns-clause-reverse_elements : goal.returns-clause-reverse_elements
@@ -6,9 +6,6 @@ returns-clause-reverse_elements g c = reverse_elements_keeps
 
 pub returns-clause-sort : goal.returns-clause-sort
 returns-clause-sort g c = sort_keeps
-
-pub returns-clause-reserve_capacity : goal.returns-clause-reserve_capacity
-returns-clause-reserve_capacity g c = reserve_capacity_keeps
 
 pub returns-clause-set_length : goal.returns-clause-set_length
 returns-clause-set_length g c = set_length_keeps
