@@ -1,19 +1,18 @@
 -- The calls of vectors alone keep a valid object valid.
-use Rattle.std.proofs.Common.{◌≡◌, ◌+◌, ◌-◌, ◌≤◌, ℕ, ℤ, Bool, true, false, List, [], ◌∷◌, length, take, reverse, replicate, refl, arith, None, if◌then◌else◌}
+use Rattle.std.proofs.Common.{◌≡◌, ◌+◌, ◌-◌, ◌≤◌, ℕ, ℤ, Bool, true, false, List, length, take, reverse, replicate, refl, arith, None, if◌then◌else◌}
 use Rattle.std.specs.Prelude.{nat_le}
 use Rattle.std.proofs.lemmas.List.{length-take, length-replicate}
 use Rattle.std.proofs.lemmas.Bool.Decides.{nat_tests}
-use Rattle.ac_base.specs.declared.reason.Reason.TheVariants.{CapacityFull}
 use Rattle.ac_cursor.specs.Steps.{first_reason}
 use Rattle.ac_model.specs.Rows.{over, put, values, sorted, fresh}
-use Rattle.ac_model.specs.Objects.{Object, IsValid, contents, with_rows, grown, is_past}
-use Rattle.ac_model.specs.Letters.{Mark, room, may, in_range, reason_if, index_in, count_of, tampers_cursors, place_at, place_of_index}
+use Rattle.ac_model.specs.Objects.{Object, IsValid, contents, with_rows, grown}
+use Rattle.ac_model.specs.Letters.{Mark, room, may, in_range, index_in, count_of, tampers_cursors, place_at, place_of_index}
 use Rattle.ac_model.specs.Calls.{Keeps}
 use Rattle.ac_model.specs.Vectors as vector
 use Rattle.ac_model.specs.Vectors.{name_in}
 use Rattle.ac_model.proofs.Times.{times-over, times-take_less}
 use Rattle.ac_model.proofs.Lengths.{length-over, length-values}
-use Rattle.ac_model.proofs.Reasons.{none_first, none_others, after_two, in_range_none}
+use Rattle.ac_model.proofs.Reasons.{none_others, after_two}
 use Rattle.ac_model.proofs.Kept.{kept, new_kept}
 use Rattle.ac_model.proofs.SequencesKept.{cut_kept, with_value_kept, exchanged_kept, copies_kept, after_judging}
 

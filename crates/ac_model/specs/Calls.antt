@@ -57,18 +57,27 @@ pub record IsAfter {V : Type 0} (old new : Object Name V) (after : Object ℕ V)
   pub plainly : plain new ≡ after
   pub slots : KeepsSlots old new
 
--- a changing call: Ok, no reason and its effect; or the first reason and no change; or want of memory, where the call may take some, no reason and no change. `Answers` says what the code's answer is, by the call's meaning
-abbrev pub Changing : {V X A : Type 0} → (X → A → Type 0) → Call (Object ℕ V) A → Object Name V → Object Name V → Result X Fault → Type 0
-Changing Answers c old new (Ok x) = (c.reason ≡ None) × IsAfter old new c.after × Answers x c.answer
-Changing Answers c old new (Err (fault.Raised reason)) = (c.reason ≡ Some reason) × (new ≡ old)
-Changing Answers c old new (Err fault.NoMemory) = IsTrue c.memory × (c.reason ≡ None) × (new ≡ old)
+-- a changing call: Ok, no reason and its effect; or the first reason and no change; or want of memory, where the call may take some, no reason and no change. `After` says how the new state is what the call means, and `Answers` how the code's answer is
+abbrev pub ChangingBy : {O S X A : Type 0} → (O → O → S → Type 0) → (X → A → Type 0) → Call S A → O → O → Result X Fault → Type 0
+ChangingBy After Answers c old new (Ok x) = (c.reason ≡ None) × After old new c.after × Answers x c.answer
+ChangingBy After Answers c old new (Err (fault.Raised reason)) = (c.reason ≡ Some reason) × (new ≡ old)
+ChangingBy After Answers c old new (Err fault.NoMemory) = IsTrue c.memory × (c.reason ≡ None) × (new ≡ old)
 
--- the same of a call that changes two objects
+-- of an object with names
+abbrev pub Changing : {V X A : Type 0} → (X → A → Type 0) → Call (Object ℕ V) A → Object Name V → Object Name V → Result X Fault → Type 0
+Changing Answers c old new result = ChangingBy IsAfter Answers c old new result
+
+-- of two of them
+pub record AreAfter {V : Type 0} (old new : Both (Object Name V)) (after : Both (Object ℕ V)) : Type 0 where
+  pub target : IsAfter old.target new.target after.target
+  pub source : IsAfter old.source new.source after.source
+
 abbrev pub ChangingBoth : {V X A : Type 0} → (X → A → Type 0) → Call (Both (Object ℕ V)) A → Both (Object Name V) → Both (Object Name V) → Result X Fault → Type 0
-ChangingBoth Answers c old new (Ok x) =
-    (c.reason ≡ None) × IsAfter old.target new.target c.after.target × IsAfter old.source new.source c.after.source × Answers x c.answer
-ChangingBoth Answers c old new (Err (fault.Raised reason)) = (c.reason ≡ Some reason) × (new ≡ old)
-ChangingBoth Answers c old new (Err fault.NoMemory) = IsTrue c.memory × (c.reason ≡ None) × (new ≡ old)
+ChangingBoth Answers c old new result = ChangingBy AreAfter Answers c old new result
+
+-- of a state that has no names
+abbrev pub IsNow : {S : Type 0} → S → S → S → Type 0
+IsNow old new after = new ≡ after
 
 -- a call that only looks and may be refused. `Answers` says what is lent or answered, by the call's meaning
 abbrev pub Looking : {X A : Type 0} → (X → A → Type 0) → Look A → Result X Fault → Type 0

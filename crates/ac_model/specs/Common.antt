@@ -1,5 +1,5 @@
 -- The calls that vectors, lists, maps, sets and trees have in common.
-use Rattle.std.specs.Prelude.{◌==◌, ◌+◌, ◌-◌, ℕ, zero, suc, ℤ, pos, Bool, true, false, ◌&&◌, nat_lt, max, List, [], ◌∷◌, Option, Some, None, is_some, unwrap_or}
+use Rattle.std.specs.Prelude.{◌==◌, ◌+◌, ◌-◌, ℕ, zero, suc, ℤ, pos, Bool, true, false, ◌&&◌, nat_lt, max, [], ◌∷◌, Option, Some, None, is_some, unwrap_or}
 use Rattle.ac_base.specs.declared.limit.Limit.{Limit}
 use Rattle.ac_base.specs.declared.limit.Limit.TheVariants.{Unbounded, Bounded}
 use Rattle.ac_base.specs.declared.reason.Reason.TheVariants.{CapacityFull}
@@ -88,9 +88,9 @@ copied o number capacity =
 abbrev pub copy_call : {V : Type 0} → Object ℕ V → ℕ → ℕ → Call (Object ℕ V) Done
 copy_call o number capacity =
     call takes_some
-        (first_reason (reason_if (nat_lt 0 capacity && nat_lt capacity (length_of o)) CapacityFull ∷ []))
-        (copied o number capacity)
-        tt
+    (first_reason (reason_if (nat_lt 0 capacity && nat_lt capacity (length_of o)) CapacityFull ∷ []))
+    (copied o number capacity)
+    tt
 
 -- a guard is held: a set has cursor guards alone
 abbrev pub hold_call : {V : Type 0} → Bool → GuardKind → Object ℕ V → Object ℕ V

@@ -1,11 +1,13 @@
 -- Objects for the examples.
-use Rattle.std.specs.Prelude.{◌/◌, nat_eq, nat_lt, ℕ, true, false, List, length}
+use Rattle.std.specs.Prelude.{◌/◌, nat_eq, nat_lt, ℕ, ℤ, true, false, List, length, Option}
 use Rattle.ac_base.specs.declared.limit.Limit.TheVariants.{Unbounded, Bounded}
 use Rattle.ac_base.specs.declared.name.Name.{Name}
 use Rattle.ac_model.specs.Maps as maps
 use Rattle.ac_model.specs.KeyedSets as keyed_sets
 use Rattle.ac_model.specs.Keyed.{Order, by_arrival, ascending}
-use Rattle.ac_model.specs.Rows.{Entry, fresh}
+use Rattle.ac_model.specs.Rows.{Entry, Node, fresh}
+use Rattle.ac_model.specs.Holders.{Holder}
+use Rattle.ac_model.specs.Queues.{Queue}
 use Rattle.ac_model.specs.Objects.{Object, grown, empty_object}
 
 -- the object with this number that holds the values under the names from 1 on: with no Capacity, and with one
@@ -69,3 +71,18 @@ hashed_tens = keyed_sets.hashed tens nat_eq
 
 abbrev pub ordered_tens : Order ℕ
 ordered_tens = keyed_sets.ordered tens nat_lt
+
+-- a bounded holder of bytes, and one under an element guard
+abbrev pub holder_of : ℕ → ℕ → Option (List ℕ) → Holder (List ℕ)
+holder_of number most element = record { number = number; limit = Bounded most; element = element; cursor_guards = 0; element_guards = 0 }
+
+abbrev pub holder_guarded : Holder (List ℕ) → Holder (List ℕ)
+holder_guarded h = record h { element_guards = 1 }
+
+-- an unbounded queue of these items
+abbrev pub queue_of : List ℤ → Queue
+queue_of items = record { limit = Unbounded; items = items; peak = length items }
+
+-- a tree of numbers with this outline
+abbrev pub tree_of : ℕ → List (Node ℕ) → Object ℕ (Node ℕ)
+tree_of number nodes = holding number nodes

@@ -1,15 +1,15 @@
 -- The calls that maps (A.18.4) and sets (A.18.7) have in common: rows whose keys are pairwise not equivalent, in order of arrival or ascending. A set's row holds its element, which is its own key; a keyed set's element has a key.
 --
 -- A look-up takes the test of a row's value that the key or item passes.
-use Rattle.std.specs.Prelude.{◌≡◌, ◌==◌, ◌+◌, ℕ, Bool, true, false, not, ◌&&◌, List, [], ◌∷◌, length, reverse, find, take_while, Option, Some, None, is_some, if◌then◌else◌}
+use Rattle.std.specs.Prelude.{◌≡◌, ◌==◌, ◌+◌, ℕ, Bool, true, false, not, ◌&&◌, List, [], ◌∷◌, length, reverse, find, take_while, Option, Some, None, is_some}
 use Rattle.std.specs.List.{list_any}
 use Rattle.ac_base.specs.declared.reason.Reason.{Reason}
 use Rattle.ac_base.specs.declared.reason.Reason.TheVariants.{KeyPresent, KeyAbsent, Duplicate}
 use Rattle.ac_cursor.specs.Steps.{first_reason}
-use Rattle.ac_model.specs.Rows.{Row, row, fresh, cut, put, place_of, values, with_value, row_by, are_level}
-use Rattle.ac_model.specs.Objects.{Object, IsValid, contents, length_of, with_rows, grown}
-use Rattle.ac_model.specs.Letters.{Mark, no_mark, mark_at, needs, name_of, mark_for, tampers_cursors, room, room_for_one, reason_if, has_room}
-use Rattle.ac_model.specs.Calls.{Call, call, Look, look, Done, takes_none, takes_some}
+use Rattle.ac_model.specs.Rows.{Row, row, cut, put, place_of, values, with_value, row_by, are_level}
+use Rattle.ac_model.specs.Objects.{Object, IsValid, contents, with_rows, grown}
+use Rattle.ac_model.specs.Letters.{Mark, no_mark, mark_at, needs, name_of, mark_for, tampers_cursors, room_for_one, reason_if, has_room}
+use Rattle.ac_model.specs.Calls.{Call, call, Done, takes_none}
 
 -- how the rows' values are ordered: which are equivalent by their keys; the place of a value among others, where `from` is the end, or the place that a row had; and what holds of their order
 pub record Order (V : Type 0) : Type 0 where
@@ -87,9 +87,9 @@ abbrev pub insert_call : {V : Type 0} → Order V → Object ℕ V → V → Cal
 insert_call order o v =
     let present = row_like order o v in
     call (insertion_takes_memory o present)
-        (first_reason (tampers_cursors o ∷ reason_if (is_some present) KeyPresent ∷ room_for_one o))
-        (with_added order o v)
-        tt
+    (first_reason (tampers_cursors o ∷ reason_if (is_some present) KeyPresent ∷ room_for_one o))
+    (with_added order o v)
+    tt
 
 -- the position, and whether the value was inserted
 pub record Inserted : Type 0 where
@@ -109,9 +109,9 @@ abbrev pub insert_pos_call : {V : Type 0} → Order V → Object ℕ V → V →
 insert_pos_call order o v =
     let present = row_like order o v in
     call (insertion_takes_memory o present)
-        (first_reason (tampers_cursors o ∷ room_where_absent o present))
-        (with_added_if_absent order o present v)
-        (inserted_or_found o present)
+    (first_reason (tampers_cursors o ∷ room_where_absent o present))
+    (with_added_if_absent order o present v)
+    (inserted_or_found o present)
 
 abbrev pub with_added_or_replaced : {V : Type 0} → Order V → Object ℕ V → Option (Row ℕ V) → V → Object ℕ V
 with_added_or_replaced order o None v = with_added order o v
@@ -122,18 +122,18 @@ abbrev pub include_call : {V : Type 0} → Order V → Object ℕ V → V → Ca
 include_call order o v =
     let present = row_like order o v in
     call (insertion_takes_memory o present)
-        (first_reason (tampers_cursors o ∷ room_where_absent o present))
-        (with_added_or_replaced order o present v)
-        tt
+    (first_reason (tampers_cursors o ∷ room_where_absent o present))
+    (with_added_or_replaced order o present v)
+    tt
 
 -- Replace (A.18.4, A.18.7), after this check of tampering
 abbrev pub replace_call : {V : Type 0} → Option Reason → Order V → Object ℕ V → V → Call (Object ℕ V) Done
 replace_call tampering order o v =
     let present = row_like order o v in
     call takes_none
-        (first_reason (tampering ∷ reason_if (not (is_some present)) KeyAbsent ∷ []))
-        (with_replaced o present v)
-        tt
+    (first_reason (tampering ∷ reason_if (not (is_some present)) KeyAbsent ∷ []))
+    (with_replaced o present v)
+    tt
 
 -- Exclude (A.18.4, A.18.7)
 abbrev pub exclude_call : {V : Type 0} → (V → Bool) → Object ℕ V → Call (Object ℕ V) Done
@@ -144,17 +144,17 @@ exclude_call matches o =
 abbrev pub delete_match_call : {V : Type 0} → (V → Bool) → Object ℕ V → Call (Object ℕ V) Done
 delete_match_call matches o =
     call takes_none
-        (first_reason (tampers_cursors o ∷ reason_if (not (is_some (row_by matches o.rows))) KeyAbsent ∷ []))
-        (with_rows o (without o.rows (row_by matches o.rows)))
-        tt
+    (first_reason (tampers_cursors o ∷ reason_if (not (is_some (row_by matches o.rows))) KeyAbsent ∷ []))
+    (with_rows o (without o.rows (row_by matches o.rows)))
+    tt
 
 -- Delete (A.18.4, A.18.7): the variable is set to No_Element
 abbrev pub delete_call : {V : Type 0} → Object ℕ V → Mark → Call (Object ℕ V) Mark
 delete_call o position =
     call takes_none
-        (first_reason (tampers_cursors o ∷ needs o position ∷ []))
-        (with_rows o (cut o.rows (place_of o.rows (name_of position)) 1))
-        no_mark
+    (first_reason (tampers_cursors o ∷ needs o position ∷ []))
+    (with_rows o (cut o.rows (place_of o.rows (name_of position)) 1))
+    no_mark
 
 -- Find (A.18.4, A.18.7)
 abbrev pub find_call : {V : Type 0} → (V → Bool) → Object ℕ V → Mark
@@ -179,9 +179,9 @@ with_reordered order rows name v =
 abbrev pub replace_element_call : {V : Type 0} → Order V → Object ℕ V → Mark → V → Call (Object ℕ V) Done
 replace_element_call order o c v =
     call takes_none
-        (first_reason (tampers_cursors o ∷ needs o c ∷ reason_if (another_is_like order o.rows (name_of c) v) Duplicate ∷ []))
-        (with_rows o (with_reordered order o.rows (name_of c) v))
-        tt
+    (first_reason (tampers_cursors o ∷ needs o c ∷ reason_if (another_is_like order o.rows (name_of c) v) Duplicate ∷ []))
+    (with_rows o (with_reordered order o.rows (name_of c) v))
+    tt
 
 -- Floor and Ceiling of ascending rows (A.18.6, A.18.9): the last that isn't greater, the first that isn't less
 abbrev pub floor_call : {V : Type 0} → (V → Bool) → Object ℕ V → Mark

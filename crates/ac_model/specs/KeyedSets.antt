@@ -1,11 +1,10 @@
 -- The calls that sets with keys add (Generic_Keys, A.18.8 and A.18.9). `key` is an element's key, `alike` says which keys are equivalent, `less` which is less.
-use Rattle.std.specs.Prelude.{◌+◌, ◌-◌, ℕ, Bool, false, not, List, [], ◌∷◌, Option, Some, None, option_map, is_some, if◌then◌else◌}
-use Rattle.ac_base.specs.declared.reason.Reason.{Reason}
+use Rattle.std.specs.Prelude.{◌+◌, ◌-◌, ℕ, Bool, false, not, [], ◌∷◌, Option, Some, None, option_map, is_some, if◌then◌else◌}
 use Rattle.ac_base.specs.declared.reason.Reason.TheVariants.{KeyAbsent, KeyChanged, Duplicate}
 use Rattle.ac_cursor.specs.Steps.{first_reason}
 use Rattle.ac_model.specs.Rows.{Row, row_by, value_at, with_value, cut, place_of}
 use Rattle.ac_model.specs.Objects.{Object, with_rows}
-use Rattle.ac_model.specs.Letters.{Mark, needs, name_of, mark_for, tampers_cursors, reason_if}
+use Rattle.ac_model.specs.Letters.{Mark, needs, name_of, tampers_cursors, reason_if}
 use Rattle.ac_model.specs.Calls.{Call, call, Look, look, Done, takes_none, takes_some}
 use Rattle.ac_model.specs.Keyed as keyed
 use Rattle.ac_model.specs.Keyed.{Order, by_arrival, ascending, another_is_like, with_reordered}
@@ -58,10 +57,10 @@ abbrev pub key_replace_call : {K T : Type 0} → (T → K) → (K → K → Bool
 key_replace_call key alike order o k element =
     let present = row_by (has_key key alike k) o.rows in
     call takes_none
-        (first_reason (tampers_cursors o ∷ reason_if (not (is_some present)) KeyAbsent
-            ∷ reason_if (another_is_like order o.rows (name_found present) element) Duplicate ∷ []))
-        (reordered_where_found order o present element)
-        tt
+    (first_reason (tampers_cursors o ∷ reason_if (not (is_some present)) KeyAbsent
+    ∷ reason_if (another_is_like order o.rows (name_found present) element) Duplicate ∷ []))
+    (reordered_where_found order o present element)
+    tt
 
 -- Floor and Ceiling of a key (A.18.9)
 abbrev pub key_floor_call : {K T : Type 0} → (T → K) → (K → K → Bool) → Object ℕ T → K → Mark
@@ -74,9 +73,9 @@ key_ceiling_call key less o k = keyed.ceiling_call (λ v. less (key v) k) o
 abbrev pub start_update_key_call : {T : Type 0} → Object ℕ T → Mark → Call (Object ℕ T) (Option T)
 start_update_key_call o c =
     call takes_some
-        (first_reason (tampers_cursors o ∷ needs o c ∷ []))
-        (record o { cursor_guards = o.cursor_guards + 1 })
-        (value_at o.rows (name_of c))
+    (first_reason (tampers_cursors o ∷ needs o c ∷ []))
+    (record o { cursor_guards = o.cursor_guards + 1 })
+    (value_at o.rows (name_of c))
 
 -- the key of the copy is that of the element
 abbrev pub keeps_key : {K T : Type 0} → (T → K) → (K → K → Bool) → Option T → T → Bool
@@ -89,7 +88,7 @@ end_update_key_call key alike o c copy =
     let released = record o { cursor_guards = o.cursor_guards - 1 } in
     let keeps = keeps_key key alike (value_at o.rows (name_of c)) copy in
     call takes_none
-        (first_reason (reason_if (not keeps) KeyChanged ∷ []))
-        (if keeps then with_rows released (with_value o.rows (name_of c) copy)
-         else with_rows released (cut o.rows (place_of o.rows (name_of c)) 1))
-        tt
+    (first_reason (reason_if (not keeps) KeyChanged ∷ []))
+    (if keeps then with_rows released (with_value o.rows (name_of c) copy)
+    else with_rows released (cut o.rows (place_of o.rows (name_of c)) 1))
+    tt

@@ -12,3 +12,7 @@ pub mod Maps
 pub mod Ordered
 pub mod Sets
 pub mod KeyedSets
+pub mod Holders
+pub mod Queues
+pub mod Outline
+pub mod Trees

@@ -1,5 +1,5 @@
 -- The calls of hashed and ordered maps (A.18.4, A.18.5, A.18.6). `alike` says which keys are equivalent, `less` which is less.
-use Rattle.std.specs.Prelude.{◌==◌, ℕ, Bool, false, ◌&&◌, not, List, [], ◌∷◌, Option, Some, None, option_map, is_some}
+use Rattle.std.specs.Prelude.{◌==◌, ℕ, Bool, false, ◌&&◌, not, [], ◌∷◌, Option, Some, None, option_map, is_some}
 use Rattle.std.specs.List.{list_all}
 use Rattle.ac_base.specs.declared.reason.Reason.TheVariants.{KeyAbsent}
 use Rattle.ac_cursor.specs.Steps.{first_reason}

@@ -1,5 +1,5 @@
 -- The calls of hashed and ordered sets (A.18.7, A.18.8, A.18.9). Every change of a set tampers with cursors. An element's order and equivalence are those of its key, equality is its own.
-use Rattle.std.specs.Prelude.{◌==◌, ◌+◌, ℕ, Bool, true, false, not, ◌&&◌, List, [], ◌∷◌, length, filter, Option, Some, None}
+use Rattle.std.specs.Prelude.{◌==◌, ◌+◌, ℕ, Bool, not, ◌&&◌, List, [], ◌∷◌, length, filter}
 use Rattle.std.specs.List.{list_any, list_all}
 use Rattle.ac_cursor.specs.Steps.{first_reason}
 use Rattle.ac_model.specs.Rows.{Row}
@@ -49,9 +49,9 @@ abbrev pub union_call : {T : Type 0} → Order T → Object ℕ T → Object ℕ
 union_call order target source =
     let more = additions order target source in
     call takes_some
-        (first_reason (tampers_cursors target ∷ room target (length_of target + length more) (length more)))
-        (grown target (added order target.rows target.next more) (length more))
-        tt
+    (first_reason (tampers_cursors target ∷ room target (length_of target + length more) (length more)))
+    (grown target (added order target.rows target.next more) (length more))
+    tt
 
 -- Union and Intersection of a set with itself
 abbrev pub union_self_call : {T : Type 0} → Object ℕ T → Call (Object ℕ T) Done
@@ -83,9 +83,9 @@ symmetric_difference_call order target source =
     let kept = own_rows order target source in
     let more = additions order target source in
     call takes_some
-        (first_reason (tampers_cursors target ∷ room target (length kept + length more) (length more)))
-        (grown target (added order kept target.next more) (length more))
-        tt
+    (first_reason (tampers_cursors target ∷ room target (length kept + length more) (length more)))
+    (grown target (added order kept target.next more) (length more))
+    tt
 
 -- Overlap, Is_Subset, Equivalent_Sets (A.18.7)
 abbrev pub overlap_call : {T : Type 0} → Order T → Object ℕ T → Object ℕ T → Bool

@@ -1,12 +1,10 @@
 -- The calls of vectors alone (A.18.2): indexes from 1, the Capacity, and elements that keep their cursors where values move.
-use Rattle.std.specs.Prelude.{◌==◌, ◌+◌, ◌-◌, ℕ, ℤ, pos, Bool, false, min, nat_le, nat_lt, List, [], ◌∷◌, take, drop, reverse, replicate, position, Option, Some, None, slice_get, unwrap_or, if◌then◌else◌}
-use Rattle.ac_base.specs.declared.limit.Limit.{Limit}
-use Rattle.ac_base.specs.declared.limit.Limit.TheVariants.{Unbounded, Bounded}
+use Rattle.std.specs.Prelude.{◌==◌, ◌+◌, ◌-◌, ℕ, ℤ, pos, Bool, min, nat_le, List, [], ◌∷◌, take, drop, reverse, replicate, position, Option, Some, None, slice_get, if◌then◌else◌}
 use Rattle.ac_base.specs.declared.reason.Reason.{Reason}
-use Rattle.ac_base.specs.declared.reason.Reason.TheVariants.{IndexRange, CapacityFull}
+use Rattle.ac_base.specs.declared.reason.Reason.TheVariants.{IndexRange}
 use Rattle.ac_cursor.specs.Steps.{first_reason}
 use Rattle.ac_model.specs.Rows.{fresh, cut, put, values, over, sorted, with_value, with_exchanged_values}
-use Rattle.ac_model.specs.Objects.{Object, contents, length_of, with_rows, grown, capacity_after, is_past}
+use Rattle.ac_model.specs.Objects.{Object, contents, length_of, with_rows, grown}
 use Rattle.ac_model.specs.Letters.{Mark, no_mark, may, place_at, is_no_mark, mark_in, tampers_cursors, tampers_elements, count_of, in_range, is_index, index_in, place_of_index, room, reason_if, name_of}
 use Rattle.ac_model.specs.Calls.{Call, call, Look, look, Done, takes_none, takes_some}
 use Rattle.ac_model.specs.Sequences.{with_new, with_copies, room_for_copies, copies_take_memory, first_new}

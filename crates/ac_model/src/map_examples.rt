@@ -26,8 +26,7 @@ pub fn hashed()
         (c.reason ≡ None) × (contents c.after ≡ entry 2 4 ∷ []) }
     ensures deleted_absent { (map.delete_key_call nat_eq (hashed_map_of 1 (entry 2 4 ∷ [])) 26).reason ≡ Some KeyAbsent }
     ensures deleted { contents (map.delete_key_call nat_eq (hashed_map_of 1 (entry 2 4 ∷ entry 1 2 ∷ [])) 2).after ≡ entry 1 2 ∷ [] }
-{
-}
+{}
 
 /// An ordered map has its keys ascending, each under the name that it got when it came.
 pub fn ordered()
@@ -41,8 +40,7 @@ pub fn ordered()
     ensures last_key { (map.last_key_call (ordered_map_of 1 (entry 10 1 ∷ entry 20 2 ∷ []))).answer ≡ Some 20 }
     ensures delete_first { contents (ordered.delete_first_call (ordered_map_of 1 (entry 10 1 ∷ entry 20 2 ∷ []))).after ≡ entry 20 2 ∷ [] }
     ensures delete_of_none { let c = ordered.delete_last_call (ordered_map_of 1 []) in (c.reason ≡ None) × (c.after.rows ≡ []) }
-{
-}
+{}
 
 /// A shop's stock: an element is changed through a view, and a replacement under it is refused.
 pub fn stock()
@@ -53,8 +51,7 @@ pub fn stock()
     ensures in_a_loop { (map.replace_call hashed_entries (guarded 1 0 (hashed_map_of 1 (entry 3 14 ∷ []))) 3 0).reason ≡ None }
     ensures equal { map.equal_call nat_eq nat_eq (hashed_map_of 1 (entry 3 4 ∷ entry 2 5 ∷ [])) (hashed_map_of 2 (entry 2 5 ∷ entry 3 4 ∷ [])) ≡ true }
     ensures unequal { map.equal_call nat_eq nat_eq (hashed_map_of 1 (entry 3 4 ∷ entry 2 5 ∷ [])) (hashed_map_of 2 (entry 2 5 ∷ entry 3 6 ∷ [])) ≡ false }
-{
-}
+{}
 
 /// Tampering comes before a present key, a present key before the room, and a name is needed only where something is inserted.
 pub fn in_steps()
@@ -64,5 +61,4 @@ pub fn in_steps()
     ensures included { (map.include_call hashed_entries (with_next 18446744073709551615 (hashed_map_of 1 (entry 3 4 ∷ []))) 3 0).reason ≡ None }
     ensures foreign { (keyed.delete_call (hashed_map_of 1 (entry 3 4 ∷ [])) (mark_at 2 1)).reason ≡ Some ForeignCursor }
     ensures memory { (map.include_call hashed_entries (hashed_map_of 1 (entry 3 4 ∷ [])) 3 0).memory ≡ false }
-{
-}
+{}

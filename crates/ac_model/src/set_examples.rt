@@ -23,8 +23,7 @@ pub fn ordered()
     ensures replaced { let c = keyed.replace_element_call ordered_numbers (list_of 1 (10 ∷ 20 ∷ [])) (mark_at 1 1) 30 in
         (c.reason ≡ None) × (c.after.rows ≡ row 2 20 ∷ row 1 30 ∷ []) }
     ensures replaced_by_itself { (keyed.replace_element_call ordered_numbers (list_of 1 (10 ∷ 20 ∷ [])) (mark_at 1 1) 10).reason ≡ None }
-{
-}
+{}
 
 /// A copy that keeps the key is written back, and one that doesn't takes the element away, and the end is refused.
 pub fn key_updated()
@@ -35,8 +34,7 @@ pub fn key_updated()
         (c.reason ≡ None) × (c.after.rows ≡ row 1 12 ∷ []) × (c.after.cursor_guards ≡ 0) }
     ensures changed { let c = by_key.end_update_key_call tens nat_eq (guarded 1 0 (list_of 1 (12 ∷ []))) (mark_at 1 1) 22 in
         (c.reason ≡ Some KeyChanged) × (c.after.rows ≡ []) × ((sequence.element_call c.after (mark_at 1 1)).reason ≡ Some DeadCursor) }
-{
-}
+{}
 
 /// In a hashed keyed set elements with the same key are equivalent, though not equal.
 pub fn hashed_by_key()
@@ -48,8 +46,7 @@ pub fn hashed_by_key()
     ensures replaced { (by_key.key_replace_call tens nat_eq hashed_tens (vector_of 1 (11 ∷ 25 ∷ [])) 1 35).after.rows ≡ row 1 35 ∷ row 2 25 ∷ [] }
     ensures duplicate { (by_key.key_replace_call tens nat_eq hashed_tens (vector_of 1 (11 ∷ 25 ∷ [])) 1 27).reason ≡ Some Duplicate }
     ensures absent { (by_key.key_replace_call tens nat_eq hashed_tens (vector_of 1 (11 ∷ 25 ∷ [])) 7 27).reason ≡ Some KeyAbsent }
-{
-}
+{}
 
 /// The target keeps its own elements, and takes those of the source that have no equivalent.
 pub fn algebra()
@@ -64,12 +61,10 @@ pub fn algebra()
         ≡ row 1 10 ∷ row 3 20 ∷ row 2 30 ∷ row 4 40 ∷ [] }
     ensures need { (set.symmetric_difference_call hashed_numbers (bounded_vector_of 1 2 (1 ∷ 2 ∷ [])) (vector_of 2 (2 ∷ 3 ∷ []))).reason ≡ None }
     ensures full { (set.union_call hashed_numbers (bounded_vector_of 1 2 (1 ∷ 2 ∷ [])) (vector_of 2 (2 ∷ 3 ∷ []))).reason ≡ Some CapacityFull }
-{
-}
+{}
 
 /// A set has cursor guards alone.
 pub fn guards_of_a_set()
     ensures held { (common.hold_call true kind.Elements (list_of 1 (4 ∷ []))).cursor_guards ≡ 1 }
     ensures of_a_list { (common.hold_call false kind.Elements (list_of 1 (4 ∷ []))).element_guards ≡ 1 }
-{
-}
+{}
