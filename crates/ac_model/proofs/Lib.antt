@@ -9,3 +9,4 @@ pub mod VectorsKept
 pub mod RowLaws
 pub mod Capacity
 pub mod FirstValid
+pub mod OutlineLaws

@@ -113,3 +113,10 @@ subtree_rows rows name = take (subtree_length rows name) (drop (subtree_start ro
 -- the rows with all depths changed by one amount, so that a depth `from` becomes `to`
 abbrev pub moved_to_depth : {T : Type 0} → ℕ → ℕ → List (Row ℕ (Node T)) → List (Row ℕ (Node T))
 moved_to_depth from to rows = map (λ r. row r.name (node (r.value.depth + to - from) r.value.element)) rows
+
+-- the node at a place has a parent, which stands before it with a depth one less
+pub record HasParent (all : List Spot) (place : ℕ) : Type 0 where
+  pub parent : Spot
+  pub is : parent_at all place ≡ Some parent
+  pub one_less : parent.depth + 1 ≡ depth_at all place
+  pub before : is_in parent.name (take place all) ≡ true

@@ -1,7 +1,8 @@
 //! The laws that show what the words for rows mean, over rows that hold values of any type.
 ghost use Rattle.std.specs.Prelude.{◌≡◌, ◌+◌, ◌<◌, ◌≤◌, ℕ, Bool, true, false, List, [], ◌∷◌, ◌++◌, length, take, drop, filter, slice_get, slice_index, if◌then◌else◌};
 ghost use Rattle.std.specs.List.{list_any};
-ghost use Rattle.ac_model.specs.Rows.{Row, fresh, cut, put, place_of, named, names, values, row_by, sorted, is_ascending, are_level, IsWeakOrder, HasRowsOf, merged};
+ghost use Rattle.ac_model.specs.Outline.{spots, is_outline, HasParent};
+ghost use Rattle.ac_model.specs.Rows.{Node, Row, fresh, cut, put, place_of, named, names, values, row_by, sorted, is_ascending, are_level, IsWeakOrder, HasRowsOf, merged};
 
 /// A cut and a put of the same rows give the list back.
 pub fn cut_and_put<V>()
@@ -37,4 +38,9 @@ pub fn merged_lists<V>()
     ensures heads { (less : V → V → Bool) (r s : Row ℕ V) (rows others : List (Row ℕ V)) →
         merged less (r ∷ rows) (s ∷ others) ≡ (if less s.value r.value then s ∷ merged less (r ∷ rows) others else r ∷ merged less rows (s ∷ others)) }
     ensures rows_of_both { (less : V → V → Bool) (rows others : List (Row ℕ V)) → HasRowsOf (merged less rows others) (rows ++ others) }
+{}
+
+/// Every node of an outline but the root has a parent, which stands before it with a depth one less.
+pub fn outlines<T>()
+    ensures { (rows : List (Row ℕ (Node T))) → is_outline rows ≡ true → (place : ℕ) → 0 < place → place ≤ length rows → HasParent (spots rows) place }
 {}

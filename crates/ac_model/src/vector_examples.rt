@@ -54,7 +54,8 @@ pub fn bounded()
 
 /// A count is in 0 .. 1,000,000.
 pub fn counts()
-    ensures most { in_range (pos 1000000) ≡ None }
+    ensures most { (sequence.append_call (vector_of 1 []) 0 (pos 1000000)).reason ≡ None }
+    ensures count { in_range (pos 1000000) ≡ None }
     ensures more { in_range (pos 1000001) ≡ Some LengthRange }
     ensures negative { (sequence.append_call (vector_of 1 []) 0 (negsuc 0)).reason ≡ Some LengthRange }
 {}
