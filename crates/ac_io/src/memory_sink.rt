@@ -1,4 +1,5 @@
 ghost use Rattle.std.specs.Prelude.{◌≡◌, ◌<◌, ◌≤◌, Some, [], length, IfOk};
+ghost use Rattle.ac_io.specs.Outside.{Rose, Takes, TakesWithin};
 ghost use Rattle.ac_io.specs.Memory.{put_answer, after_put, room_of};
 
 use crate::outside::{Put, Sink};
@@ -23,14 +24,22 @@ impl Model for MemorySink {
 
     ghost Value = { Store };
 
-    ghost view = { λ s. record { held = s.bytes.items; room = s.room; piece = s.piece; fails = s.fails.items; calls = s.calls; faults = s.faults } };
+    ghost view = { λ s. record {
+      held = s.bytes.items;
+      room = s.room;
+      piece = s.piece;
+      fails = s.fails.items;
+      calls = s.calls;
+      faults = s.faults;
+    } };
 
-    ghost invariant = { λ s. (length s.bytes.items ≤ s.room) × (s.room ≤ vec_capacity s.bytes) × (0 < s.piece) };
+    ghost invariant = { λ s.
+        (length s.bytes.items ≤ s.room) × (s.room ≤ vec_capacity s.bytes) × (0 < s.piece) };
 }
 
 impl MemorySink {
-    /// An empty sink with room for so many bytes. A call takes at most `piece` of them, and the calls
-    /// whose numbers, from 1, are in `fails` fail, as every call does where the room is full.
+    /// An empty sink with room for so many bytes. A call takes at most `piece` of them, and the
+    /// calls whose numbers, from 1, are in `fails` fail, as every call does where the room is full.
     pub fn with_room(
         alloc: Global,
         room: u64,
@@ -38,7 +47,14 @@ impl MemorySink {
         fails: Vec<u64>,
     ) -> Result<MemorySink, NoMemory>
         requires { 0 < piece }
-        ensures { IfOk result (λ sink. sink ≡ record { held = []; room = room; piece = piece; fails = fails.items; calls = 0; faults = 0 }) }
+        ensures { IfOk result (λ sink. sink ≡ record {
+          held = [];
+          room = room;
+          piece = piece;
+          fails = fails.items;
+          calls = 0;
+          faults = 0;
+        }) }
     {
         let bytes = Vec::with_capacity(alloc, room as usize)?;
         Ok(MemorySink {
@@ -70,6 +86,12 @@ impl Sink for MemorySink {
         requires { 0 < length bytes.now }
         ensures answer { result ≡ put_answer self.old (length bytes.now) }
         ensures after { self.new ≡ after_put self.old result bytes.now }
+
+        // What the trait promises.
+        ensures takes { Takes result bytes.now (Some self.old.held) (Some self.new.held) }
+        ensures counted { self.old.faults ≤ self.new.faults }
+        ensures failed { result ≡ Put.Failed → Rose self.old.faults self.new.faults }
+        ensures within { TakesWithin result bytes.now (room_of self.old) (room_of self.new) }
     {
         self.calls = self.calls.saturating_add(1);
         let space = self.room as usize - self.bytes.len();

@@ -1,4 +1,5 @@
-ghost use Rattle.std.specs.Prelude.{◌≡◌, ◌<◌, ◌≤◌, Some, length};
+ghost use Rattle.std.specs.Prelude.{◌≡◌, ◌≢◌, ◌<◌, ◌≤◌, true, Some, length};
+ghost use Rattle.ac_io.specs.Outside.{Rose, Gives};
 ghost use Rattle.ac_io.specs.Memory.{next_answer, after_next, filled, is_unfailing};
 
 use crate::outside::{Next, Source};
@@ -21,17 +22,29 @@ impl Model for MemorySource {
 
     ghost Value = { Supply };
 
-    ghost view = { λ s. record { left = drop s.given s.bytes.items; piece = s.piece; fails = s.fails.items; calls = s.calls; faults = s.faults } };
+    ghost view = { λ s. record {
+      left = drop s.given s.bytes.items;
+      piece = s.piece;
+      fails = s.fails.items;
+      calls = s.calls;
+      faults = s.faults;
+    } };
 
     ghost invariant = { λ s. (s.given ≤ length s.bytes.items) × (0 < s.piece) };
 }
 
 impl MemorySource {
-    /// A source of these bytes. A call gives at most `piece` of them, and the calls whose numbers, from
-    /// 1, are in `fails` fail.
+    /// A source of these bytes. A call gives at most `piece` of them, and the calls whose numbers,
+    /// from 1, are in `fails` fail.
     pub fn new(bytes: Vec<u8>, piece: usize, fails: Vec<u64>) -> MemorySource
         requires { 0 < piece }
-        ensures { result ≡ record { left = bytes.items; piece = piece; fails = fails.items; calls = 0; faults = 0 } }
+        ensures { result ≡ record {
+          left = bytes.items;
+          piece = piece;
+          fails = fails.items;
+          calls = 0;
+          faults = 0;
+        } }
     {
         MemorySource {
             bytes,
@@ -63,13 +76,20 @@ impl Source for MemorySource {
         ensures answer { result ≡ next_answer self.old (length buf.old) }
         ensures after { self.new ≡ after_next self.old result }
         ensures buffer { buf.new ≡ filled self.old result buf.old }
+
+        // What the trait promises.
+        ensures gives { Gives result buf.new (Some self.old.left) (Some self.new.left) }
+        ensures counted { self.old.faults ≤ self.new.faults }
+        ensures failed { result ≡ Next.Failed → Rose self.old.faults self.new.faults }
+        ensures steady { is_unfailing self.old.fails ≡ true →
+            (result ≢ Next.Failed) × (is_unfailing self.new.fails ≡ true) }
     {
         self.calls = self.calls.saturating_add(1);
         if self.fails.contains(&self.calls) {
             self.faults = self.faults.saturating_add(1);
             return Next::Failed;
         }
-        let left = &self.bytes[self.given..];
+        let left = self.rest();
         if left.is_empty() {
             return Next::End;
         }

@@ -28,7 +28,8 @@ pub trait Source {
         ensures gives { Gives result buf.new (left self.old) (left self.new) }
         ensures counted { faults self.old ≤ faults self.new }
         ensures failed { result ≡ Next.Failed → Rose (faults self.old) (faults self.new) }
-        ensures steady { is_steady self.old ≡ true → (result ≢ Next.Failed) × (is_steady self.new ≡ true) };
+        ensures steady { is_steady self.old ≡ true →
+            (result ≢ Next.Failed) × (is_steady self.new ≡ true) };
 }
 
 /// What one call of a sink took.

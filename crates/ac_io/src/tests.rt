@@ -1,0 +1,82 @@
+ghost use Rattle.std.specs.Prelude.{◌<◌};
+
+use super::*;
+use std::alloc::{AllocError, Global};
+use std::test::Fail;
+
+const LINE: &[u8] = b"3: ok\n";
+
+fn source_of(
+    alloc: Global,
+    bytes: &[u8],
+    piece: usize,
+    fails: &[u64],
+) -> Result<MemorySource, AllocError>
+    requires { 0 < piece }
+{
+    Ok(MemorySource::new(bytes.to_vec(alloc)?, piece, fails.to_vec(alloc)?))
+}
+
+#[test]
+fn reads_all_in_pieces(rt: HostRuntime) -> Result<(), Fail> {
+    let mut bytewise = source_of(rt.alloc(), LINE, 1, &[])?;
+    let line = read_all(rt.alloc(), &mut bytewise, 6)?;
+    assert_eq!(rt; line.as_slice(), LINE);
+    assert!(rt; bytewise.rest().is_empty());
+
+    let long = vec![in rt.alloc(); 7; 10_000]?;
+    let mut at_once = source_of(rt.alloc(), &long, usize::MAX, &[])?;
+    let read = read_all(rt.alloc(), &mut at_once, 10_000)?;
+    assert_eq!(rt; read.as_slice(), long.as_slice());
+    Ok(())
+}
+
+#[test]
+fn reading_ends_early(rt: HostRuntime) -> Result<(), Fail> {
+    let mut long = source_of(rt.alloc(), LINE, 4, &[])?;
+    assert!(rt; matches!(read_all(rt.alloc(), &mut long, 5), Err(ReadEnd::TooLong)));
+
+    let mut broken = source_of(rt.alloc(), LINE, 4, &[2])?;
+    assert!(rt;
+        matches!(
+            read_all(rt.alloc(), &mut broken, 6),
+            Err(ReadEnd::ReadFault)
+        )
+    );
+    assert_eq!(rt; broken.rest(), b"k\n".as_slice());
+    Ok(())
+}
+
+#[test]
+fn writes_all_or_a_front(rt: HostRuntime) -> Result<(), Fail> {
+    let mut bytewise = MemorySink::with_room(rt.alloc(), 6, 1, Vec::new(rt.alloc()))?;
+    write_all(&mut bytewise, LINE)?;
+    assert_eq!(rt; bytewise.bytes(), LINE);
+
+    let mut broken = MemorySink::with_room(rt.alloc(), 100, 4, vec![in rt.alloc(); 2]?)?;
+    assert!(rt; write_all(&mut broken, LINE).is_err());
+    assert_eq!(rt; broken.bytes(), b"3: o".as_slice());
+
+    let mut full = MemorySink::with_room(rt.alloc(), 5, 4, Vec::new(rt.alloc()))?;
+    assert!(rt; write_all(&mut full, LINE).is_err());
+    assert_eq!(rt; full.bytes(), b"3: ok".as_slice());
+    Ok(())
+}
+
+#[test]
+fn reads_standard_input(rt: HostRuntime) -> Result<(), Fail> {
+    let mut input = StdSource::new(rt.reader());
+    assert_ne!(rt; input.next(&mut [0; 8]), Next::Failed);
+
+    let mut known = StdSource::new(LINE);
+    let line = read_all(rt.alloc(), &mut known, 6)?;
+    assert_eq!(rt; line.as_slice(), LINE);
+    Ok(())
+}
+
+#[test]
+fn writes_standard_output(rt: HostRuntime) -> Result<(), Fail> {
+    let mut output = StdSink::new(rt.stdout());
+    write_all(&mut output, LINE)?;
+    Ok(())
+}

@@ -34,21 +34,21 @@ pub struct WriteFault;
 const BUFFER: usize = 4096;
 
 /// Reads a source to its end, where that comes after at most `limit` bytes.
-pub fn read_all<S: Source>(
-    alloc: Global,
-    source: &mut S,
-    limit: u64,
-) -> Result<Vec<u8>, ReadEnd>
+pub fn read_all<S: Source>(alloc: Global, source: &mut S, limit: u64) -> Result<Vec<u8>, ReadEnd>
     // All the bytes that came, and nothing is left.
-    ensures all { IfOk result (λ bytes. IfSome (S.left source.old) (λ left. (bytes.items ≡ left) × (S.left source.new ≡ Some []))) }
+    ensures all { IfOk result (λ bytes. IfSome (S.left source.old) (λ left.
+        (bytes.items ≡ left) × (S.left source.new ≡ Some []))) }
     ensures within { IfOk result (λ bytes. length bytes.items ≤ limit) }
 
     // An error leaves what wasn't read.
-    ensures too_long { result ≡ Err ReadEnd.TooLong → IfSome (S.left source.old) (λ left. limit < length left) }
-    ensures fault { result ≡ Err ReadEnd.ReadFault → Rose (S.faults source.old) (S.faults source.new) }
+    ensures too_long { result ≡ Err ReadEnd.TooLong →
+        IfSome (S.left source.old) (λ left. limit < length left) }
+    ensures fault { result ≡ Err ReadEnd.ReadFault →
+        Rose (S.faults source.old) (S.faults source.new) }
     ensures shrank { Shrank (S.left source.old) (S.left source.new) }
     ensures counted { S.faults source.old ≤ S.faults source.new }
-    ensures steady { S.is_steady source.old ≡ true → (result ≢ Err ReadEnd.ReadFault) × (S.is_steady source.new ≡ true) }
+    ensures steady { S.is_steady source.old ≡ true →
+        (result ≢ Err ReadEnd.ReadFault) × (S.is_steady source.new ≡ true) }
 {
     let mut bytes = Vec::new(alloc);
     let mut buffer = [0u8; BUFFER];

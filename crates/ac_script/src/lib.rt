@@ -1,13 +1,21 @@
-// A library with one function.
+//! The script language: a script's type, and how bytes spell it.
 #![tactic(auto)]
 
-ghost use Rattle.std.specs.Prelude.{◌≡◌};
-ghost use Rattle.ac_script.specs.Echo.{echo_of};
+mod command;
+mod cut;
+mod declaration;
+mod fault;
+mod ident;
+mod literal;
+mod parser;
+mod piece;
+mod reader;
+mod reserved;
+mod script;
+mod token;
 
-// The `ensures` clause is the contract: what `echo` returns is `echo_of` of its argument, a definition
-// in `specs/Echo.antt`, which a caller's clause can cite too.
-pub fn echo(x: usize) -> usize
-    ensures { result ≡ echo_of x }
-{
-    x
-}
+pub use fault::ScriptFault;
+pub use ident::Ident;
+pub use parser::parse;
+pub use script::{Action, Command, Script};
+pub use token::{Mark, Placed, Token};

@@ -1,13 +1,19 @@
-// A library with one function.
+//! The top call: a script comes in as bytes, and its lines go out as bytes.
 #![tactic(auto)]
 
-ghost use Rattle.std.specs.Prelude.{◌≡◌};
-ghost use Rattle.ac_top.specs.Echo.{echo_of};
+mod entry;
+mod examples;
+mod execute;
+mod gate;
+mod limits;
+mod line;
+mod status;
 
-// The `ensures` clause is the contract: what `echo` returns is `echo_of` of its argument, a definition
-// in `specs/Echo.antt`, which a caller's clause can cite too.
-pub fn echo(x: usize) -> usize
-    ensures { result ≡ echo_of x }
-{
-    x
-}
+pub use entry::run;
+pub use examples::worked_rows;
+pub use gate::{FreeGate, Gate};
+pub use limits::{INPUT_LIMIT, LENGTH_LIMIT};
+pub use status::Status;
+
+#[cfg(test)]
+mod tests;

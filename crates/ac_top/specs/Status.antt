@@ -1,0 +1,30 @@
+-- How the program ends.
+use Rattle.std.specs.Prelude.{◌≡◌, ◌≢◌, ◌≤◌, ℕ, List, length, Option, IfSome}
+use Rattle.ac_io.specs.Outside.{GrewBy, GrewByFront}
+use Rattle.ac_top.specs.Meaning.{Meaning}
+use Rattle.ac_top.specs.declared.status.Status.{Status}
+use Rattle.ac_top.specs.declared.status.Status.TheVariants.{Done, Refused, Usage, ReadFault, WriteFault, NoMemory}
+
+abbrev pub number_of : Status → ℕ
+number_of Done = 0
+number_of Refused = 1
+number_of Usage = 2
+number_of ReadFault = 3
+number_of WriteFault = 4
+number_of NoMemory = 5
+
+-- the input was answered: the script ran to its end, or was refused
+abbrev pub IsAnswer : Status → Type 0
+IsAnswer Done = Unit {0}
+IsAnswer Refused = Unit {0}
+IsAnswer Usage = ⊥
+IsAnswer ReadFault = ⊥
+IsAnswer WriteFault = ⊥
+IsAnswer NoMemory = ⊥
+
+-- what was written of a meaning's text, by the status with which the writing ended: all of it where the input was answered, else a front of it; and a sink that has room for it doesn't fail
+pub record Writes (meaning : Meaning) (held held' : Option (List ℕ)) (room : Option ℕ) (status : Status) : Type 0 where
+  pub whole : IsAnswer status → GrewBy held held' meaning.text
+  pub number : IsAnswer status → number_of status ≡ meaning.status
+  pub front : GrewByFront held held' meaning.text
+  pub within : IfSome room (λ n. length meaning.text ≤ n → status ≢ WriteFault)

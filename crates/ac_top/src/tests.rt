@@ -1,0 +1,106 @@
+ghost use Rattle.std.specs.Prelude.{◌<◌};
+
+use super::*;
+use ac_io::{MemorySink, MemorySource};
+use std::alloc::Global;
+use std::sync::Wait;
+use std::test::Fail;
+use std::thread::Threads;
+
+const WHOLE: usize = 1 << 30;
+
+const ONE_LIST: &[u8] =
+    b"type L is list (integer);\nA : L;\nA.Append (5);\nA.Append (-7);\nA.Print;\n";
+
+const ONE_LIST_LINES: &[u8] = b"3: ok\n4: ok\n5: [5, -7]\n";
+
+const TWO_ARGUMENTS: &[u8] =
+    b"type L is list (integer);\nA : L;\nA.Append (5);\nA.Append (7, 2);\nA.Print;\n";
+
+/// Runs an input over memory, in pieces of this size, and gives the status and what is held.
+fn answer<R: Threads + Wait + Sync>(
+    rt: &R,
+    alloc: Global,
+    input: Vec<u8>,
+    piece: usize,
+) -> Result<(Status, Vec<u8>), Fail>
+    requires { 0 < piece }
+{
+    let mut source = MemorySource::new(input, piece, Vec::new(alloc));
+    let mut sink = MemorySink::with_room(alloc, 1000, piece, Vec::new(alloc))?;
+    let status = run(rt, alloc, &[], &mut source, &mut sink, &FreeGate);
+    Ok((status, sink.bytes().to_vec(alloc)?))
+}
+
+#[test]
+fn answers_in_place_of_no_memory(rt: HostRuntime) -> Result<(), Fail> {
+    let rows = [
+        (ONE_LIST, Status::Done, ONE_LIST_LINES),
+        (TWO_ARGUMENTS, Status::Refused, b"input: syntax\n"),
+        (b"", Status::Done, b""),
+    ];
+    for (input, status, text) in rows {
+        for piece in [WHOLE, 1] {
+            let input = input.to_vec(rt.alloc())?;
+            let (ended, held) = answer(&rt, rt.alloc(), input, piece)?;
+            assert_eq!(rt; ended, status);
+            assert_eq!(rt; held.as_slice(), text);
+        }
+    }
+    Ok(())
+}
+
+#[test]
+fn takes_the_longest_input_and_no_longer_one(rt: HostRuntime) -> Result<(), Fail> {
+    let rows = [
+        (1048576, Status::Done, b"".as_slice()),
+        (1048577, Status::Refused, b"input: limit\n".as_slice()),
+    ];
+    for (len, status, text) in rows {
+        for piece in [WHOLE, 1] {
+            let input = vec![in rt.alloc(); b' '; len]?;
+            let (ended, held) = answer(&rt, rt.alloc(), input, piece)?;
+            assert_eq!(rt; ended, status);
+            assert_eq!(rt; held.as_slice(), text);
+        }
+    }
+    Ok(())
+}
+
+#[test]
+fn ends_where_a_device_fails(rt: HostRuntime) -> Result<(), Fail> {
+    let alloc = rt.alloc();
+    let mut source = MemorySource::new(ONE_LIST.to_vec(alloc)?, WHOLE, Vec::new(alloc));
+    let mut sink = MemorySink::with_room(alloc, 100, 4, vec![in alloc; 2]?)?;
+    let status = run(&rt, alloc, &[], &mut source, &mut sink, &FreeGate);
+    assert_eq!(rt; status.number(), 4);
+    assert_eq!(rt; sink.bytes(), b"3: o".as_slice());
+
+    // Each line is one piece, handed over as soon as its command has run.
+    let mut source = MemorySource::new(ONE_LIST.to_vec(alloc)?, WHOLE, Vec::new(alloc));
+    let mut sink = MemorySink::with_room(alloc, 100, WHOLE, vec![in alloc; 3]?)?;
+    let status = run(&rt, alloc, &[], &mut source, &mut sink, &FreeGate);
+    assert_eq!(rt; status.number(), 4);
+    assert_eq!(rt; sink.bytes(), b"3: ok\n4: ok\n".as_slice());
+
+    let mut source = MemorySource::new(ONE_LIST.to_vec(alloc)?, WHOLE, vec![in alloc; 1]?);
+    let mut sink = MemorySink::with_room(alloc, 100, WHOLE, Vec::new(alloc))?;
+    let status = run(&rt, alloc, &[], &mut source, &mut sink, &FreeGate);
+    assert_eq!(rt; status.number(), 3);
+    assert_eq!(rt; sink.bytes(), b"".as_slice());
+    Ok(())
+}
+
+#[test]
+fn refuses_every_word(rt: HostRuntime) -> Result<(), Fail> {
+    let alloc = rt.alloc();
+    let words = vec![in alloc; String::from_str(alloc, "--check")?]?;
+    let mut source = MemorySource::new(ONE_LIST.to_vec(alloc)?, WHOLE, Vec::new(alloc));
+    let mut sink = MemorySink::with_room(alloc, 100, WHOLE, Vec::new(alloc))?;
+    let status = run(&rt, alloc, &words, &mut source, &mut sink, &FreeGate);
+    assert_eq!(rt; status.number(), 2);
+    assert_eq!(rt; source.rest(), ONE_LIST);
+    assert_eq!(rt; sink.bytes(), b"".as_slice());
+    FreeGate.before(1);
+    Ok(())
+}
