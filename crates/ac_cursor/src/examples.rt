@@ -1,10 +1,60 @@
-//! Examples of what guards forbid and of the nine steps, and the law of the first reason.
-ghost use Rattle.std.specs.Prelude.{◌≡◌, ◌∷◌, [], List, Option, None, Some};
+//! Examples of what guards forbid and of the nine steps, and the laws of the first reason, of tags and of guards
+//! on any object.
+ghost use Rattle.std.specs.Prelude.{◌≡◌, ◌+◌, ◌<◌, ◌∷◌, [], List, Option, None, Some, IfSome};
 ghost use Rattle.ac_base.specs.declared.reason.Reason.{Reason};
 ghost use Rattle.ac_base.specs.declared.reason.Reason.TheVariants.{CursorTampering, ElementTampering, NoElement, ForeignCursor, DeadCursor, RootNode, NotChild, NotLeaf, LengthRange, CapacityFull, NamesSpent};
-ghost use Rattle.ac_cursor.specs.Guards.{forbids};
+ghost use Rattle.ac_cursor.specs.Guards.{forbids, count_of, raised_kind, OthersKept};
 ghost use Rattle.ac_cursor.specs.Steps.{first_reason, AllNone, NoneEarlier};
 ghost use Rattle.ac_cursor.specs.declared.guard.Class.TheVariants as class;
+
+use crate::guard::GuardKind;
+use crate::guards::{GuardKey, Guarded};
+use crate::mint::{Tag, TagMint};
+
+/// A number that a mint gives is above each that it gave before.
+pub fn two_tags(mint: &mut TagMint) -> Option<(Tag, Tag)>
+    ensures { IfSome result (λ tags. tags.0 < tags.1) }
+{
+    let first = mint.next()?;
+    let second = mint.next()?;
+    Some((first, second))
+}
+
+/// A guard that is held changes one count, by one.
+pub fn held_once<G: Guarded>(object: &mut G, kind: GuardKind) -> GuardKey
+    requires { count_of (raised_kind (G.is_set object.old) kind) (G.guards object.old) < u64.MAX }
+    ensures key { result.object ≡ (G.guards object.old).number }
+    ensures kind { result.kind ≡ raised_kind (G.is_set object.old) kind }
+    ensures number { (G.guards object.new).number ≡ (G.guards object.old).number }
+    ensures set { G.is_set object.new ≡ G.is_set object.old }
+    ensures raised { count_of result.kind (G.guards object.new) ≡ count_of result.kind (G.guards object.old) + 1 }
+    ensures others { OthersKept result.kind (G.guards object.old) (G.guards object.new) }
+    ensures rest { G.with_guards object.new (G.guards object.old) ≡ object.old }
+{
+    object.hold(kind)
+}
+
+/// A guard that is released changes the count that it raised, by one.
+pub fn released_once<G: Guarded>(object: &mut G, key: GuardKey)
+    requires own { key.object ≡ (G.guards object.old).number }
+    requires held { 0 < count_of key.kind (G.guards object.old) }
+    ensures number { (G.guards object.new).number ≡ (G.guards object.old).number }
+    ensures set { G.is_set object.new ≡ G.is_set object.old }
+    ensures lowered { count_of key.kind (G.guards object.new) + 1 ≡ count_of key.kind (G.guards object.old) }
+    ensures others { OthersKept key.kind (G.guards object.old) (G.guards object.new) }
+    ensures rest { G.with_guards object.new (G.guards object.old) ≡ object.old }
+{
+    object.release(key)
+}
+
+/// A guard that is held and released leaves its object as it was.
+pub fn held_and_released<G: Guarded>(object: &mut G, kind: GuardKind)
+    requires { count_of (raised_kind (G.is_set object.old) kind) (G.guards object.old) < u64.MAX }
+    ensures { object.new ≡ object.old }
+{
+    let key = object.hold(kind);
+    object.release(key);
+}
 
 /// A cursor guard forbids calls that tamper with cursors, and an element guard forbids those that tamper with either.
 pub fn classes_under_guards()
