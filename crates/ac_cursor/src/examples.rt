@@ -1,9 +1,9 @@
 //! Examples of what guards forbid and of the nine steps, and the laws of the first reason, of tags and of guards
 //! on any object.
-ghost use Rattle.std.specs.Prelude.{◌≡◌, ◌+◌, ◌<◌, ◌∷◌, [], List, Option, None, Some, IfSome};
+ghost use Rattle.std.specs.Prelude.{◌≡◌, ◌+◌, ◌<◌, ◌≤◌, ◌∷◌, [], List, Option, None, Some, IfSome, IsSome};
 ghost use Rattle.ac_base.specs.declared.reason.Reason.{Reason};
 ghost use Rattle.ac_base.specs.declared.reason.Reason.TheVariants.{CursorTampering, ElementTampering, NoElement, ForeignCursor, DeadCursor, RootNode, NotChild, NotLeaf, LengthRange, CapacityFull, NamesSpent};
-ghost use Rattle.ac_cursor.specs.Guards.{forbids, count_of, raised_kind, OthersKept};
+ghost use Rattle.ac_cursor.specs.Guards.{forbids, count_of, one_more, raised_kind, OthersKept};
 ghost use Rattle.ac_cursor.specs.Steps.{first_reason, AllNone, NoneEarlier};
 ghost use Rattle.ac_cursor.specs.declared.guard.Class.TheVariants as class;
 
@@ -13,7 +13,8 @@ use crate::mint::{Tag, TagMint};
 
 /// A number that a mint gives is above each that it gave before.
 pub fn two_tags(mint: &mut TagMint) -> Option<(Tag, Tag)>
-    ensures { IfSome result (λ tags. tags.0 < tags.1) }
+    ensures given { mint.old + 1 < u64.MAX → IsSome result }
+    ensures above { IfSome result (λ tags. (mint.old ≤ tags.0) × (tags.0 < tags.1)) }
 {
     let first = mint.next()?;
     let second = mint.next()?;
@@ -47,13 +48,16 @@ pub fn released_once<G: Guarded>(object: &mut G, key: GuardKey)
     object.release(key)
 }
 
-/// A guard that is held and released leaves its object as it was.
-pub fn held_and_released<G: Guarded>(object: &mut G, kind: GuardKind)
+/// How many guards of the kind are held while there is one guard more, whose release leaves the object as it was.
+pub fn count_under_guard<G: Guarded>(object: &mut G, kind: GuardKind) -> u64
     requires { count_of (raised_kind (G.is_set object.old) kind) (G.guards object.old) < u64.MAX }
-    ensures { object.new ≡ object.old }
+    ensures count { result ≡ count_of kind (one_more (raised_kind (G.is_set object.old) kind) (G.guards object.old)) }
+    ensures restored { object.new ≡ object.old }
 {
     let key = object.hold(kind);
+    let count = object.held(kind);
     object.release(key);
+    count
 }
 
 /// A cursor guard forbids calls that tamper with cursors, and an element guard forbids those that tamper with either.

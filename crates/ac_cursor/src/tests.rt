@@ -1,6 +1,9 @@
+ghost use Rattle.std.specs.Prelude.{true, refl};
+
 use super::*;
-use crate::examples::{held_and_released, held_once, released_once};
+use crate::examples::{count_under_guard, held_once, released_once};
 use ac_base::Reason;
+use std::marker::Model;
 use std::test::Fail;
 
 #[test]
@@ -52,15 +55,72 @@ fn guards_forbid_by_class(rt: HostRuntime) -> Result<(), Fail> {
     Ok(())
 }
 
+/// A set that never has an element, and a limit that its guards leave alone.
+#[derive(Drop)]
+struct EmptySet {
+    guards: Guards,
+    limit: u64,
+}
+
+impl Model for EmptySet {
+    ghost use Rattle.std.specs.Prelude.{ℕ};
+    ghost use Rattle.ac_cursor.specs.Guards.{GuardCounts};
+
+    ghost Value = { GuardCounts × ℕ };
+
+    ghost view = { λ set. (set.guards, set.limit) };
+}
+
+impl Guarded for EmptySet {
+    ghost is_set = { λ _. true };
+
+    ghost guards = { λ set. set.0 };
+
+    ghost with_guards = { λ set counts. (counts, set.1) };
+
+    ghost guards_given = { λ _ _. refl };
+
+    ghost guards_own = { λ _. refl };
+
+    ghost rest_kept = { λ _ _ _. refl };
+
+    ghost set_kept = { λ _ _. refl };
+
+    fn hold(&mut self, _kind: GuardKind) -> GuardKey {
+        self.guards.hold(GuardKind::Cursors)
+    }
+
+    fn release(&mut self, key: GuardKey) {
+        self.guards.release(key)
+    }
+
+    fn held(&self, kind: GuardKind) -> u64 {
+        self.guards.held(kind)
+    }
+}
+
 #[test]
 fn guards_through_the_bound(rt: HostRuntime) -> Result<(), Fail> {
     let mut guards = Guards::new(TagMint::new().next().ok_or("no tag")?);
     let key = held_once(&mut guards, GuardKind::Elements);
     assert_eq!(rt; guards.held(GuardKind::Elements), 1);
     released_once(&mut guards, key);
-    held_and_released(&mut guards, GuardKind::Cursors);
-    assert_eq!(rt; guards.held(GuardKind::Cursors), 0);
     assert_eq!(rt; guards.held(GuardKind::Elements), 0);
+    assert_eq!(rt; count_under_guard(&mut guards, GuardKind::Elements), 1);
+    Ok(())
+}
+
+#[test]
+fn a_set_has_cursor_guards_alone(rt: HostRuntime) -> Result<(), Fail> {
+    let guards = Guards::new(TagMint::new().next().ok_or("no tag")?);
+    let mut set = EmptySet { guards, limit: 5 };
+    let key = set.hold(GuardKind::Elements);
+    assert_eq!(rt; set.held(GuardKind::Cursors), 1);
+    assert_eq!(rt; set.held(GuardKind::Elements), 0);
+    set.release(key);
+    assert_eq!(rt; count_under_guard(&mut set, GuardKind::Elements), 0);
+    assert_eq!(rt; count_under_guard(&mut set, GuardKind::Cursors), 1);
+    assert_eq!(rt; set.limit, 5);
     Ok(())
 }
 
