@@ -24,7 +24,7 @@ pub fn two_tags(mint: &mut TagMint) -> Option<(Tag, Tag)>
 /// A guard that is held changes one count, by one.
 pub fn held_once<G: Guarded>(object: &mut G, kind: GuardKind) -> GuardKey
     requires { count_of (raised_kind (G.is_set object.old) kind) (G.guards object.old) < u64.MAX }
-    ensures key { result.object ≡ (G.guards object.old).number }
+    ensures object { result.object ≡ (G.guards object.old).number }
     ensures kind { result.kind ≡ raised_kind (G.is_set object.old) kind }
     ensures number { (G.guards object.new).number ≡ (G.guards object.old).number }
     ensures set { G.is_set object.new ≡ G.is_set object.old }
@@ -51,7 +51,8 @@ pub fn released_once<G: Guarded>(object: &mut G, key: GuardKey)
 /// How many guards of the kind are held while there is one guard more, whose release leaves the object as it was.
 pub fn count_under_guard<G: Guarded>(object: &mut G, kind: GuardKind) -> u64
     requires { count_of (raised_kind (G.is_set object.old) kind) (G.guards object.old) < u64.MAX }
-    ensures count { result ≡ count_of kind (one_more (raised_kind (G.is_set object.old) kind) (G.guards object.old)) }
+    ensures count { let held = raised_kind (G.is_set object.old) kind in
+        result ≡ count_of kind (one_more held (G.guards object.old)) }
     ensures restored { object.new ≡ object.old }
 {
     let key = object.hold(kind);

@@ -1,5 +1,5 @@
 ghost use Rattle.std.specs.Prelude.{◌≡◌, ◌<◌, Bool, false, refl};
-ghost use Rattle.ac_cursor.specs.Guards.{forbids, GuardCounts, HeldGuard, count_of, one_more, one_less, raised_kind};
+ghost use Rattle.ac_cursor.specs.Guards.{forbids, GuardCounts, count_of, one_more, one_less, raised_kind};
 
 use crate::guard::{Class, GuardKind};
 use crate::mint::Tag;
@@ -29,14 +29,15 @@ pub trait Guarded {
     /// The object's number, and the counts of its guards.
     ghost guards: { Self → GuardCounts };
 
-    /// The object with another number and other counts: what it has in common with the object is its rest.
+    /// The object with this number and these counts. All else that it has, its rest, is the same.
     ghost with_guards: { Self → GuardCounts → Self };
 
-    /// Holds one guard more. A set holds a guard on cursors, whatever the kind.
+    /// Holds one guard more. On a set it is a cursor guard, whatever the kind.
     fn hold(&mut self, kind: GuardKind) -> GuardKey
         requires { count_of (raised_kind (is_set self.old) kind) (guards self.old) < u64.MAX }
-        ensures key { result ≡ record { object = (guards self.old).number; kind = raised_kind (is_set self.old) kind } }
-        ensures held { self.new ≡ with_guards self.old (one_more (raised_kind (is_set self.old) kind) (guards self.old)) };
+        ensures object { result.object ≡ (guards self.old).number }
+        ensures kind { result.kind ≡ raised_kind (is_set self.old) kind }
+        ensures held { self.new ≡ with_guards self.old (one_more result.kind (guards self.old)) };
 
     /// Releases the guard of the key.
     fn release(&mut self, key: GuardKey)
@@ -48,16 +49,16 @@ pub trait Guarded {
     fn held(&self, kind: GuardKind) -> u64
         ensures { result ≡ count_of kind (guards self.now) };
 
-    /// What it was given stands.
+    /// The number and the counts that an object is given are its own.
     ghost guards_given: { (object : Self) (counts : GuardCounts) → guards (with_guards object counts) ≡ counts };
 
-    /// With its own number and counts it is itself.
+    /// An object that is given its own number and counts is itself.
     ghost guards_own: { (object : Self) → with_guards object (guards object) ≡ object };
 
-    /// The rest is the same under any number and counts.
+    /// The rest keeps nothing of an earlier number or earlier counts.
     ghost rest_kept: { (object : Self) (counts others : GuardCounts) → with_guards (with_guards object counts) others ≡ with_guards object others };
 
-    /// A set stays one.
+    /// Whether it is a set is of the rest.
     ghost set_kept: { (object : Self) (counts : GuardCounts) → is_set (with_guards object counts) ≡ is_set object };
 }
 
