@@ -1,0 +1,8 @@
+use Rattle.ac_cursor.proofs.FirstReason.{none_found, none_earlier}
+use Rattle.ac_cursor.proofs.examples.first_of_all.Goals as goal
+
+pub returns-clause-none : goal.returns-clause-none
+returns-clause-none c = none_found
+
+pub returns-clause-earliest : goal.returns-clause-earliest
+returns-clause-earliest c = none_earlier

@@ -1,0 +1,138 @@
+ghost use Rattle.std.specs.Prelude.{true, refl};
+
+use super::*;
+use crate::examples::{count_under_guard, held_once, released_once};
+use ac_base::Reason;
+use std::marker::Model;
+use std::test::Fail;
+
+#[test]
+fn the_last_number_is_never_given(rt: HostRuntime) -> Result<(), Fail> {
+    let mut mint = TagMint::starting_at(u64::MAX - 1);
+    let tag = mint.next().ok_or("no tag")?;
+    assert_eq!(rt; tag.number(), u64::MAX - 1);
+    assert!(rt; mint.next().is_none());
+    assert!(rt; mint.next().is_none());
+    Ok(())
+}
+
+#[test]
+fn numbers_run_from_one(rt: HostRuntime) -> Result<(), Fail> {
+    let mut mint = TagMint::new();
+    for number in [1, 2, 3] {
+        assert_eq!(rt; mint.next().ok_or("no tag")?.number(), number);
+    }
+    Ok(())
+}
+
+#[test]
+fn guards_forbid_by_class(rt: HostRuntime) -> Result<(), Fail> {
+    let mut guards = Guards::new(TagMint::starting_at(7).next().ok_or("no tag")?);
+    assert_eq!(rt; guards.number(), 7);
+    let elements = guards.hold(GuardKind::Elements);
+    assert_eq!(rt;
+        guards.forbids(Class::Cursors),
+        Some(Reason::ElementTampering)
+    );
+    assert_eq!(rt;
+        guards.forbids(Class::Elements),
+        Some(Reason::ElementTampering)
+    );
+    let cursors = guards.hold(GuardKind::Cursors);
+    assert_eq!(rt;
+        guards.forbids(Class::Cursors),
+        Some(Reason::CursorTampering)
+    );
+    assert_eq!(rt;
+        guards.forbids(Class::Elements),
+        Some(Reason::ElementTampering)
+    );
+    guards.release(elements);
+    assert_eq!(rt; guards.count(GuardKind::Elements), 0);
+    assert_eq!(rt; guards.forbids(Class::Elements), None);
+    guards.release(cursors);
+    assert_eq!(rt; guards.forbids(Class::Cursors), None);
+    Ok(())
+}
+
+/// A set that never has an element, and a limit that its guards leave alone.
+#[derive(Drop)]
+struct EmptySet {
+    guards: Guards,
+    limit: u64,
+}
+
+impl Model for EmptySet {
+    ghost use Rattle.std.specs.Prelude.{ℕ};
+    ghost use Rattle.ac_cursor.specs.Guards.{GuardCounts};
+
+    ghost Value = { GuardCounts × ℕ };
+
+    ghost view = { λ set. (set.guards, set.limit) };
+}
+
+impl Guarded for EmptySet {
+    ghost is_set = { λ _. true };
+
+    ghost guards = { λ set. set.0 };
+
+    ghost with_guards = { λ set counts. (counts, set.1) };
+
+    ghost guards_given = { λ _ _. refl };
+
+    ghost guards_own = { λ _. refl };
+
+    ghost rest_kept = { λ _ _ _. refl };
+
+    ghost set_kept = { λ _ _. refl };
+
+    fn hold(&mut self, _kind: GuardKind) -> GuardKey {
+        self.guards.hold(GuardKind::Cursors)
+    }
+
+    fn release(&mut self, key: GuardKey) {
+        self.guards.release(key)
+    }
+
+    fn held(&self, kind: GuardKind) -> u64 {
+        self.guards.held(kind)
+    }
+}
+
+#[test]
+fn guards_through_the_bound(rt: HostRuntime) -> Result<(), Fail> {
+    let mut guards = Guards::new(TagMint::new().next().ok_or("no tag")?);
+    let key = held_once(&mut guards, GuardKind::Elements);
+    assert_eq!(rt; guards.held(GuardKind::Elements), 1);
+    released_once(&mut guards, key);
+    assert_eq!(rt; guards.held(GuardKind::Elements), 0);
+    assert_eq!(rt; count_under_guard(&mut guards, GuardKind::Elements), 1);
+    Ok(())
+}
+
+#[test]
+fn a_set_has_cursor_guards_alone(rt: HostRuntime) -> Result<(), Fail> {
+    let guards = Guards::new(TagMint::new().next().ok_or("no tag")?);
+    let mut set = EmptySet { guards, limit: 5 };
+    let key = set.hold(GuardKind::Elements);
+    assert_eq!(rt; set.held(GuardKind::Cursors), 1);
+    assert_eq!(rt; set.held(GuardKind::Elements), 0);
+    set.release(key);
+    assert_eq!(rt; count_under_guard(&mut set, GuardKind::Elements), 0);
+    assert_eq!(rt; count_under_guard(&mut set, GuardKind::Cursors), 1);
+    assert_eq!(rt; set.limit, 5);
+    Ok(())
+}
+
+#[test]
+fn the_earliest_step_comes_first(rt: HostRuntime) {
+    let found = [
+        Some(Reason::DeadCursor),
+        None,
+        Some(Reason::ElementTampering),
+        Some(Reason::CursorTampering),
+    ];
+    assert_eq!(rt; first_reason(&found), Some(Reason::ElementTampering));
+    assert_eq!(rt; first_reason(&found[..2]), Some(Reason::DeadCursor));
+    assert_eq!(rt; first_reason(&found[1..2]), None);
+}

@@ -1,0 +1,12 @@
+pub mod Times
+pub mod Lengths
+pub mod Moves
+pub mod Reasons
+pub mod Kept
+pub mod SequencesKept
+pub mod ListsKept
+pub mod VectorsKept
+pub mod RowLaws
+pub mod Capacity
+pub mod FirstValid
+pub mod OutlineLaws

@@ -1,0 +1,31 @@
+//! Examples of queue calls.
+ghost use Rattle.std.specs.Prelude.{◌≡◌, ◌∷◌, [], ℕ, ℤ, pos, negsuc, true, false, None, Some};
+ghost use Rattle.ac_base.specs.declared.limit.Limit.TheVariants.{Unbounded, Bounded};
+ghost use Rattle.ac_model.specs.Queues as queue;
+ghost use Rattle.ac_model.specs.Queues.{by_arrival, by_priority, empty_queue};
+ghost use Rattle.ac_model.specs.Examples.{queue_of};
+
+/// A queue call waits where the queue is empty or full, and the peak is the greatest number held so far.
+pub fn waits()
+    ensures empty { (queue.dequeue_call (empty_queue Unbounded)).waits ≡ true }
+    ensures peak_of_none { queue.peak_use_call (empty_queue Unbounded) ≡ pos 0 }
+    ensures full { let one = (queue.enqueue_call by_arrival (empty_queue (Bounded 1)) (pos 1)).after in
+        ((queue.enqueue_call by_arrival one (pos 2)).waits ≡ true)
+        × ((queue.dequeue_call one).waits ≡ false)
+        × ((queue.dequeue_call one).answer ≡ Some (pos 1))
+        × (queue.peak_use_call (queue.dequeue_call one).after ≡ pos 1) }
+    ensures in_order { let one = (queue.enqueue_call by_arrival (empty_queue Unbounded) (pos 1)).after in
+        let two = (queue.enqueue_call by_arrival one (pos 2)).after in
+        ((queue.dequeue_call two).answer ≡ Some (pos 1)) × (queue.peak_use_call two ≡ pos 2) }
+{}
+
+/// In a priority queue an item goes after all that aren't of lower priority.
+pub fn ranked()
+    ensures lined_up { let one = (queue.enqueue_call by_priority (empty_queue Unbounded) (pos 150)).after in
+        let two = (queue.enqueue_call by_priority one (pos 210)).after in
+        (queue.enqueue_call by_priority two (pos 199)).after.items ≡ pos 210 ∷ pos 150 ∷ pos 199 ∷ [] }
+    ensures too_low { let q = queue_of (pos 210 ∷ pos 150 ∷ pos 199 ∷ []) in
+        ((queue.high_only_call q (pos 3)).answer ≡ None) × ((queue.high_only_call q (pos 3)).after ≡ q) }
+    ensures high { (queue.high_only_call (queue_of (pos 150 ∷ pos 199 ∷ [])) (pos 1)).answer ≡ Some (pos 150) }
+    ensures toward_zero { (queue.high_only_call (queue_of (negsuc 98 ∷ [])) (pos 0)).answer ≡ Some (negsuc 98) }
+{}
