@@ -5,3 +5,4 @@ pub mod Key
 pub mod Order
 pub mod OrderLaws
 pub mod Hash
+pub mod HashLaws

@@ -1,7 +1,7 @@
 -- What an order of values is, and the orders of the integers and of the texts.
-use Rattle.std.specs.Prelude.{◌≡◌, ℕ, ℤ, Bool, true, false, List}
+use Rattle.std.specs.Prelude.{◌≡◌, ℕ, ℤ, Bool, true, false, List, nat_eq}
 use Rattle.std.specs.Ordering.{int_cmp, nat_cmp, is_lt}
-use Rattle.std.specs.Cmp.Lexicographic.{slice_cmp}
+use Rattle.std.specs.Cmp.Lexicographic.{slice_cmp, pointwise}
 
 -- neither is less than the other
 abbrev pub IsTied : {A : Type 0} → (A → A → Bool) → A → A → Type 0
@@ -20,3 +20,7 @@ integer_less x y = is_lt (int_cmp x y)
 -- texts are ordered by their bytes: the first that differs decides, and else a front of the other is less
 abbrev pub text_less : List ℕ → List ℕ → Bool
 text_less x y = is_lt (slice_cmp nat_cmp x y)
+
+-- texts are alike where they have the same bytes
+abbrev pub text_alike : List ℕ → List ℕ → Bool
+text_alike x y = pointwise nat_eq x y

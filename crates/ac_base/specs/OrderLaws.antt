@@ -1,13 +1,13 @@
 -- The orders by a comparison are weak orders, and each value's ties are what the comparison calls equal.
-use Rattle.std.specs.Prelude.{◌≡◌, ◌↔◌, ℤ, ℕ, List, Bool, true, false, IsTrue, refl}
-use Rattle.std.proofs.Common.{sym, ap, ◌∙◌}
+use Rattle.std.specs.Prelude.{◌≡◌, ◌↔◌, ◌<ℤ◌, ℤ, ℕ, List, Bool, true, false, IsTrue, refl}
+use Rattle.std.proofs.Common.{sym, ap, ◌∙◌, subst}
 use Rattle.std.specs.declared.cmp.Ordering.{Ordering}
 use Rattle.std.specs.declared.cmp.Ordering.TheVariants.{Less, Equal, Greater}
-use Rattle.std.specs.Ordering.{int_cmp, nat_cmp, is_lt, is_eq, eq_by_cmp, ordering_reverse, on}
+use Rattle.std.specs.Ordering.{int_cmp, nat_cmp, is_lt, is_eq, MatchOrdering, int_eq, eq_by_cmp, ordering_reverse, on}
 use Rattle.std.specs.Cmp.{IsTotalOrder, IsEquivalence}
-use Rattle.std.specs.Cmp.Lexicographic.{slice_cmp}
-use Rattle.std.proofs.lemmas.Cmp.{tied_itself, tied_back, int_cmp_total, nat_list_cmp_total, on_total, eq_by_cmp_equiv}
-use Rattle.ac_base.specs.Order.{IsTied, IsWeakOrder, integer_less, text_less}
+use Rattle.std.specs.Cmp.Lexicographic.{slice_cmp, bytes_decides, texts_ties}
+use Rattle.std.proofs.lemmas.Cmp.{int_ranked, tied_itself, tied_back, int_cmp_total, nat_list_cmp_total, on_total, nat_list_eq_equiv}
+use Rattle.ac_base.specs.Order.{IsTied, IsWeakOrder, integer_less, text_less, text_alike}
 use Rattle.ac_base.specs.Key.{key_of_text}
 
 is_less : (answer : Ordering) → is_lt answer ≡ true → answer ≡ Less
@@ -52,3 +52,23 @@ text_order = weak_order nat_list_cmp_total
 
 pub key_order : IsWeakOrder (on key_of_text text_less)
 key_order = weak_order (on_total key_of_text nat_list_cmp_total)
+
+pub text_equivalence : IsEquivalence text_alike
+text_equivalence = nat_list_eq_equiv
+
+pub integers_equal : (x y : ℤ) → IsTrue (int_eq x y) → x ≡ y
+integers_equal x y alike =
+    subst (λ answer. MatchOrdering answer (x <ℤ y) (x ≡ y) (y <ℤ x)) (called_equal (int_cmp x y) alike) (int_ranked x y (int_cmp x y) refl)
+
+pub texts_equal : (x y : List ℕ) → IsTrue (text_alike x y) → x ≡ y
+texts_equal x y alike = (bytes_decides x y).0 alike
+
+pub integers_alike_where_tied : (x y : ℤ) → IsTrue (int_eq x y) ↔ IsTied integer_less x y
+integers_alike_where_tied = equal_exactly_where_tied int_cmp_total
+
+pub texts_alike_where_tied : (x y : List ℕ) → IsTrue (text_alike x y) ↔ IsTied text_less x y
+texts_alike_where_tied x y =
+    subst (λ alike. IsTrue alike ↔ IsTied text_less x y) (sym (texts_ties x y)) (equal_exactly_where_tied nat_list_cmp_total x y)
+
+pub keyed_texts_alike_where_tied : (x y : List ℕ) → IsTrue (on key_of_text text_alike x y) ↔ IsTied (on key_of_text text_less) x y
+keyed_texts_alike_where_tied x y = texts_alike_where_tied (key_of_text x) (key_of_text y)

@@ -37,6 +37,12 @@ impl KeyedText {
     {
         &self.text
     }
+
+    pub(crate) fn key_text(&self) -> &Text
+        ensures { result.now ≡ key_of_text self.now }
+    {
+        &self.key
+    }
 }
 
 impl PartialEq for KeyedText {

@@ -3,12 +3,15 @@
 
 mod element;
 mod fault;
+mod hash;
+mod integer_element;
 mod keyed_text;
 mod limit;
 mod name;
 mod reason;
 mod steps;
 mod text;
+mod text_element;
 mod value;
 
 pub use element::{Elem, Hashed, KeyOf, Rank};

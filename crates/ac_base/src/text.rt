@@ -104,6 +104,22 @@ fn key_len(bytes: &[u8]) -> usize
 }
 
 impl Text {
+    pub(crate) fn empty(alloc: Global) -> Text
+        ensures { result ≡ [] }
+    {
+        Text {
+            bytes: Vec::new(alloc),
+        }
+    }
+
+    pub(crate) fn duplicate(&self, alloc: Global) -> Result<Text, NoMemory>
+        ensures { IfOk result (λ made. made ≡ self.now) }
+    {
+        Ok(Text {
+            bytes: Vec::from_slice(alloc, &self.bytes)?,
+        })
+    }
+
     /// The bytes before the first `=`, or all of them.
     pub(crate) fn key_part(&self, alloc: Global) -> Result<Text, NoMemory>
         ensures { IfOk result (λ key. key ≡ key_of_text self.now) }
