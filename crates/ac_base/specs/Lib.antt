@@ -6,3 +6,4 @@ pub mod Order
 pub mod OrderLaws
 pub mod Hash
 pub mod HashLaws
+pub mod Examples

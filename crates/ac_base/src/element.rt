@@ -1,11 +1,12 @@
-ghost use Rattle.std.specs.Prelude.{◌≡◌, ℕ, ◌+◌, Bool, false, IsTrue, ◌↔◌, IfOk};
+ghost use Rattle.std.specs.Prelude.{◌≡◌, ℕ, ◌+◌, ◌<◌, Bool, false, IsTrue, ◌↔◌, IfOk};
 ghost use Rattle.std.specs.Cmp.{IsEquivalence};
 ghost use Rattle.ac_base.specs.Order.{IsWeakOrder, IsTied};
 
 use crate::fault::NoMemory;
 use crate::steps::Steps;
 use std::alloc::Global;
-use std::sync::ledger::Ledger;
+use std::marker::Brand;
+use std::sync::ledger::{Blank, Ledger};
 
 /// What a container keeps.
 pub trait Elem: Drop {
@@ -74,4 +75,20 @@ pub trait KeyOf: Rank + Hashed {
     ghost alike_where_tied: { (x y : Self) → IsTrue (Self.is_alike x y) ↔ IsTied Self.is_less x y };
 
     ghost keys_alike_where_tied: { (x y : Self.Key) → IsTrue (Self.Key.is_alike x y) ↔ IsTied Self.Key.is_less x y };
+}
+
+fn precedes_counted<T: Rank, L: Ledger>(left: &T, right: &T, blank: Blank) -> bool
+    requires name { blank.name ≡ L.name }
+    requires parts { blank.parts ≡ L.parts }
+    requires some { 0 < blank.parts }
+    ensures { result ≡ T.is_less left.now right.now }
+{
+    left.less(right, &mut Steps::<L>::new(blank))
+}
+
+/// `less`, for a caller that counts nothing.
+pub fn precedes<T: Rank>(left: &T, right: &T) -> bool
+    ensures { result ≡ T.is_less left.now right.now }
+{
+    precedes_counted::<T, Brand>(left, right, Blank::new(1))
 }

@@ -1,0 +1,15 @@
+ghost use Rattle.ac_base.specs.Examples.{HashOfEmpty, HashOfLetter, HashOfZero, KeyBeforeSign, KeyWithoutSign, FrontIsLess, FirstDifferenceDecides, NegativeIsLess};
+
+/// Worked hashes, keys and orders.
+#[tactic(auto, unfolding(crate::specs::Hash::hash_of_bytes))]
+pub fn examples()
+    ensures hash_of_empty { HashOfEmpty }
+    ensures hash_of_letter { HashOfLetter }
+    ensures hash_of_zero { HashOfZero }
+    ensures key_before_sign { KeyBeforeSign }
+    ensures key_without_sign { KeyWithoutSign }
+    ensures front_is_less { FrontIsLess }
+    ensures first_difference_decides { FirstDifferenceDecides }
+    ensures negative_is_less { NegativeIsLess }
+{
+}
