@@ -1,5 +1,5 @@
 -- Bytes with no bad place are printable, and the other way round.
-use Rattle.std.specs.Prelude.{◌≡◌, ℕ, ◌+◌, ◌<◌, ◌≤◌, nat_lt, if◌then◌else◌, List, length, All, true, Some, None}
+use Rattle.std.specs.Prelude.{◌≡◌, ℕ, ◌+◌, ◌<◌, ◌≤◌, ◌↔◌, nat_lt, if◌then◌else◌, List, length, All, true, Some, None}
 use Rattle.std.specs.List.{prefix_len}
 use Rattle.std.proofs.Common.{arith, sym, ◌∙◌, true≢false}
 use Rattle.std.proofs.lemmas.Grind.{common_steps}
@@ -28,9 +28,12 @@ pub text_of : (bytes : List ℕ) → first_bad_place bytes ≡ None → length b
 text_of bytes none within = record { within = within; printable = all_printable bytes none }
 
 -- no byte of a text is bad
-pub no_bad_place : (bytes : List ℕ) → IsText bytes → first_bad_place bytes ≡ None
+no_bad_place : (bytes : List ℕ) → IsText bytes → first_bad_place bytes ≡ None
 no_bad_place bytes text =
     let stops = prefix_len_stops is_printable bytes 0 in
     let never : prefix_len is_printable bytes < length bytes → ⊥ =
-        λ short. true≢false (sym (tested_where_printable _ (text.printable _ 0 short)) ∙ stops short) in
+    λ short. true≢false (sym (tested_where_printable _ (text.printable _ 0 short)) ∙ stops short) in
     none_where_whole _ _ (omega (arith, never))
+
+pub text_exactly : (bytes : List ℕ) → IsText bytes ↔ ((first_bad_place bytes ≡ None) × (length bytes ≤ 1000))
+text_exactly bytes = (λ text. (no_bad_place bytes text, text.within), λ good. text_of bytes good.0 good.1)

@@ -48,10 +48,7 @@ fn printable(byte: u8) -> bool
 fn printable_front(bytes: &[u8]) -> usize
     ensures { result ≡ prefix_len is_printable bytes.now }
 {
-    bytes
-        .iter()
-        .take_while(|byte| printable(**byte))
-        .count()
+    bytes.iter().take_while(|byte| printable(**byte)).count()
 }
 
 fn bad_place(bytes: &[u8]) -> Option<u64>
@@ -97,10 +94,7 @@ impl Text {
 fn key_len(bytes: &[u8]) -> usize
     ensures { result ≡ position_or_len (λ byte. byte == 61) bytes.now }
 {
-    bytes
-        .iter()
-        .take_while(|byte| **byte != b'=')
-        .count()
+    bytes.iter().take_while(|byte| **byte != b'=').count()
 }
 
 impl Text {
