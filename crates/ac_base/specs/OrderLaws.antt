@@ -1,11 +1,11 @@
 -- The orders by a comparison are weak orders, and each value's ties are what the comparison calls equal.
-use Rattle.std.specs.Prelude.{◌≡◌, ◌↔◌, ◌<ℤ◌, ℤ, ℕ, List, Bool, true, false, IsTrue, refl}
+use Rattle.std.specs.Prelude.{◌≡◌, ◌↔◌, ◌<ℤ◌, ℤ, ℕ, List, true, false, IsTrue, refl}
 use Rattle.std.proofs.Common.{sym, ap, ◌∙◌, subst}
 use Rattle.std.specs.declared.cmp.Ordering.{Ordering}
 use Rattle.std.specs.declared.cmp.Ordering.TheVariants.{Less, Equal, Greater}
-use Rattle.std.specs.Ordering.{int_cmp, nat_cmp, is_lt, is_eq, MatchOrdering, int_eq, eq_by_cmp, ordering_reverse, on}
+use Rattle.std.specs.Ordering.{int_cmp, is_lt, is_eq, MatchOrdering, int_eq, eq_by_cmp, ordering_reverse, on}
 use Rattle.std.specs.Cmp.{IsTotalOrder, IsEquivalence}
-use Rattle.std.specs.Cmp.Lexicographic.{slice_cmp, bytes_decides, texts_ties}
+use Rattle.std.specs.Cmp.Lexicographic.{bytes_decides, texts_ties}
 use Rattle.std.proofs.lemmas.Cmp.{int_ranked, tied_itself, tied_back, int_cmp_total, nat_list_cmp_total, on_total, nat_list_eq_equiv}
 use Rattle.ac_base.specs.Order.{IsTied, IsWeakOrder, integer_less, text_less, text_alike}
 use Rattle.ac_base.specs.Key.{key_of_text}

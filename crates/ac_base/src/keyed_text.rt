@@ -1,4 +1,4 @@
-ghost use Rattle.std.specs.Prelude.{◌≡◌, IfOk};
+ghost use Rattle.std.specs.Prelude.{◌≡◌, IfOk, []};
 ghost use Rattle.ac_base.specs.Key.{key_of_text};
 
 use crate::fault::NoMemory;
@@ -36,6 +36,15 @@ impl KeyedText {
         ensures { result.now ≡ self.now }
     {
         &self.text
+    }
+
+    pub(crate) fn empty(alloc: Global) -> KeyedText
+        ensures { result ≡ [] }
+    {
+        KeyedText {
+            text: Text::empty(alloc),
+            key: Text::empty(alloc),
+        }
     }
 
     pub(crate) fn key_text(&self) -> &Text

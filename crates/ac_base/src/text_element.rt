@@ -1,4 +1,4 @@
-ghost use Rattle.std.specs.Prelude.{◌≡◌, refl, length, []};
+ghost use Rattle.std.specs.Prelude.{◌≡◌, IsOk, IfOk, refl, length, []};
 ghost use Rattle.std.specs.Ordering.{on};
 ghost use Rattle.std.proofs.lemmas.Cmp.{on_equiv};
 ghost use Rattle.ac_base.specs.Key.{key_of_text};
@@ -33,7 +33,10 @@ impl Elem for Text {
         self.bytes().len() as u64
     }
 
-    fn blank(alloc: Global) -> Result<Text, NoMemory> {
+    fn blank(alloc: Global) -> Result<Text, NoMemory>
+        ensures ok { IsOk result }
+        ensures empty { IfOk result (λ made. made ≡ []) }
+    {
         Ok(Text::empty(alloc))
     }
 }
@@ -104,8 +107,11 @@ impl Elem for KeyedText {
         self.text().size()
     }
 
-    fn blank(alloc: Global) -> Result<KeyedText, NoMemory> {
-        KeyedText::new(alloc, Text::empty(alloc))
+    fn blank(alloc: Global) -> Result<KeyedText, NoMemory>
+        ensures ok { IsOk result }
+        ensures empty { IfOk result (λ made. made ≡ []) }
+    {
+        Ok(KeyedText::empty(alloc))
     }
 }
 
