@@ -1,4 +1,7 @@
 use super::*;
+use std::alloc::Global;
+use std::process::Abort;
+use std::test::Fail;
 
 #[test]
 fn reasons_as_in_the_table(rt: HostRuntime) {
@@ -18,4 +21,81 @@ fn reasons_as_in_the_table(rt: HostRuntime) {
         assert_eq!(rt; reason.exception().name(), exception);
         assert_eq!(rt; reason.text(), text);
     }
+}
+
+fn keyed(alloc: Global, bytes: &[u8]) -> Result<KeyedText, Fail> {
+    Ok(KeyedText::new(alloc, Text::new(alloc, bytes)?)?)
+}
+
+fn element_as_wanted<T: Elem>(
+    rt: &impl Abort,
+    alloc: Global,
+    element: &T,
+    sizes: [u64; 2],
+) -> Result<(), Fail> {
+    let copied = element.copy(alloc)?;
+    let blank = T::blank(alloc)?;
+    assert!(rt; element.same(&copied));
+    assert!(rt; !element.same(&blank));
+    assert_eq!(rt; [element.size(), blank.size()], sizes);
+    Ok(())
+}
+
+fn in_order<T: Rank>(rt: &impl Abort, smaller: &T, greater: &T) {
+    assert!(rt; precedes(smaller, greater));
+    assert!(rt; !precedes(greater, smaller));
+}
+
+fn hashed_as_wanted<T: KeyOf>(rt: &impl Abort, element: &T, other: &T, hash: u32) {
+    assert!(rt; element.alike(element));
+    assert!(rt; !element.alike(other));
+    assert_eq!(rt; element.hash(), hash);
+    assert!(rt; element.key().alike(element.key()));
+    assert_eq!(rt; element.key().hash(), hash);
+}
+
+#[test]
+fn integers(rt: HostRuntime) -> Result<(), Fail> {
+    element_as_wanted(&rt, rt.alloc(), &-7i64, [8, 8])?;
+    in_order(&rt, &-7i64, &5);
+    hashed_as_wanted(&rt, &0i64, &1, 232_720_647);
+    Ok(())
+}
+
+#[test]
+fn texts_that_are_taken(rt: HostRuntime) -> Result<(), Fail> {
+    let alloc = rt.alloc();
+    let long = vec![in alloc; b'x'; 1_001]?;
+    assert_eq!(rt; Text::new(alloc, b"a\n"), Err(TextFault::BadByte(2)));
+    assert_eq!(rt; Text::new(alloc, &long), Err(TextFault::TooLong));
+    assert_eq!(rt; Text::new(alloc, &long[1..])?.bytes().len(), 1_000);
+    Ok(())
+}
+
+#[test]
+fn texts_as_elements(rt: HostRuntime) -> Result<(), Fail> {
+    let alloc = rt.alloc();
+    let empty = Text::new(alloc, b"")?;
+    let letter = Text::new(alloc, b"a")?;
+    element_as_wanted(&rt, alloc, &letter, [1, 0])?;
+    in_order(&rt, &empty, &letter);
+    hashed_as_wanted(&rt, &empty, &letter, 7);
+    hashed_as_wanted(&rt, &letter, &empty, 314);
+    Ok(())
+}
+
+#[test]
+fn keyed_texts(rt: HostRuntime) -> Result<(), Fail> {
+    let alloc = rt.alloc();
+    let first = keyed(alloc, b"a=1")?;
+    let second = keyed(alloc, b"a=2")?;
+    let other = keyed(alloc, b"b")?;
+    assert!(rt; first.alike(&second));
+    assert!(rt; !first.same(&second));
+    assert_eq!(rt; first.key().bytes(), b"a".as_slice());
+    assert_eq!(rt; other.key().bytes(), other.text().bytes());
+    element_as_wanted(&rt, alloc, &first, [3, 0])?;
+    in_order(&rt, &second, &other);
+    hashed_as_wanted(&rt, &second, &other, 314);
+    Ok(())
 }

@@ -1,5 +1,8 @@
+use crate::text::Text;
+
 /// A value of an element, a key or a variable.
-#[derive(Clone, Copy, Debug, PartialEq, Eq)]
+#[derive(Debug, Drop, PartialEq, Eq)]
 pub enum Value {
     Int(i64),
+    Text(Text),
 }

@@ -1,0 +1,164 @@
+ghost use Rattle.std.specs.Prelude.{◌≡◌, IsOk, IfOk, refl, length, []};
+ghost use Rattle.std.specs.Ordering.{on};
+ghost use Rattle.std.proofs.lemmas.Cmp.{on_equiv};
+ghost use Rattle.ac_base.specs.Key.{key_of_text};
+ghost use Rattle.ac_base.specs.Order.{text_less, text_alike};
+ghost use Rattle.ac_base.specs.OrderLaws.{text_order, key_order, text_equivalence, texts_alike_where_tied, keyed_texts_alike_where_tied};
+ghost use Rattle.ac_base.specs.Hash.{hash_of_bytes};
+ghost use Rattle.ac_base.specs.HashLaws.{alike_texts_hashes};
+
+use crate::element::{Elem, Hashed, KeyOf, Rank};
+use crate::fault::NoMemory;
+use crate::hash::hash_bytes;
+use crate::keyed_text::KeyedText;
+use crate::steps::Steps;
+use crate::text::Text;
+use std::alloc::Global;
+use std::sync::ledger::Ledger;
+
+impl Elem for Text {
+    ghost size_of = { length };
+
+    ghost blank_element = { [] };
+
+    fn same(&self, other: &Text) -> bool {
+        *self == *other
+    }
+
+    fn copy(&self, alloc: Global) -> Result<Text, NoMemory> {
+        self.duplicate(alloc)
+    }
+
+    fn size(&self) -> u64 {
+        self.bytes().len() as u64
+    }
+
+    fn blank(alloc: Global) -> Result<Text, NoMemory>
+        ensures ok { IsOk result }
+        ensures empty { IfOk result (λ made. made ≡ []) }
+    {
+        Ok(Text::empty(alloc))
+    }
+}
+
+impl Rank for Text {
+    ghost is_less = { text_less };
+
+    ghost ordered = { text_order };
+
+    fn less<L: Ledger>(&self, other: &Text, steps: &mut Steps<L>) -> bool {
+        steps.step();
+        self.bytes().cmp(&other.bytes()).is_lt()
+    }
+}
+
+impl Hashed for Text {
+    ghost is_alike = { text_alike };
+
+    ghost hash_of = { hash_of_bytes };
+
+    ghost equivalence = { text_equivalence };
+
+    ghost alike_hashes = { alike_texts_hashes };
+
+    fn alike(&self, other: &Text) -> bool {
+        *self == *other
+    }
+
+    fn hash(&self) -> u32 {
+        hash_bytes(self.bytes())
+    }
+}
+
+impl KeyOf for Text {
+    type Key = Text;
+
+    ghost key_of = { λ x. x };
+
+    ghost less_by_key = { λ x y. refl };
+
+    ghost alike_by_key = { λ x y. refl };
+
+    ghost hashed_by_key = { λ x. refl };
+
+    ghost alike_where_tied = { texts_alike_where_tied };
+
+    ghost keys_alike_where_tied = { texts_alike_where_tied };
+
+    fn key(&self) -> &Text {
+        self
+    }
+}
+
+impl Elem for KeyedText {
+    ghost size_of = { length };
+
+    ghost blank_element = { [] };
+
+    fn same(&self, other: &KeyedText) -> bool {
+        *self == *other
+    }
+
+    fn copy(&self, alloc: Global) -> Result<KeyedText, NoMemory> {
+        KeyedText::new(alloc, self.text().copy(alloc)?)
+    }
+
+    fn size(&self) -> u64 {
+        self.text().size()
+    }
+
+    fn blank(alloc: Global) -> Result<KeyedText, NoMemory>
+        ensures ok { IsOk result }
+        ensures empty { IfOk result (λ made. made ≡ []) }
+    {
+        Ok(KeyedText::empty(alloc))
+    }
+}
+
+impl Rank for KeyedText {
+    ghost is_less = { on key_of_text text_less };
+
+    ghost ordered = { key_order };
+
+    fn less<L: Ledger>(&self, other: &KeyedText, steps: &mut Steps<L>) -> bool {
+        self.key().less(other.key(), steps)
+    }
+}
+
+impl Hashed for KeyedText {
+    ghost is_alike = { on key_of_text text_alike };
+
+    ghost hash_of = { λ keyed. hash_of_bytes (key_of_text keyed) };
+
+    ghost equivalence = { on_equiv key_of_text text_equivalence };
+
+    ghost alike_hashes = { λ x y. alike_texts_hashes (key_of_text x) (key_of_text y) };
+
+    fn alike(&self, other: &KeyedText) -> bool {
+        self.key().alike(other.key())
+    }
+
+    fn hash(&self) -> u32 {
+        self.key().hash()
+    }
+}
+
+impl KeyOf for KeyedText {
+    type Key = Text;
+
+    ghost key_of = { key_of_text };
+
+    ghost less_by_key = { λ x y. refl };
+
+    ghost alike_by_key = { λ x y. refl };
+
+    ghost hashed_by_key = { λ x. refl };
+
+    ghost alike_where_tied = { keyed_texts_alike_where_tied };
+
+    ghost keys_alike_where_tied = { texts_alike_where_tied };
+
+    fn key(&self) -> &Text {
+        self.key_text()
+    }
+}
