@@ -7,3 +7,4 @@ pub mod OrderLaws
 pub mod Hash
 pub mod HashLaws
 pub mod Examples
+pub mod WeakOrders

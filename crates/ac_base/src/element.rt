@@ -1,4 +1,4 @@
-ghost use Rattle.std.specs.Prelude.{◌≡◌, ℕ, ◌+◌, ◌<◌, Bool, false, IsTrue, ◌↔◌, IfOk};
+ghost use Rattle.std.specs.Prelude.{◌≡◌, ◌↔◌, ◌+◌, ◌<◌, ℕ, Bool, IsTrue, IfOk};
 ghost use Rattle.std.specs.Cmp.{IsEquivalence};
 ghost use Rattle.ac_base.specs.Order.{IsWeakOrder, IsTied};
 

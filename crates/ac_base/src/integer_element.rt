@@ -1,4 +1,4 @@
-ghost use Rattle.std.specs.Prelude.{◌≡◌, ◌↔◌, IsTrue, IsOk, IfOk, pos};
+ghost use Rattle.std.specs.Prelude.{◌≡◌, IsOk, IfOk, pos};
 ghost use Rattle.std.specs.Ordering.{int_eq};
 ghost use Rattle.std.proofs.lemmas.Cmp.{int_eq_equiv};
 ghost use Rattle.ac_base.specs.Order.{integer_less};

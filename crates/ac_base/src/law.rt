@@ -1,6 +1,5 @@
 ghost use Rattle.std.specs.Prelude.{◌≡◌, ◌≤◌, ◌↔◌, ℕ, List, None, length};
 ghost use Rattle.ac_base.specs.Text.{IsText, first_bad_place};
-ghost use Rattle.ac_base.specs.TextLaws.{text_exactly};
 ghost use Rattle.ac_base.specs.Examples.{HashOfEmpty, HashOfLetter, HashOfZero, KeyBeforeSign, KeyWithoutSign, FrontIsLess, FirstDifferenceDecides, NegativeIsLess};
 
 /// Worked hashes, keys and orders.
@@ -16,8 +15,8 @@ pub fn examples()
     ensures negative_is_less { NegativeIsLess }
 {}
 
-#[tactic(auto, using(crate::specs::TextLaws::text_exactly))]
 /// A text is bytes with no bad place, and not too many of them.
+#[tactic(auto, using(crate::specs::TextLaws::text_exactly))]
 pub fn texts()
     ensures { (bytes : List ℕ) → IsText bytes ↔ ((first_bad_place bytes ≡ None) × (length bytes ≤ 1000)) }
 {}

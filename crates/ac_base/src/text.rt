@@ -1,7 +1,4 @@
-ghost use Rattle.std.specs.Prelude.{◌≡◌, ◌==◌, ◌+◌, ◌<◌, ◌↔◌, Bool, IsTrue, IfOk, OnOk, Some, None, Ok, Err, length, []};
-ghost use Rattle.std.specs.Ordering.{eq_by_cmp, nat_cmp};
-ghost use Rattle.std.specs.Cmp.Lexicographic.{slice_cmp, pointwise};
-ghost use Rattle.std.specs.Prelude.{nat_eq};
+ghost use Rattle.std.specs.Prelude.{◌≡◌, ◌==◌, ◌<◌, ◌↔◌, IfOk, OnOk, length, []};
 ghost use Rattle.std.specs.List.{prefix_len, position_or_len};
 ghost use Rattle.ac_base.specs.Key.{key_of_text};
 ghost use Rattle.ac_base.specs.Text.{IsText, is_printable, first_bad_place};
@@ -62,6 +59,12 @@ fn bad_place(bytes: &[u8]) -> Option<u64>
     }
 }
 
+fn key_len(bytes: &[u8]) -> usize
+    ensures { result ≡ position_or_len (λ byte. byte == 61) bytes.now }
+{
+    bytes.iter().take_while(|byte| **byte != b'=').count()
+}
+
 impl Text {
     #[tactic(auto, using(crate::specs::TextLaws::text_of))]
     pub fn new(alloc: Global, bytes: &[u8]) -> Result<Text, TextFault>
@@ -89,15 +92,7 @@ impl Text {
     {
         &self.bytes
     }
-}
 
-fn key_len(bytes: &[u8]) -> usize
-    ensures { result ≡ position_or_len (λ byte. byte == 61) bytes.now }
-{
-    bytes.iter().take_while(|byte| **byte != b'=').count()
-}
-
-impl Text {
     pub(crate) fn empty(alloc: Global) -> Text
         ensures { result ≡ [] }
     {
