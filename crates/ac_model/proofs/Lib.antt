@@ -10,3 +10,8 @@ pub mod RowLaws
 pub mod Capacity
 pub mod FirstValid
 pub mod OutlineLaws
+pub mod KeyedKept
+pub mod Counts
+pub mod KeysDiffer
+pub mod Ascending
+pub mod KeyedLaws

@@ -1,5 +1,6 @@
 -- The calls of synchronized queues (A.18.27 to A.18.31): numbers in a line, with a limit or none, and the greatest number held so far. A call may have to wait, and then nothing of it has happened.
-use Rattle.std.specs.Prelude.{◌≡◌, ◌==◌, ◌+◌, ℕ, ℤ, pos, int_lt, int_div, Bool, true, false, not, ◌&&◌, ◌≤◌, max, List, [], ◌∷◌, ◌++◌, length, take, drop, take_while, Option, Some, None, if◌then◌else◌}
+use Rattle.std.specs.Prelude.{◌≡◌, ◌==◌, ◌+◌, ℕ, ℤ, pos, int_lt, int_div, Bool, true, false, not, ◌&&◌, ◌≤◌, max, List, [], ◌∷◌, ◌++◌, length, take, drop, Option, Some, None, if◌then◌else◌}
+use Rattle.std.specs.List.{prefix_len}
 use Rattle.ac_base.specs.declared.limit.Limit.{Limit}
 use Rattle.ac_base.specs.declared.limit.Limit.TheVariants.{Unbounded, Bounded}
 use Rattle.ac_base.specs.declared.reason.Reason.{Reason}
@@ -65,7 +66,7 @@ is_too_long q = elim q.limit [ Unbounded ↦ greatest_length == length q.items |
 abbrev pub lined_up : Discipline → List ℤ → ℤ → List ℤ
 lined_up by_arrival items item = items ++ item ∷ []
 lined_up by_priority items item =
-    let place = length (take_while (λ x. not (comes_before item x)) items) in
+    let place = prefix_len (λ x. not (comes_before item x)) items in
     take place items ++ item ∷ drop place items
 
 abbrev pub with_item : Discipline → Queue → ℤ → Queue

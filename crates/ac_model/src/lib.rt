@@ -3,6 +3,7 @@
 #![tactic(auto)]
 
 pub mod holder_examples;
+pub mod keyed_validity;
 pub mod list_examples;
 pub mod map_examples;
 pub mod order_examples;
