@@ -4,7 +4,7 @@ use Rattle.std.specs.Prelude.{filter}
 use Rattle.std.specs.List.{list_any}
 use Rattle.std.proofs.lemmas.Bool.Decides.{nat_tests}
 use Rattle.std.proofs.lemmas.List.{drop-drop}
-use Rattle.ac_model.specs.Rows.{Row, row, cut, put, named, is_named, values, with_value, row_by}
+use Rattle.ac_model.specs.Rows.{fresh, Row, row, cut, put, named, is_named, values, with_value, row_by}
 use Rattle.ac_model.specs.Objects.{times}
 use Rattle.ac_model.specs.Keyed.{Order, added}
 
@@ -176,3 +176,7 @@ found_name p (x ∷ rows) r h = name_step x rows r (p x.value) (row_by p rows) (
 pub count_values : {V : Type 0} (p : V → Bool) (rows : List (Row ℕ V)) → length (filter p (values rows)) ≡ count p rows
 count_values p [] = refl
 count_values p (x ∷ rows) = omega (arith, count_step (p x.value) x.value (filter p (values rows)), count-cons p x rows, count_values p rows)
+
+pub count-fresh : {V : Type 0} (p : V → Bool) (vs : List V) (next : ℕ) → count p (fresh next vs) ≡ length (filter p vs)
+count-fresh p [] next = refl
+count-fresh p (v ∷ vs) next = omega (arith, count-cons p (row next v) (fresh (next + 1) vs), count_step (p v) v (filter p vs), count-fresh p vs (next + 1))

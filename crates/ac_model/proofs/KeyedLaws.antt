@@ -1,24 +1,25 @@
 -- The calls of maps and sets keep them valid, in each order.
-use Rattle.std.proofs.Common.{◌≡◌, ◌+◌, ◌-◌, ◌≤◌, ℕ, Bool, true, false, not, List, [], ◌∷◌, length, refl, arith, Option, Some, None}
+use Rattle.std.proofs.Common.{◌≡◌, ◌+◌, ◌-◌, ◌≤◌, ℕ, Bool, true, false, not, List, [], ◌∷◌, length, refl, arith, Option, Some, None, if◌then◌else◌}
 use Rattle.std.specs.Prelude.{filter, is_some, option_map}
 use Rattle.ac_base.specs.declared.reason.Reason.{Reason}
 use Rattle.ac_base.specs.declared.reason.Reason.TheVariants.{KeyPresent, KeyAbsent, Duplicate}
 use Rattle.ac_cursor.specs.Steps.{first_reason}
-use Rattle.ac_model.specs.Rows.{Row, Entry, entry, row, cut, put, place_of, named, is_named, values, value_at, with_value, with_some_value, row_by, IsWeakOrder}
-use Rattle.ac_model.specs.Objects.{Object, times, contents, with_rows, grown}
+use Rattle.ac_model.specs.Rows.{fresh, Row, Entry, entry, row, cut, put, place_of, named, is_named, values, value_at, with_value, with_some_value, row_by, are_level, IsWeakOrder}
+use Rattle.ac_model.specs.Objects.{IsValid, Object, times, contents, with_rows, grown}
 use Rattle.ac_model.specs.Letters.{Mark, room, room_for_one, needs, tampers_cursors, tampers_elements, name_of, reason_if}
 use Rattle.ac_model.specs.Keyed as keyed
 use Rattle.ac_model.specs.Keyed.{Order, IsValidKeyed, IsEquivalence, by_arrival, ascending, KeepsKeyed, InEachOrder, added, with_added, without, with_replaced, with_reordered, another_is_like, row_like, room_where_absent, with_added_if_absent, with_added_or_replaced, has}
 use Rattle.ac_model.specs.Sets as set
+use Rattle.ac_model.specs.Common as common
 use Rattle.ac_model.specs.Maps as map
 use Rattle.ac_model.specs.Ordered as ordered
 use Rattle.ac_model.specs.KeyedSets as by_key
 use Rattle.ac_model.specs.KeyedSets.{reordered_where_found, name_found}
 use Rattle.ac_model.proofs.Reasons.{none_first, none_others, after_two, needs_none, not_if}
-use Rattle.ac_model.proofs.RowLaws.{found_matches}
-use Rattle.ac_model.proofs.Counts.{count, count-filter, found_is_named, found_name, count_values}
+use Rattle.ac_model.proofs.RowLaws.{fresh_values, found_matches}
+use Rattle.ac_model.proofs.Counts.{count-fresh, count, count-filter, found_is_named, found_name, count_values}
 use Rattle.ac_model.proofs.Moves.{found}
-use Rattle.ac_model.proofs.SequencesKept.{cut_kept, with_value_kept}
+use Rattle.ac_model.proofs.SequencesKept.{assigned, cleared, cut_kept, with_value_kept}
 use Rattle.ac_model.proofs.KeyedKept.{times-filter, added_kept, one_added_kept, without_kept, reordered_kept, filtered_kept}
 use Rattle.ac_model.proofs.KeysDiffer.{Differ, insert_apart, union_apart, differ_all_added, differ_replaced, differ_cut, differ_filter, differ_reordered, others_zero}
 use Rattle.ac_model.proofs.Ascending.{asc_cut, asc_filter, asc_put, asc_replaced, asc_added, level_equal}
@@ -26,6 +27,7 @@ use Rattle.ac_model.proofs.Ascending.{asc_cut, asc_filter, asc_put, asc_replaced
 -- what the proofs need of an order
 pub record Closed {V : Type 0} (order : Order V) : Type 0 where
   pub equal : IsEquivalence order.alike
+  pub in_none : order.is_in_order [] ≡ true
   pub in_cut : (rows : List (Row ℕ V)) (place n : ℕ) → order.is_in_order (values rows) ≡ true → order.is_in_order (values (cut rows place n)) ≡ true
   pub in_filter : (test : Row ℕ V → Bool) (rows : List (Row ℕ V)) → order.is_in_order (values rows) ≡ true → order.is_in_order (values (filter test rows)) ≡ true
   pub in_put : (from : ℕ) (rows : List (Row ℕ V)) (name : ℕ) (v : V) → order.is_in_order (values rows) ≡ true → count (λ w. order.alike w v) rows ≡ 0 → order.is_in_order (values (put rows (order.place from (values rows) v) (row name v ∷ []))) ≡ true
@@ -35,6 +37,7 @@ pub record Closed {V : Type 0} (order : Order V) : Type 0 where
 pub closed_arrival : {V : Type 0} (alike : V → V → Bool) → IsEquivalence alike → Closed (by_arrival alike)
 closed_arrival alike equal = record {
   equal = equal;
+  in_none = refl;
   in_cut = λ rows place n h. refl;
   in_filter = λ test rows h. refl;
   in_put = λ from rows name v h k. refl;
@@ -45,6 +48,7 @@ closed_arrival alike equal = record {
 pub closed_ascending : {V : Type 0} (less : V → V → Bool) → IsWeakOrder less → Closed (ascending less)
 closed_ascending less order = record {
   equal = level_equal less order;
+  in_none = refl;
   in_cut = asc_cut less order;
   in_filter = asc_filter less order;
   in_put = λ from. asc_put less order;
@@ -210,6 +214,31 @@ module _ {V : Type 0} (order : Order V) (closed : Closed order) where
       let r = found name o.rows there in
       rw r.1 (value_valid o name (change r.0.value) r.0 valid r.1 (same r.0.value))
 
+  cleared_valid : (o : Object ℕ V) → IsValidKeyed order o → IsValidKeyed order (with_rows o [])
+  cleared_valid o valid = record { as_object = cleared o valid.as_object; keys_differ = λ u. omega arith; in_order = closed.in_none }
+
+  pub clear_keeps : (o : Object ℕ V) → KeepsKeyed order o (common.clear_call o)
+  clear_keeps o valid none = cleared_valid o valid
+
+  assigned_valid : (target source : Object ℕ V) → IsValidKeyed order target → IsValidKeyed order source → first_reason (room target (length source.rows) (length source.rows)) ≡ None →
+      IsValidKeyed order (grown target (fresh target.next (contents source)) (length source.rows))
+  assigned_valid target source valid source_valid none = record {
+    as_object = assigned target source valid.as_object none;
+    keys_differ = λ u. omega (arith, count-fresh (λ w. order.alike w u) (contents source) target.next, count_values (λ w. order.alike w u) source.rows, source_valid.keys_differ u);
+    in_order = rw (fresh_values target.next (contents source)) source_valid.in_order;
+  }
+
+  pub assign_keeps : (target source : Object ℕ V) → IsValidKeyed order source → KeepsKeyed order target (common.assign_call target source)
+  assign_keeps target source source_valid valid none =
+      assigned_valid target source valid source_valid (none_others (tampers_cursors target) (room target (length source.rows) (length source.rows)) none)
+
+  pub move_from_keeps : (target source : Object ℕ V) → IsValidKeyed order target → IsValidKeyed order source → (common.move_from_call target source).reason ≡ None →
+      IsValidKeyed order (common.move_from_call target source).after.target × IsValidKeyed order (common.move_from_call target source).after.source
+  move_from_keeps target source valid source_valid none = (
+    assigned_valid target source valid source_valid (after_two (tampers_cursors target) (tampers_cursors source) (room target (length source.rows) (length source.rows)) none),
+    cleared_valid source source_valid,
+  )
+
 -- an element of a map is replaced under its key
 element_kept : {K T : Type 0} (order : Order (Entry K T)) → Closed order → ((e : Entry K T) (element : T) → order.alike e (entry e.key element) ≡ true) → (o : Object ℕ (Entry K T)) (c : Mark) (element : T) →
     IsValidKeyed order o → needs o c ≡ None → IsValidKeyed order (map.element_replaced o c element)
@@ -297,3 +326,65 @@ each_symmetric_difference {V} = in_each (λ (order : Order V). (target source : 
 
 pub each_key_replace : {K V : Type 0} → InEachOrder (λ (order : Order V). (key : V → K) (alike : K → K → Bool) (o : Object ℕ V) (k : K) (element : V) → KeepsKeyed order o (by_key.key_replace_call key alike order o k element))
 each_key_replace {K} {V} = in_each (λ (order : Order V). (key : V → K) (alike : K → K → Bool) (o : Object ℕ V) (k : K) (element : V) → KeepsKeyed order o (by_key.key_replace_call key alike order o k element)) (λ order closed. key_replace_keeps order closed)
+
+pub each_clear : {V : Type 0} → InEachOrder (λ (order : Order V). (o : Object ℕ V) → KeepsKeyed order o (common.clear_call o))
+each_clear {V} = in_each (λ (order : Order V). (o : Object ℕ V) → KeepsKeyed order o (common.clear_call o)) (λ order closed. clear_keeps order closed)
+
+pub each_assign : {V : Type 0} → InEachOrder (λ (order : Order V). (target source : Object ℕ V) → IsValidKeyed order source → KeepsKeyed order target (common.assign_call target source))
+each_assign {V} = in_each (λ (order : Order V). (target source : Object ℕ V) → IsValidKeyed order source → KeepsKeyed order target (common.assign_call target source)) (λ order closed. assign_keeps order closed)
+
+pub each_move_from : {V : Type 0} → InEachOrder (λ (order : Order V). (target source : Object ℕ V) → IsValidKeyed order target → IsValidKeyed order source → (common.move_from_call target source).reason ≡ None →
+    IsValidKeyed order (common.move_from_call target source).after.target × IsValidKeyed order (common.move_from_call target source).after.source)
+each_move_from {V} = in_each (λ (order : Order V). (target source : Object ℕ V) → IsValidKeyed order target → IsValidKeyed order source → (common.move_from_call target source).reason ≡ None →
+    IsValidKeyed order (common.move_from_call target source).after.target × IsValidKeyed order (common.move_from_call target source).after.source) (λ order closed. move_from_keeps order closed)
+
+keys_equal : {K V : Type 0} (key : V → K) (alike : K → K → Bool) → IsEquivalence alike → IsEquivalence {V = V} (λ v w. alike (key v) (key w))
+keys_equal key alike equal = record {
+  reflexive = λ v. equal.reflexive (key v);
+  symmetric = λ v w. equal.symmetric (key v) (key w);
+  transitive = λ v w x. equal.transitive (key v) (key w) (key x);
+}
+
+keys_weak : {K V : Type 0} (key : V → K) (less : K → K → Bool) → IsWeakOrder less → IsWeakOrder {V = V} (λ v w. less (key v) (key w))
+keys_weak key less weak = record {
+  asymmetric = λ v w. weak.asymmetric (key v) (key w);
+  transitive = λ v w x. weak.transitive (key v) (key w) (key x);
+  level_transitive = λ v w x. weak.level_transitive (key v) (key w) (key x);
+}
+
+released_valid : {V : Type 0} (o : Object ℕ V) → IsValid o → IsValid (record o { cursor_guards = o.cursor_guards - 1 })
+released_valid o v = record {
+  names_differ = v.names_differ;
+  names_below_next = v.names_below_next;
+  names_from_one = v.names_from_one;
+  next_from_one = v.next_from_one;
+  next_in_range = v.next_in_range;
+  within_limit = v.within_limit;
+  within_greatest = v.within_greatest;
+  capacity_fits = v.capacity_fits;
+}
+
+ended : {K V : Type 0} (key : V → K) (alike : K → K → Bool) (order : Order V) → Closed order → ((v w : V) → alike (key v) (key w) ≡ true → order.alike v w ≡ true) → (o : Object ℕ V) (c : Mark) (copy : V) (r : Row ℕ V) →
+    IsValidKeyed order o → named o.rows (name_of c) ≡ Some r → (b : Bool) → alike (key r.value) (key copy) ≡ b →
+    IsValidKeyed order (if b then with_rows o (with_value o.rows (name_of c) copy) else with_rows o (cut o.rows (place_of o.rows (name_of c)) 1))
+ended key alike order closed same o c copy r valid there true e = value_valid order closed o (name_of c) copy r valid there (same r.value copy e)
+ended key alike order closed same o c copy r valid there false e = cut_valid order closed o (place_of o.rows (name_of c)) 1 valid
+
+-- the end of an update of a keyed set, whether its key was kept or not
+updated : {K V : Type 0} (key : V → K) (alike : K → K → Bool) (order : Order V) → Closed order → ((v w : V) → alike (key v) (key w) ≡ true → order.alike v w ≡ true) → (o : Object ℕ V) (c : Mark) (copy : V) →
+    IsValidKeyed order o → is_named o.rows (name_of c) ≡ true → IsValidKeyed order (by_key.end_update_key_call key alike o c copy).after
+updated key alike order closed same o c copy valid there =
+    let released = record o { cursor_guards = o.cursor_guards - 1 } in
+    let r = found (name_of c) o.rows there in
+    let free : IsValidKeyed order released = record { as_object = released_valid o valid.as_object; keys_differ = valid.keys_differ; in_order = valid.in_order } in
+    rw r.1 (ended key alike order closed same released c copy r.0 free r.1 (alike (key r.0.value) (key copy)) refl)
+
+pub hashed_update_keeps : {K V : Type 0} (key : V → K) (alike : K → K → Bool) → IsEquivalence alike → (o : Object ℕ V) (c : Mark) (copy : V) →
+    IsValidKeyed (by_key.hashed key alike) o → is_named o.rows (name_of c) ≡ true → IsValidKeyed (by_key.hashed key alike) (by_key.end_update_key_call key alike o c copy).after
+hashed_update_keeps key alike equal o c copy valid there =
+    updated key alike (by_key.hashed key alike) (closed_arrival (λ v w. alike (key v) (key w)) (keys_equal key alike equal)) (λ v w h. h) o c copy valid there
+
+pub ordered_update_keeps : {K V : Type 0} (key : V → K) (less : K → K → Bool) → IsWeakOrder less → (o : Object ℕ V) (c : Mark) (copy : V) →
+    IsValidKeyed (by_key.ordered key less) o → is_named o.rows (name_of c) ≡ true → IsValidKeyed (by_key.ordered key less) (by_key.end_update_key_call key (are_level less) o c copy).after
+ordered_update_keeps key less weak o c copy valid there =
+    updated key (are_level less) (by_key.ordered key less) (closed_ascending (λ v w. less (key v) (key w)) (keys_weak key less weak)) (λ v w h. h) o c copy valid there

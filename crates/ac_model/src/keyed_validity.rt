@@ -1,9 +1,10 @@
 //! Every effect keeps a valid map or set valid: in order of arrival by any equivalence of keys, and ascending by any weak order.
-ghost use Rattle.std.specs.Prelude.{Bool, ℕ, Option};
+ghost use Rattle.std.specs.Prelude.{◌≡◌, Bool, true, ℕ, None, Option};
 ghost use Rattle.ac_base.specs.declared.reason.Reason.{Reason};
-ghost use Rattle.ac_model.specs.Rows.{Entry, IsWeakOrder};
+ghost use Rattle.ac_model.specs.Rows.{Entry, IsWeakOrder, are_level, is_named};
 ghost use Rattle.ac_model.specs.Objects.{Object};
-ghost use Rattle.ac_model.specs.Letters.{Mark};
+ghost use Rattle.ac_model.specs.Letters.{Mark, name_of};
+ghost use Rattle.ac_model.specs.Common as common;
 ghost use Rattle.ac_model.specs.Keyed as keyed;
 ghost use Rattle.ac_model.specs.Keyed.{Order, IsValidKeyed, IsEquivalence, KeepsKeyed, InEachOrder};
 ghost use Rattle.ac_model.specs.Maps as map;
@@ -13,6 +14,10 @@ ghost use Rattle.ac_model.specs.KeyedSets as by_key;
 
 /// The calls that maps and sets have in common, and those of the ordered kinds.
 pub fn keyed_calls<V>()
+    ensures clear { InEachOrder (λ (order : Order V). (o : Object ℕ V) → KeepsKeyed order o (common.clear_call o)) }
+    ensures assign { InEachOrder (λ (order : Order V). (target source : Object ℕ V) → IsValidKeyed order source → KeepsKeyed order target (common.assign_call target source)) }
+    ensures move_from { InEachOrder (λ (order : Order V). (target source : Object ℕ V) → IsValidKeyed order target → IsValidKeyed order source → (common.move_from_call target source).reason ≡ None →
+        IsValidKeyed order (common.move_from_call target source).after.target × IsValidKeyed order (common.move_from_call target source).after.source) }
     ensures insert { InEachOrder (λ (order : Order V). (o : Object ℕ V) (v : V) → KeepsKeyed order o (keyed.insert_call order o v)) }
     ensures insert_pos { InEachOrder (λ (order : Order V). (o : Object ℕ V) (v : V) → KeepsKeyed order o (keyed.insert_pos_call order o v)) }
     ensures include { InEachOrder (λ (order : Order V). (o : Object ℕ V) (v : V) → KeepsKeyed order o (keyed.include_call order o v)) }
@@ -33,9 +38,15 @@ pub fn set_calls<V>()
     ensures symmetric_difference { InEachOrder (λ (order : Order V). (target source : Object ℕ V) → IsValidKeyed order source → KeepsKeyed order target (set.symmetric_difference_call order target source)) }
 {}
 
-/// Replace of a set with keys, by a key.
+/// The calls that sets with keys add: a copy that is written back keeps its set valid whether it keeps its key or not.
 pub fn keyed_set_calls<K, V>()
-    ensures { InEachOrder (λ (order : Order V). (key : V → K) (alike : K → K → Bool) (o : Object ℕ V) (k : K) (element : V) → KeepsKeyed order o (by_key.key_replace_call key alike order o k element)) }
+    ensures key_replace { InEachOrder (λ (order : Order V). (key : V → K) (alike : K → K → Bool) (o : Object ℕ V) (k : K) (element : V) → KeepsKeyed order o (by_key.key_replace_call key alike order o k element)) }
+    ensures hashed_update { (key : V → K) (alike : K → K → Bool) → IsEquivalence alike → (o : Object ℕ V) (c : Mark) (copy : V) →
+        IsValidKeyed (by_key.hashed key alike) o → is_named o.rows (name_of c) ≡ true →
+        IsValidKeyed (by_key.hashed key alike) (by_key.end_update_key_call key alike o c copy).after }
+    ensures ordered_update { (key : V → K) (less : K → K → Bool) → IsWeakOrder less → (o : Object ℕ V) (c : Mark) (copy : V) →
+        IsValidKeyed (by_key.ordered key less) o → is_named o.rows (name_of c) ≡ true →
+        IsValidKeyed (by_key.ordered key less) (by_key.end_update_key_call key (are_level less) o c copy).after }
 {}
 
 /// An element of a map is changed under its key.

@@ -1,5 +1,14 @@
-use Rattle.ac_model.proofs.KeyedLaws.{each_insert, each_insert_pos, each_include, each_replace, each_exclude, each_delete_match, each_delete, each_replace_element, each_delete_first, each_delete_last}
+use Rattle.ac_model.proofs.KeyedLaws.{each_clear, each_assign, each_move_from, each_insert, each_insert_pos, each_include, each_replace, each_exclude, each_delete_match, each_delete, each_replace_element, each_delete_first, each_delete_last}
 use Rattle.ac_model.proofs.keyed_validity.keyed_calls.Goals as goal
+
+pub returns-clause-clear : goal.returns-clause-clear
+returns-clause-clear g c = each_clear
+
+pub returns-clause-assign : goal.returns-clause-assign
+returns-clause-assign g c = each_assign
+
+pub returns-clause-move_from : goal.returns-clause-move_from
+returns-clause-move_from g c = each_move_from
 
 pub returns-clause-insert : goal.returns-clause-insert
 returns-clause-insert g c = each_insert
