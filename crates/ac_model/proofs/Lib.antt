@@ -15,3 +15,7 @@ pub mod Counts
 pub mod KeysDiffer
 pub mod Ascending
 pub mod KeyedLaws
+pub mod Depths
+pub mod TreePlaces
+pub mod TreeOutlines
+pub mod TreeLaws

@@ -11,5 +11,6 @@ pub mod queue_examples;
 pub mod row_laws;
 pub mod set_examples;
 pub mod tree_examples;
+pub mod tree_validity;
 pub mod validity;
 pub mod vector_examples;
