@@ -19,3 +19,5 @@ pub mod Depths
 pub mod TreePlaces
 pub mod TreeOutlines
 pub mod TreeLaws
+pub mod TreeMoves
+pub mod TreeWithin

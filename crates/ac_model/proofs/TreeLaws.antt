@@ -52,7 +52,7 @@ element_there o (stale_mark object) h =
     let e : false ≡ true = judged_there o.number object false parts.0 in cc
 
 -- what a cut of a run leaves
-run_cut : {T : Type 0} (o : Object ℕ (Node T)) (name : ℕ) → IsValidTree o → is_node o name ≡ true → IsValidTree (with_rows o (cut o.rows (run_start o.rows name) (length (run_of o.rows name))))
+pub run_cut : {T : Type 0} (o : Object ℕ (Node T)) (name : ℕ) → IsValidTree o → is_node o name ≡ true → IsValidTree (with_rows o (cut o.rows (run_start o.rows name) (length (run_of o.rows name))))
 run_cut o name valid there =
     let start = run_start o.rows name in
     let n = length (run_of o.rows name) in
@@ -64,7 +64,7 @@ run_cut o name valid there =
     }
 
 -- what a cut of a subtree leaves
-subtree_cut : {T : Type 0} (o : Object ℕ (Node T)) (name : ℕ) → IsValidTree o → Element o name → IsValidTree (with_rows o (cut o.rows (place_of o.rows name) (1 + length (run_of o.rows name))))
+pub subtree_cut : {T : Type 0} (o : Object ℕ (Node T)) (name : ℕ) → IsValidTree o → Element o name → IsValidTree (with_rows o (cut o.rows (place_of o.rows name) (1 + length (run_of o.rows name))))
 subtree_cut o name valid element =
     let k = place_of o.rows name in
     let n = length (run_of o.rows name) in
@@ -135,11 +135,11 @@ delete_leaf_keeps o position valid none =
     subst (λ n. IsValidTree (with_rows o (cut o.rows (place_of o.rows (name_of position)) (1 + n)))) empty_run (subtree_cut o (name_of position) valid element)
 
 -- values put as children of a node
-record Children (top : ℕ) (ds : List ℕ) : Type 0 where
-  inside : follows top ds ≡ true
-  all : AllFrom (top + 1) ds
+pub record Children (top : ℕ) (ds : List ℕ) : Type 0 where
+  pub inside : follows top ds ≡ true
+  pub all : AllFrom (top + 1) ds
 
-child_case : (b c : Bool) → b ≡ false → (not b && not c) ≡ false → c ≡ true
+pub child_case : (b c : Bool) → b ≡ false → (not b && not c) ≡ false → c ≡ true
 child_case true c e h = cc
 child_case false true e h = refl
 child_case false false e h = cc
@@ -238,7 +238,7 @@ shifted_fit from top before ds one reach same all h =
       all = shifted_from from (top + 1) ds all;
     }
 
-run_fit : {T : Type 0} (rows : List (Row ℕ (Node T))) (name top : ℕ) → is_outline rows ≡ true → Place rows name → 1 ≤ top → Children top (map (λ v. v.depth) (values (moved_to_depth (depth_of rows name + 1) (top + 1) (run_rows rows name))))
+pub run_fit : {T : Type 0} (rows : List (Row ℕ (Node T))) (name top : ℕ) → is_outline rows ≡ true → Place rows name → 1 ≤ top → Children top (map (λ v. v.depth) (values (moved_to_depth (depth_of rows name + 1) (top + 1) (run_rows rows name))))
 run_fit rows name top h place one =
     let start = run_start rows name in
     let n = length (run_of rows name) in
@@ -249,7 +249,7 @@ run_fit rows name top h place one =
     let fit = shifted_fit (d + 1) top d run one (omega arith) (omega arith) (run_depths rows name) inside in
     subst (λ ds. Children top ds) (sym (shifted_depths (d + 1) (top + 1) (run_rows rows name) ∙ ap (λ l. map (λ e. e + (top + 1) - (d + 1)) l) is)) fit
 
-subtree_fit : {T : Type 0} (o : Object ℕ (Node T)) (name top : ℕ) → IsValidTree o → Element o name → 1 ≤ top → Children top (map (λ v. v.depth) (values (moved_to_depth (depth_of o.rows name) (top + 1) (subtree_rows o.rows name))))
+pub subtree_fit : {T : Type 0} (o : Object ℕ (Node T)) (name top : ℕ) → IsValidTree o → Element o name → 1 ≤ top → Children top (map (λ v. v.depth) (values (moved_to_depth (depth_of o.rows name) (top + 1) (subtree_rows o.rows name))))
 subtree_fit o name top valid element one =
     let rows = o.rows in
     let ds = depths rows in

@@ -35,7 +35,7 @@ while_step : {X : Type 0} (p : X → Bool) (x : X) (xs : List X) (b : Bool) → 
 while_step p x xs true h = rw (one-add (prefix_len p xs)) (ap suc h)
 while_step p x xs false h = refl
 
-length_while : {X : Type 0} (p : X → Bool) (xs : List X) → length (take_while p xs) ≡ prefix_len p xs
+pub length_while : {X : Type 0} (p : X → Bool) (xs : List X) → length (take_while p xs) ≡ prefix_len p xs
 length_while p [] = refl
 length_while p (x ∷ xs) = while_step p x xs (p x) (length_while p xs)
 

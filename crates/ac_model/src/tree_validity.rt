@@ -30,3 +30,10 @@ pub fn tree_calls<T>()
     ensures splice_children_from { (target : Object ℕ (Node T)) (parent before : Mark) (source : Object ℕ (Node T)) (source_parent : Mark) →
         KeepsBothTrees target source (tree.splice_children_from_call target parent before source source_parent) }
 {}
+
+/// The splices within a tree.
+pub fn splices_within<T>()
+    ensures splice_subtree { (o : Object ℕ (Node T)) (parent before top : Mark) → KeepsTree o (tree.splice_subtree_call o parent before top) }
+    ensures splice_subtree_from_self { (o : Object ℕ (Node T)) (parent before top : Mark) → KeepsTree o (tree.splice_subtree_from_self_call o parent before top) }
+    ensures splice_children { (o : Object ℕ (Node T)) (parent before source_parent : Mark) → KeepsTree o (tree.splice_children_call o parent before source_parent) }
+{}
