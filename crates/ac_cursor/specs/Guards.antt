@@ -1,4 +1,4 @@
--- What the guards of an object forbid (A.18.2(90/5) to A.18.2(97.1/5)).
+-- What the guards of an object forbid (A.18.2, and the like for each other kind).
 use Rattle.std.specs.Prelude.{ℕ, Option, Some, None, nat_lt, if◌then◌else◌}
 use Rattle.ac_base.specs.declared.reason.Reason.{Reason}
 use Rattle.ac_base.specs.declared.reason.Reason.TheVariants.{CursorTampering, ElementTampering}

@@ -21,3 +21,4 @@ pub mod TreeOutlines
 pub mod TreeLaws
 pub mod TreeMoves
 pub mod TreeWithin
+pub mod HoldersAndQueues

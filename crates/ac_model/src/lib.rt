@@ -7,6 +7,7 @@ pub mod keyed_validity;
 pub mod list_examples;
 pub mod map_examples;
 pub mod order_examples;
+pub mod plain_validity;
 pub mod queue_examples;
 pub mod row_laws;
 pub mod set_examples;
