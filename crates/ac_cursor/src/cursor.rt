@@ -1,7 +1,7 @@
 use ac_base::Name;
 
-/// Where a call is to look: at no element, or at what an object has under a name (A.18.2(8/2), and the
-/// like for each other kind).
+/// Where a call is to look: at no element, or at what an object has under a name (A.18.2, and the like for
+/// each other kind).
 #[derive(Clone, Copy, Debug, PartialEq, Eq)]
 pub enum Cursor {
     NoElement,

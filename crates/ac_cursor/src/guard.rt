@@ -1,5 +1,5 @@
-/// What a guard forbids while it is held: tampering with cursors, or with elements (A.18.2(90/5) to
-/// A.18.2(97.1/5)).
+/// What a guard forbids while it is held: tampering with cursors, or with elements (A.18.2, and
+/// the like for each other kind).
 #[derive(Clone, Copy, Debug, PartialEq, Eq)]
 pub enum GuardKind {
     Cursors,

@@ -10,3 +10,15 @@ pub mod RowLaws
 pub mod Capacity
 pub mod FirstValid
 pub mod OutlineLaws
+pub mod KeyedKept
+pub mod Counts
+pub mod KeysDiffer
+pub mod Ascending
+pub mod KeyedLaws
+pub mod Depths
+pub mod TreePlaces
+pub mod TreeOutlines
+pub mod TreeLaws
+pub mod TreeMoves
+pub mod TreeWithin
+pub mod HoldersAndQueues

@@ -9,7 +9,7 @@ use Rattle.ac_model.specs.Objects.{Object, is_past, greatest_length, numbers_end
 use Rattle.ac_model.specs.Rows.{is_named}
 use Rattle.ac_model.specs.Letters.{Mark, no_mark, mark_at, stale_mark, reason_if, room, judged_in, needs, name_of, in_range, count_of}
 
-earlier_none : (a b : Option Reason) → earlier a b ≡ None → (a ≡ None) × (b ≡ None)
+pub earlier_none : (a b : Option Reason) → earlier a b ≡ None → (a ≡ None) × (b ≡ None)
 earlier_none None b h = (refl, h)
 earlier_none (Some r) None h = cc
 earlier_none (Some r) (Some q) h = grind arith

@@ -22,7 +22,7 @@ cleared o v = kept o [] v (λ name. omega arith) (omega arith)
 pub clear_keeps : {V : Type 0} (o : Object ℕ V) → Keeps o (common.clear_call o)
 clear_keeps o v none = cleared o v
 
-assigned : {V : Type 0} (target source : Object ℕ V) → IsValid target → first_reason (room target (length source.rows) (length source.rows)) ≡ None → IsValid (grown target (fresh target.next (contents source)) (length source.rows))
+pub assigned : {V : Type 0} (target source : Object ℕ V) → IsValid target → first_reason (room target (length source.rows) (length source.rows)) ≡ None → IsValid (grown target (fresh target.next (contents source)) (length source.rows))
 assigned target source v none =
     let len : length (fresh target.next (contents source)) ≡ length source.rows = omega (arith, length-fresh target.next (contents source), length-values source.rows) in
     let fits = room_none target (length source.rows) (length source.rows) none in

@@ -75,6 +75,12 @@ pub record AreAfter {V : Type 0} (old new : Both (Object Name V)) (after : Both 
 abbrev pub ChangingBoth : {V X A : Type 0} → (X → A → Type 0) → Call (Both (Object ℕ V)) A → Both (Object Name V) → Both (Object Name V) → Result X Fault → Type 0
 ChangingBoth Answers c old new result = ChangingBy AreAfter Answers c old new result
 
+-- a call whose effect stands whether it is refused or not, as the end of an update of a key
+abbrev pub ChangingAlways : {V X A : Type 0} → (X → A → Type 0) → Call (Object ℕ V) A → Object Name V → Object Name V → Result X Fault → Type 0
+ChangingAlways Answers c old new (Ok x) = (c.reason ≡ None) × IsAfter old new c.after × Answers x c.answer
+ChangingAlways Answers c old new (Err (fault.Raised reason)) = (c.reason ≡ Some reason) × IsAfter old new c.after
+ChangingAlways Answers c old new (Err fault.NoMemory) = ⊥
+
 -- of a state that has no names
 abbrev pub IsNow : {S : Type 0} → S → S → S → Type 0
 IsNow old new after = new ≡ after

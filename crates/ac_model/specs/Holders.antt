@@ -107,3 +107,10 @@ are_equal same (Some v) (Some w) = same v w
 
 abbrev pub equal_call : {T : Type 0} → (T → T → Bool) → Holder T → Holder T → Bool
 equal_call same left right = are_equal same left.element right.element
+
+-- a call keeps a holder valid
+abbrev pub KeepsHolder : {T A : Type 0} → (T → ℕ) → Holder T → Call (Holder T) A → Type 0
+KeepsHolder size h c = IsValidHolder size h → c.reason ≡ None → IsValidHolder size c.after
+
+abbrev pub KeepsBothHolders : {T A : Type 0} → (T → ℕ) → Holder T → Holder T → Call (Both (Holder T)) A → Type 0
+KeepsBothHolders size target source c = IsValidHolder size target → IsValidHolder size source → c.reason ≡ None → IsValidHolder size c.after.target × IsValidHolder size c.after.source

@@ -1,12 +1,12 @@
 -- The calls that maps (A.18.4) and sets (A.18.7) have in common: rows whose keys are pairwise not equivalent, in order of arrival or ascending. A set's row holds its element, which is its own key; a keyed set's element has a key.
 --
 -- A look-up takes the test of a row's value that the key or item passes.
-use Rattle.std.specs.Prelude.{◌≡◌, ◌==◌, ◌+◌, ℕ, Bool, true, false, not, ◌&&◌, List, [], ◌∷◌, length, reverse, find, take_while, Option, Some, None, is_some}
-use Rattle.std.specs.List.{list_any}
+use Rattle.std.specs.Prelude.{◌≡◌, ◌==◌, ◌+◌, ◌≤◌, ℕ, Bool, true, false, not, ◌&&◌, List, [], ◌∷◌, length, reverse, filter, find, Option, Some, None, is_some}
+use Rattle.std.specs.List.{list_any, prefix_len}
 use Rattle.ac_base.specs.declared.reason.Reason.{Reason}
 use Rattle.ac_base.specs.declared.reason.Reason.TheVariants.{KeyPresent, KeyAbsent, Duplicate}
 use Rattle.ac_cursor.specs.Steps.{first_reason}
-use Rattle.ac_model.specs.Rows.{Row, row, cut, put, place_of, values, with_value, row_by, are_level}
+use Rattle.ac_model.specs.Rows.{Row, row, cut, put, place_of, values, with_value, row_by, are_level, IsWeakOrder}
 use Rattle.ac_model.specs.Objects.{Object, IsValid, contents, with_rows, grown}
 use Rattle.ac_model.specs.Letters.{Mark, no_mark, mark_at, needs, name_of, mark_for, tampers_cursors, room_for_one, reason_if, has_room}
 use Rattle.ac_model.specs.Calls.{Call, call, Done, takes_none}
@@ -31,19 +31,20 @@ is_strictly_ascending less (v ∷ w ∷ vs) = less v w && is_strictly_ascending 
 abbrev pub ascending : {V : Type 0} → (V → V → Bool) → Order V
 ascending less = record {
   alike = are_level less;
-  place = λ from others v. length (take_while (λ w. less w v) others);
+  place = λ from others v. prefix_len (λ w. less w v) others;
   is_in_order = is_strictly_ascending less;
 }
 
--- no value is equivalent to one after it
-abbrev pub are_distinct : {V : Type 0} → (V → V → Bool) → List V → Bool
-are_distinct alike [] = true
-are_distinct alike (v ∷ vs) = not (list_any (alike v) vs) && are_distinct alike vs
+-- an equivalence
+pub record IsEquivalence {V : Type 0} (alike : V → V → Bool) : Type 0 where
+  pub reflexive : (v : V) → alike v v ≡ true
+  pub symmetric : (v w : V) → alike v w ≡ true → alike w v ≡ true
+  pub transitive : (v w x : V) → alike v w ≡ true → alike w x ≡ true → alike v x ≡ true
 
--- what holds of a map or a set
+-- what holds of a map or a set: no value is equivalent to two rows' values
 pub record IsValidKeyed {V : Type 0} (order : Order V) (o : Object ℕ V) : Type 0 where
   pub as_object : IsValid o
-  pub keys_differ : are_distinct order.alike (contents o) ≡ true
+  pub keys_differ : (v : V) → length (filter (λ r. order.alike r.value v) o.rows) ≤ 1
   pub in_order : order.is_in_order (contents o) ≡ true
 
 -- a value with an equivalent key
@@ -189,3 +190,11 @@ floor_call is_greater o = mark_for o.number (find (λ r. not (is_greater r.value
 
 abbrev pub ceiling_call : {V : Type 0} → (V → Bool) → Object ℕ V → Mark
 ceiling_call is_less o = mark_for o.number (find (λ r. not (is_less r.value)) o.rows)
+
+-- a call keeps a map or a set valid, with a source, too
+abbrev pub KeepsKeyed : {V A : Type 0} → Order V → Object ℕ V → Call (Object ℕ V) A → Type 0
+KeepsKeyed order o c = IsValidKeyed order o → c.reason ≡ None → IsValidKeyed order c.after
+
+-- what holds in order of arrival by any equivalence, and in ascending order by any weak order
+abbrev pub InEachOrder : {V : Type 0} → (Order V → Type 0) → Type 0
+InEachOrder {V} P = ((alike : V → V → Bool) → IsEquivalence alike → P (by_arrival alike)) × ((less : V → V → Bool) → IsWeakOrder less → P (ascending less))

@@ -35,7 +35,7 @@ mark_of number live (cursor.At object name) =
 abbrev pub reason_if : Bool → Reason → Option Reason
 reason_if test reason = if test then Some reason else None
 
--- the object's number, and no other
+-- a cursor with another object's number is foreign, and one with the object's own is dead where nothing is there under its name
 abbrev pub judged_in : ℕ → ℕ → Bool → Option Reason
 judged_in number object is_there =
     if object == number then reason_if (not is_there) DeadCursor else Some ForeignCursor

@@ -1,5 +1,6 @@
 -- The calls of synchronized queues (A.18.27 to A.18.31): numbers in a line, with a limit or none, and the greatest number held so far. A call may have to wait, and then nothing of it has happened.
-use Rattle.std.specs.Prelude.{◌≡◌, ◌==◌, ◌+◌, ℕ, ℤ, pos, int_lt, int_div, Bool, true, false, not, ◌&&◌, ◌≤◌, max, List, [], ◌∷◌, ◌++◌, length, take, drop, take_while, Option, Some, None, if◌then◌else◌}
+use Rattle.std.specs.Prelude.{⊤, ◌≡◌, ◌==◌, ◌+◌, ℕ, ℤ, pos, int_lt, int_div, Bool, true, false, not, ◌&&◌, ◌≤◌, max, List, [], ◌∷◌, ◌++◌, length, take, drop, Option, Some, None, if◌then◌else◌}
+use Rattle.std.specs.List.{prefix_len}
 use Rattle.ac_base.specs.declared.limit.Limit.{Limit}
 use Rattle.ac_base.specs.declared.limit.Limit.TheVariants.{Unbounded, Bounded}
 use Rattle.ac_base.specs.declared.reason.Reason.{Reason}
@@ -41,7 +42,13 @@ abbrev pub are_in_line_by : Discipline → List ℤ → Bool
 are_in_line_by by_arrival items = true
 are_in_line_by by_priority items = are_in_line items
 
+-- a limit is at most the greatest length
+abbrev pub LimitInRange : Limit → Type 0
+LimitInRange Unbounded = ⊤
+LimitInRange (Bounded most) = most ≤ greatest_length
+
 pub record IsValidQueue (discipline : Discipline) (q : Queue) : Type 0 where
+  pub limit_in_range : LimitInRange q.limit
   pub within_limit : is_past q.limit (length q.items) ≡ false
   pub within_greatest : length q.items ≤ greatest_length
   pub within_peak : length q.items ≤ q.peak
@@ -65,7 +72,7 @@ is_too_long q = elim q.limit [ Unbounded ↦ greatest_length == length q.items |
 abbrev pub lined_up : Discipline → List ℤ → ℤ → List ℤ
 lined_up by_arrival items item = items ++ item ∷ []
 lined_up by_priority items item =
-    let place = length (take_while (λ x. not (comes_before item x)) items) in
+    let place = prefix_len (λ x. not (comes_before item x)) items in
     take place items ++ item ∷ drop place items
 
 abbrev pub with_item : Discipline → Queue → ℤ → Queue
@@ -119,3 +126,7 @@ current_use_call q = pos (length q.items)
 
 abbrev pub peak_use_call : Queue → ℤ
 peak_use_call q = pos q.peak
+
+-- a call keeps a queue valid
+abbrev pub KeepsQueue : {A : Type 0} → Discipline → Queue → QueueCall A → Type 0
+KeepsQueue discipline q c = IsValidQueue discipline q → c.waits ≡ false → c.reason ≡ None → IsValidQueue discipline c.after

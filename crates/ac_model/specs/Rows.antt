@@ -135,6 +135,7 @@ are_level less v w = not (less v w) && not (less w v)
 -- a strict weak order
 pub record IsWeakOrder {V : Type 0} (less : V → V → Bool) : Type 0 where
   pub asymmetric : (v w : V) → less v w ≡ true → less w v ≡ false
+  pub transitive : (v w x : V) → less v w ≡ true → less w x ≡ true → less v x ≡ true
   pub level_transitive : (v w x : V) → are_level less v w ≡ true → are_level less w x ≡ true → less v x ≡ false
 
 -- one list has the rows of another: of each sort as many

@@ -1,5 +1,5 @@
 -- The calls of multiway trees (A.18.10).
-use Rattle.std.specs.Prelude.{◌==◌, ◌+◌, ℕ, ℤ, pos, Bool, false, not, ◌&&◌, ◌||◌, List, [], ◌∷◌, length, reverse, replicate, find, filter, Option, Some, None, option_map, slice_get, if◌then◌else◌}
+use Rattle.std.specs.Prelude.{◌≡◌, ◌==◌, ◌+◌, ℕ, ℤ, pos, Bool, false, not, ◌&&◌, ◌||◌, List, [], ◌∷◌, length, reverse, replicate, find, filter, Option, Some, None, option_map, slice_get, if◌then◌else◌}
 use Rattle.std.specs.List.{list_any}
 use Rattle.ac_base.specs.declared.reason.Reason.{Reason}
 use Rattle.ac_base.specs.declared.reason.Reason.TheVariants.{NoElement, RootNode, RootSource, NotLeaf, NotChild, BelowItself}
@@ -11,7 +11,7 @@ use Rattle.ac_model.specs.Objects.{Object, contents, length_of, with_rows}
 use Rattle.ac_model.specs.Letters.{Mark, no_mark, mark_at, stale_mark, mark_of, judged_in, name_of, is_no_mark, tampers_cursors, tampers_elements, count_of, room, reason_if}
 use Rattle.ac_model.specs.Calls.{Call, call, Look, look, Both, both, Done, takes_none, takes_some}
 use Rattle.ac_model.specs.Sequences.{with_new, room_for_copies, copies_take_memory, first_new, are_equal}
-use Rattle.ac_model.specs.Outline.{Spot, spot, depth_of, run_of, children_of, parent_of, is_in, is_in_subtree, path_to, siblings_of, next_after, last_before, run_start, run_rows, subtree_length, subtree_start, subtree_rows, moved_to_depth}
+use Rattle.ac_model.specs.Outline.{IsValidTree, Spot, spot, depth_of, run_of, children_of, parent_of, is_in, is_in_subtree, path_to, siblings_of, next_after, last_before, run_start, run_rows, subtree_length, subtree_start, subtree_rows, moved_to_depth}
 
 -- what a library cursor means to a tree, whose root has the name 0 in slot 0
 abbrev pub tree_mark : {V : Type 0} → Object Name V → Cursor → Mark
@@ -337,3 +337,10 @@ splice_children_call o parent before source_parent =
     ∷ child_or_none o parent before ∷ reason_if (is_in (name_of parent) (run_of o.rows (name_of source_parent))) BelowItself ∷ []))
     (with_rows o (with_children_moved o.rows parent before source_parent))
     tt
+
+-- a call keeps a tree valid
+abbrev pub KeepsTree : {T A : Type 0} → Object ℕ (Node T) → Call (Object ℕ (Node T)) A → Type 0
+KeepsTree o c = IsValidTree o → c.reason ≡ None → IsValidTree c.after
+
+abbrev pub KeepsBothTrees : {T A : Type 0} → Object ℕ (Node T) → Object ℕ (Node T) → Call (Both (Object ℕ (Node T))) A → Type 0
+KeepsBothTrees target source c = IsValidTree target → IsValidTree source → c.reason ≡ None → IsValidTree c.after.target × IsValidTree c.after.source

@@ -3,12 +3,15 @@
 #![tactic(auto)]
 
 pub mod holder_examples;
+pub mod keyed_validity;
 pub mod list_examples;
 pub mod map_examples;
 pub mod order_examples;
+pub mod plain_validity;
 pub mod queue_examples;
 pub mod row_laws;
 pub mod set_examples;
 pub mod tree_examples;
+pub mod tree_validity;
 pub mod validity;
 pub mod vector_examples;
