@@ -1,0 +1,10 @@
+pub mod ContentsLaws
+pub mod Crosses
+pub mod Entries
+pub mod Labelled
+pub mod Laid
+pub mod Memory
+pub mod NameLaws
+pub mod Pooled
+pub mod Powers
+pub mod Sharing

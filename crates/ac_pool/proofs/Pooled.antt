@@ -1,0 +1,299 @@
+-- What holds of a pool's fields is kept by each change, and gives what holds of its contents.
+use Rattle.std.proofs.Common.{◌≡◌, ◌≢◌, ℕ, zero, suc, ◌+◌, ◌-◌, ◌<◌, ◌≤◌, ◌^◌, ◌⊎◌, List, [], ◌∷◌, ◌++◌, length, set, get_or, replicate, Option, Some, None, is_some, IsSome, refl, sym, ap, ◌∙◌, subst, inl, inr, arith, length-append, length-set, get_or-set_same, get_or-set_other}
+use Rattle.std.proofs.lemmas.Bool.{cases_eq, cases_lt}
+use Rattle.std.proofs.lemmas.List.{length-replicate, get_or_past, get_or_read, set-set, set_comm}
+use Rattle.std.proofs.lemmas.Option.{same_Some}
+use Rattle.std.specs.FinMap as map
+use Rattle.ac_base.specs.declared.name.Name.{Name}
+use Rattle.ac_pool.specs.Chunk.{serial_in, serial_at}
+use Rattle.ac_pool.specs.Contents.{contents, IsLive, live_count, slot_count, IsFresh, IsSound}
+use Rattle.ac_pool.specs.PoolFields.{name_at, entries_in, empty_count, IsPool}
+use Rattle.ac_pool.proofs.Labelled.{within}
+use Rattle.ac_pool.proofs.NameLaws.{same_name}
+use Rattle.ac_pool.proofs.Entries.{value_in, value_in_same, kept_of_value, get-entries_in, len-entries_in, entries_in-some, get_grown}
+
+empty_count-replicate : (X : Type 0) (m : ℕ) → let none : Option (ℕ × X) = None in empty_count (replicate m none) ≡ m
+empty_count-replicate X zero = refl
+empty_count-replicate X (suc m) = ap suc (empty_count-replicate X m)
+
+module _ {X : Type 0} where
+  empty_count-fill : (cells : List (Option (ℕ × X))) (i : ℕ) (e : ℕ × X) → i < length cells → get_or cells i None ≡ None → empty_count cells ≡ suc (empty_count (set cells i (Some e)))
+  empty_count-fill [] i e lt h = absurd (omega arith)
+  empty_count-fill (None ∷ cells) zero e lt h = refl
+  empty_count-fill (Some d ∷ cells) zero e lt h = cc
+  empty_count-fill (None ∷ cells) (suc i) e lt h = ap suc (empty_count-fill cells i e (omega arith) h)
+  empty_count-fill (Some d ∷ cells) (suc i) e lt h = empty_count-fill cells i e (omega arith) h
+
+  empty_count-vacate : (cells : List (Option (ℕ × X))) (i : ℕ) (e : ℕ × X) → get_or cells i None ≡ Some e → empty_count (set cells i None) ≡ suc (empty_count cells)
+  empty_count-vacate [] i e h = cc
+  empty_count-vacate (None ∷ cells) zero e h = cc
+  empty_count-vacate (Some d ∷ cells) zero e h = refl
+  empty_count-vacate (None ∷ cells) (suc i) e h = ap suc (empty_count-vacate cells i e h)
+  empty_count-vacate (Some d ∷ cells) (suc i) e h = empty_count-vacate cells i e h
+
+  empty_count-write : (cells : List (Option (ℕ × X))) (i : ℕ) (d e : ℕ × X) → get_or cells i None ≡ Some d → empty_count (set cells i (Some e)) ≡ empty_count cells
+  empty_count-write [] i d e h = cc
+  empty_count-write (None ∷ cells) zero d e h = cc
+  empty_count-write (Some c ∷ cells) zero d e h = refl
+  empty_count-write (None ∷ cells) (suc i) d e h = ap suc (empty_count-write cells i d e h)
+  empty_count-write (Some c ∷ cells) (suc i) d e h = empty_count-write cells i d e h
+
+  empty_count-grow : (cells : List (Option (ℕ × X))) (m : ℕ) → empty_count (cells ++ replicate m None) ≡ empty_count cells + m
+  empty_count-grow [] m = omega (arith, empty_count-replicate X m)
+  empty_count-grow (None ∷ cells) m = omega (arith, empty_count-grow cells m)
+  empty_count-grow (Some e ∷ cells) m = empty_count-grow cells m
+
+  pub empty_count_within : (cells : List (Option (ℕ × X))) → empty_count cells ≤ length cells
+  empty_count_within [] = omega arith
+  empty_count_within (None ∷ cells) = omega (arith, empty_count_within cells)
+  empty_count_within (Some e ∷ cells) = omega (arith, empty_count_within cells)
+
+  empty_count_below : (cells : List (Option (ℕ × X))) (i : ℕ) (e : ℕ × X) → get_or cells i None ≡ Some e → empty_count cells < length cells
+  empty_count_below [] i e h = cc
+  empty_count_below (None ∷ cells) zero e h = cc
+  empty_count_below (Some d ∷ cells) zero e h = omega (arith, empty_count_within cells)
+  empty_count_below (None ∷ cells) (suc i) e h = omega (arith, empty_count_below cells i e h)
+  empty_count_below (Some d ∷ cells) (suc i) e h = omega (arith, empty_count_below cells i e h)
+
+  value_some : (c : Option (ℕ × X)) (s : ℕ) → serial_in c ≢ 0 → serial_in c ≡ s → IsSome (value_in c s)
+  value_some None s some is = absurd (some refl)
+  value_some (Some e) s some is = ap is_some (value_in_same e s is)
+
+  module _ (cells : List (Option (ℕ × X))) (i : ℕ) (e : ℕ × X) (lt : i < length cells) where
+    -- the cell k, after the cell i got the value e
+    read_set : (k : ℕ) (d : ℕ × X) → get_or (set cells i (Some e)) k None ≡ Some d → ((k ≡ i) × (e ≡ d)) ⊎ ((k ≢ i) × (get_or cells k None ≡ Some d))
+    read_set k d h = elim (cases_eq k i) [
+      | inl is ↦ inl (is, same_Some e d (sym (get_or-set_same cells i (Some e) None lt) ∙ ap (λ j. get_or (set cells i (Some e)) j None) (sym is) ∙ h))
+      | inr n ↦ inr (n, sym (get_or-set_other cells i k (Some e) None n) ∙ h)
+    ]
+
+  module _ (cells : List (Option (ℕ × X))) (free : List ℕ) where
+    pub IsPool-new : (serial : ℕ) → 0 < serial → serial < 2 ^ 64 → length cells ≡ 0 → IsPool cells free 0 serial
+    IsPool-new serial above small none = record {
+      issued = λ i e h. absurd (omega (arith, within cells i e h));
+      serials = λ i j d e h k same. absurd (omega (arith, within cells i d h));
+      next = (above, small);
+      few = omega arith;
+      room = omega arith;
+      count = omega (arith, empty_count_within cells);
+      empties = λ k h. absurd (omega arith);
+      once = λ j k h l same. absurd (omega arith);
+    }
+
+    module _ (n next : ℕ) where
+      module _ (h : IsPool cells free (n + 1) next) where
+        abbrev slot : ℕ
+        slot = get_or free n 0
+
+        pub spare_slot : (slot < length cells) × (get_or cells slot None ≡ None)
+        spare_slot = h.empties n (omega arith)
+
+        pub IsPool-put : (v : X) → next + 1 < 2 ^ 64 → IsPool (set cells slot (Some (next, v))) free n (next + 1)
+        IsPool-put v small =
+            let e : ℕ × X = (next, v) in let lt = spare_slot.0 in let long = length-set cells slot (Some e) in record {
+              issued = λ k d p. elim (read_set cells slot e lt k d p) [
+                | inl q ↦ let is : next ≡ d.0 = ap (λ (c : ℕ × X). c.0) q.1 in omega (arith, h.next)
+                | inr q ↦ omega (arith, h.issued k d q.1)
+              ];
+              serials = λ j k c d p q same. elim (read_set cells slot e lt j c p) [
+                | inl a ↦ elim (read_set cells slot e lt k d q) [
+                  | inl b ↦ a.0 ∙ sym b.0
+                  | inr b ↦ let is : next ≡ c.0 = ap (λ (c : ℕ × X). c.0) a.1 in absurd (omega (arith, h.issued k d b.1))
+                ]
+                | inr a ↦ elim (read_set cells slot e lt k d q) [
+                  | inl b ↦ let is : next ≡ d.0 = ap (λ (c : ℕ × X). c.0) b.1 in absurd (omega (arith, h.issued j c a.1))
+                  | inr b ↦ h.serials j k c d a.1 b.1 same
+                ]
+              ];
+              next = (omega arith, small);
+              few = omega (arith, h.few);
+              room = omega (arith, h.room);
+              count = omega (arith, h.count, empty_count-fill cells slot e lt spare_slot.1);
+              empties = λ k less.
+                  let apart : get_or free k 0 ≢ slot = λ is. let same : k ≡ n = h.once k n (omega arith) (omega arith) is in omega arith in
+                  let old = h.empties k (omega arith) in
+                  (omega (arith, old.0), get_or-set_other cells slot (get_or free k 0) (Some e) None apart ∙ old.1);
+              once = λ j k a b same. h.once j k (omega arith) (omega arith) same;
+            }
+
+      module _ (h : IsPool cells free n next) where
+        pub room_for_slot : (i : ℕ) (e : ℕ × X) → get_or cells i None ≡ Some e → (n < length free) × (n < length cells)
+        room_for_slot i e full = (omega (arith, h.count, h.room, empty_count_below cells i e full), omega (arith, h.count, empty_count_below cells i e full))
+
+        pub IsPool-take : (i : ℕ) (e : ℕ × X) → get_or cells i None ≡ Some e → IsPool (set cells i None) (set free n i) (n + 1) next
+        IsPool-take i e full =
+            let lt = within cells i e full in let long = length-set cells i None in let long_free = length-set free n i in let room = (room_for_slot i e full).0 in
+            let here : get_or (set free n i) n 0 ≡ i = get_or-set_same free n i 0 room in
+            let there : (k : ℕ) → k ≢ n → get_or (set free n i) k 0 ≡ get_or free k 0 = λ k apart. get_or-set_other free n k i 0 apart in
+            let fresh : (k : ℕ) → k < n → get_or free k 0 ≢ i = λ k less is. let none : None ≡ Some e = sym (h.empties k less).1 ∙ (ap (λ j. get_or cells j None) is ∙ full) in cc in
+            let still : (k : ℕ) (d : ℕ × X) → get_or (set cells i None) k None ≡ Some d → get_or cells k None ≡ Some d = λ k d p. elim (cases_eq k i) [
+              | inl is ↦ let none : None ≡ Some d = sym (get_or-set_same cells i None None lt) ∙ (ap (λ j. get_or (set cells i None) j None) (sym is) ∙ p) in cc
+              | inr apart ↦ sym (get_or-set_other cells i k None None apart) ∙ p
+            ] in record {
+              issued = λ k d p. h.issued k d (still k d p);
+              serials = λ j k c d p q same. h.serials j k c d (still j c p) (still k d q) same;
+              next = h.next;
+              few = omega (arith, h.few);
+              room = omega (arith, h.room);
+              count = omega (arith, h.count, empty_count-vacate cells i e full);
+              empties = λ k less. elim (cases_eq k n) [
+                | inl is ↦ let at : get_or (set free n i) k 0 ≡ i = ap (λ j. get_or (set free n i) j 0) is ∙ here in
+                    (omega arith, ap (λ j. get_or (set cells i None) j None) at ∙ get_or-set_same cells i None None lt)
+                | inr apart ↦ let at = there k apart in let old = h.empties k (omega arith) in
+                    (omega (arith, old.0), ap (λ j. get_or (set cells i None) j None) at ∙ get_or-set_other cells i (get_or free k 0) None None (fresh k (omega arith)) ∙ old.1)
+              ];
+              once = λ j k a b same. elim (cases_eq j n) [
+                | inl jn ↦ elim (cases_eq k n) [
+                  | inl kn ↦ jn ∙ sym kn
+                  | inr kn ↦ absurd (fresh k (omega arith) (sym (there k kn) ∙ sym same ∙ ap (λ m. get_or (set free n i) m 0) jn ∙ here))
+                ]
+                | inr jn ↦ elim (cases_eq k n) [
+                  | inl kn ↦ absurd (fresh j (omega arith) (sym (there j jn) ∙ same ∙ ap (λ m. get_or (set free n i) m 0) kn ∙ here))
+                  | inr kn ↦ h.once j k (omega arith) (omega arith) (sym (there j jn) ∙ same ∙ there k kn)
+                ]
+              ];
+            }
+
+        pub IsPool-write : (i s : ℕ) (x w : X) → get_or cells i None ≡ Some (s, x) → IsPool (set cells i (Some (s, w))) free n next
+        IsPool-write i s x w full =
+            let e : ℕ × X = (s, w) in let lt = within cells i (s, x) full in let long = length-set cells i (Some e) in
+            let old : (k : ℕ) (d : ℕ × X) → get_or (set cells i (Some e)) k None ≡ Some d → (c : ℕ × X) × (get_or cells k None ≡ Some c) × (c.0 ≡ d.0) = λ k d p. elim (read_set cells i e lt k d p) [
+              | inl q ↦ ((s, x), ap (λ j. get_or cells j None) q.0 ∙ full, ap (λ (c : ℕ × X). c.0) q.1)
+              | inr q ↦ (d, q.1, refl)
+            ] in record {
+              issued = λ k d p. let o = old k d p in let is = o.2 in omega (arith, h.issued k o.0 o.1);
+              serials = λ j k c d p q same. let a = old j c p in let b = old k d q in h.serials j k a.0 b.0 a.1 b.1 (a.2 ∙ same ∙ sym b.2);
+              next = h.next;
+              few = omega (arith, h.few);
+              room = omega (arith, h.room);
+              count = omega (arith, h.count, empty_count-write cells i (s, x) e full);
+              empties = λ k less. let o = h.empties k less in
+                  let apart : get_or free k 0 ≢ i = λ is. let nothing : Option (ℕ × X) = None in let none : nothing ≡ Some (s, x) = sym o.1 ∙ (ap (λ j. get_or cells j None) is ∙ full) in cc in
+                  (omega (arith, o.0), get_or-set_other cells i (get_or free k 0) (Some e) None apart ∙ o.1);
+              once = h.once;
+            }
+
+        -- the list of free slots in another place
+        pub IsPool-relist : (news : List ℕ) → length cells ≤ length news → ((k : ℕ) → k < n → get_or news k 0 ≡ get_or free k 0) → IsPool cells news n next
+        IsPool-relist news room same = record {
+          issued = h.issued;
+          serials = h.serials;
+          next = h.next;
+          few = h.few;
+          room = room;
+          count = h.count;
+          empties = λ k less. let o = h.empties k less in let at = same k less in (omega (arith, o.0), ap (λ j. get_or cells j None) at ∙ o.1);
+          once = λ j k a b is. h.once j k a b (sym (same j a) ∙ is ∙ same k b);
+        }
+
+        pub IsPool-grow : (news : List ℕ) (m : ℕ) → length cells + m ≤ 2 ^ 30 → length cells + m ≤ length news → ((k : ℕ) → k < n → get_or news k 0 ≡ get_or free k 0)
+            → ((k : ℕ) → k < m → get_or news (n + k) 0 ≡ length cells + k) → IsPool (cells ++ replicate m None) news (n + m) next
+        IsPool-grow news m fits room below listed =
+            let long : length (cells ++ replicate m None) ≡ length cells + m = length-append cells (replicate m None) ∙ ap (λ k. length cells + k) (length-replicate m None) in
+            let old : (k : ℕ) (d : ℕ × X) → get_or (cells ++ replicate m None) k None ≡ Some d → get_or cells k None ≡ Some d = λ k d p. sym (get_grown cells m k) ∙ p in
+            let late : (k : ℕ) → n ≤ k → k < n + m → get_or news k 0 ≡ length cells + (k - n) = λ k le less. let at : n + (k - n) ≡ k = omega arith in ap (λ j. get_or news j 0) (sym at) ∙ listed (k - n) (omega arith) in record {
+              issued = λ k d p. h.issued k d (old k d p);
+              serials = λ j k c d p q same. h.serials j k c d (old j c p) (old k d q) same;
+              next = h.next;
+              few = omega arith;
+              room = omega arith;
+              count = omega (arith, h.count, empty_count-grow cells m);
+              empties = λ k less. elim (cases_lt k n) [
+                | inl lower ↦ let o = h.empties k lower in let at = below k lower in
+                    (omega (arith, o.0), get_grown cells m (get_or news k 0) ∙ ap (λ j. get_or cells j None) at ∙ o.1)
+                | inr upper ↦ let at = late k upper less in
+                    (omega arith, get_grown cells m (get_or news k 0) ∙ get_or_past cells (get_or news k 0) None (omega arith))
+              ];
+              once = λ j k a b same. elim (cases_lt j n) [
+                | inl jl ↦ elim (cases_lt k n) [
+                  | inl kl ↦ h.once j k jl kl (sym (below j jl) ∙ same ∙ below k kl)
+                  | inr ku ↦ absurd (omega (arith, below j jl, (h.empties j jl).0, late k ku b))
+                ]
+                | inr ju ↦ elim (cases_lt k n) [
+                  | inl kl ↦ absurd (omega (arith, below k kl, (h.empties k kl).0, late j ju a))
+                  | inr ku ↦ omega (arith, late j ju a, late k ku b)
+                ]
+              ];
+            }
+
+        pub live_cell : (q : Name) → IsLive (contents (entries_in cells) next n) q → (x : X) × (get_or cells q.slot None ≡ Some (q.serial, x))
+        live_cell q live = kept_of_value (get_or cells q.slot None) q.serial (ap is_some (sym (get-entries_in cells q)) ∙ live)
+
+        pub live_serial : (q : Name) → IsLive (contents (entries_in cells) next n) q → (q.slot < length cells) × (serial_at cells q.slot ≡ q.serial) × (0 < q.serial)
+        live_serial q live = let x = live_cell q live in (within cells q.slot (q.serial, x.0) x.1, ap serial_in x.1, (h.issued q.slot (q.serial, x.0) x.1).0)
+
+        pub live_from : (q : Name) → serial_at cells q.slot ≢ 0 → serial_at cells q.slot ≡ q.serial → IsLive (contents (entries_in cells) next n) q
+        live_from q some is = ap is_some (get-entries_in cells q) ∙ value_some (get_or cells q.slot None) q.serial some is
+
+        pub live_count-cells : live_count (contents (entries_in cells) next n) + n ≡ length cells
+        live_count-cells = omega (arith, h.count, len-entries_in cells)
+
+        pub slot_count-cells : slot_count (contents (entries_in cells) next n) ≡ length cells
+        slot_count-cells = omega (arith, h.count, len-entries_in cells)
+
+        pub sound : IsSound (contents (entries_in cells) next n)
+        sound = record {
+          slots = λ a b p q same. let x = live_cell a p in let y = live_cell b q in
+              let both : Some (a.serial, x.0) ≡ Some (b.serial, y.0) = sym x.1 ∙ (ap (λ j. get_or cells j None) same ∙ y.1) in
+              same_name a b same (ap (λ (e : ℕ × X). e.0) (same_Some (a.serial, x.0) (b.serial, y.0) both));
+          serials = λ a b p q same. let x = live_cell a p in let y = live_cell b q in
+              same_name a b (h.serials a.slot b.slot (a.serial, x.0) (b.serial, y.0) x.1 y.1 same) same;
+          within = λ a p. let x = live_cell a p in omega (arith, slot_count-cells, within cells a.slot (a.serial, x.0) x.1);
+          issued = λ a p. let x = live_cell a p in h.issued a.slot (a.serial, x.0) x.1;
+          next = h.next;
+          few = omega (arith, slot_count-cells, h.few);
+        }
+
+        -- a slot that keeps nothing has no live name
+        pub fresh : (i : ℕ) → get_or cells i None ≡ None → IsFresh (contents (entries_in cells) next n) (name_at i next)
+        fresh i none = record {
+          slot = λ q live is. let x = live_cell q live in let no : None ≡ Some (q.serial, x.0) = sym none ∙ (ap (λ j. get_or cells j None) (sym is) ∙ x.1) in cc;
+          serial = refl;
+        }
+
+-- two values change places
+module _ {X : Type 0} (cells : List (Option (ℕ × X))) (i j s t : ℕ) (x y : X) (apart : i ≢ j) (at_i : get_or cells i None ≡ Some (s, x)) (at_j : get_or cells j None ≡ Some (t, y)) where
+  abbrev one_written : List (Option (ℕ × X))
+  one_written = set cells i (Some (s, y))
+
+  abbrev pub exchanged_cells : List (Option (ℕ × X))
+  exchanged_cells = set one_written j (Some (t, x))
+
+  pub exchanged_is : set (set (set (set cells i None) j None) i (Some (s, y))) j (Some (t, x)) ≡ exchanged_cells
+  exchanged_is =
+      ap (λ l. set l j (Some (t, x))) (ap (λ l. set l i (Some (s, y))) (set_comm cells i j None None apart) ∙ set-set (set cells j None) i None (Some (s, y)))
+      ∙ ap (λ l. set l j (Some (t, x))) (set_comm cells j i None (Some (s, y)) (λ e. apart (sym e))) ∙ set-set one_written j None (Some (t, x))
+
+  still_at_j : get_or one_written j None ≡ Some (t, y)
+  still_at_j = get_or-set_other cells i j (Some (s, y)) None (λ e. apart (sym e)) ∙ at_j
+
+  pub IsPool-exchanged : (free : List ℕ) (n next : ℕ) → IsPool cells free n next → IsPool exchanged_cells free n next
+  IsPool-exchanged free n next h = IsPool-write one_written free n next (IsPool-write cells free n next h i s x y at_i) j t y x still_at_j
+
+  same_serial : (e : ℕ × X) (r : ℕ) (z : X) (o : Option (ℕ × X)) → o ≡ Some (r, z) → o ≡ Some e → e.0 ≡ r
+  same_serial e r z o p q = ap (λ (d : ℕ × X). d.0) (same_Some e (r, z) (sym q ∙ p))
+
+  pub entries_in-exchanged : entries_in exchanged_cells ≡ map.insert (map.insert (entries_in cells) (name_at i s) y) (name_at j t) x
+  entries_in-exchanged =
+      entries_in-some one_written j t x (within one_written j (t, y) still_at_j) (λ e q. same_serial e t y _ still_at_j q)
+      ∙ ap (λ m. map.insert m (name_at j t) x) (entries_in-some cells i s y (within cells i (s, x) at_i) (λ e q. same_serial e s x _ at_i q))
+
+-- the last free slot is taken for a new value
+module _ {X : Type 0} (cells : List (Option (ℕ × X))) (free : List ℕ) (n next : ℕ) (h : IsPool cells free n next) (i : ℕ) (some : 0 < n) (is : i ≡ get_or free (n - 1) i) where
+  one_more : n ≡ (n - 1) + 1
+  one_more = omega arith
+
+  last : IsPool cells free ((n - 1) + 1) next
+  last = subst (λ m. IsPool cells free m next) one_more h
+
+  last_slot : get_or free (n - 1) 0 ≡ i
+  last_slot = sym (get_or_read free (n - 1) i (omega (arith, h.room, h.count, empty_count_within cells)) is 0)
+
+  pub last_spare : (i < length cells) × (get_or cells i None ≡ None)
+  last_spare = subst (λ j. (j < length cells) × (get_or cells j None ≡ None)) last_slot (spare_slot cells free (n - 1) next last)
+
+  pub IsPool-put_last : (v : X) → next < 2 ^ 64 - 1 → IsPool (set cells i (Some (next, v))) free (n - 1) (next + 1)
+  IsPool-put_last v small = subst (λ j. IsPool (set cells j (Some (next, v))) free (n - 1) (next + 1)) last_slot (IsPool-put cells free (n - 1) next last v (omega arith))
+
+  pub entries_in-put : (v : X) → entries_in (set cells i (Some (next, v))) ≡ map.insert (entries_in cells) (name_at i next) v
+  entries_in-put v = entries_in-some cells i next v last_spare.0 (λ e full. let no : Option (ℕ × X) = None in let none : no ≡ Some e = sym last_spare.1 ∙ full in cc)

@@ -1,0 +1,14 @@
+pub mod Chunk
+pub mod ChunkFields
+pub mod ChunkLends
+pub mod Contents
+pub mod Growth
+pub mod Lends
+pub mod Names
+pub mod Ownership
+pub mod Places
+pub mod PoolFields
+pub mod PoolLends
+pub mod Put
+pub mod Slots
+pub mod SlotsLends
