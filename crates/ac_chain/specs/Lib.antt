@@ -1,0 +1,4 @@
+pub mod ChainFields
+pub mod ChainLends
+pub mod LinksLends
+pub mod Rows

@@ -1,0 +1,155 @@
+//! Nodes in a pool, each with links to the one before and the one after it. The writes of single links.
+ghost use Rattle.std.specs.Prelude.{◌≡◌};
+ghost use Rattle.ac_pool.specs.Contents.{value_of, IsLive};
+ghost use Rattle.ac_chain.specs.ChainFields.{next_of, prev_of, before_in, with_next, with_prev, joined, linked_before, unlinked, with_links, exchanged_in};
+ghost use Rattle.std.specs.Option.{option_map};
+ghost use Rattle.std.specs.Borrow.{sem};
+
+use ac_base::Name;
+use ac_pool::Pool;
+
+#[derive(Drop)]
+pub struct Node<T> {
+    pub value: T,
+    pub prev: Option<Name>,
+    pub next: Option<Name>,
+}
+
+#[derive(Drop)]
+pub struct Links<T> {
+    pub nodes: Pool<Node<T>>,
+    pub first: Option<Name>,
+    pub last: Option<Name>,
+}
+
+impl<T> Links<T> {
+    ghost use Rattle.ac_chain.specs.LinksLends.{lends_node_value};
+    ghost use Rattle.ac_chain.specs.declared.links.Node.{Node};
+
+    pub fn next(&self, name: Name) -> Option<Name>
+        ensures { result ≡ next_of (value_of self.now.nodes name) }
+    {
+        match self.nodes.get(name) {
+            Some(node) => node.next,
+            None => None,
+        }
+    }
+
+    pub fn prev(&self, name: Name) -> Option<Name>
+        ensures { result ≡ prev_of (value_of self.now.nodes name) }
+    {
+        match self.nodes.get(name) {
+            Some(node) => node.prev,
+            None => None,
+        }
+    }
+
+    /// The name after which a row before the place is linked.
+    fn before(&self, place: Option<Name>) -> Option<Name>
+        ensures { result ≡ before_in self.now place }
+    {
+        match place {
+            Some(name) => self.prev(name),
+            None => self.last,
+        }
+    }
+
+    #[tactic(auto, unfolding(crate::specs::ChainFields::with_next))]
+    fn set_node_next(&mut self, at: Name, to: Option<Name>)
+        ensures { self.new ≡ with_next self.old (Some at) to }
+    {
+        if let Some(node) = self.nodes.get_mut(at) {
+            node.next = to;
+        }
+    }
+
+    #[tactic(auto, unfolding(crate::specs::ChainFields::with_prev))]
+    fn set_node_prev(&mut self, at: Name, to: Option<Name>)
+        ensures { self.new ≡ with_prev self.old (Some at) to }
+    {
+        if let Some(node) = self.nodes.get_mut(at) {
+            node.prev = to;
+        }
+    }
+
+    #[tactic(auto, unfolding(crate::specs::ChainFields::with_next))]
+    fn set_next(&mut self, at: Option<Name>, to: Option<Name>)
+        ensures { self.new ≡ with_next self.old at to }
+    {
+        match at {
+            Some(name) => self.set_node_next(name, to),
+            None => self.first = to,
+        }
+    }
+
+    #[tactic(auto, unfolding(crate::specs::ChainFields::with_prev))]
+    fn set_prev(&mut self, at: Option<Name>, to: Option<Name>)
+        ensures { self.new ≡ with_prev self.old at to }
+    {
+        match at {
+            Some(name) => self.set_node_prev(name, to),
+            None => self.last = to,
+        }
+    }
+
+    #[tactic(auto, unfolding(crate::specs::ChainFields::joined))]
+    fn join(&mut self, left: Option<Name>, right: Option<Name>)
+        ensures { self.new ≡ joined self.old left right }
+    {
+        self.set_next(left, right);
+        self.set_prev(right, left);
+    }
+
+    #[tactic(auto, unfolding(crate::specs::ChainFields::linked_before))]
+    /// Links the node that no other is linked with before the place.
+    pub fn link(&mut self, place: Option<Name>, name: Name)
+        ensures { self.new ≡ linked_before self.old place name }
+    {
+        let before = self.before(place);
+        self.join(before, Some(name));
+        self.join(Some(name), place);
+    }
+
+    #[tactic(auto, unfolding(crate::specs::ChainFields::unlinked))]
+    /// Links the nodes before and after this one with each other.
+    pub fn unlink(&mut self, name: Name)
+        ensures { self.new ≡ unlinked self.old name }
+    {
+        let prev = self.prev(name);
+        let next = self.next(name);
+        self.join(prev, next);
+    }
+
+    /// The value of a live name's node, for writing.
+    pub fn value_mut(&mut self, name: Name) -> &mut T
+        requires { IsLive self.old.nodes name }
+        ensures* writes_back { sem 𝓛 (lends_node_value T.row self.entry name result) }
+        ensures value { option_map (λ (n : Node T). n.value) (value_of self.old.nodes name) ≡ Some result.now }
+    {
+        &mut self.nodes.get_mut(name).unwrap().value
+    }
+
+    #[tactic(auto, unfolding(crate::specs::ChainFields::with_links))]
+    fn set_links(&mut self, at: Name, prev: Option<Name>, next: Option<Name>)
+        ensures { self.new ≡ with_links self.old at prev next }
+    {
+        if let Some(node) = self.nodes.get_mut(at) {
+            node.prev = prev;
+            node.next = next;
+        }
+    }
+
+    /// Exchanges the values of two nodes, which keep their links.
+    #[tactic(auto, unfolding(crate::specs::ChainFields::exchanged_in))]
+    pub fn exchange(&mut self, a: Name, b: Name)
+        ensures { self.new ≡ exchanged_in self.old a b }
+    {
+        let prev_a = self.prev(a);
+        let next_a = self.next(a);
+        let prev_b = self.prev(b);
+        let next_b = self.next(b);
+        self.nodes.swap(a, b);
+        self.set_links(a, prev_a, next_a);
+        self.set_links(b, prev_b, next_b);
+    }
+}
