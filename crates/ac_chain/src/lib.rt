@@ -7,3 +7,6 @@ mod links;
 pub use chain::Chain;
 #[doc(hidden)]
 pub use links::{Links, Node};
+
+#[cfg(test)]
+mod random_walk;
