@@ -1,7 +1,7 @@
 #!/usr/bin/env python3
 """Times the built programs beside plain Rust programs on the same machine in the same run.
 
-Prints the program's time for each generated script, the ratio to the baseline's, and the growth from half the script to the whole: 2 is linear. Then the time of a put and a take of the pool, and the ratio. Needs rustc; isn't part of the gate.
+Prints the program's time for each generated script, the ratio to the baseline's, and the growth from half the script to the whole: 2 is linear. Then the time of a put and a take of the pool, and the ratio; and of an insertion and a removal in the middle of a chain, which stays flat where the chain grows. Needs rustc; isn't part of the gate.
 """
 import os
 import subprocess
@@ -51,9 +51,10 @@ def build(source, place):
     return program
 
 
-def workload(program, name, rounds):
+def workload(program, *words, rounds):
     """Seconds for each round of a workload, without what a program takes to start."""
-    return (seconds([program, name, str(rounds)]) - seconds([program, name, "0"])) / rounds
+    command = [program, *words]
+    return (seconds(command + [str(rounds)]) - seconds(command + ["0"])) / rounds
 
 
 def scripts(place):
@@ -78,10 +79,16 @@ def scripts(place):
 
 def churn(program, place):
     rounds = 10_000_000
-    ours = workload(program, "pool", rounds)
-    theirs = workload(build("pool_baseline.rs", place), "pool", rounds)
+    ours = workload(program, "pool", rounds=rounds)
+    theirs = workload(build("pool_baseline.rs", place), "pool", rounds=rounds)
     print(f"{'workload':<40}{'ns a round':>12}{'ratio':>8}")
     print(f"{'a put and a take, 1,000 live':<40}{ours * 1e9:>12.1f}{ours / theirs:>8.2f}")
+
+
+def middle(program):
+    for rows in (1_000, 10_000, 100_000, 1_000_000):
+        took = workload(program, "chain", str(rows), rounds=5_000_000)
+        print(f"{f'an insertion and a removal, {rows:,} rows':<40}{took * 1e9:>12.1f}")
 
 
 def main():
@@ -91,6 +98,7 @@ def main():
     with tempfile.TemporaryDirectory() as place:
         scripts(place)
         churn(os.path.join(folder, "out/ac_bench"), place)
+    middle(os.path.join(folder, "out/ac_bench"))
     return 0
 
 

@@ -1,9 +1,11 @@
-//! Workloads that `bench/` times. The words are a workload and a number of rounds, as `pool 1000000`.
+//! Workloads that `bench/` times. The words are a workload and a number of rounds, as `pool 1000000`, or a
+//! workload with a number of rows and one of rounds, as `chain 1000 1000000`.
 #![tactic(auto)]
 
+mod chain;
 mod pool;
 
-use std::alloc::AllocError;
+use ac_base::NoMemory;
 use std::process::ExitCode;
 use std::rt::Env;
 use std::{env, io};
@@ -12,16 +14,22 @@ fn words<R: Env + AllocGlobal>(rt: &R) -> io::Result<Vec<String>> {
     Ok(env::args(rt)?.skip(1).collect(rt.alloc())?)
 }
 
+/// A number among the words.
+fn number(words: &[String], place: usize) -> Option<u64> {
+    words.get(place)?.as_str().parse::<u64>().ok()
+}
+
 /// Runs the workload that the words name, and gives what it found, or `None` for other words.
-fn run<R: AllocGlobal>(rt: &R, words: &[String]) -> Result<Option<u64>, AllocError> {
-    let [workload, rounds] = words else {
+fn run<R: AllocGlobal>(rt: &R, words: &[String]) -> io::Result<Option<u64>> {
+    let (Some(workload), Some(first)) = (words.first(), number(words, 1)) else {
         return Ok(None);
     };
-    let Ok(rounds) = rounds.as_str().parse::<u64>() else {
-        return Ok(None);
-    };
-    match workload.as_str() {
-        "pool" => Ok(Some(pool::churn(rt.alloc(), rounds)?)),
+    match (workload.as_str(), number(words, 2)) {
+        ("pool", None) => Ok(Some(pool::churn(rt.alloc(), first)?)),
+        ("chain", Some(rounds)) => match chain::middle(rt.alloc(), first, rounds) {
+            Ok(len) => Ok(Some(len)),
+            Err(NoMemory) => Ok(None),
+        },
         _ => Ok(None),
     }
 }
@@ -34,7 +42,7 @@ fn main(rt: HostRuntime) -> io::Result<ExitCode> {
             Ok(ExitCode::SUCCESS)
         }
         None => {
-            eprintln!(rt; "usage: ac_bench pool ROUNDS")?;
+            eprintln!(rt; "usage: ac_bench pool ROUNDS, or ac_bench chain ROWS ROUNDS")?;
             Ok(ExitCode::from(2))
         }
     }

@@ -9,4 +9,6 @@ pub use chain::Chain;
 pub use links::{Links, Node};
 
 #[cfg(test)]
+mod random_walk;
+#[cfg(test)]
 mod tests;
