@@ -1,0 +1,4 @@
+pub mod Code
+pub mod Coded
+pub mod Statements
+pub mod StatementsFall

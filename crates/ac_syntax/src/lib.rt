@@ -1,0 +1,24 @@
+//! A script as a value: its types, and what its texts, its tokens and its canonical text are.
+#![tactic(auto)]
+
+mod arg;
+mod decl;
+mod ident;
+mod kind;
+mod literal;
+mod refusal;
+mod script;
+mod stmt;
+mod type_def;
+mod view_kind;
+
+pub use arg::{Arg, Args};
+pub use decl::{Decl, Decls};
+pub use ident::{Ident, Idents};
+pub use kind::{ElemKind, Kind};
+pub use literal::{Literal, StringBytes};
+pub use refusal::RefusalKind;
+pub use script::Script;
+pub use stmt::{Stmt, Stmts};
+pub use type_def::TypeDef;
+pub use view_kind::ViewKind;
