@@ -1,0 +1,56 @@
+-- A script as its items in the order of the text: declarations, commands, what begins a block and what closes it.
+use Rattle.std.specs.Prelude.{ℕ, List, [], ◌∷◌, ◌++◌, map, Option, Some, None}
+use Rattle.ac_syntax.specs.Code.{Simple, call_at, set_at, sum_at, Head, loop_at, view_at, stable_at, declare_at, Code, stop, one, block}
+use Rattle.ac_syntax.specs.declared.decl.Decl.{Decl}
+use Rattle.ac_syntax.specs.declared.decl.Decl.TheVariants.{TypeDecl, Object, CursorVar, IntVar, TextVar}
+use Rattle.ac_syntax.specs.declared.script.Script.{Script}
+
+pub data Item : Type 0 where
+  declares : Decl → Item
+  commands : Simple → Item
+  opens : Head → Item
+  -- the word `begin` after the declarations of a block
+  begins : Item
+  -- the words that end the block with this head
+  closes : Head → Item
+
+-- what stands before the body of a block
+abbrev pub opening : Head → List Item
+opening (loop_at line name elements backward object) = opens (loop_at line name elements backward object) ∷ []
+opening (view_at line kind object at name) = opens (view_at line kind object at name) ∷ []
+opening (stable_at line object) = opens (stable_at line object) ∷ []
+opening (declare_at line decls) = opens (declare_at line decls) ∷ (map declares decls ++ begins ∷ [])
+
+abbrev pub items : Code → List Item
+items stop = []
+items (one simple rest) = commands simple ∷ items rest
+items (block head body rest) = opening head ++ (items body ++ closes head ∷ items rest)
+
+abbrev pub script_items : Script → List Item
+script_items script = map declares script.decls ++ items script.stmts
+
+abbrev pub decl_line : Decl → ℕ
+decl_line (TypeDecl line _ _) = line
+decl_line (Object line _ _ _) = line
+decl_line (CursorVar line _ _) = line
+decl_line (IntVar line _) = line
+decl_line (TextVar line _) = line
+
+abbrev pub simple_line : Simple → ℕ
+simple_line (call_at line _ _ _ _) = line
+simple_line (set_at line _ _) = line
+simple_line (sum_at line _ _ _ _) = line
+
+abbrev pub head_line : Head → ℕ
+head_line (loop_at line _ _ _ _) = line
+head_line (view_at line _ _ _ _) = line
+head_line (stable_at line _) = line
+head_line (declare_at line _) = line
+
+-- the line of an item, of those that keep one
+abbrev pub item_line : Item → Option ℕ
+item_line (declares decl) = Some (decl_line decl)
+item_line (commands simple) = Some (simple_line simple)
+item_line (opens head) = Some (head_line head)
+item_line begins = None
+item_line (closes _) = None
