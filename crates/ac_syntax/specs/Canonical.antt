@@ -1,7 +1,7 @@
 -- The canonical text of a script.
-use Rattle.std.specs.Prelude.{◌≡◌, ℕ, ◌+◌, ◌-◌, ◌^◌, ◌<◌, ◌≤◌, ◌==◌, ◌&&◌, ◌||◌, max, pos, negsuc, zero, suc, nat_lt, codes, decimal, replicate, Bool, true, false, List, [], ◌∷◌, ◌++◌, map, flat_map, filter_map, unwrap_or, Option, Some, None, IsTrue, if◌then◌else◌}
+use Rattle.std.specs.Prelude.{ℕ, ◌-◌, ◌^◌, ◌≤◌, ◌==◌, ◌&&◌, ◌||◌, max, pos, negsuc, suc, nat_lt, codes, decimal, replicate, Bool, true, false, List, [], ◌∷◌, ◌++◌, map, flat_map, filter_map, unwrap_or, Option, Some, None, IsTrue, if◌then◌else◌}
 use Rattle.std.specs.Char.{is_ascii_lowercase, to_ascii_lowercase}
-use Rattle.std.specs.List.{list_all, AllByRecursion}
+use Rattle.std.specs.List.{list_all}
 use Rattle.std.specs.Fmt.{signed_decimal}
 use denote.Enum.Bare.{sameb}
 use Rattle.ac_syntax.specs.contracts.token.Mark.{the_type}
@@ -115,8 +115,19 @@ part_tokens (counts n) = token.Number n ∷ []
 part_tokens (writes literal) = literal_tokens literal
 part_tokens lacks = []
 
+abbrev pub on_line : ℕ → Token → Placed
+on_line line token = record { token = token; line = line }
+
+-- the tokens of items from this line on, each with its line
+abbrev pub items_placed : ℕ → List Item → List Placed
+items_placed line [] = []
+items_placed line (item ∷ items) = map (on_line (line_reached line (item_line item))) (flat_map part_tokens (item_parts item)) ++ items_placed (line_reached line (item_line item)) items
+
+unfoldable pub canonical_placed : Script → List Placed
+canonical_placed script = items_placed 1 (script_items script)
+
 abbrev pub canonical_tokens : Script → List Token
-canonical_tokens script = flat_map (λ item. flat_map part_tokens (item_parts item)) (script_items script)
+canonical_tokens script = tokens (canonical_placed script)
 
 -- a letter first, and only letters in lower case, digits and `_`
 abbrev pub is_lower_word : List ℕ → Bool
@@ -137,9 +148,7 @@ RisesFrom line (next ∷ lines) = (line ≤ next) × RisesFrom next lines
 
 -- a script that a text can spell
 pub record IsWellFormed (script : Script) : Type 0 where
-  pub placed : List Placed
-  pub canonical : tokens placed ≡ canonical_tokens script
-  pub derives : Derives placed script
+  pub derives : Derives (canonical_placed script) script
   pub within : AreWithinLimits (canonical_tokens script)
   pub written : IsTrue (list_all is_written (canonical_tokens script))
   pub lines : RisesFrom 1 (filter_map item_line (script_items script))

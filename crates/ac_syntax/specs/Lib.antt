@@ -10,3 +10,4 @@ pub mod Grammar
 pub mod Limits
 pub mod Refusals
 pub mod Canonical
+pub mod Examples

@@ -1,6 +1,5 @@
 -- Texts that spell a script, and for those that don't the first fault.
-use Rattle.std.specs.Prelude.{◌≡◌, ℕ, true, List, [], ◌∷◌, ◌++◌, ◌⊎◌, Some, None}
-use Rattle.std.specs.List.{last_or}
+use Rattle.std.specs.Prelude.{◌≡◌, ℕ, true, List, [], ◌∷◌, ◌++◌, Some, None}
 use Rattle.ac_syntax.specs.declared.token.Placed.{Placed}
 use Rattle.ac_syntax.specs.declared.script.Script.{Script}
 use Rattle.ac_syntax.specs.declared.refusal.RefusalKind.{RefusalKind}
@@ -28,7 +27,7 @@ HasNoBadToken placed =
 -- where and why the cut text is refused for its first bad token, or for the malformed piece behind its tokens
 pub data IsFirstBad (cut : Cut) : ℕ → RefusalKind → Type 0 where
   bad_token : (before after : List Placed) (bad : Placed) (kind : RefusalKind) → cut.placed ≡ before ++ bad ∷ after
-    → HasNoBadToken before → IsBadToken before bad kind → IsFirstBad cut bad.line kind
+      → HasNoBadToken before → IsBadToken before bad kind → IsFirstBad cut bad.line kind
   malformed_piece : (line : ℕ) → HasNoBadToken cut.placed → cut.malformed ≡ Some line → IsFirstBad cut line Syntax
 
 -- where and why a text is refused before the names in it are looked at
@@ -36,4 +35,4 @@ pub data IsRefusedAt (text : List ℕ) : ℕ → RefusalKind → Type 0 where
   first_bad : (line : ℕ) (kind : RefusalKind) → IsFirstBad (cut_of text) line kind → IsRefusedAt text line kind
   -- no token is bad, but the tokens end too early
   ends_early : (before : List Placed) (last : Placed) → (cut_of text).placed ≡ before ++ last ∷ [] → (cut_of text).malformed ≡ None
-    → HasNoBadToken (cut_of text).placed → ((script : Script) → Derives (cut_of text).placed script → ⊥) → IsRefusedAt text last.line Syntax
+      → HasNoBadToken (cut_of text).placed → ((script : Script) → Derives (cut_of text).placed script → ⊥) → IsRefusedAt text last.line Syntax
