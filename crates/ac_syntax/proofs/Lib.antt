@@ -1,2 +1,4 @@
 pub mod Derivations
 pub mod Withins
+pub mod FirstFaults
+pub mod FirstWords

@@ -18,7 +18,7 @@ within_from before [] = true
 within_from before (token ∷ others) = not (is_past_limit before token) && within_from (before ++ token ∷ []) others
 
 -- a list that ends in an item and more isn't empty
-not_ended : {A : Type 0} (before after : List A) (x : A) → [] ≡ before ++ x ∷ after → ⊥
+pub not_ended : {A : Type 0} (before after : List A) (x : A) → [] ≡ before ++ x ∷ after → ⊥
 not_ended [] after x e = omega (arith, ap length e)
 not_ended (b ∷ before) after x e = omega (arith, ap length e)
 

@@ -11,3 +11,5 @@ pub mod Limits
 pub mod Refusals
 pub mod Canonical
 pub mod Examples
+pub mod Starts
+pub mod RefusalExamples

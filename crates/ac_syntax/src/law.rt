@@ -1,5 +1,16 @@
 //! What holds of the language itself, whatever reads it.
+ghost use Rattle.std.specs.Prelude.{◌≡◌, List, ◌∷◌, true};
+ghost use Rattle.ac_syntax.specs.declared.token.Placed.{Placed};
+ghost use Rattle.ac_syntax.specs.declared.script.Script.{Script};
+ghost use Rattle.ac_syntax.specs.Grammar.{Derives};
+ghost use Rattle.ac_syntax.specs.Starts.{starts_script};
 ghost use Rattle.ac_syntax.specs.Examples.{SpellsLoosely, WritesStrictly, SpellsNested, WritesNested, ReadsDoubledQuote, RefusesOpenString, EndsComment, RefusesLetterAfterNumber, WritesNothing, TakesDepth16, RefusesDepth17};
+ghost use Rattle.ac_syntax.specs.RefusalExamples.{TakesName64, RefusesName65, TakesString1000, RefusesString1001, TakesLeast, RefusesPastGreatest, RefusesLessTooMuch, RefusesTooRoomy, RefusesMalformed, RefusesMarkFirst, RefusesTasks};
+
+/// A script begins with an identifier, with `type` or with the first word of a block.
+pub fn first_word()
+    ensures { (script : Script) (first : Placed) (others : List Placed) → Derives (first ∷ others) script → starts_script first.token ≡ true }
+{}
 
 /// Texts whose tokens, scripts and canonical texts were worked out by hand.
 pub fn examples()
@@ -14,4 +25,19 @@ pub fn examples()
     ensures nothing { WritesNothing }
     ensures depth_16 { TakesDepth16 }
     ensures depth_17 { RefusesDepth17 }
+{}
+
+/// Texts whose first fault was worked out by hand, and texts right inside a limit.
+pub fn refusals()
+    ensures name_64 { TakesName64 }
+    ensures name_65 { RefusesName65 }
+    ensures string_1000 { TakesString1000 }
+    ensures string_1001 { RefusesString1001 }
+    ensures least { TakesLeast }
+    ensures past_greatest { RefusesPastGreatest }
+    ensures less_too_much { RefusesLessTooMuch }
+    ensures too_roomy { RefusesTooRoomy }
+    ensures malformed { RefusesMalformed }
+    ensures mark_first { RefusesMarkFirst }
+    ensures tasks { RefusesTasks }
 {}
