@@ -1,7 +1,7 @@
 -- With what a script begins.
-use Rattle.std.proofs.Common.{◌≡◌, ℕ, ◌||◌, Bool, true, false, not, List, [], ◌∷◌, ◌++◌, map, length, refl, sym, ap, subst, ◌∙◌, arith}
+use Rattle.std.proofs.Common.{◌≡◌, ℕ, Bool, true, false, List, [], ◌∷◌, ◌++◌, map, length, refl, sym, ap, subst, ◌∙◌, arith}
 use Rattle.std.proofs.Math.Bool.{true≢false}
-use Rattle.std.specs.Prelude.{Option, Some, None, codes}
+use Rattle.std.specs.Prelude.{Some, None}
 use Rattle.ac_syntax.specs.Code.{Simple, call_at, set_at, sum_at, Head, loop_at, view_at, stable_at, declare_at, Code, stop, one, block}
 use Rattle.ac_syntax.specs.declared.decl.Decl.{Decl}
 use Rattle.ac_syntax.specs.declared.decl.Decl.TheVariants.{TypeDecl, Object, CursorVar, IntVar, TextVar}
@@ -11,7 +11,7 @@ use Rattle.ac_syntax.specs.declared.token.Token.TheVariants as token
 use Rattle.ac_syntax.specs.declared.token.Placed.{Placed}
 use Rattle.ac_syntax.specs.declared.script.Script.{Script}
 use Rattle.ac_syntax.specs.Tokens.{tokens}
-use Rattle.ac_syntax.specs.Items.{Item, declares, commands, opens, begins, closes, items}
+use Rattle.ac_syntax.specs.Items.{Item, declares, commands, opens, items}
 use Rattle.ac_syntax.specs.Parts.{Part, says, marks, names, counts, writes, lacks, item_parts}
 use Rattle.ac_syntax.specs.Grammar.{reserved, is_reserved, AreParts, AreItems, Derives}
 use Rattle.ac_syntax.specs.Starts.{starts_script}
@@ -58,13 +58,13 @@ some_token (writes _ ∷ parts) h p = true≢false (sym p)
 some_token (lacks ∷ parts) h p = true≢false (sym p)
 
 first_tokens : (parts : List Part) (front rest more : List Placed) (first : Placed)
-  → first ∷ more ≡ front ++ rest → AreParts parts (tokens front) → parts_start parts ≡ true → starts_script first.token ≡ true
+    → first ∷ more ≡ front ++ rest → AreParts parts (tokens front) → parts_start parts ≡ true → starts_script first.token ≡ true
 first_tokens parts [] rest more first e h p = absurd (some_token parts h p)
 first_tokens parts (q ∷ front) rest more first e h p =
     subst (λ (x : Placed). starts_script x.token ≡ true) (sym (heads first q more (front ++ rest) e)) (first_part parts q.token (tokens front) h p)
 
 first_item : (item : Item) (others : List Item) (first : Placed) (more : List Placed)
-  → AreItems (item ∷ others) (first ∷ more) → parts_start (item_parts item) ≡ true → starts_script first.token ≡ true
+    → AreItems (item ∷ others) (first ∷ more) → parts_start (item_parts item) ≡ true → starts_script first.token ≡ true
 first_item item others first more h p = first_tokens (item_parts item) h.0 h.1 more first h.2 h.3.spelled p
 
 decl_starts : (decl : Decl) → parts_start (item_parts (declares decl)) ≡ true
@@ -93,14 +93,11 @@ head_starts (stable_at _ _) = refl
 head_starts (declare_at _ _) = refl
 
 starts : (decls : List Decl) (stmts : Code) (first : Placed) (more : List Placed)
-  → AreItems (map declares decls ++ items stmts) (first ∷ more) → starts_script first.token ≡ true
+    → AreItems (map declares decls ++ items stmts) (first ∷ more) → starts_script first.token ≡ true
 starts (decl ∷ decls) stmts first more h = first_item (declares decl) _ first more h (decl_starts decl)
 starts [] stop first more h = absurd (not_empty first more (sym h))
 starts [] (one simple rest) first more h = first_item (commands simple) _ first more h (simple_starts simple)
-starts [] (block (loop_at a b c d e) body rest) first more h = first_item (opens (loop_at a b c d e)) _ first more h (head_starts (loop_at a b c d e))
-starts [] (block (view_at a b c d e) body rest) first more h = first_item (opens (view_at a b c d e)) _ first more h (head_starts (view_at a b c d e))
-starts [] (block (stable_at a b) body rest) first more h = first_item (opens (stable_at a b)) _ first more h (head_starts (stable_at a b))
-starts [] (block (declare_at a b) body rest) first more h = first_item (opens (declare_at a b)) _ first more h (head_starts (declare_at a b))
+starts [] (block head body rest) first more h = first_item (opens head) _ first more h (head_starts head)
 
 pub script_starts : (script : Script) (first : Placed) (more : List Placed) → Derives (first ∷ more) script → starts_script first.token ≡ true
 script_starts script first more h = starts script.decls script.stmts first more h

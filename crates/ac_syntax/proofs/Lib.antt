@@ -2,3 +2,4 @@ pub mod Derivations
 pub mod Withins
 pub mod FirstFaults
 pub mod FirstWords
+pub mod ItemsAlone

@@ -14,17 +14,17 @@ pub data Item : Type 0 where
   -- the words that end the block with this head
   closes : Head → Item
 
--- what stands before the body of a block
-abbrev pub opening : Head → List Item
-opening (loop_at line name elements backward object) = opens (loop_at line name elements backward object) ∷ []
-opening (view_at line kind object at name) = opens (view_at line kind object at name) ∷ []
-opening (stable_at line object) = opens (stable_at line object) ∷ []
-opening (declare_at line decls) = opens (declare_at line decls) ∷ (map declares decls ++ begins ∷ [])
+-- what stands between the head of a block and its body
+abbrev pub declared : Head → List Item
+declared (loop_at _ _ _ _ _) = []
+declared (view_at _ _ _ _ _) = []
+declared (stable_at _ _) = []
+declared (declare_at _ decls) = map declares decls ++ begins ∷ []
 
 abbrev pub items : Code → List Item
 items stop = []
 items (one simple rest) = commands simple ∷ items rest
-items (block head body rest) = opening head ++ (items body ++ closes head ∷ items rest)
+items (block head body rest) = opens head ∷ (declared head ++ (items body ++ closes head ∷ items rest))
 
 abbrev pub script_items : Script → List Item
 script_items script = map declares script.decls ++ items script.stmts

@@ -1,6 +1,6 @@
 -- Texts that are refused, with the line and the kind, worked out by hand.
-use Rattle.std.specs.Prelude.{◌^◌, ◌+◌, ℕ, pos, neg_ℤ, replicate, codes, false, true, List, [], ◌∷◌, ◌++◌, Some, None}
-use Rattle.ac_syntax.specs.Code.{Code, call_at, set_at, sum_at, stop, one}
+use Rattle.std.specs.Prelude.{◌^◌, ℕ, pos, neg_ℤ, replicate, codes, true, List, [], ◌∷◌, ◌++◌, Some, None}
+use Rattle.ac_syntax.specs.Code.{call_at, set_at, sum_at, stop, one}
 use Rattle.ac_syntax.specs.declared.literal.Literal.TheVariants as literal
 use Rattle.ac_syntax.specs.declared.arg.Arg.TheVariants.{Lit}
 use Rattle.ac_syntax.specs.declared.decl.Decl.TheVariants.{Object, IntVar}

@@ -3,6 +3,7 @@ ghost use Rattle.std.specs.Prelude.{◌≡◌, List, ◌∷◌, true};
 ghost use Rattle.ac_syntax.specs.declared.token.Placed.{Placed};
 ghost use Rattle.ac_syntax.specs.declared.script.Script.{Script};
 ghost use Rattle.ac_syntax.specs.Grammar.{Derives};
+ghost use Rattle.ac_syntax.specs.Items.{script_items};
 ghost use Rattle.ac_syntax.specs.Starts.{starts_script};
 ghost use Rattle.ac_syntax.specs.Examples.{SpellsLoosely, WritesStrictly, SpellsNested, WritesNested, ReadsDoubledQuote, RefusesOpenString, EndsComment, RefusesLetterAfterNumber, WritesNothing, TakesDepth16, RefusesDepth17};
 ghost use Rattle.ac_syntax.specs.RefusalExamples.{TakesName64, RefusesName65, TakesString1000, RefusesString1001, TakesLeast, RefusesPastGreatest, RefusesLessTooMuch, RefusesTooRoomy, RefusesMalformed, RefusesMarkFirst, RefusesTasks};
@@ -10,6 +11,11 @@ ghost use Rattle.ac_syntax.specs.RefusalExamples.{TakesName64, RefusesName65, Ta
 /// A script begins with an identifier, with `type` or with the first word of a block.
 pub fn first_word()
     ensures { (script : Script) (first : Placed) (others : List Placed) → Derives (first ∷ others) script → starts_script first.token ≡ true }
+{}
+
+/// No two scripts have the same items.
+pub fn items_alone()
+    ensures { (script other : Script) → script_items script ≡ script_items other → script ≡ other }
 {}
 
 /// Texts whose tokens, scripts and canonical texts were worked out by hand.

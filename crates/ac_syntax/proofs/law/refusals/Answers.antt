@@ -21,7 +21,7 @@ pub returns-clause-name_65 : goal.returns-clause-name_65
 unfolding reserved is_reserved item_parts canonical_placed
 returns-clause-name_65 c =
     limit_at (naming 65) (named 65) (take 0 (canonical_placed (named 65))) (drop 1 (canonical_placed (named 65))) (drop 1 (canonical_placed (named 65)))
-        (on_line 1 (token.Word (replicate 65 97))) refl refl refl refl refl
+    (on_line 1 (token.Word (replicate 65 97))) refl refl refl refl refl
 
 pub returns-clause-string_1000 : goal.returns-clause-string_1000
 unfolding reserved is_reserved item_parts canonical_placed
@@ -31,7 +31,7 @@ pub returns-clause-string_1001 : goal.returns-clause-string_1001
 unfolding reserved is_reserved item_parts canonical_placed
 returns-clause-string_1001 c =
     limit_at (string_text 1001) (with_string 1001) (take 2 (canonical_placed (with_string 1001))) (drop 3 (canonical_placed (with_string 1001))) (drop 3 (canonical_placed (with_string 1001)))
-        (on_line 1 (token.Text (replicate 1001 97))) refl refl refl refl refl
+    (on_line 1 (token.Text (replicate 1001 97))) refl refl refl refl refl
 
 pub returns-clause-least : goal.returns-clause-least
 unfolding reserved is_reserved item_parts canonical_placed
@@ -41,19 +41,19 @@ pub returns-clause-past_greatest : goal.returns-clause-past_greatest
 unfolding reserved is_reserved item_parts canonical_placed
 returns-clause-past_greatest c =
     limit_at (on_list (codes "a.append (9223372036854775808);")) past_greatest (take 16 (canonical_placed past_greatest)) (drop 17 (canonical_placed past_greatest)) (drop 17 (canonical_placed past_greatest))
-        (on_line 2 (token.Number (2 ^ 63))) refl refl refl refl refl
+    (on_line 2 (token.Number (2 ^ 63))) refl refl refl refl refl
 
 pub returns-clause-less_too_much : goal.returns-clause-less_too_much
 unfolding reserved is_reserved item_parts canonical_placed
 returns-clause-less_too_much c =
     limit_at (on_list (codes "x := y - 9223372036854775808;")) less_too_much (take 16 (canonical_placed less_too_much)) (drop 17 (canonical_placed less_too_much)) (drop 17 (canonical_placed less_too_much))
-        (on_line 2 (token.Number (2 ^ 63))) refl refl refl refl refl
+    (on_line 2 (token.Number (2 ^ 63))) refl refl refl refl refl
 
 pub returns-clause-too_roomy : goal.returns-clause-too_roomy
 unfolding reserved is_reserved item_parts canonical_placed
 returns-clause-too_roomy c =
     limit_at (on_list (codes "b : l (9223372036854775808);")) too_roomy (take 16 (canonical_placed too_roomy)) (drop 17 (canonical_placed too_roomy)) (drop 17 (canonical_placed too_roomy))
-        (on_line 2 (token.Number (2 ^ 63))) refl refl refl refl refl
+    (on_line 2 (token.Number (2 ^ 63))) refl refl refl refl refl
 
 pub returns-clause-malformed : goal.returns-clause-malformed
 unfolding reserved is_reserved item_parts canonical_placed
