@@ -3,3 +3,4 @@ pub mod Withins
 pub mod FirstFaults
 pub mod FirstWords
 pub mod ItemsAlone
+pub mod Blocks

@@ -26,9 +26,13 @@ abbrev pub block_words : List (List ℕ)
 block_words =
     codes "for" ∷ codes "query" ∷ codes "update" ∷ codes "update_key" ∷ codes "reference" ∷ codes "stable" ∷ codes "declare" ∷ []
 
+-- the word that ends any of them
+abbrev pub end_words : List (List ℕ)
+end_words = codes "end" ∷ []
+
 -- how many blocks are open behind these tokens: each began with its first word, and ends at its own `end`
 abbrev pub depth : List Token → ℕ
-depth before = count_by (is_word_of block_words) before - count_by (is_word_of (codes "end" ∷ [])) before
+depth before = count_by (is_word_of block_words) before - count_by (is_word_of end_words) before
 
 -- a literal may begin behind these marks
 abbrev pub is_before_literal : Token → Bool

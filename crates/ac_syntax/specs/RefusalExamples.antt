@@ -1,6 +1,6 @@
 -- Texts that are refused, with the line and the kind, worked out by hand.
-use Rattle.std.specs.Prelude.{◌^◌, ℕ, pos, neg_ℤ, replicate, codes, true, List, [], ◌∷◌, ◌++◌, Some, None}
-use Rattle.ac_syntax.specs.Code.{call_at, set_at, sum_at, stop, one}
+use Rattle.std.specs.Prelude.{◌^◌, ℕ, pos, neg_ℤ, replicate, codes, false, true, List, [], ◌∷◌, ◌++◌, Some, None}
+use Rattle.ac_syntax.specs.Code.{Code, call_at, set_at, sum_at, loop_at, stop, one, block}
 use Rattle.ac_syntax.specs.declared.literal.Literal.TheVariants as literal
 use Rattle.ac_syntax.specs.declared.arg.Arg.TheVariants.{Lit}
 use Rattle.ac_syntax.specs.declared.decl.Decl.TheVariants.{Object, IntVar}
@@ -80,3 +80,20 @@ RefusesMarkFirst = IsRefusedAt (codes ") 99999999999999999999;") 1 Syntax
 
 abbrev pub RefusesTasks : Type 0
 RefusesTasks = IsRefusedAt (lines ([] ∷ codes "tasks end tasks;" ∷ [])) 2 Syntax
+
+-- a block that doesn't end, with these commands
+
+abbrev pub looping : Code → Script
+looping body = with_list (block (loop_at 2 (codes "c") false false (codes "a")) body stop)
+
+abbrev pub printing : Code
+printing = one (call_at 3 None (codes "a") (codes "print") []) stop
+
+abbrev pub open_block : List ℕ
+open_block = lines (codes "type l is list (integer); a : l;" ∷ codes "for c in a loop" ∷ codes "a.print;" ∷ [] ∷ [])
+
+abbrev pub RefusesOpenBlock : Type 0
+RefusesOpenBlock = IsRefusedAt open_block 3 Syntax
+
+abbrev pub RefusesOpenHead : Type 0
+RefusesOpenHead = IsRefusedAt (on_list (codes "for c in a loop")) 2 Syntax

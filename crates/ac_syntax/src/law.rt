@@ -1,16 +1,24 @@
 //! What holds of the language itself, whatever reads it.
-ghost use Rattle.std.specs.Prelude.{◌≡◌, List, ◌∷◌, true};
+ghost use Rattle.std.specs.Prelude.{◌≡◌, List, ◌∷◌, true, count_by};
 ghost use Rattle.ac_syntax.specs.declared.token.Placed.{Placed};
 ghost use Rattle.ac_syntax.specs.declared.script.Script.{Script};
 ghost use Rattle.ac_syntax.specs.Grammar.{Derives};
 ghost use Rattle.ac_syntax.specs.Items.{script_items};
+ghost use Rattle.ac_syntax.specs.Limits.{is_word_of, block_words, end_words};
+ghost use Rattle.ac_syntax.specs.Tokens.{tokens};
 ghost use Rattle.ac_syntax.specs.Starts.{starts_script};
 ghost use Rattle.ac_syntax.specs.Examples.{SpellsLoosely, WritesStrictly, SpellsNested, WritesNested, ReadsDoubledQuote, RefusesOpenString, EndsComment, RefusesLetterAfterNumber, WritesNothing, TakesDepth16, RefusesDepth17};
-ghost use Rattle.ac_syntax.specs.RefusalExamples.{TakesName64, RefusesName65, TakesString1000, RefusesString1001, TakesLeast, RefusesPastGreatest, RefusesLessTooMuch, RefusesTooRoomy, RefusesMalformed, RefusesMarkFirst, RefusesTasks};
+ghost use Rattle.ac_syntax.specs.RefusalExamples.{TakesName64, RefusesName65, TakesString1000, RefusesString1001, TakesLeast, RefusesPastGreatest, RefusesLessTooMuch, RefusesTooRoomy, RefusesMalformed, RefusesMarkFirst, RefusesTasks, RefusesOpenBlock, RefusesOpenHead};
 
 /// A script begins with an identifier, with `type` or with the first word of a block.
 pub fn first_word()
     ensures { (script : Script) (first : Placed) (others : List Placed) → Derives (first ∷ others) script → starts_script first.token ≡ true }
+{}
+
+/// A script has as many first words of blocks as words `end`.
+pub fn blocks_end()
+    ensures { (script : Script) (placed : List Placed) → Derives placed script →
+        count_by (is_word_of block_words) (tokens placed) ≡ count_by (is_word_of end_words) (tokens placed) }
 {}
 
 /// No two scripts have the same items.
@@ -46,4 +54,6 @@ pub fn refusals()
     ensures malformed { RefusesMalformed }
     ensures mark_first { RefusesMarkFirst }
     ensures tasks { RefusesTasks }
+    ensures open_block { RefusesOpenBlock }
+    ensures open_head { RefusesOpenHead }
 {}

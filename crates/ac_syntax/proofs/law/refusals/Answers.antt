@@ -2,15 +2,17 @@ use Rattle.std.proofs.Common.{refl, take, drop, ◌^◌, ◌-◌}
 use Rattle.std.specs.Prelude.{codes, replicate, [], ◌∷◌}
 use Rattle.ac_syntax.specs.declared.token.Token.TheVariants as token
 use Rattle.ac_syntax.specs.declared.token.Mark.TheVariants.{Close, Semicolon}
+use Rattle.std.proofs.Math.Nat.{suc-ne-zero}
+use Rattle.ac_syntax.specs.Code.{stop}
 use Rattle.ac_syntax.specs.Parts.{item_parts}
 use Rattle.ac_syntax.specs.Grammar.{reserved, is_reserved}
 use Rattle.ac_syntax.specs.Tokens.{tokens, cut_of}
 use Rattle.ac_syntax.specs.Canonical.{canonical_placed, on_line}
 use Rattle.ac_syntax.specs.Examples.{lines}
-use Rattle.ac_syntax.specs.RefusalExamples.{on_list, named, naming, with_string, string_text, least, past_greatest, less_too_much, too_roomy, appended}
+use Rattle.ac_syntax.specs.RefusalExamples.{on_list, named, naming, with_string, string_text, least, past_greatest, less_too_much, too_roomy, appended, open_block, looping, printing}
 use Rattle.ac_syntax.proofs.Derivations.{script_derives}
 use Rattle.ac_syntax.proofs.Withins.{within}
-use Rattle.ac_syntax.proofs.FirstFaults.{limit_at, malformed_at, starts_badly}
+use Rattle.ac_syntax.proofs.FirstFaults.{limit_at, malformed_at, starts_badly, ends_at}
 use Rattle.ac_syntax.proofs.law.refusals.Goals as goal
 
 pub returns-clause-name_64 : goal.returns-clause-name_64
@@ -66,3 +68,15 @@ pub returns-clause-tasks : goal.returns-clause-tasks
 unfolding reserved is_reserved
 returns-clause-tasks c =
     starts_badly (lines ([] ∷ codes "tasks end tasks;" ∷ [])) (on_line 2 (token.Word (codes "tasks"))) (drop 1 (cut_of (lines ([] ∷ codes "tasks end tasks;" ∷ []))).placed) refl refl
+
+pub returns-clause-open_block : goal.returns-clause-open_block
+unfolding reserved is_reserved item_parts canonical_placed
+returns-clause-open_block c =
+    ends_at open_block (looping printing) (take 20 (canonical_placed (looping printing))) (drop 21 (canonical_placed (looping printing))) (on_line 3 (token.Mark Semicolon))
+    refl refl refl refl refl (λ e. suc-ne-zero 0 e)
+
+pub returns-clause-open_head : goal.returns-clause-open_head
+unfolding reserved is_reserved item_parts canonical_placed
+returns-clause-open_head c =
+    ends_at (on_list (codes "for c in a loop")) (looping stop) (take 16 (canonical_placed (looping stop))) (drop 17 (canonical_placed (looping stop))) (on_line 2 (token.Word (codes "loop")))
+    refl refl refl refl refl (λ e. suc-ne-zero 0 e)
