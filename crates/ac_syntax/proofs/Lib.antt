@@ -4,3 +4,4 @@ pub mod FirstFaults
 pub mod FirstWords
 pub mod ItemsAlone
 pub mod Blocks
+pub mod OneRefusal

@@ -1,5 +1,5 @@
 -- Texts, their tokens, their scripts and canonical texts, worked out by hand.
-use Rattle.std.specs.Prelude.{◌≡◌, ℕ, zero, suc, pos, neg_ℤ, codes, false, true, List, [], ◌∷◌, ◌++◌, Some, None}
+use Rattle.std.specs.Prelude.{◌≡◌, ℕ, ◌+◌, zero, suc, pos, neg_ℤ, codes, false, true, List, [], ◌∷◌, ◌++◌, Some, None}
 use Rattle.ac_syntax.specs.Code.{Code, call_at, loop_at, view_at, stable_at, declare_at, stop, one, block}
 use Rattle.ac_syntax.specs.declared.literal.Literal.TheVariants as literal
 use Rattle.ac_syntax.specs.declared.arg.Arg.TheVariants.{Lit, Var}
@@ -13,7 +13,7 @@ use Rattle.ac_syntax.specs.declared.script.Script.{Script}
 use Rattle.ac_syntax.specs.declared.token.Token.TheVariants as token
 use Rattle.ac_syntax.specs.declared.token.Mark.TheVariants.{Semicolon, Assign}
 use Rattle.ac_syntax.specs.Tokens.{cut_of}
-use Rattle.ac_syntax.specs.Refusals.{Spells, IsRefusedAt}
+use Rattle.ac_syntax.specs.Refusals.{Spells, IsFirstRefusal}
 use Rattle.ac_syntax.specs.Canonical.{canonical_text, on_line}
 
 -- lines, each with its LF
@@ -88,21 +88,28 @@ RefusesLetterAfterNumber = cut_of (codes "12a") ≡ record { placed = []; malfor
 abbrev pub WritesNothing : Type 0
 WritesNothing = canonical_text (record { decls = []; stmts = stop }) ≡ []
 
--- so many blocks, each in the one before
+-- so many blocks from this line on, each in the one before
 
-abbrev pub deep : ℕ → Code
-deep zero = stop
-deep (suc n) = block (stable_at 2 (codes "a")) (deep n) stop
+abbrev pub deep : ℕ → ℕ → Code
+deep line zero = stop
+deep line (suc n) = block (stable_at line (codes "a")) (deep (line + 1) n) stop
+
+abbrev pub two_lines : Code → Script
+two_lines stmts =
+    record {
+      decls = TypeDecl 1 (codes "l") (record { bounded = false; kind = kind.List; first = Integer; second = None; keyed = false }) ∷ Object 2 (codes "a") (codes "l") None ∷ [];
+      stmts = stmts
+    }
 
 abbrev pub repeated : ℕ → List ℕ → List ℕ
 repeated zero text = []
 repeated (suc n) text = text ++ repeated n text
 
-abbrev pub deep_text : ℕ → List ℕ
-deep_text n = lines (codes "type l is list (integer); a : l;" ∷ (repeated n (codes "stable a do ") ++ repeated n (codes "end;")) ∷ [])
+abbrev pub heads_text : ℕ → List ℕ
+heads_text n = lines (codes "type L is list (integer);" ∷ codes "A : L;" ∷ []) ++ repeated n (codes "stable A do" ++ 10 ∷ [])
 
 abbrev pub TakesDepth16 : Type 0
-TakesDepth16 = Spells (with_list (deep 16)) (deep_text 16)
+TakesDepth16 = Spells (two_lines (deep 3 16)) (heads_text 15 ++ codes "stable A do " ++ repeated 16 (codes "end;"))
 
 abbrev pub RefusesDepth17 : Type 0
-RefusesDepth17 = IsRefusedAt (deep_text 17) 2 Limit
+RefusesDepth17 = IsFirstRefusal (heads_text 17) 19 Limit

@@ -31,8 +31,8 @@ pub data IsFirstBad (cut : Cut) : ℕ → RefusalKind → Type 0 where
   malformed_piece : (line : ℕ) → HasNoBadToken cut.placed → cut.malformed ≡ Some line → IsFirstBad cut line Syntax
 
 -- where and why a text is refused before the names in it are looked at
-pub data IsRefusedAt (text : List ℕ) : ℕ → RefusalKind → Type 0 where
-  first_bad : (line : ℕ) (kind : RefusalKind) → IsFirstBad (cut_of text) line kind → IsRefusedAt text line kind
+pub data IsFirstRefusal (text : List ℕ) : ℕ → RefusalKind → Type 0 where
+  first_bad : (line : ℕ) (kind : RefusalKind) → IsFirstBad (cut_of text) line kind → IsFirstRefusal text line kind
   -- no token is bad, but the tokens end too early
   ends_early : (before : List Placed) (last : Placed) → (cut_of text).placed ≡ before ++ last ∷ [] → (cut_of text).malformed ≡ None
-      → HasNoBadToken (cut_of text).placed → ((script : Script) → Derives (cut_of text).placed script → ⊥) → IsRefusedAt text last.line Syntax
+      → HasNoBadToken (cut_of text).placed → ((script : Script) → Derives (cut_of text).placed script → ⊥) → IsFirstRefusal text last.line Syntax

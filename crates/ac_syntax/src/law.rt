@@ -1,14 +1,23 @@
 //! What holds of the language itself, whatever reads it.
-ghost use Rattle.std.specs.Prelude.{◌≡◌, List, ◌∷◌, true, count_by};
+ghost use Rattle.std.specs.Prelude.{◌≡◌, ℕ, List, ◌∷◌, true, count_by};
 ghost use Rattle.ac_syntax.specs.declared.token.Placed.{Placed};
 ghost use Rattle.ac_syntax.specs.declared.script.Script.{Script};
 ghost use Rattle.ac_syntax.specs.Grammar.{Derives};
 ghost use Rattle.ac_syntax.specs.Items.{script_items};
 ghost use Rattle.ac_syntax.specs.Limits.{is_word_of, block_words, end_words};
 ghost use Rattle.ac_syntax.specs.Tokens.{tokens};
+ghost use Rattle.ac_syntax.specs.Refusals.{Spells, IsFirstRefusal};
+ghost use Rattle.ac_syntax.specs.declared.refusal.RefusalKind.{RefusalKind};
 ghost use Rattle.ac_syntax.specs.Starts.{starts_script};
 ghost use Rattle.ac_syntax.specs.Examples.{SpellsLoosely, WritesStrictly, SpellsNested, WritesNested, ReadsDoubledQuote, RefusesOpenString, EndsComment, RefusesLetterAfterNumber, WritesNothing, TakesDepth16, RefusesDepth17};
-ghost use Rattle.ac_syntax.specs.RefusalExamples.{TakesName64, RefusesName65, TakesString1000, RefusesString1001, TakesLeast, RefusesPastGreatest, RefusesLessTooMuch, RefusesTooRoomy, RefusesMalformed, RefusesMarkFirst, RefusesTasks, RefusesOpenBlock, RefusesOpenHead};
+ghost use Rattle.ac_syntax.specs.RefusalExamples.{TakesName64, RefusesName65, TakesString1000, RefusesString1001, TakesLeast, TakesCounting, RefusesPastGreatest, RefusesLessTooMuch, RefusesTooRoomy, RefusesMalformed, RefusesMarkFirst, RefusesTasks, RefusesOpenBlock, RefusesOpenHead};
+
+/// A text has at most one first refusal, and none where it spells a script.
+pub fn one_refusal()
+    ensures one { (text : List ℕ) (line place : ℕ) (kind other : RefusalKind) →
+        IsFirstRefusal text line kind → IsFirstRefusal text place other → (line ≡ place) × (kind ≡ other) }
+    ensures not_spelled { (script : Script) (text : List ℕ) (line : ℕ) (kind : RefusalKind) → Spells script text → IsFirstRefusal text line kind → ⊥ }
+{}
 
 /// A script begins with an identifier, with `type` or with the first word of a block.
 pub fn first_word()
@@ -48,6 +57,7 @@ pub fn refusals()
     ensures string_1000 { TakesString1000 }
     ensures string_1001 { RefusesString1001 }
     ensures least { TakesLeast }
+    ensures counting { TakesCounting }
     ensures past_greatest { RefusesPastGreatest }
     ensures less_too_much { RefusesLessTooMuch }
     ensures too_roomy { RefusesTooRoomy }

@@ -9,7 +9,7 @@ use Rattle.ac_syntax.specs.Grammar.{reserved, is_reserved}
 use Rattle.ac_syntax.specs.Tokens.{tokens, cut_of}
 use Rattle.ac_syntax.specs.Canonical.{canonical_placed, on_line}
 use Rattle.ac_syntax.specs.Examples.{lines}
-use Rattle.ac_syntax.specs.RefusalExamples.{on_list, named, naming, with_string, string_text, least, past_greatest, less_too_much, too_roomy, appended, open_block, looping, printing}
+use Rattle.ac_syntax.specs.RefusalExamples.{on_list, named, naming, with_string, string_text, least, counting, counting_text, past_greatest, less_too_much, too_roomy, appended, open_block, looping, printing}
 use Rattle.ac_syntax.proofs.Derivations.{script_derives}
 use Rattle.ac_syntax.proofs.Withins.{within}
 use Rattle.ac_syntax.proofs.FirstFaults.{limit_at, malformed_at, starts_badly, ends_at}
@@ -39,11 +39,15 @@ pub returns-clause-least : goal.returns-clause-least
 unfolding reserved is_reserved item_parts canonical_placed
 returns-clause-least c = record { whole = refl; derives = script_derives least refl; within = within (tokens (canonical_placed least)) refl }
 
+pub returns-clause-counting : goal.returns-clause-counting
+unfolding reserved is_reserved item_parts canonical_placed
+returns-clause-counting c = record { whole = refl; derives = script_derives (counting stop) refl; within = within (tokens (canonical_placed (counting stop))) refl }
+
 pub returns-clause-past_greatest : goal.returns-clause-past_greatest
 unfolding reserved is_reserved item_parts canonical_placed
 returns-clause-past_greatest c =
-    limit_at (on_list (codes "a.append (9223372036854775808);")) past_greatest (take 16 (canonical_placed past_greatest)) (drop 17 (canonical_placed past_greatest)) (drop 17 (canonical_placed past_greatest))
-    (on_line 2 (token.Number (2 ^ 63))) refl refl refl refl refl
+    limit_at (counting_text (codes "N := 9223372036854775808;" ∷ [])) past_greatest (take 17 (canonical_placed past_greatest)) (drop 18 (canonical_placed past_greatest)) (drop 18 (canonical_placed past_greatest))
+        (on_line 4 (token.Number (2 ^ 63))) refl refl refl refl refl
 
 pub returns-clause-less_too_much : goal.returns-clause-less_too_much
 unfolding reserved is_reserved item_parts canonical_placed
@@ -69,14 +73,14 @@ unfolding reserved is_reserved
 returns-clause-tasks c =
     starts_badly (lines ([] ∷ codes "tasks end tasks;" ∷ [])) (on_line 2 (token.Word (codes "tasks"))) (drop 1 (cut_of (lines ([] ∷ codes "tasks end tasks;" ∷ []))).placed) refl refl
 
-pub returns-clause-open_block : goal.returns-clause-open_block
-unfolding reserved is_reserved item_parts canonical_placed
-returns-clause-open_block c =
-    ends_at open_block (looping printing) (take 20 (canonical_placed (looping printing))) (drop 21 (canonical_placed (looping printing))) (on_line 3 (token.Mark Semicolon))
-    refl refl refl refl refl (λ e. suc-ne-zero 0 e)
-
 pub returns-clause-open_head : goal.returns-clause-open_head
 unfolding reserved is_reserved item_parts canonical_placed
 returns-clause-open_head c =
-    ends_at (on_list (codes "for c in a loop")) (looping stop) (take 16 (canonical_placed (looping stop))) (drop 17 (canonical_placed (looping stop))) (on_line 2 (token.Word (codes "loop")))
-    refl refl refl refl refl (λ e. suc-ne-zero 0 e)
+    ends_at (open_block []) (looping stop) (take 16 (canonical_placed (looping stop))) (drop 17 (canonical_placed (looping stop))) (on_line 3 (token.Word (codes "loop")))
+        refl refl refl refl refl (λ e. suc-ne-zero 0 e)
+
+pub returns-clause-open_block : goal.returns-clause-open_block
+unfolding reserved is_reserved item_parts canonical_placed
+returns-clause-open_block c =
+    ends_at (open_block (codes "A.Print;" ∷ [] ∷ [])) (looping printing) (take 20 (canonical_placed (looping printing))) (drop 21 (canonical_placed (looping printing)))
+        (on_line 4 (token.Mark Semicolon)) refl refl refl refl refl (λ e. suc-ne-zero 0 e)
