@@ -2,7 +2,7 @@
 use Rattle.std.proofs.Common.{◌≡◌, ℕ, ◌&&◌, ◌==◌, pos, negsuc, suc, Bool, true, false, not, List, [], ◌∷◌, map, refl, sym, ap, subst, inl, inr, arith}
 use Rattle.std.proofs.lemmas.Bool.{and_parts}
 use Rattle.std.proofs.Math.Bool.{true≢false}
-use Rattle.std.specs.Prelude.{Option, Some, None, flat_map}
+use Rattle.std.specs.Prelude.{nat_le, Option, Some, None, flat_map}
 use Rattle.std.specs.List.{list_all}
 use Rattle.ac_syntax.specs.declared.literal.Literal.TheVariants as literal
 use Rattle.ac_syntax.specs.declared.token.Token.{Token}
@@ -12,7 +12,7 @@ use Rattle.ac_syntax.specs.Tokens.{tokens}
 use Rattle.ac_syntax.specs.Items.{Item, item_line, script_items}
 use Rattle.ac_syntax.specs.Parts.{Part, says, marks, names, counts, writes, lacks, item_parts}
 use Rattle.ac_syntax.specs.Grammar.{is_reserved, IsPart, AreParts, BeginsOn, AreItems, Derives}
-use Rattle.ac_syntax.specs.Canonical.{part_tokens, on_line, line_reached, items_placed, canonical_placed}
+use Rattle.ac_syntax.specs.Canonical.{part_tokens, on_line, line_reached, items_placed, canonical_placed, RisesFrom}
 
 pub false-not : (a : Bool) → not a ≡ true → a ≡ false
 false-not true p = sym p
@@ -87,3 +87,14 @@ items_derive line (item ∷ items) p =
 pub script_derives : (script : Script) → are_sayable 1 (script_items script) ≡ true → Derives (canonical_placed script) script
 unfolding canonical_placed
 script_derives script p = items_derive 1 (script_items script) p
+
+-- a test that the lines never fall from this one on
+abbrev pub rises : ℕ → List ℕ → Bool
+rises line [] = true
+rises line (next ∷ lines) = nat_le line next && rises next lines
+
+pub rises_from : (line : ℕ) (lines : List ℕ) → rises line lines ≡ true → RisesFrom line lines
+rises_from line [] p = tt
+rises_from line (next ∷ lines) p =
+    let h : (nat_le line next ≡ true) × (rises next lines ≡ true) = and_parts _ _ p in
+    (grind (arith, h.0), rises_from next lines h.1)

@@ -1,16 +1,15 @@
 -- A text is refused at one place for one kind, and not where it spells a script.
-use Rattle.std.proofs.Common.{◌≡◌, ℕ, ◌+◌, true, false, suc, List, [], ◌∷◌, ◌++◌, length, refl, sym, ap, subst, ◌∙◌, append_assoc, length-append, arith}
+use Rattle.std.proofs.Common.{◌≡◌, ℕ, List, [], ◌∷◌, ◌++◌, length, refl, sym, ap, subst, ◌∙◌, append_assoc, length-append, arith}
 use Rattle.std.proofs.lemmas.List.{map-append}
 use Rattle.std.proofs.lemmas.Option.{none-some}
 use Rattle.std.proofs.Math.Bool.{true≢false}
-use Rattle.std.specs.Prelude.{Option, Some, None}
+use Rattle.std.specs.Prelude.{Some, None}
 use Rattle.ac_syntax.specs.declared.token.Placed.{Placed}
 use Rattle.ac_syntax.specs.declared.script.Script.{Script}
 use Rattle.ac_syntax.specs.declared.refusal.RefusalKind.{RefusalKind}
-use Rattle.ac_syntax.specs.declared.refusal.RefusalKind.TheVariants.{Syntax, Limit}
 use Rattle.ac_syntax.specs.Tokens.{Cut, cut_of, tokens}
-use Rattle.ac_syntax.specs.Grammar.{Derives, BeginsScript}
-use Rattle.ac_syntax.specs.Limits.{is_past_limit, AreWithinLimits}
+use Rattle.ac_syntax.specs.Grammar.{Derives}
+use Rattle.ac_syntax.specs.Limits.{AreWithinLimits}
 use Rattle.ac_syntax.specs.Refusals.{Spells, IsBadToken, begins_none, past_limit, HasNoBadToken, IsFirstBad, bad_token, malformed_piece, IsFirstRefusal, first_bad, ends_early}
 
 -- where the tokens x and y of one list stand, behind these tokens each
@@ -40,13 +39,14 @@ one_kind before bad kind other (past_limit b p) (begins_none m) = absurd (m b)
 one_kind before bad kind other (past_limit b p) (past_limit c q) = refl
 
 same_bad : (xs ys : List Placed) (x y : Placed) (kind other : RefusalKind)
-  → xs ≡ ys → x ≡ y → IsBadToken xs x kind → IsBadToken ys y other → (x.line ≡ y.line) × (kind ≡ other)
-same_bad xs ys x y kind other p q h k =
-    (ap (λ (t : Placed). t.line) q,
-      one_kind ys y kind other (subst (λ (t : Placed). IsBadToken ys t kind) q (subst (λ ts. IsBadToken ts x kind) p h)) k)
+    → xs ≡ ys → x ≡ y → IsBadToken xs x kind → IsBadToken ys y other → (x.line ≡ y.line) × (kind ≡ other)
+same_bad xs ys x y kind other p q h k = (
+  ap (λ (t : Placed). t.line) q,
+  one_kind ys y kind other (subst (λ (t : Placed). IsBadToken ys t kind) q (subst (λ ts. IsBadToken ts x kind) p h)) k,
+)
 
 first_of_two : (xs ys : List Placed) (x y : Placed) (kind other : RefusalKind) → Places xs ys x y → HasNoBadToken xs → HasNoBadToken ys
-  → IsBadToken xs x kind → IsBadToken ys y other → (x.line ≡ y.line) × (kind ≡ other)
+    → IsBadToken xs x kind → IsBadToken ys y other → (x.line ≡ y.line) × (kind ≡ other)
 first_of_two xs ys x y kind other (at_once p q) n m h k = same_bad xs ys x y kind other p q h k
 first_of_two xs ys x y kind other (earlier mid p) n m h k = absurd (m xs mid x kind p h)
 first_of_two xs ys x y kind other (later mid p) n m h k = absurd (n ys mid y other p k)
@@ -72,7 +72,7 @@ one_last xs ys x y e (earlier mid p) = absurd (omega (arith, ap length e, ap len
 one_last xs ys x y e (later mid p) = absurd (omega (arith, ap length e, ap length p, length-append xs (x ∷ []), length-append ys (y ∷ []), length-append ys (y ∷ mid)))
 
 pub one_refusal : (text : List ℕ) (line place : ℕ) (kind other : RefusalKind)
-  → IsFirstRefusal text line kind → IsFirstRefusal text place other → (line ≡ place) × (kind ≡ other)
+    → IsFirstRefusal text line kind → IsFirstRefusal text place other → (line ≡ place) × (kind ≡ other)
 one_refusal text line place kind other (first_bad l k h) (first_bad m j i) = one_bad (cut_of text) l m k j h i
 one_refusal text line place kind other (first_bad l k h) (ends_early ys y e whole none uneven) = absurd (not_both (cut_of text) l k h whole none)
 one_refusal text line place kind other (ends_early xs x e whole none uneven) (first_bad m j i) = absurd (not_both (cut_of text) m j i whole none)

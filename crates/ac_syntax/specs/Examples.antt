@@ -98,7 +98,7 @@ abbrev pub two_lines : Code → Script
 two_lines stmts =
     record {
       decls = TypeDecl 1 (codes "l") (record { bounded = false; kind = kind.List; first = Integer; second = None; keyed = false }) ∷ Object 2 (codes "a") (codes "l") None ∷ [];
-      stmts = stmts
+      stmts = stmts;
     }
 
 abbrev pub repeated : ℕ → List ℕ → List ℕ

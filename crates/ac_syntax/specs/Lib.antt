@@ -13,3 +13,4 @@ pub mod Canonical
 pub mod Examples
 pub mod Starts
 pub mod RefusalExamples
+pub mod FormExamples

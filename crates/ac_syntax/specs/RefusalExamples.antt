@@ -51,7 +51,7 @@ abbrev pub counting : Code → Script
 counting last =
     record {
       decls = IntVar 1 (codes "n") ∷ [];
-      stmts = one (set_at 2 (codes "n") (Lit (literal.Int (neg_ℤ (pos (2 ^ 63)))))) (one (sum_at 3 (codes "n") (codes "n") true 1) last)
+      stmts = one (set_at 2 (codes "n") (Lit (literal.Int (neg_ℤ (pos (2 ^ 63)))))) (one (sum_at 3 (codes "n") (codes "n") true 1) last);
     }
 
 abbrev pub counting_text : List (List ℕ) → List ℕ

@@ -10,6 +10,7 @@ ghost use Rattle.ac_syntax.specs.Refusals.{Spells, IsFirstRefusal};
 ghost use Rattle.ac_syntax.specs.declared.refusal.RefusalKind.{RefusalKind};
 ghost use Rattle.ac_syntax.specs.Starts.{starts_script};
 ghost use Rattle.ac_syntax.specs.Examples.{SpellsLoosely, WritesStrictly, SpellsNested, WritesNested, ReadsDoubledQuote, RefusesOpenString, EndsComment, RefusesLetterAfterNumber, WritesNothing, TakesDepth16, RefusesDepth17};
+ghost use Rattle.ac_syntax.specs.FormExamples.{SpellsEveryForm, WritesEveryForm, IsEveryFormWell, SpellsMinusZero, WritesZero, NeedsCursor, NeedsRisingLines};
 ghost use Rattle.ac_syntax.specs.RefusalExamples.{TakesName64, RefusesName65, TakesString1000, RefusesString1001, TakesLeast, TakesCounting, RefusesPastGreatest, RefusesLessTooMuch, RefusesTooRoomy, RefusesMalformed, RefusesMarkFirst, RefusesTasks, RefusesOpenBlock, RefusesOpenHead};
 
 /// A text has at most one first refusal, and none where it spells a script.
@@ -48,6 +49,17 @@ pub fn examples()
     ensures nothing { WritesNothing }
     ensures depth_16 { TakesDepth16 }
     ensures depth_17 { RefusesDepth17 }
+{}
+
+/// Each form of the grammar, and what is or isn't well formed, worked out by hand.
+pub fn forms()
+    ensures every_form { SpellsEveryForm }
+    ensures every_form_text { WritesEveryForm }
+    ensures every_form_well { IsEveryFormWell }
+    ensures minus_zero { SpellsMinusZero }
+    ensures zero { WritesZero }
+    ensures cursor { NeedsCursor }
+    ensures rising_lines { NeedsRisingLines }
 {}
 
 /// Texts whose first fault was worked out by hand, and texts right inside a limit.

@@ -3,13 +3,13 @@ use Rattle.std.specs.Prelude.{codes}
 use Rattle.std.specs.Fmt.{digits}
 use Rattle.ac_syntax.specs.Parts.{item_parts}
 use Rattle.ac_syntax.specs.Canonical.{canonical_text, canonical_placed, on_line}
-use Rattle.ac_syntax.specs.Grammar.{reserved, is_reserved, BeginsScript}
+use Rattle.ac_syntax.specs.Grammar.{reserved, is_reserved}
 use Rattle.ac_syntax.specs.Tokens.{tokens, cut_of}
 use Rattle.ac_syntax.specs.declared.script.Script.{Script}
 use Rattle.ac_syntax.specs.declared.token.Token.TheVariants as token
 use Rattle.ac_syntax.specs.Examples.{loose_script, nested_script, two_lines, deep, heads_text}
 use Rattle.ac_syntax.proofs.Derivations.{script_derives}
-use Rattle.ac_syntax.proofs.Withins.{within, none_bad}
+use Rattle.ac_syntax.proofs.Withins.{within}
 use Rattle.ac_syntax.proofs.FirstFaults.{limit_at}
 use Rattle.ac_syntax.proofs.law.examples.Goals as goal
 
@@ -46,4 +46,4 @@ pub returns-clause-depth_17 : goal.returns-clause-depth_17
 unfolding reserved is_reserved item_parts canonical_placed
 returns-clause-depth_17 c =
     limit_at (heads_text 17) too_deep (take 60 (canonical_placed too_deep)) (drop 61 (cut_of (heads_text 17)).placed) (drop 61 (canonical_placed too_deep))
-        (on_line 19 (token.Word (codes "stable"))) refl refl refl refl refl
+    (on_line 19 (token.Word (codes "stable"))) refl refl refl refl refl

@@ -47,7 +47,7 @@ pub returns-clause-past_greatest : goal.returns-clause-past_greatest
 unfolding reserved is_reserved item_parts canonical_placed
 returns-clause-past_greatest c =
     limit_at (counting_text (codes "N := 9223372036854775808;" ∷ [])) past_greatest (take 17 (canonical_placed past_greatest)) (drop 18 (canonical_placed past_greatest)) (drop 18 (canonical_placed past_greatest))
-        (on_line 4 (token.Number (2 ^ 63))) refl refl refl refl refl
+    (on_line 4 (token.Number (2 ^ 63))) refl refl refl refl refl
 
 pub returns-clause-less_too_much : goal.returns-clause-less_too_much
 unfolding reserved is_reserved item_parts canonical_placed
@@ -77,10 +77,10 @@ pub returns-clause-open_head : goal.returns-clause-open_head
 unfolding reserved is_reserved item_parts canonical_placed
 returns-clause-open_head c =
     ends_at (open_block []) (looping stop) (take 16 (canonical_placed (looping stop))) (drop 17 (canonical_placed (looping stop))) (on_line 3 (token.Word (codes "loop")))
-        refl refl refl refl refl (λ e. suc-ne-zero 0 e)
+    refl refl refl refl refl (λ e. suc-ne-zero 0 e)
 
 pub returns-clause-open_block : goal.returns-clause-open_block
 unfolding reserved is_reserved item_parts canonical_placed
 returns-clause-open_block c =
     ends_at (open_block (codes "A.Print;" ∷ [] ∷ [])) (looping printing) (take 20 (canonical_placed (looping printing))) (drop 21 (canonical_placed (looping printing)))
-        (on_line 4 (token.Mark Semicolon)) refl refl refl refl refl (λ e. suc-ne-zero 0 e)
+    (on_line 4 (token.Mark Semicolon)) refl refl refl refl refl (λ e. suc-ne-zero 0 e)
