@@ -21,7 +21,7 @@ use Rattle.ac_syntax.specs.declared.token.Token.{Token}
 use Rattle.ac_syntax.specs.declared.token.Placed.{Placed}
 use Rattle.ac_syntax.specs.declared.script.Script.{Script}
 use Rattle.ac_syntax.specs.Tokens.{tokens}
-use Rattle.ac_syntax.specs.Items.{Item, declares, commands, opens, begins, closes, declared, items, script_items}
+use Rattle.ac_syntax.specs.Items.{Item, bare, is_loop, declares, commands, opens, begins, closes, declared, items, script_items}
 use Rattle.ac_syntax.specs.Parts.{Part, says, marks, names, counts, writes, lacks, kind_word, elem_word, second_parts, type_parts, arg_part, more_args, args_parts, item_parts, decl_parts, simple_parts}
 use Rattle.ac_syntax.specs.Grammar.{reserved, is_reserved, IsPart, AreParts, AreItems, Derives}
 use Rattle.ac_syntax.specs.Limits.{is_word_of, block_words, end_words}
@@ -177,7 +177,7 @@ declared_even (stable_at _ _) = refl
 declared_even (declare_at _ decls) = even-append (map declares decls) (begins ∷ []) (decls_even decls) refl
 
 -- a head begins a block, and its closing words end one
-head_counts : (head : Head) → (parts_count block_words (item_parts (opens head)) ≡ 1) × (parts_count end_words (item_parts (opens head)) ≡ 0)
+head_counts : (head : Head) → (parts_count block_words (item_parts (opens (bare head))) ≡ 1) × (parts_count end_words (item_parts (opens (bare head))) ≡ 0)
 unfolding item_parts
 head_counts (loop_at _ _ true true _) = (refl, refl)
 head_counts (loop_at _ _ true false _) = (refl, refl)
@@ -194,12 +194,10 @@ head_counts (view_at _ UpdateKey _ (Some _) _) = (refl, refl)
 head_counts (stable_at _ _) = (refl, refl)
 head_counts (declare_at _ _) = (refl, refl)
 
-closing_counts : (head : Head) → (parts_count block_words (item_parts (closes head)) ≡ 0) × (parts_count end_words (item_parts (closes head)) ≡ 1)
+closing_counts : (ends_loop : Bool) → (parts_count block_words (item_parts (closes ends_loop)) ≡ 0) × (parts_count end_words (item_parts (closes ends_loop)) ≡ 1)
 unfolding item_parts
-closing_counts (loop_at _ _ _ _ _) = (refl, refl)
-closing_counts (view_at _ _ _ _ _) = (refl, refl)
-closing_counts (stable_at _ _) = (refl, refl)
-closing_counts (declare_at _ _) = (refl, refl)
+closing_counts true = (refl, refl)
+closing_counts false = (refl, refl)
 
 command_counts : (simple : Simple) → (parts_count block_words (item_parts (commands simple)) ≡ 0) × (parts_count end_words (item_parts (commands simple)) ≡ 0)
 unfolding item_parts
@@ -213,12 +211,12 @@ code_even (block head body rest) =
       arith,
       (head_counts head).0,
       (head_counts head).1,
-      (closing_counts head).0,
-      (closing_counts head).1,
-      items_count-append block_words (declared head) (items body ++ closes head ∷ items rest),
-      items_count-append end_words (declared head) (items body ++ closes head ∷ items rest),
-      items_count-append block_words (items body) (closes head ∷ items rest),
-      items_count-append end_words (items body) (closes head ∷ items rest),
+      (closing_counts (is_loop head)).0,
+      (closing_counts (is_loop head)).1,
+      items_count-append block_words (declared head) (items body ++ closes (is_loop head) ∷ items rest),
+      items_count-append end_words (declared head) (items body ++ closes (is_loop head) ∷ items rest),
+      items_count-append block_words (items body) (closes (is_loop head) ∷ items rest),
+      items_count-append end_words (items body) (closes (is_loop head) ∷ items rest),
       declared_even head,
       code_even body,
       code_even rest,

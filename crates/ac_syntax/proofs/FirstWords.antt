@@ -11,7 +11,7 @@ use Rattle.ac_syntax.specs.declared.token.Token.TheVariants as token
 use Rattle.ac_syntax.specs.declared.token.Placed.{Placed}
 use Rattle.ac_syntax.specs.declared.script.Script.{Script}
 use Rattle.ac_syntax.specs.Tokens.{tokens}
-use Rattle.ac_syntax.specs.Items.{Item, declares, commands, opens, items}
+use Rattle.ac_syntax.specs.Items.{Item, declares, commands, opens, bare, items}
 use Rattle.ac_syntax.specs.Parts.{Part, says, marks, names, counts, writes, lacks, item_parts}
 use Rattle.ac_syntax.specs.Grammar.{reserved, is_reserved, AreParts, AreItems, Derives}
 use Rattle.ac_syntax.specs.Starts.{starts_script}
@@ -97,7 +97,7 @@ starts : (decls : List Decl) (stmts : Code) (first : Placed) (more : List Placed
 starts (decl ∷ decls) stmts first more h = first_item (declares decl) _ first more h (decl_starts decl)
 starts [] stop first more h = absurd (not_empty first more (sym h))
 starts [] (one simple rest) first more h = first_item (commands simple) _ first more h (simple_starts simple)
-starts [] (block head body rest) first more h = first_item (opens head) _ first more h (head_starts head)
+starts [] (block head body rest) first more h = first_item (opens (bare head)) _ first more h (head_starts (bare head))
 
 pub script_starts : (script : Script) (first : Placed) (more : List Placed) → Derives (first ∷ more) script → starts_script first.token ≡ true
 script_starts script first more h = starts script.decls script.stmts first more h

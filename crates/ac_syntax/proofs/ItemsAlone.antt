@@ -1,10 +1,10 @@
 -- The items of a script determine it.
 use Rattle.std.proofs.Common.{◌≡◌, List, [], ◌∷◌, ◌++◌, map, refl, sym, ap, subst, ◌∙◌, append_assoc}
-use Rattle.std.proofs.lemmas.List.{append-nil, append_cancel_left}
-use Rattle.ac_syntax.specs.Code.{Head, Code, stop, one, block}
+use Rattle.std.proofs.lemmas.List.{append-nil}
+use Rattle.ac_syntax.specs.Code.{Head, loop_at, view_at, stable_at, declare_at, Code, stop, one, block}
 use Rattle.ac_syntax.specs.declared.decl.Decl.{Decl}
 use Rattle.ac_syntax.specs.declared.script.Script.{Script}
-use Rattle.ac_syntax.specs.Items.{Item, declares, commands, opens, begins, closes, declared, items, script_items}
+use Rattle.ac_syntax.specs.Items.{Item, bare, is_loop, head_line, declares, commands, opens, begins, closes, declared, items, script_items}
 
 -- nothing more, or the end of a block
 abbrev EndsHere : List Item → Type 0
@@ -33,9 +33,48 @@ IsDeclaration (closes _ ∷ _) = ⊥
 
 -- a block's items, and what stands behind them
 around : (head : Head) (body rest : Code) (x : List Item)
-    → items (block head body rest) ++ x ≡ opens head ∷ (declared head ++ (items body ++ closes head ∷ (items rest ++ x)))
-around head body rest x = ap (λ tail. opens head ∷ tail)
-    (append_assoc (declared head) (items body ++ closes head ∷ items rest) x ∙ ap (λ tail. declared head ++ tail) (append_assoc (items body) (closes head ∷ items rest) x))
+    → items (block head body rest) ++ x ≡ opens (bare head) ∷ (declared head ++ (items body ++ closes (is_loop head) ∷ (items rest ++ x)))
+around head body rest x = ap (λ tail. opens (bare head) ∷ tail)
+    (append_assoc (declared head) (items body ++ closes (is_loop head) ∷ items rest) x ∙ ap (λ tail. declared head ++ tail) (append_assoc (items body) (closes (is_loop head) ∷ items rest) x))
+
+-- declarations up to the word behind them
+decls_alone : (decls others : List Decl) (xs ys : List Item)
+    → (map declares decls ++ begins ∷ []) ++ xs ≡ (map declares others ++ begins ∷ []) ++ ys → (decls ≡ others) × (xs ≡ ys)
+decls_alone [] [] xs ys e = (refl, cc e)
+decls_alone [] (d ∷ others) xs ys e = absurd (subst IsDeclaration (sym e) tt)
+decls_alone (d ∷ decls) [] xs ys e = absurd (subst IsDeclaration e tt)
+decls_alone (d ∷ decls) (o ∷ others) xs ys e =
+    let same : d ≡ o = cc e in
+    let tails : (map declares decls ++ begins ∷ []) ++ xs ≡ (map declares others ++ begins ∷ []) ++ ys = cc e in
+    let found : (decls ≡ others) × (xs ≡ ys) = decls_alone decls others xs ys tails in
+    (λ i. same i ∷ found.0 i, found.1)
+
+abbrev DeclaresHere : Head → Type 0
+DeclaresHere (loop_at _ _ _ _ _) = ⊥
+DeclaresHere (view_at _ _ _ _ _) = ⊥
+DeclaresHere (stable_at _ _) = ⊥
+DeclaresHere (declare_at _ _) = Unit {0}
+
+head_alone : (head other : Head) (xs ys : List Item) → bare head ≡ bare other → declared head ++ xs ≡ declared other ++ ys → (head ≡ other) × (xs ≡ ys)
+head_alone (loop_at a b c d e) (loop_at v w x y z) xs ys p q = (p, q)
+head_alone (loop_at a b c d e) (view_at v w x y z) xs ys p q = (p, q)
+head_alone (loop_at a b c d e) (stable_at v w) xs ys p q = (p, q)
+head_alone (loop_at a b c d e) (declare_at v w) xs ys p q = absurd (subst DeclaresHere (sym p) tt)
+head_alone (view_at a b c d e) (loop_at v w x y z) xs ys p q = (p, q)
+head_alone (view_at a b c d e) (view_at v w x y z) xs ys p q = (p, q)
+head_alone (view_at a b c d e) (stable_at v w) xs ys p q = (p, q)
+head_alone (view_at a b c d e) (declare_at v w) xs ys p q = absurd (subst DeclaresHere (sym p) tt)
+head_alone (stable_at a b) (loop_at v w x y z) xs ys p q = (p, q)
+head_alone (stable_at a b) (view_at v w x y z) xs ys p q = (p, q)
+head_alone (stable_at a b) (stable_at v w) xs ys p q = (p, q)
+head_alone (stable_at a b) (declare_at v w) xs ys p q = absurd (subst DeclaresHere (sym p) tt)
+head_alone (declare_at a b) (loop_at v w x y z) xs ys p q = absurd (subst DeclaresHere p tt)
+head_alone (declare_at a b) (view_at v w x y z) xs ys p q = absurd (subst DeclaresHere p tt)
+head_alone (declare_at a b) (stable_at v w) xs ys p q = absurd (subst DeclaresHere p tt)
+head_alone (declare_at line decls) (declare_at place others) xs ys p q =
+    let same : line ≡ place = ap head_line p in
+    let found : (decls ≡ others) × (xs ≡ ys) = decls_alone decls others xs ys q in
+    (λ i. declare_at (same i) (found.0 i), found.1)
 
 pub code_alone : (a b : Code) (x y : List Item) → EndsHere x → EndsHere y → items a ++ x ≡ items b ++ y → (a ≡ b) × (x ≡ y)
 code_alone stop stop x y ex ey e = (refl, e)
@@ -51,16 +90,17 @@ code_alone (one s rest) (one t others) x y ex ey e =
     let found : (rest ≡ others) × (x ≡ y) = code_alone rest others x y ex ey tails in
     (λ i. one (same i) (found.0 i), found.1)
 code_alone (block head body rest) (block other inner others) x y ex ey e =
-    let both : opens head ∷ (declared head ++ (items body ++ closes head ∷ (items rest ++ x))) ≡ opens other ∷ (declared other ++ (items inner ++ closes other ∷ (items others ++ y)))
+    let both : opens (bare head) ∷ (declared head ++ (items body ++ closes (is_loop head) ∷ (items rest ++ x)))
+    ≡ opens (bare other) ∷ (declared other ++ (items inner ++ closes (is_loop other) ∷ (items others ++ y)))
     = sym (around head body rest x) ∙ e ∙ around other inner others y in
-    let same : head ≡ other = cc both in
-    let tails : declared head ++ (items body ++ closes head ∷ (items rest ++ x)) ≡ declared other ++ (items inner ++ closes other ∷ (items others ++ y)) = cc both in
-    let behind : items body ++ closes head ∷ (items rest ++ x) ≡ items inner ++ closes other ∷ (items others ++ y)
-    = append_cancel_left (declared head) _ _ (tails ∙ ap (λ k. declared k ++ (items inner ++ closes other ∷ (items others ++ y))) (sym same)) in
-    let inside : (body ≡ inner) × (closes head ∷ (items rest ++ x) ≡ closes other ∷ (items others ++ y)) = code_alone body inner _ _ tt tt behind in
+    let bared : bare head ≡ bare other = cc both in
+    let tails : declared head ++ (items body ++ closes (is_loop head) ∷ (items rest ++ x)) ≡ declared other ++ (items inner ++ closes (is_loop other) ∷ (items others ++ y)) = cc both in
+    let heads : (head ≡ other) × (items body ++ closes (is_loop head) ∷ (items rest ++ x) ≡ items inner ++ closes (is_loop other) ∷ (items others ++ y))
+    = head_alone head other _ _ bared tails in
+    let inside : (body ≡ inner) × (closes (is_loop head) ∷ (items rest ++ x) ≡ closes (is_loop other) ∷ (items others ++ y)) = code_alone body inner _ _ tt tt heads.1 in
     let after : items rest ++ x ≡ items others ++ y = cc inside.1 in
     let found : (rest ≡ others) × (x ≡ y) = code_alone rest others x y ex ey after in
-    (λ i. block (same i) (inside.0 i) (found.0 i), found.1)
+    (λ i. block (heads.0 i) (inside.0 i) (found.0 i), found.1)
 
 not_declaration : (code : Code) → IsDeclaration (items code) → ⊥
 not_declaration stop h = h

@@ -1,5 +1,5 @@
 -- The parts of each item, in order. A part is one token, or a literal, which may have two.
-use Rattle.std.specs.Prelude.{ℕ, codes, List, [], ◌∷◌, ◌++◌, Option, Some, None, if◌then◌else◌}
+use Rattle.std.specs.Prelude.{ℕ, codes, Bool, true, false, List, [], ◌∷◌, ◌++◌, Option, Some, None, if◌then◌else◌}
 use Rattle.ac_syntax.specs.Code.{Simple, call_at, set_at, sum_at, Head, loop_at, view_at, stable_at, declare_at}
 use Rattle.ac_syntax.specs.Items.{Item, declares, commands, opens, begins, closes}
 use Rattle.ac_syntax.specs.declared.literal.Literal.{Literal}
@@ -23,6 +23,7 @@ pub data Part : Type 0 where
   marks : Mark → Part
   -- an identifier
   names : List ℕ → Part
+  -- a number that isn't a literal
   counts : ℕ → Part
   writes : Literal → Part
   -- what no tokens spell
@@ -120,15 +121,13 @@ head_parts (view_at line kind object at name) = view_parts kind object at name +
 head_parts (stable_at line object) = says (codes "stable") ∷ names object ∷ says (codes "do") ∷ []
 head_parts (declare_at line decls) = says (codes "declare") ∷ []
 
-abbrev pub closing_parts : Head → List Part
-closing_parts (loop_at _ _ _ _ _) = says (codes "end") ∷ says (codes "loop") ∷ marks Semicolon ∷ []
-closing_parts (view_at _ _ _ _ _) = says (codes "end") ∷ marks Semicolon ∷ []
-closing_parts (stable_at _ _) = says (codes "end") ∷ marks Semicolon ∷ []
-closing_parts (declare_at _ _) = says (codes "end") ∷ marks Semicolon ∷ []
+abbrev pub closing_parts : (is_loop : Bool) → List Part
+closing_parts true = says (codes "end") ∷ says (codes "loop") ∷ marks Semicolon ∷ []
+closing_parts false = says (codes "end") ∷ marks Semicolon ∷ []
 
 unfoldable pub item_parts : Item → List Part
 item_parts (declares decl) = decl_parts decl
 item_parts (commands simple) = simple_parts simple
 item_parts (opens head) = head_parts head
 item_parts begins = says (codes "begin") ∷ []
-item_parts (closes head) = closing_parts head
+item_parts (closes is_loop) = closing_parts is_loop
