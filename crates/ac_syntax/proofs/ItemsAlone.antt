@@ -32,7 +32,7 @@ IsDeclaration (begins ∷ _) = ⊥
 IsDeclaration (closes _ ∷ _) = ⊥
 
 -- a block's items, and what stands behind them
-around : (head : Head) (body rest : Code) (x : List Item)
+pub around : (head : Head) (body rest : Code) (x : List Item)
     → items (block head body rest) ++ x ≡ opens (bare head) ∷ (declared head ++ (items body ++ closes (is_loop head) ∷ (items rest ++ x)))
 around head body rest x = ap (λ tail. opens (bare head) ∷ tail)
     (append_assoc (declared head) (items body ++ closes (is_loop head) ∷ items rest) x ∙ ap (λ tail. declared head ++ tail) (append_assoc (items body) (closes (is_loop head) ∷ items rest) x))

@@ -5,3 +5,4 @@ pub mod FirstWords
 pub mod ItemsAlone
 pub mod Blocks
 pub mod OneRefusal
+pub mod Orders

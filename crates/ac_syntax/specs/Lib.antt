@@ -14,3 +14,4 @@ pub mod Examples
 pub mod Starts
 pub mod RefusalExamples
 pub mod FormExamples
+pub mod Order

@@ -1,11 +1,12 @@
 //! What holds of the language itself, whatever reads it.
-ghost use Rattle.std.specs.Prelude.{◌≡◌, ℕ, List, ◌∷◌, true, count_by};
+ghost use Rattle.std.specs.Prelude.{◌≡◌, ℕ, List, ◌∷◌, ◌++◌, true, count_by, Some};
 ghost use Rattle.ac_syntax.specs.declared.token.Placed.{Placed};
 ghost use Rattle.ac_syntax.specs.declared.script.Script.{Script};
 ghost use Rattle.ac_syntax.specs.Grammar.{Derives};
-ghost use Rattle.ac_syntax.specs.Items.{script_items};
+ghost use Rattle.ac_syntax.specs.Items.{Item, script_items};
 ghost use Rattle.ac_syntax.specs.Limits.{is_word_of, block_words, end_words};
 ghost use Rattle.ac_syntax.specs.Tokens.{tokens};
+ghost use Rattle.ac_syntax.specs.Order.{Context, context_after, at_front, IsEnd};
 ghost use Rattle.ac_syntax.specs.Refusals.{Spells, IsFirstRefusal};
 ghost use Rattle.ac_syntax.specs.declared.refusal.RefusalKind.{RefusalKind};
 ghost use Rattle.ac_syntax.specs.Starts.{starts_script};
@@ -29,6 +30,13 @@ pub fn first_word()
 pub fn blocks_end()
     ensures { (script : Script) (placed : List Placed) → Derives placed script →
         count_by (is_word_of block_words) (tokens placed) ≡ count_by (is_word_of end_words) (tokens placed) }
+{}
+
+/// The items of a script may come in their order, others may not, and each front that may come is a script's.
+pub fn items_order()
+    ensures script { (script : Script) → (last : Context) × (context_after at_front (script_items script) ≡ Some last) × IsEnd last }
+    ensures only { (items : List Item) (last : Context) → context_after at_front items ≡ Some last → IsEnd last → (script : Script) × (script_items script ≡ items) }
+    ensures front { (items : List Item) (context : Context) → context_after at_front items ≡ Some context → (more : List Item) × (script : Script) × (script_items script ≡ items ++ more) }
 {}
 
 /// No two scripts have the same items.

@@ -19,7 +19,9 @@ pub use arg::{Arg, Args};
 pub use decl::{Decl, Decls};
 pub use ident::{Ident, Idents};
 pub use kind::{ElemKind, Kind};
-pub use law::{blocks_end, examples, first_word, forms, items_alone, one_refusal, refusals};
+pub use law::{
+    blocks_end, examples, first_word, forms, items_alone, items_order, one_refusal, refusals,
+};
 pub use literal::{Literal, StringBytes};
 pub use piece::Piece;
 pub use refusal::RefusalKind;
