@@ -1,0 +1,70 @@
+-- A script as its items in the order of the text: declarations, commands, what begins a block and what closes it.
+use Rattle.std.specs.Prelude.{ℕ, Bool, true, false, List, [], ◌∷◌, ◌++◌, map, Option, Some, None}
+use Rattle.ac_syntax.specs.Code.{Simple, call_at, set_at, sum_at, Head, loop_at, view_at, stable_at, declare_at, Code, stop, one, block}
+use Rattle.ac_syntax.specs.declared.decl.Decl.{Decl}
+use Rattle.ac_syntax.specs.declared.decl.Decl.TheVariants.{TypeDecl, Object, CursorVar, IntVar, TextVar}
+use Rattle.ac_syntax.specs.declared.script.Script.{Script}
+
+pub data Item : Type 0 where
+  declares : Decl → Item
+  commands : Simple → Item
+  -- the words that begin a block, without any declarations
+  opens : Head → Item
+  -- the word `begin` after the declarations of a block
+  begins : Item
+  -- the words that end a block
+  closes : (is_loop : Bool) → Item
+
+-- a head without its declarations
+abbrev pub bare : Head → Head
+bare (loop_at line name elements backward object) = loop_at line name elements backward object
+bare (view_at line kind object at name) = view_at line kind object at name
+bare (stable_at line object) = stable_at line object
+bare (declare_at line _) = declare_at line []
+
+abbrev pub is_loop : Head → Bool
+is_loop (loop_at _ _ _ _ _) = true
+is_loop (view_at _ _ _ _ _) = false
+is_loop (stable_at _ _) = false
+is_loop (declare_at _ _) = false
+
+-- what stands between the head of a block and its body
+abbrev pub declared : Head → List Item
+declared (loop_at _ _ _ _ _) = []
+declared (view_at _ _ _ _ _) = []
+declared (stable_at _ _) = []
+declared (declare_at _ decls) = map declares decls ++ begins ∷ []
+
+abbrev pub items : Code → List Item
+items stop = []
+items (one simple rest) = commands simple ∷ items rest
+items (block head body rest) = opens (bare head) ∷ (declared head ++ (items body ++ closes (is_loop head) ∷ items rest))
+
+abbrev pub script_items : Script → List Item
+script_items script = map declares script.decls ++ items script.stmts
+
+abbrev pub decl_line : Decl → ℕ
+decl_line (TypeDecl line _ _) = line
+decl_line (Object line _ _ _) = line
+decl_line (CursorVar line _ _) = line
+decl_line (IntVar line _) = line
+decl_line (TextVar line _) = line
+
+abbrev pub simple_line : Simple → ℕ
+simple_line (call_at line _ _ _ _) = line
+simple_line (set_at line _ _) = line
+simple_line (sum_at line _ _ _ _) = line
+
+abbrev pub head_line : Head → ℕ
+head_line (loop_at line _ _ _ _) = line
+head_line (view_at line _ _ _ _) = line
+head_line (stable_at line _) = line
+head_line (declare_at line _) = line
+
+-- the line of an item, of those that keep one
+abbrev pub item_line : Item → Option ℕ
+item_line (declares decl) = Some (decl_line decl)
+item_line (commands simple) = Some (simple_line simple)
+item_line (opens head) = Some (head_line head)
+item_line begins = None
+item_line (closes _) = None

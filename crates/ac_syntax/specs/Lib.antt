@@ -1,0 +1,17 @@
+pub mod Code
+pub mod Coded
+pub mod Statements
+pub mod StatementsFall
+pub mod Characters
+pub mod Tokens
+pub mod Items
+pub mod Parts
+pub mod Grammar
+pub mod Limits
+pub mod Refusals
+pub mod Canonical
+pub mod Examples
+pub mod Starts
+pub mod RefusalExamples
+pub mod FormExamples
+pub mod Order

@@ -1,0 +1,71 @@
+-- In which order items come, from the front on: what may come next is told by the blocks that are open.
+use Rattle.std.specs.Prelude.{◌≡◌, Bool, true, false, List, [], ◌∷◌, Option, Some, None, option_and_then}
+use Rattle.ac_syntax.specs.Code.{Head, loop_at, view_at, stable_at, declare_at}
+use Rattle.ac_syntax.specs.Items.{Item, declares, commands, opens, begins, closes}
+
+pub data Stage : Type 0 where
+  -- at the front of a script: declarations or statements
+  listing : Stage
+  -- at the front of a block with declarations: these or `begin`
+  heading : Stage
+  running : Stage
+
+-- for each open block, the innermost first, whether it is a loop
+pub record Context : Type 0 where
+  pub blocks : List Bool
+  pub stage : Stage
+
+abbrev pub reach : List Bool → Stage → Option Context
+reach blocks stage = Some (record { blocks = blocks; stage = stage })
+
+-- in the block with this head
+abbrev pub entered : List Bool → Head → Option Context
+entered blocks (loop_at _ _ _ _ _) = reach (true ∷ blocks) running
+entered blocks (view_at _ _ _ _ _) = reach (false ∷ blocks) running
+entered blocks (stable_at _ _) = reach (false ∷ blocks) running
+entered blocks (declare_at _ []) = reach (false ∷ blocks) heading
+entered blocks (declare_at _ (_ ∷ _)) = None
+
+-- behind the innermost block, where the words end such a block
+abbrev pub left_behind : Bool → List Bool → Option Context
+left_behind is_loop [] = None
+left_behind true (true ∷ blocks) = reach blocks running
+left_behind true (false ∷ blocks) = None
+left_behind false (true ∷ blocks) = None
+left_behind false (false ∷ blocks) = reach blocks running
+
+-- what an item leads to, where it may come
+abbrev pub next_after : List Bool → Stage → Item → Option Context
+next_after blocks listing (declares _) = reach blocks listing
+next_after blocks heading (declares _) = reach blocks heading
+next_after blocks running (declares _) = None
+next_after blocks listing (commands _) = reach blocks running
+next_after blocks heading (commands _) = None
+next_after blocks running (commands _) = reach blocks running
+next_after blocks listing (opens head) = entered blocks head
+next_after blocks heading (opens _) = None
+next_after blocks running (opens head) = entered blocks head
+next_after blocks listing begins = None
+next_after blocks heading begins = reach blocks running
+next_after blocks running begins = None
+next_after blocks listing (closes is_loop) = left_behind is_loop blocks
+next_after blocks heading (closes _) = None
+next_after blocks running (closes is_loop) = left_behind is_loop blocks
+
+-- what items lead to, one after another
+abbrev pub context_after : Context → List Item → Option Context
+context_after context [] = Some context
+context_after context (item ∷ items) = option_and_then (λ next. context_after next items) (next_after context.blocks context.stage item)
+
+abbrev pub at_front : Context
+at_front = record { blocks = []; stage = listing }
+
+abbrev pub is_heading : Stage → Bool
+is_heading listing = false
+is_heading heading = true
+is_heading running = false
+
+-- a script may end here
+pub record IsEnd (context : Context) : Type 0 where
+  pub closed : context.blocks ≡ []
+  pub begun : is_heading context.stage ≡ false

@@ -1,0 +1,19 @@
+-- Statements in a list, as contracts see them.
+use Rattle.std.specs.Prelude.{List, [], ◌∷◌}
+use Rattle.ac_syntax.specs.Code.{Code, call_at, set_at, sum_at, loop_at, view_at, stable_at, declare_at, stop, one, block}
+use Rattle.ac_syntax.specs.declared.stmt.Stmt.{Stmt}
+use Rattle.ac_syntax.specs.declared.stmt.Stmt.TheVariants.{Call, Set, Sum, Loop, View, Stable, Declare}
+
+-- a statement and what follows it
+abbrev pub before : Stmt → Code → Code
+before (Call line target object op args) rest = one (call_at line target object op args) rest
+before (Set line target from) rest = one (set_at line target from) rest
+before (Sum line target from minus number) rest = one (sum_at line target from minus number) rest
+before (Loop line name elements backward object body) rest = block (loop_at line name elements backward object) body rest
+before (View line kind object at name body) rest = block (view_at line kind object at name) body rest
+before (Stable line object body) rest = block (stable_at line object) body rest
+before (Declare line decls body) rest = block (declare_at line decls) body rest
+
+abbrev pub code_of : List Stmt → Code
+code_of [] = stop
+code_of (stmt ∷ stmts) = before stmt (code_of stmts)

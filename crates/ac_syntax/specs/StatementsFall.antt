@@ -1,0 +1,20 @@
+-- The statements inside a block are fewer than those that it is among.
+use Rattle.std.specs.Prelude.{◌≤◌, max, List, [], ◌∷◌}
+use Rattle.std.proofs.Common.{arith}
+use denote.Param.Weighed.{most}
+use Rattle.ac_syntax.specs.Code.{code_size}
+use Rattle.ac_syntax.specs.Statements.{code_of}
+use Rattle.ac_syntax.specs.declared.stmt.Stmt.{Stmt}
+use Rattle.ac_syntax.specs.declared.stmt.Stmt.TheVariants.{Call, Set, Sum, Loop, View, Stable, Declare}
+use Rattle.ac_syntax.specs.declared.stmt.Stmts.TheDeep.{deep-Stmt}
+
+-- no body has more statements than all around it together
+pub bodies_fall : (stmts : List Stmt) → max (most deep-Stmt stmts) 0 ≤ code_size (code_of stmts)
+bodies_fall [] = omega arith
+bodies_fall (Call _ _ _ _ _ ∷ stmts) = omega (arith, bodies_fall stmts)
+bodies_fall (Set _ _ _ ∷ stmts) = omega (arith, bodies_fall stmts)
+bodies_fall (Sum _ _ _ _ _ ∷ stmts) = omega (arith, bodies_fall stmts)
+bodies_fall (Loop _ _ _ _ _ body ∷ stmts) = omega (arith, bodies_fall stmts)
+bodies_fall (View _ _ _ _ _ body ∷ stmts) = omega (arith, bodies_fall stmts)
+bodies_fall (Stable _ _ body ∷ stmts) = omega (arith, bodies_fall stmts)
+bodies_fall (Declare _ _ body ∷ stmts) = omega (arith, bodies_fall stmts)

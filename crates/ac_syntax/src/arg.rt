@@ -1,0 +1,42 @@
+ghost use Rattle.std.specs.Prelude.{◌≡◌};
+
+use crate::ident::Ident;
+use crate::literal::Literal;
+use std::marker::Model;
+
+/// An argument of a call, or what is assigned.
+#[derive(Debug, Drop)]
+pub enum Arg {
+    Lit(Literal),
+    NoElement,
+    Var(Ident),
+}
+
+/// The arguments of a call in order.
+#[derive(Debug, Drop)]
+pub struct Args {
+    items: Vec<Arg>,
+}
+
+impl Model for Args {
+    ghost use Rattle.std.specs.Prelude.{List};
+    ghost use Rattle.ac_syntax.specs.declared.arg.Arg.{Arg};
+
+    ghost Value = { List Arg };
+
+    ghost view = { λ args. args.items.items };
+}
+
+impl Args {
+    pub fn from_vec(items: Vec<Arg>) -> Args
+        ensures { result ≡ items.items }
+    {
+        Args { items }
+    }
+
+    pub fn items(&self) -> &[Arg]
+        ensures { result.now ≡ self.now }
+    {
+        &self.items
+    }
+}

@@ -1,0 +1,89 @@
+//! What holds of the language itself, whatever reads it.
+ghost use Rattle.std.specs.Prelude.{◌≡◌, ℕ, List, ◌∷◌, ◌++◌, true, count_by, Some};
+ghost use Rattle.ac_syntax.specs.declared.token.Placed.{Placed};
+ghost use Rattle.ac_syntax.specs.declared.script.Script.{Script};
+ghost use Rattle.ac_syntax.specs.Grammar.{Derives};
+ghost use Rattle.ac_syntax.specs.Items.{Item, script_items};
+ghost use Rattle.ac_syntax.specs.Limits.{is_word_of, block_words, end_words};
+ghost use Rattle.ac_syntax.specs.Tokens.{tokens};
+ghost use Rattle.ac_syntax.specs.Order.{Context, context_after, at_front, IsEnd};
+ghost use Rattle.ac_syntax.specs.Refusals.{Spells, IsFirstRefusal};
+ghost use Rattle.ac_syntax.specs.declared.refusal.RefusalKind.{RefusalKind};
+ghost use Rattle.ac_syntax.specs.Starts.{starts_script};
+ghost use Rattle.ac_syntax.specs.Examples.{SpellsLoosely, WritesStrictly, SpellsNested, WritesNested, ReadsDoubledQuote, RefusesOpenString, EndsComment, RefusesLetterAfterNumber, WritesNothing, TakesDepth16, RefusesDepth17};
+ghost use Rattle.ac_syntax.specs.FormExamples.{SpellsEveryForm, WritesEveryForm, IsEveryFormWell, SpellsMinusZero, WritesZero, NeedsCursor, NeedsRisingLines};
+ghost use Rattle.ac_syntax.specs.RefusalExamples.{TakesName64, RefusesName65, TakesString1000, RefusesString1001, TakesLeast, TakesCounting, RefusesPastGreatest, RefusesLessTooMuch, RefusesTooRoomy, RefusesMalformed, RefusesMarkFirst, RefusesTasks, RefusesOpenBlock, RefusesOpenHead};
+
+/// A text has at most one first refusal, and none where it spells a script.
+pub fn one_refusal()
+    ensures one { (text : List ℕ) (line place : ℕ) (kind other : RefusalKind) →
+        IsFirstRefusal text line kind → IsFirstRefusal text place other → (line ≡ place) × (kind ≡ other) }
+    ensures not_spelled { (script : Script) (text : List ℕ) (line : ℕ) (kind : RefusalKind) → Spells script text → IsFirstRefusal text line kind → ⊥ }
+{}
+
+/// A script begins with an identifier, with `type` or with the first word of a block.
+pub fn first_word()
+    ensures { (script : Script) (first : Placed) (others : List Placed) → Derives (first ∷ others) script → starts_script first.token ≡ true }
+{}
+
+/// A script has as many first words of blocks as words `end`.
+pub fn blocks_end()
+    ensures { (script : Script) (placed : List Placed) → Derives placed script →
+        count_by (is_word_of block_words) (tokens placed) ≡ count_by (is_word_of end_words) (tokens placed) }
+{}
+
+/// The items of a script may come in their order, others may not, and each front that may come is a script's.
+pub fn items_order()
+    ensures script { (script : Script) → (last : Context) × (context_after at_front (script_items script) ≡ Some last) × IsEnd last }
+    ensures only { (items : List Item) (last : Context) → context_after at_front items ≡ Some last → IsEnd last → (script : Script) × (script_items script ≡ items) }
+    ensures front { (items : List Item) (context : Context) → context_after at_front items ≡ Some context → (more : List Item) × (script : Script) × (script_items script ≡ items ++ more) }
+{}
+
+/// No two scripts have the same items.
+pub fn items_alone()
+    ensures { (script other : Script) → script_items script ≡ script_items other → script ≡ other }
+{}
+
+/// Texts whose tokens, scripts and canonical texts were worked out by hand.
+pub fn examples()
+    ensures loose { SpellsLoosely }
+    ensures strict { WritesStrictly }
+    ensures nested { SpellsNested }
+    ensures nested_text { WritesNested }
+    ensures doubled_quote { ReadsDoubledQuote }
+    ensures open_string { RefusesOpenString }
+    ensures comment { EndsComment }
+    ensures letter_after_number { RefusesLetterAfterNumber }
+    ensures nothing { WritesNothing }
+    ensures depth_16 { TakesDepth16 }
+    ensures depth_17 { RefusesDepth17 }
+{}
+
+/// Each form of the grammar, and what is or isn't well formed, worked out by hand.
+pub fn forms()
+    ensures every_form { SpellsEveryForm }
+    ensures every_form_text { WritesEveryForm }
+    ensures every_form_well { IsEveryFormWell }
+    ensures minus_zero { SpellsMinusZero }
+    ensures zero { WritesZero }
+    ensures cursor { NeedsCursor }
+    ensures rising_lines { NeedsRisingLines }
+{}
+
+/// Texts whose first fault was worked out by hand, and texts right inside a limit.
+pub fn refusals()
+    ensures name_64 { TakesName64 }
+    ensures name_65 { RefusesName65 }
+    ensures string_1000 { TakesString1000 }
+    ensures string_1001 { RefusesString1001 }
+    ensures least { TakesLeast }
+    ensures counting { TakesCounting }
+    ensures past_greatest { RefusesPastGreatest }
+    ensures less_too_much { RefusesLessTooMuch }
+    ensures too_roomy { RefusesTooRoomy }
+    ensures malformed { RefusesMalformed }
+    ensures mark_first { RefusesMarkFirst }
+    ensures tasks { RefusesTasks }
+    ensures open_block { RefusesOpenBlock }
+    ensures open_head { RefusesOpenHead }
+{}

@@ -1,0 +1,32 @@
+//! A script as a value: its types, and what its texts, its tokens and its canonical text are.
+#![tactic(auto)]
+
+mod arg;
+mod decl;
+mod ident;
+mod kind;
+mod law;
+mod literal;
+mod piece;
+mod refusal;
+mod script;
+mod stmt;
+mod token;
+mod type_def;
+mod view_kind;
+
+pub use arg::{Arg, Args};
+pub use decl::{Decl, Decls};
+pub use ident::{Ident, Idents};
+pub use kind::{ElemKind, Kind};
+pub use law::{
+    blocks_end, examples, first_word, forms, items_alone, items_order, one_refusal, refusals,
+};
+pub use literal::{Literal, StringBytes};
+pub use piece::Piece;
+pub use refusal::RefusalKind;
+pub use script::Script;
+pub use stmt::{Stmt, Stmts};
+pub use token::{Mark, Placed, Token};
+pub use type_def::TypeDef;
+pub use view_kind::ViewKind;

@@ -1,0 +1,9 @@
+use crate::decl::Decls;
+use crate::stmt::Stmts;
+
+/// A script: its outermost declarations, and then its statements.
+#[derive(Debug, Drop)]
+pub struct Script {
+    pub decls: Decls,
+    pub stmts: Stmts,
+}

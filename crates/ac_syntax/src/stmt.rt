@@ -1,0 +1,102 @@
+ghost use Rattle.std.specs.Prelude.{◌≡◌};
+ghost use Rattle.ac_syntax.specs.Statements.{code_of};
+
+use crate::arg::{Arg, Args};
+use crate::decl::Decls;
+use crate::ident::Ident;
+use crate::view_kind::ViewKind;
+use std::marker::Model;
+
+/// A statement, with the line of its first token.
+#[derive(Debug, Drop)]
+#[cycle(statements)]
+pub enum Stmt {
+    /// A call, whose answer the target takes where there is one.
+    Call {
+        line: u64,
+        target: Option<Ident>,
+        object: Ident,
+        op: Ident,
+        args: Args,
+    },
+    Set {
+        line: u64,
+        target: Ident,
+        from: Arg,
+    },
+    /// A variable with a number added, or with `minus` taken away.
+    Sum {
+        line: u64,
+        target: Ident,
+        from: Ident,
+        minus: bool,
+        number: u64,
+    },
+    /// A loop over the cursors of an object, or with `elements` over its elements.
+    Loop {
+        line: u64,
+        name: Ident,
+        elements: bool,
+        backward: bool,
+        object: Ident,
+        body: Stmts,
+    },
+    View {
+        line: u64,
+        kind: ViewKind,
+        object: Ident,
+        at: Option<Ident>,
+        name: Ident,
+        body: Stmts,
+    },
+    Stable {
+        line: u64,
+        object: Ident,
+        body: Stmts,
+    },
+    Declare {
+        line: u64,
+        decls: Decls,
+        body: Stmts,
+    },
+}
+
+/// Statements in order.
+#[derive(Debug, Drop)]
+#[cycle(statements)]
+pub struct Stmts {
+    items: Vec<Stmt>,
+}
+
+impl Model for Stmts {
+    ghost use Rattle.ac_syntax.specs.Code.{Code, code_size};
+    ghost use Rattle.ac_syntax.specs.Coded.{coded_code};
+
+    ghost Value = { Code };
+
+    ghost coded = { coded_code };
+
+    ghost use Rattle.ac_syntax.specs.Statements.{code_of};
+
+    ghost view = { λ stmts. code_of stmts.items.items };
+
+    ghost size = { code_size };
+
+    ghost use Rattle.ac_syntax.specs.StatementsFall.{bodies_fall};
+
+    ghost size_decreases = { λ a h. bodies_fall a.items.items };
+}
+
+impl Stmts {
+    pub fn from_vec(items: Vec<Stmt>) -> Stmts
+        ensures { result ≡ code_of items.items }
+    {
+        Stmts { items }
+    }
+
+    pub fn items(&self) -> &[Stmt]
+        ensures { code_of result.now ≡ self.now }
+    {
+        &self.items
+    }
+}

@@ -1,0 +1,33 @@
+use crate::ident::Ident;
+use crate::literal::StringBytes;
+
+/// A mark of one or two bytes.
+#[derive(Clone, Copy, Debug, PartialEq, Eq)]
+pub enum Mark {
+    Colon,
+    Semicolon,
+    Comma,
+    Open,
+    Close,
+    Dot,
+    Assign,
+    Plus,
+    Minus,
+}
+
+#[derive(Debug, Drop)]
+pub enum Token {
+    /// A word in lower case, reserved or not.
+    Word(Ident),
+    /// A number, or the greatest `u64` where the digits write a greater one.
+    Number(u64),
+    Text(StringBytes),
+    Mark(Mark),
+}
+
+/// A token and the line that it stands on, from 1.
+#[derive(Debug, Drop)]
+pub struct Placed {
+    pub token: Token,
+    pub line: u64,
+}
