@@ -9,6 +9,4 @@ pub use chain::Chain;
 pub use links::{Links, Node};
 
 #[cfg(test)]
-mod random_walk;
-#[cfg(test)]
 mod tests;
