@@ -4,11 +4,15 @@ use Rattle.std.specs.Coded.{Coded, code_by, coded×, coded_ℕ, coded_list, code
 use Rattle.ac_base.specs.declared.limit.Limit.{Limit}
 use Rattle.ac_base.specs.declared.limit.Limit.TheVariants.{Unbounded, Bounded}
 use Rattle.ac_base.specs.declared.name.Name.{Name}
+use Rattle.ac_base.specs.declared.reason.Reason.{Reason}
+use Rattle.ac_cursor.specs.declared.cursor.Cursor.{Cursor}
+use Rattle.ac_cursor.specs.declared.cursor.Cursor.TheVariants.{NoElement, At}
 use Rattle.ac_cursor.specs.Guards.{GuardCounts}
 use Rattle.ac_pool.specs.Names.{name_code}
 use Rattle.ac_chain.specs.Rows as chain
-use Rattle.ac_model.specs.Rows.{Row, row}
-use Rattle.ac_model.specs.Objects.{Object, greatest_length}
+use Rattle.ac_model.specs.Rows.{Row, row, names}
+use Rattle.ac_model.specs.Objects.{Object, greatest_length, plain}
+use Rattle.ac_model.specs.Letters.{Mark, mark_of, needs, may}
 
 pub record Listed (T : Type 0) : Type 0 where
   pub object : Object Name T
@@ -85,6 +89,27 @@ module _ {T : Type 0} where
 
   abbrev pub guards_of : Listed T → GuardCounts
   guards_of l = record { number = l.object.number; cursor_guards = l.object.cursor_guards; element_guards = l.object.element_guards }
+
+  -- what the cursor means to the object
+  abbrev pub mark : Object Name T → Cursor → Mark
+  mark o c = mark_of o.number (names o.rows) c
+
+  -- why the object refuses a cursor that must designate an element, and one that may be No_Element
+  abbrev pub needs_cursor : Object Name T → Cursor → Option Reason
+  needs_cursor o c = needs (plain o) (mark o c)
+
+  abbrev pub may_cursor : Object Name T → Cursor → Option Reason
+  may_cursor o c = may (plain o) (mark o c)
+
+-- a cursor at a name that an object has, if there is one
+abbrev pub cursor_at : ℕ → Option Name → Cursor
+cursor_at number None = NoElement
+cursor_at number (Some name) = At number name
+
+-- the cursor's name, and one that no element has where it has none
+abbrev pub name_in : Cursor → Name
+name_in NoElement = record { slot = 0; serial = 0 }
+name_in (At object name) = name
 
 -- a limit that a list may have
 abbrev pub IsLimit : Limit → Type 0

@@ -1,12 +1,14 @@
 //! The list. A contract sees its object, with the slots of its names, and how many elements more it takes without memory.
 ghost use Rattle.std.specs.Prelude.{◌≡◌, ℕ, ◌+◌, ◌≤◌, pos, IfOk, IfErr, IsOk, length, false, refl};
-ghost use Rattle.ac_list.specs.State.{IsLimit, first_spare, with_guards, guards_of};
+ghost use Rattle.ac_list.specs.State.{IsLimit, first_spare, with_guards, guards_of, mark, needs_cursor, may_cursor, cursor_at, name_in};
 ghost use Rattle.ac_model.specs.Objects.{empty_object, plain, length_of};
+ghost use Rattle.ac_model.specs.Calls.{Changing, Looking, Same, Lends, Marks};
 ghost use Rattle.ac_model.specs.Common as common;
+ghost use Rattle.ac_model.specs.Sequences as sequences;
 
-use ac_base::{Fault, Limit};
+use ac_base::{Fault, Limit, Name, Reason};
 use ac_chain::Chain;
-use ac_cursor::{GuardKey, GuardKind, Guarded, Guards, Tag};
+use ac_cursor::{Class, Cursor, GuardKey, GuardKind, Guarded, Guards, Tag};
 use std::alloc::Global;
 use std::marker::Model;
 
@@ -93,6 +95,144 @@ impl<T> List<T> {
         ensures { result ≡ length_of self.now.object + self.now.spare }
     {
         self.chain.len() + self.chain.spare()
+    }
+}
+
+impl<T> List<T> {
+    /// Has_Element (A.18.3): false for a cursor of another list, and for one whose element is gone.
+    pub fn has_element(&self, c: Cursor) -> bool
+        ensures { result ≡ common.has_element_call (plain self.now.object) (mark self.now.object c) }
+    {
+        self.needs(c).is_none()
+    }
+
+    /// First (A.18.3).
+    pub fn first(&self) -> Cursor
+        ensures { Marks self.now.object result (sequences.first_call (plain self.now.object)) }
+    {
+        self.cursor_at(self.chain.first())
+    }
+
+    /// Last (A.18.3).
+    pub fn last(&self) -> Cursor
+        ensures { Marks self.now.object result (sequences.last_call (plain self.now.object)) }
+    {
+        self.cursor_at(self.chain.last())
+    }
+
+    /// Next (A.18.3).
+    pub fn next(&self, b: Cursor) -> Result<Cursor, Fault>
+        ensures { Looking (Marks self.now.object) (sequences.next_call (plain self.now.object) (mark self.now.object b)) result }
+    {
+        if b == Cursor::NoElement {
+            return Ok(Cursor::NoElement);
+        }
+        match self.needs(b) {
+            Some(reason) => Err(Fault::Raised(reason)),
+            None => Ok(self.cursor_at(self.chain.next(name_in(b)))),
+        }
+    }
+
+    /// Previous (A.18.3).
+    pub fn previous(&self, b: Cursor) -> Result<Cursor, Fault>
+        ensures { Looking (Marks self.now.object) (sequences.previous_call (plain self.now.object) (mark self.now.object b)) result }
+    {
+        if b == Cursor::NoElement {
+            return Ok(Cursor::NoElement);
+        }
+        match self.needs(b) {
+            Some(reason) => Err(Fault::Raised(reason)),
+            None => Ok(self.cursor_at(self.chain.prev(name_in(b)))),
+        }
+    }
+
+    /// First_Element (A.18.3).
+    pub fn first_element(&self) -> Result<&T, Fault>
+        ensures { Looking Lends (sequences.first_element_call (plain self.now.object)) result }
+    {
+        match self.chain.first() {
+            Some(name) => Ok(self.chain.at(name)),
+            None => Err(Fault::Raised(Reason::Empty)),
+        }
+    }
+
+    /// Last_Element (A.18.3).
+    pub fn last_element(&self) -> Result<&T, Fault>
+        ensures { Looking Lends (sequences.last_element_call (plain self.now.object)) result }
+    {
+        match self.chain.last() {
+            Some(name) => Ok(self.chain.at(name)),
+            None => Err(Fault::Raised(Reason::Empty)),
+        }
+    }
+
+    /// Element (A.18.3).
+    pub fn element(&self, c: Cursor) -> Result<&T, Fault>
+        ensures { Looking Lends (sequences.element_call (plain self.now.object) (mark self.now.object c)) result }
+    {
+        match self.needs(c) {
+            Some(reason) => Err(Fault::Raised(reason)),
+            None => Ok(self.chain.at(name_in(c))),
+        }
+    }
+
+    /// Why a cursor that must designate an element is refused.
+    fn needs(&self, c: Cursor) -> Option<Reason>
+        ensures { result ≡ needs_cursor self.now.object c }
+    {
+        match c {
+            Cursor::NoElement => Some(Reason::NoElement),
+            Cursor::At { object, name } => self.judge(object, name),
+        }
+    }
+
+    fn judge(&self, object: u64, name: Name) -> Option<Reason>
+        ensures { result ≡ needs_cursor self.now.object (Cursor.At object name) }
+    {
+        if object != self.guards.number() {
+            return Some(Reason::ForeignCursor);
+        }
+        if self.chain.is_live(name) {
+            None
+        } else {
+            Some(Reason::DeadCursor)
+        }
+    }
+
+    fn cursor_at(&self, name: Option<Name>) -> Cursor
+        ensures { result ≡ cursor_at self.now.object.number name }
+    {
+        match name {
+            None => Cursor::NoElement,
+            Some(name) => Cursor::At {
+                object: self.guards.number(),
+                name,
+            },
+        }
+    }
+}
+
+fn name_in(c: Cursor) -> Name
+    ensures { result ≡ name_in c }
+{
+    match c {
+        Cursor::NoElement => Name { slot: 0, serial: 0 },
+        Cursor::At { object: _, name } => name,
+    }
+}
+
+impl<T: Drop> List<T> {
+    /// Clear (A.18.3).
+    pub fn clear(&mut self) -> Result<(), Fault>
+        ensures { Changing Same (common.clear_call (plain self.old.object)) self.old.object self.new.object result }
+    {
+        match self.guards.forbids(Class::Cursors) {
+            Some(reason) => Err(Fault::Raised(reason)),
+            None => {
+                self.chain.clear();
+                Ok(())
+            }
+        }
     }
 }
 
