@@ -24,8 +24,9 @@ use Rattle.ac_model.specs.Letters.{Mark, no_mark, mark_at, mark_of, is_among, ju
 use Rattle.ac_model.specs.Calls.{Looking, Marks, Lends}
 use Rattle.ac_model.specs.Sequences as sequences
 use Rattle.ac_model.specs.Sequences.{mark_before}
+use Rattle.ac_list.specs.Put.{plains}
 use Rattle.ac_list.specs.State.{row_of, object_of, mark, needs_cursor, may_cursor, cursor_at, name_in}
-use Rattle.ac_list.proofs.Standing.{plains, among_has, has_among, judged_by_name, may_by_name, Stands, stands, marked_at, slice_get-plains, place_live, value_live}
+use Rattle.ac_list.proofs.Standing.{among_has, has_among, judged_by_name, may_by_name, Stands, stands, marked_at, slice_get-plains, place_live, value_live}
 
 bool_is : (b d : Bool) → (IsTrue b → IsTrue d) → (IsTrue d → IsTrue b) → b ≡ d
 bool_is true d f g = sym (f refl)

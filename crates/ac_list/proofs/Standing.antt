@@ -20,6 +20,7 @@ use Rattle.ac_model.specs.Rows.{Row, row, names, is_named, place_of, named, valu
 use Rattle.ac_model.specs.Objects.{Object, plain, plain_row}
 use Rattle.ac_model.specs.Letters.{Mark, no_mark, mark_at, stale_mark, is_same_name, is_among, mark_of, judged_in, needs, may, mark_for, name_of}
 use Rattle.ac_model.proofs.RowLaws.{at_its_place}
+use Rattle.ac_list.specs.Put.{plains}
 use Rattle.ac_list.specs.State.{row_of, object_of, mark, needs_cursor, may_cursor, cursor_at, name_in}
 
 same_is : (a b : Name) → is_same_name a b ≡ true → a ≡ b
@@ -42,10 +43,6 @@ judged_none number object is_there h = elim (cases_Bool (object == number)) [
 ]
 
 module _ {X : Type 0} where
-  -- the chain's rows as the definitions see them
-  abbrev pub plains : List (chain.Row X) → List (Row ℕ X)
-  plains rows = map plain_row (map row_of rows)
-
   pub among_has : (a : Name) (rows : List (chain.Row X)) → is_among (names (map row_of rows)) a ≡ true → HasName a rows
   among_has a [] h = absurd (true≢false (sym h))
   among_has a (r ∷ rows) h = elim (cases_Bool (is_same_name a r.name)) [

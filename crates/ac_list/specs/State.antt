@@ -111,6 +111,11 @@ abbrev pub name_in : Cursor → Name
 name_in NoElement = record { slot = 0; serial = 0 }
 name_in (At object name) = name
 
+-- the name before whose row a cursor stands, and none for the end
+abbrev pub place_in : Cursor → Option Name
+place_in NoElement = None
+place_in (At object name) = Some name
+
 -- a limit that a list may have
 abbrev pub IsLimit : Limit → Type 0
 IsLimit Unbounded = ⊤

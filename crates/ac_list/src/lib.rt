@@ -2,5 +2,7 @@
 #![tactic(auto)]
 
 mod list;
+mod put;
+mod reasons;
 
 pub use list::List;

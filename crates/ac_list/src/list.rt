@@ -1,20 +1,29 @@
 //! The list. A contract sees its object, with the slots of its names, and how many elements more it takes without memory.
-ghost use Rattle.std.specs.Prelude.{◌≡◌, ℕ, ◌+◌, ◌≤◌, pos, IfOk, IfErr, IsOk, length, false, refl};
-ghost use Rattle.ac_list.specs.State.{IsLimit, first_spare, with_guards, guards_of, mark, needs_cursor, may_cursor, cursor_at, name_in};
+ghost use Rattle.std.specs.Prelude.{◌≡◌, ◌∷◌, ℕ, ◌+◌, ◌≤◌, None, pos, IfOk, IfErr, IsOk, length, false, refl};
+ghost use Rattle.ac_list.specs.State.{IsLimit, first_spare, with_guards, guards_of, mark, needs_cursor, may_cursor, cursor_at, name_in, place_in};
+ghost use Rattle.std.specs.Option.{ForSome};
+ghost use Rattle.ac_list.specs.Put.{IsNamed, Takes, put_call, as_fault, spot};
+ghost use Rattle.ac_model.specs.Letters.{tampers_cursors, place_at};
+ghost use Rattle.ac_model.specs.Sequences.{room_for_copies};
+ghost use Rattle.ac_cursor.specs.Steps.{first_reason};
 ghost use Rattle.ac_model.specs.Objects.{empty_object, plain, length_of};
 ghost use Rattle.ac_model.specs.Calls.{Changing, Looking, Same, Lends, Marks};
 ghost use Rattle.ac_model.specs.Common as common;
 ghost use Rattle.ac_model.specs.Sequences as sequences;
+ghost use Rattle.ac_model.specs.Lists as lists;
 
-use ac_base::{Fault, Limit, Name, Reason};
+use crate::put::put_copies;
+use crate::reasons::{count_of, in_range, names_spent, too_long, too_many};
+use ac_base::{Elem, Fault, Limit, Name, NoMemory, Reason};
 use ac_chain::Chain;
-use ac_cursor::{Class, Cursor, GuardKey, GuardKind, Guarded, Guards, Tag};
+use ac_cursor::{Class, Cursor, GuardKey, GuardKind, Guarded, Guards, Tag, first_reason};
 use std::alloc::Global;
 use std::marker::Model;
 
 /// A doubly linked list (A.18.3), which is told its number by a tag.
 #[derive(Drop)]
 pub struct List<T> {
+    alloc: Global,
     chain: Chain<T>,
     guards: Guards,
     limit: Limit,
@@ -49,6 +58,7 @@ impl<T: Drop> List<T> {
             },
         };
         Ok(List {
+            alloc,
             chain,
             guards: Guards::new(tag),
             limit,
@@ -186,6 +196,16 @@ impl<T> List<T> {
         }
     }
 
+    /// Why a cursor that may be No_Element is refused.
+    fn may(&self, c: Cursor) -> Option<Reason>
+        ensures { result ≡ may_cursor self.now.object c }
+    {
+        match c {
+            Cursor::NoElement => None,
+            Cursor::At { object, name } => self.judge(object, name),
+        }
+    }
+
     fn judge(&self, object: u64, name: Name) -> Option<Reason>
         ensures { result ≡ needs_cursor self.now.object (Cursor.At object name) }
     {
@@ -212,12 +232,45 @@ impl<T> List<T> {
     }
 }
 
+fn as_fault(done: Result<(), NoMemory>) -> Result<(), Fault>
+    ensures { result ≡ as_fault done }
+{
+    match done {
+        Ok(()) => Ok(()),
+        Err(_) => Err(Fault::NoMemory),
+    }
+}
+
+fn place_in(c: Cursor) -> Option<Name>
+    ensures { result ≡ place_in c }
+{
+    match c {
+        Cursor::NoElement => None,
+        Cursor::At { object: _, name } => Some(name),
+    }
+}
+
 fn name_in(c: Cursor) -> Name
     ensures { result ≡ name_in c }
 {
     match c {
         Cursor::NoElement => Name { slot: 0, serial: 0 },
         Cursor::At { object: _, name } => name,
+    }
+}
+
+impl<T> List<T> {
+    /// Reverse_Elements (A.18.3): the elements with their names.
+    pub fn reverse_elements(&mut self) -> Result<(), Fault>
+        ensures { Changing Same (lists.reverse_elements_call (plain self.old.object)) self.old.object self.new.object result }
+    {
+        match self.guards.forbids(Class::Cursors) {
+            Some(reason) => Err(Fault::Raised(reason)),
+            None => {
+                self.chain.reverse();
+                Ok(())
+            }
+        }
     }
 }
 
@@ -233,6 +286,76 @@ impl<T: Drop> List<T> {
                 Ok(())
             }
         }
+    }
+}
+
+impl<T: Elem> List<T> {
+    /// Append (A.18.3): so many copies at the end.
+    pub fn append(&mut self, e: T, n: i64) -> Result<(), Fault>
+        ensures { Changing Same (sequences.append_call (plain self.old.object) e n) self.old.object self.new.object result }
+    {
+        match self.refuses_copies(None, n) {
+            Some(reason) => Err(Fault::Raised(reason)),
+            None => self.put(None, e, count_of(n)),
+        }
+    }
+
+    /// Prepend (A.18.3): so many copies at the front.
+    pub fn prepend(&mut self, e: T, n: i64) -> Result<(), Fault>
+        ensures { Changing Same (sequences.prepend_call (plain self.old.object) e n) self.old.object self.new.object result }
+    {
+        match self.refuses_copies(None, n) {
+            Some(reason) => Err(Fault::Raised(reason)),
+            None => {
+                let first = self.chain.first();
+                self.put(first, e, count_of(n))
+            }
+        }
+    }
+
+    /// Insert (A.18.3): so many copies before the cursor, where No_Element is the end.
+    pub fn insert(&mut self, b: Cursor, e: T, n: i64) -> Result<(), Fault>
+        ensures { Changing Same (sequences.insert_call (plain self.old.object) (mark self.old.object b) e n) self.old.object self.new.object result }
+    {
+        match self.refuses_copies(self.may(b), n) {
+            Some(reason) => Err(Fault::Raised(reason)),
+            None => self.put(self.place_before(b), e, count_of(n)),
+        }
+    }
+
+    /// The place before the cursor.
+    fn place_before(&self, b: Cursor) -> Option<Name>
+        requires { may_cursor self.now.object b ≡ None }
+        ensures named { ForSome result (IsNamed self.now.object) }
+        ensures spot { spot self.now.object result ≡ place_at (plain self.now.object).rows (mark self.now.object b) }
+    {
+        let _chain = &self.chain;
+        place_in(b)
+    }
+
+    /// Why so many copies before a place are refused, where this reason was found for the place.
+    fn refuses_copies(&self, place: Option<Reason>, n: i64) -> Option<Reason>
+        ensures { result ≡ first_reason (tampers_cursors (plain self.now.object) ∷ place ∷ room_for_copies (plain self.now.object) n) }
+    {
+        let more = count_of(n);
+        let length = self.chain.len() + more;
+        first_reason(&[
+            self.guards.forbids(Class::Cursors),
+            place,
+            in_range(n),
+            too_long(length),
+            too_many(self.limit, length),
+            names_spent(self.chain.next_serial(), more),
+        ])
+    }
+
+    /// Puts so many copies before the place.
+    fn put(&mut self, place: Option<Name>, e: T, n: u64) -> Result<(), Fault>
+        requires place { ForSome place (IsNamed self.old.object) }
+        requires room { Takes self.old.object n }
+        ensures { Changing Same (put_call self.old.object place e n) self.old.object self.new.object result }
+    {
+        as_fault(put_copies(&mut self.chain, self.alloc, place, e, n))
     }
 }
 
