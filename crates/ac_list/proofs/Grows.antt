@@ -1,9 +1,9 @@
 -- What a list is after copies were put into it.
-use Rattle.std.proofs.Common.{◌≡◌, ℕ, zero, suc, ◌+◌, ◌-◌, ◌<◌, ◌≤◌, ◌&&◌, not, true, false, List, [], ◌∷◌, ◌++◌, length, map, take, drop, reverse, replicate, Option, Some, None, Result, Ok, Err, IsTrue, refl, sym, ap, ◌∙◌, subst, inl, inr, arith, append_assoc, length-append, eqb-true, take-append-drop, lt-ltb, true≢false, ◌^◌, ne_eqb}
-use Rattle.std.specs.Prelude.{◌==◌, IfOk, IfErr, IsOk, All, slice_index_or, nat_lt}
+use Rattle.std.proofs.Common.{◌≡◌, ℕ, zero, suc, ◌+◌, ◌<◌, ◌≤◌, ◌&&◌, not, true, false, List, [], ◌∷◌, ◌++◌, length, map, reverse, replicate, Option, Some, None, Result, Ok, Err, IsTrue, refl, sym, ap, ◌∙◌, subst, inl, inr, arith, eqb-true, lt-ltb, true≢false, ◌^◌, ne_eqb}
+use Rattle.std.specs.Prelude.{◌==◌, IfOk, IfErr, IsOk, All, nat_lt}
 use Rattle.std.specs.Option.{ForSome}
-use Rattle.std.proofs.lemmas.Bool.{cases_Bool, cond-true, cond-false, cases_lt}
-use Rattle.std.proofs.lemmas.List.{length-map, length-replicate, reverse-append, length-reverse}
+use Rattle.std.proofs.lemmas.Bool.{cases_Bool, cond-false, cases_lt}
+use Rattle.std.proofs.lemmas.List.{length-map, length-replicate, reverse-append}
 use Rattle.ac_base.specs.declared.limit.Limit.{Limit}
 use Rattle.ac_base.specs.declared.limit.Limit.TheVariants.{Unbounded, Bounded}
 use Rattle.ac_base.specs.declared.name.Name.{Name}
@@ -25,11 +25,11 @@ use Rattle.ac_model.specs.Rows as model
 use Rattle.ac_model.specs.Rows.{Row, row, names, fresh, put}
 use Rattle.ac_model.specs.Objects.{Object, plain, plain_row, length_of, is_past, greatest_length, numbers_end, capacity_after, with_rows}
 use Rattle.ac_model.specs.Letters.{is_among, has_room, tampers_cursors, room, in_range, count_of, reason_if, place_at}
-use Rattle.ac_model.specs.Calls.{Call, call, Changing, IsAfter, KeepsSlots, Same, Done}
+use Rattle.ac_model.specs.Calls.{call, Changing, IsAfter, Same, Done}
 use Rattle.ac_model.specs.Sequences.{with_new, room_for_copies, copies_take_memory, with_copies}
-use Rattle.ac_model.proofs.Reasons.{after_two, none_first, none_others, room_none, HasRoom, in_range_none}
+use Rattle.ac_model.proofs.Reasons.{after_two, none_first, none_others, room_none}
 use Rattle.ac_list.specs.Put.{plains, IsPut, spot, IsNamed, Takes, put_call, as_fault}
-use Rattle.ac_list.specs.State.{Listed, row_of, object_of, IsList, LimitFits, may_cursor, mark, place_in}
+use Rattle.ac_list.specs.State.{row_of, object_of, IsList, may_cursor, mark, place_in}
 use Rattle.ac_list.proofs.Standing.{among_has, has_among, place_live, stands, may_by_name}
 use Rattle.ac_list.proofs.Puts.{plains-append, length-plains, put_length}
 
@@ -101,7 +101,7 @@ module _ {X : Type 0} where
   rows_put g l k now place vs s h p =
       let fr = fresh k.next_serial vs in
       let there : plains now.rows ≡ plains p.before ++ fr ++ plains p.after =
-          ap plains p.are ∙ plains-append (p.before ++ p.more) p.after ∙ ap (λ xs. xs ++ plains p.after) (plains-append p.before p.more ∙ ap (λ ys. plains p.before ++ ys) p.fresh_names) in
+      ap plains p.are ∙ plains-append (p.before ++ p.more) p.after ∙ ap (λ xs. xs ++ plains p.after) (plains-append p.before p.more ∙ ap (λ ys. plains p.before ++ ys) p.fresh_names) in
       let at : spot (object_of g l k) place ≡ length (plains p.before) = spot_is g l k place s h ∙ p.at ∙ sym (length-plains p.before) in
       let were : plains k.rows ≡ plains p.before ++ plains p.after = ap plains p.were ∙ plains-append p.before p.after in
       there ∙ sym (put_cut (plains p.before) (plains p.after) fr) ∙ (λ i. put (sym were i) (sym at i) fr)
@@ -115,13 +115,13 @@ module _ {X : Type 0} where
       record {
         plainly = λ i. record { number = g.number; limit = l; capacity = sym capacity i; next = next i; rows = rows i; cursor_guards = g.cursor_guards; element_guards = g.element_guards };
         slots = all_from (λ name. name.serial < k.next_serial → IsTrue (is_among (names (map row_of k.rows)) name)) now.rows (λ a t lt.
-          elim (HasName-either a (p.before ++ p.more) p.after (subst (λ zs. HasName a zs) p.are t)) [
-            | inl left ↦ elim (HasName-either a p.before p.more left) [
-              | inl b ↦ has_among a k.rows (subst (λ zs. HasName a zs) (sym p.were) (HasName-left a p.before p.after b))
-              | inr m ↦ absurd (let high = more_serials a k.next_serial (replicate n e) p.more p.fresh_names m in omega arith)
-            ]
-            | inr right ↦ has_among a k.rows (subst (λ zs. HasName a zs) (sym p.were) (HasName-right a p.before p.after right))
-          ]);
+            elim (HasName-either a (p.before ++ p.more) p.after (subst (λ zs. HasName a zs) p.are t)) [
+              | inl left ↦ elim (HasName-either a p.before p.more left) [
+                | inl b ↦ has_among a k.rows (subst (λ zs. HasName a zs) (sym p.were) (HasName-left a p.before p.after b))
+                | inr m ↦ absurd (let high = more_serials a k.next_serial (replicate n e) p.more p.fresh_names m in omega arith)
+              ]
+              | inr right ↦ has_among a k.rows (subst (λ zs. HasName a zs) (sym p.were) (HasName-right a p.before p.after right))
+            ]);
       }
 
   wants : (g : GuardCounts) (l : Limit) (k : Chained X) (n : ℕ) → IsList l k → is_past l (length k.rows + n) ≡ false → (n ≤ 1 → n ≤ k.spare → ⊥) → IsTrue (not ((n == 1) && has_room (plain (object_of g l k))))
@@ -156,8 +156,7 @@ module _ {X : Type 0} where
       at_first [] is = subst (λ rows. (ForSome (name_at rows 0) (IsNamed (object_of g l k))) × (spot (object_of g l k) (name_at rows 0) ≡ 0)) (sym is) ((λ a q. absurd (let n : None ≡ Some a = q in cc)), ap (λ rows. length (plains rows)) is)
       at_first (r ∷ rows) is =
           let h : HasName r.name k.rows = subst (λ zs. HasName r.name zs) (sym is) (inl refl) in
-          subst (λ zs. (ForSome (name_at zs 0) (IsNamed (object_of g l k))) × (spot (object_of g l k) (name_at zs 0) ≡ 0)) (sym is)
-          (
+          subst (λ zs. (ForSome (name_at zs 0) (IsNamed (object_of g l k))) × (spot (object_of g l k) (name_at zs 0) ≡ 0)) (sym is) (
             (λ a q. subst (λ n. IsNamed (object_of g l k) n) (let same : r.name ≡ a = cc in same) (has_among r.name k.rows h)),
             place_live k r.name s (has_live r.name k.rows h) ∙ ap (index_of r.name) is ∙ index_here r.name r rows refl,
           )
@@ -177,8 +176,7 @@ module _ {X : Type 0} where
       at : (b : Cursor) → may_cursor (object_of g l k) b ≡ None → (ForSome (place_in b) (IsNamed (object_of g l k))) × (spot (object_of g l k) (place_in b) ≡ place_at (plains k.rows) (mark (object_of g l k) b))
       at NoElement e = ((λ a q. absurd (let n : None ≡ Some a = q in cc)), sym (past_end k.rows (λ a t. (s.issued a (has_live a k.rows t)).0)))
       at (At object a) e =
-          let t = stands g l k (At object a) (sym (may_by_name (object_of g l k) object a) ∙ e) in
-          (
+          let t = stands g l k (At object a) (sym (may_by_name (object_of g l k) object a) ∙ e) in (
             (λ n q. subst (λ m. IsNamed (object_of g l k) m) (let same : a ≡ n = cc in same) (has_among a k.rows (live_has a k.rows t.live))),
             ap (λ m. place_at (plains k.rows) m) (sym t.marked),
           )
@@ -191,9 +189,9 @@ module _ {X : Type 0} where
   refused g l k o view n more len next place result t a b c d em el en et ea eb ec ed er =
       let sum : len + more ≡ length (plains k.rows) + count_of n = λ i. (el ∙ sym (length-plains k.rows)) i + em i in
       er ∙ (λ i. first_reason (et i ∷ place ∷ ea i
-        ∷ (eb ∙ ap (λ m. reason_if (nat_lt greatest_length m) LengthRange) sum) i
-        ∷ (ec ∙ ap (λ m. reason_if (is_past l m) CapacityFull) sum) i
-        ∷ (ed ∙ (λ j. reason_if (nat_lt numbers_end (en j + em j)) NamesSpent)) i ∷ []))
+      ∷ (eb ∙ ap (λ m. reason_if (nat_lt greatest_length m) LengthRange) sum) i
+      ∷ (ec ∙ ap (λ m. reason_if (is_past l m) CapacityFull) sum) i
+      ∷ (ed ∙ (λ j. reason_if (nat_lt numbers_end (en j + em j)) NamesSpent)) i ∷ []))
       ∙ ap (λ (p : Object Name X). first_reason (tampers_cursors (plain p) ∷ place ∷ room_for_copies (plain p) n)) view
 
   pub place_none : (o : Object Name X) (place : Option Reason) (n : _) → first_reason (tampers_cursors (plain o) ∷ place ∷ room_for_copies (plain o) n) ≡ None → place ≡ None

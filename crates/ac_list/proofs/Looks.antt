@@ -1,16 +1,14 @@
 -- What the calls that only look answer, from what the chain answers.
-use Rattle.std.proofs.Common.{◌≡◌, ℕ, zero, suc, ◌+◌, ◌-◌, Bool, true, false, true≢false, List, [], ◌∷◌, length, map, Option, Some, None, Ok, Err, refl, sym, ap, ◌∙◌, subst, arith, eq-eqb, ne_eqb, not, Bor, IsTrue}
+use Rattle.std.proofs.Common.{◌≡◌, ℕ, zero, suc, ◌+◌, ◌-◌, Bool, true, false, List, [], ◌∷◌, length, map, Option, Some, None, Ok, refl, sym, ap, ◌∙◌, subst, arith, eq-eqb, ne_eqb, not, Bor, IsTrue}
 use Rattle.std.specs.Prelude.{◌==◌, slice_get, ◌↔◌, if◌then◌else◌}
 use Rattle.std.specs.Option.{option_map}
 use Rattle.std.proofs.lemmas.List.{length-map}
 use Rattle.std.proofs.lemmas.Bool.{cond-true}
 use Rattle.ac_base.specs.declared.limit.Limit.{Limit}
 use Rattle.ac_base.specs.declared.name.Name.{Name}
-use Rattle.ac_base.specs.declared.reason.Reason.{Reason}
 use Rattle.ac_base.specs.declared.reason.Reason.TheVariants.{Empty, DeadCursor}
-use Rattle.ac_base.specs.declared.fault.Fault.TheVariants.{Raised}
 use Rattle.ac_cursor.specs.declared.cursor.Cursor.{Cursor}
-use Rattle.ac_cursor.specs.declared.cursor.Cursor.TheVariants.{NoElement, At}
+use Rattle.ac_cursor.specs.declared.cursor.Cursor.TheVariants.{At}
 use Rattle.ac_cursor.specs.Guards.{GuardCounts}
 use Rattle.ac_cursor.specs.Steps.{first_reason}
 use Rattle.ac_chain.specs.Rows as chain
@@ -18,15 +16,15 @@ use Rattle.ac_chain.specs.Rows.{Chained, index_of, IsLive, IsSound, name_at, nam
 use Rattle.ac_chain.proofs.Cuts.{live_has, has_live}
 use Rattle.ac_chain.proofs.Chains.{index_at}
 use Rattle.ac_chain.proofs.Moves.{once_from}
-use Rattle.ac_model.specs.Rows.{Row, names, values, value_at}
-use Rattle.ac_model.specs.Objects.{Object, plain, plain_row, length_of}
-use Rattle.ac_model.specs.Letters.{Mark, no_mark, mark_at, mark_of, is_among, judged_in, needs, may, mark_in, mark_for, place_at, is_no_mark, name_of, reason_if}
+use Rattle.ac_model.specs.Rows.{names, values, value_at}
+use Rattle.ac_model.specs.Objects.{Object, plain, length_of}
+use Rattle.ac_model.specs.Letters.{no_mark, mark_at, mark_of, is_among, judged_in, mark_in, place_at, is_no_mark, name_of, reason_if}
 use Rattle.ac_model.specs.Calls.{Looking, Marks, Lends}
 use Rattle.ac_model.specs.Sequences as sequences
 use Rattle.ac_model.specs.Sequences.{mark_before}
 use Rattle.ac_list.specs.Put.{plains}
 use Rattle.ac_list.specs.State.{row_of, object_of, mark, needs_cursor, may_cursor, cursor_at, name_in}
-use Rattle.ac_list.proofs.Standing.{among_has, has_among, judged_by_name, may_by_name, Stands, stands, marked_at, slice_get-plains, place_live, value_live}
+use Rattle.ac_list.proofs.Standing.{among_has, has_among, judged_by_name, may_by_name, stands, marked_at, place_live, value_live}
 
 bool_is : (b d : Bool) → (IsTrue b → IsTrue d) → (IsTrue d → IsTrue b) → b ≡ d
 bool_is true d f g = sym (f refl)
@@ -38,7 +36,7 @@ module _ {X : Type 0} (g : GuardCounts) (l : Limit) (k : Chained X) (o : Object 
   pub judged : (object : ℕ) (a : Name) (b : Bool) → object ≡ g.number → (IsTrue b ↔ IsLive k a) → reason_if (not b) DeadCursor ≡ needs_cursor o (At object a)
   judged object a b e live =
       let same : b ≡ is_among (names (map row_of k.rows)) a =
-          bool_is b (is_among (names (map row_of k.rows)) a) (λ t. has_among a k.rows (live_has a k.rows (live.0 t))) (λ t. live.1 (has_live a k.rows (among_has a k.rows t))) in
+      bool_is b (is_among (names (map row_of k.rows)) a) (λ t. has_among a k.rows (live_has a k.rows (live.0 t))) (λ t. live.1 (has_live a k.rows (among_has a k.rows t))) in
       sym (cond-true _ _ _ (eq-eqb object g.number e)) ∙ ap (judged_in g.number object) same ∙ sym (judged_by_name (object_of g l k) object a) ∙ ap (λ (p : Object Name X). needs_cursor p (At object a)) view
 
   pub live_needed : (c : Cursor) (a : Name) → a ≡ name_in c → needs_cursor o c ≡ None → IsLive k a
@@ -72,9 +70,8 @@ module _ {X : Type 0} (g : GuardCounts) (l : Limit) (k : Chained X) (o : Object 
       let live = live_needed b a is h in
       let there : Marks o r (mark_in (plain o) (index_of a k.rows + 1)) = marks_at (index_of a k.rows + 1) name r n e in
       let place : place_at (plain o).rows (mark_at o.number (name_in b).serial) ≡ index_of a k.rows =
-          subst (λ (p : Object Name X). place_at (plain p).rows (mark_at o.number (name_in b).serial) ≡ index_of a k.rows) view
-          (ap (λ (m : Name). place_at (plains k.rows) (mark_at o.number m.serial)) (sym is) ∙ place_live k a s live) in
-      (
+      subst (λ (p : Object Name X). place_at (plain p).rows (mark_at o.number (name_in b).serial) ≡ index_of a k.rows) view
+      (ap (λ (m : Name). place_at (plains k.rows) (mark_at o.number m.serial)) (sym is) ∙ place_live k a s live) in (
         ap (λ m. first_reason (m ∷ [])) (may_needed b h),
         subst (λ m. Marks o r (if is_no_mark m then no_mark else mark_in (plain o) (place_at (plain o).rows m + 1))) (sym (mark_needed b h))
             (subst (λ i. Marks o r (mark_in (plain o) (i + 1))) (sym place) there),
@@ -90,9 +87,8 @@ module _ {X : Type 0} (g : GuardCounts) (l : Limit) (k : Chained X) (o : Object 
       let live = live_needed b a is h in
       let there : Marks o r (mark_before (plain o) (index_of a k.rows)) = marks_before (index_of a k.rows) name r n e in
       let place : place_at (plain o).rows (mark_at o.number (name_in b).serial) ≡ index_of a k.rows =
-          subst (λ (p : Object Name X). place_at (plain p).rows (mark_at o.number (name_in b).serial) ≡ index_of a k.rows) view
-          (ap (λ (m : Name). place_at (plains k.rows) (mark_at o.number m.serial)) (sym is) ∙ place_live k a s live) in
-      (
+      subst (λ (p : Object Name X). place_at (plain p).rows (mark_at o.number (name_in b).serial) ≡ index_of a k.rows) view
+      (ap (λ (m : Name). place_at (plains k.rows) (mark_at o.number m.serial)) (sym is) ∙ place_live k a s live) in (
         ap (λ m. first_reason (m ∷ [])) (may_needed b h),
         subst (λ m. Marks o r (if is_no_mark m then no_mark else mark_before (plain o) (place_at (plain o).rows m))) (sym (mark_needed b h))
             (subst (λ i. Marks o r (mark_before (plain o) i)) (sym place) there),
@@ -101,8 +97,7 @@ module _ {X : Type 0} (g : GuardCounts) (l : Limit) (k : Chained X) (o : Object 
   pub element_looks : IsSound k → (c : Cursor) (a : Name) (lent : Bor X) → needs_cursor o c ≡ None → a ≡ name_in c → Some lent.now ≡ chain.value_of k a
       → Looking Lends (sequences.element_call (plain o) (mark o c)) (Ok lent)
   element_looks s c a lent h is v =
-      let live = live_needed c a is h in
-      (
+      let live = live_needed c a is h in (
         ap (λ m. first_reason (m ∷ [])) h,
         ap (λ m. value_at (plain o).rows (name_of m)) (mark_needed c h)
             ∙ ap (λ (p : Object Name X). value_at (plain p).rows (name_in c).serial) (sym view)

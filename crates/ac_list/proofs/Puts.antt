@@ -1,14 +1,14 @@
 -- Rows that are put before a place, one after another.
-use Rattle.std.proofs.Common.{◌≡◌, ℕ, zero, suc, ◌+◌, ◌-◌, ◌^◌, ◌<◌, ◌≤◌, List, [], ◌∷◌, ◌++◌, length, map, take, drop, reverse, replicate, Option, Some, None, refl, sym, ap, ◌∙◌, subst, inl, inr, arith, append_assoc, append-nil, length-append, le-leb}
+use Rattle.std.proofs.Common.{◌≡◌, ℕ, zero, suc, ◌+◌, ◌-◌, ◌^◌, ◌<◌, ◌≤◌, List, [], ◌∷◌, ◌++◌, length, reverse, replicate, Option, Some, None, refl, sym, ap, ◌∙◌, subst, inl, inr, arith, append_assoc, append-nil, length-append, le-leb}
 use Rattle.std.proofs.lemmas.List.{reverse-append, length-reverse, replicate_more, length-replicate}
 use Rattle.std.specs.List.{insert}
 use Rattle.ac_base.specs.declared.name.Name.{Name}
 use Rattle.ac_chain.specs.Rows as chain
 use Rattle.ac_chain.specs.Rows.{Chained, IsLive, IsSound, IsFresh, place_of, inserted, reserved, chained, index_of}
 use Rattle.ac_chain.specs.ChainFields.{first_or, HasName, IsOnce}
-use Rattle.ac_chain.proofs.Cuts.{Split, split, apart, index_of-cut, insert-cut, live_has, has_live, HasName-right}
+use Rattle.ac_chain.proofs.Cuts.{split, apart, index_of-cut, insert-cut, live_has, has_live, HasName-right}
 use Rattle.ac_chain.proofs.Moves.{once_from}
-use Rattle.ac_model.specs.Rows.{Row, row, fresh}
+use Rattle.ac_model.specs.Rows.{row, fresh}
 use Rattle.ac_pool.specs.Growth.{pow8}
 use Rattle.ac_pool.proofs.Powers.{pow8-enough}
 use Rattle.std.proofs.lemmas.Bool.{cond-true, cond-false, cases_lt, cases_eq, lt-leb}
@@ -59,7 +59,7 @@ module _ {X : Type 0} where
       let at : place_of place now.rows ≡ length left = ap (place_of place) p.are ∙ place_cut place left p.after once p.named in
       let are : insert now.rows (place_of place now.rows) r ≡ left ++ r ∷ p.after = ap (λ i. insert now.rows i r) at ∙ ap (λ zs. insert zs (length left) r) p.are ∙ insert-cut left r p.after in
       let join : left ++ r ∷ p.after ≡ p.before ++ (p.more ++ r ∷ []) ++ p.after =
-          sym (append_assoc left (r ∷ []) p.after) ∙ ap (λ zs. zs ++ p.after) (append_assoc p.before p.more (r ∷ [])) in
+      sym (append_assoc left (r ∷ []) p.after) ∙ ap (λ zs. zs ++ p.after) (append_assoc p.before p.more (r ∷ [])) in
       let serial : a.serial ≡ next + length vs = f.serial ∙ p.risen in
       let count : (next + length vs) + 1 ≡ next + length (vs ++ v ∷ []) = omega (arith, length-append vs (v ∷ [])) in
       record {

@@ -1,13 +1,10 @@
 -- Where a cursor stands: the rows of the chain, and the same rows as the definitions see them.
-use Rattle.std.proofs.Common.{◌≡◌, ◌≢◌, ℕ, zero, suc, ◌+◌, ◌<◌, ◌⊎◌, Bool, true, false, not, ◌&&◌, ◌||◌, true≢false, List, [], ◌∷◌, ◌++◌, length, map, Option, Some, None, refl, sym, ap, ◌∙◌, subst, inl, inr, arith, eq-eqb, ne_eqb, eqb-true}
+use Rattle.std.proofs.Common.{◌≡◌, ℕ, zero, suc, Bool, true, false, not, ◌&&◌, ◌||◌, true≢false, List, [], ◌∷◌, map, Option, Some, None, refl, sym, ap, ◌∙◌, subst, inl, inr, eq-eqb, ne_eqb, eqb-true}
 use Rattle.std.specs.Prelude.{◌==◌, slice_get}
 use Rattle.std.specs.Option.{option_map}
-use Rattle.std.specs.List.{list_any}
 use Rattle.std.proofs.lemmas.Bool.{cases_Bool, cases_eq, cond-true, cond-false}
 use Rattle.ac_base.specs.declared.limit.Limit.{Limit}
 use Rattle.ac_base.specs.declared.name.Name.{Name}
-use Rattle.ac_base.specs.declared.reason.Reason.{Reason}
-use Rattle.ac_base.specs.declared.reason.Reason.TheVariants.{ForeignCursor, DeadCursor}
 use Rattle.ac_cursor.specs.declared.cursor.Cursor.{Cursor}
 use Rattle.ac_cursor.specs.declared.cursor.Cursor.TheVariants.{NoElement, At}
 use Rattle.ac_cursor.specs.Guards.{GuardCounts}
@@ -15,13 +12,13 @@ use Rattle.ac_pool.proofs.NameLaws.{same_name}
 use Rattle.ac_chain.specs.Rows as chain
 use Rattle.ac_chain.specs.Rows.{Chained, index_of, IsLive, IsSound, name_at}
 use Rattle.ac_chain.specs.ChainFields.{HasName}
-use Rattle.ac_chain.proofs.Cuts.{has_live, live_has, index_here, index_past, name_at_has}
-use Rattle.ac_model.specs.Rows.{Row, row, names, is_named, place_of, named, value_at}
-use Rattle.ac_model.specs.Objects.{Object, plain, plain_row}
-use Rattle.ac_model.specs.Letters.{Mark, no_mark, mark_at, stale_mark, is_same_name, is_among, mark_of, judged_in, needs, may, mark_for, name_of}
+use Rattle.ac_chain.proofs.Cuts.{has_live, index_here, index_past, name_at_has}
+use Rattle.ac_model.specs.Rows.{Row, row, names, is_named, place_of, value_at}
+use Rattle.ac_model.specs.Objects.{Object, plain_row}
+use Rattle.ac_model.specs.Letters.{mark_at, is_same_name, is_among, mark_of, judged_in, mark_for}
 use Rattle.ac_model.proofs.RowLaws.{at_its_place}
 use Rattle.ac_list.specs.Put.{plains}
-use Rattle.ac_list.specs.State.{row_of, object_of, mark, needs_cursor, may_cursor, cursor_at, name_in}
+use Rattle.ac_list.specs.State.{row_of, object_of, needs_cursor, may_cursor, cursor_at, name_in}
 
 same_is : (a b : Name) → is_same_name a b ≡ true → a ≡ b
 same_is a b h = elim (cases_Bool (a.slot == b.slot)) [

@@ -6,3 +6,6 @@ mod put;
 mod reasons;
 
 pub use list::List;
+
+#[cfg(test)]
+mod tests;

@@ -37,7 +37,13 @@ fn put_each<T: Drop>(chain: &mut Chain<T>, place: Option<Name>, first: T, mut ot
 }
 
 /// Puts so many copies of the element before the place.
-pub fn put_copies<T: Elem>(chain: &mut Chain<T>, alloc: Global, place: Option<Name>, e: T, n: u64) -> Result<(), NoMemory>
+pub fn put_copies<T: Elem>(
+    chain: &mut Chain<T>,
+    alloc: Global,
+    place: Option<Name>,
+    e: T,
+    n: u64,
+) -> Result<(), NoMemory>
     requires place { ForSome place (IsLive chain.old) }
     requires few { length chain.old.rows + n ≤ 1000000 }
     requires unspent { chain.old.next_serial + n < 2 ^ 64 }

@@ -1,4 +1,4 @@
-use Rattle.std.proofs.Common.{◌≡◌, ◌∷◌, reverse, replicate, sym, subst, arith}
+use Rattle.std.proofs.Common.{replicate, sym, subst}
 use Rattle.ac_list.specs.Put.{IsPut}
 use Rattle.ac_list.proofs.Puts.{put_none, copies_put, copies_fit, copies_slots}
 use Rattle.ac_list.proofs.put.put_copies.Goals as goal

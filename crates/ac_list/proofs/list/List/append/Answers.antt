@@ -1,12 +1,10 @@
-use Rattle.std.proofs.Common.{◌≡◌, ◌∷◌, None, refl, sym, ap, ◌∙◌, subst, to_z-of_z, w64}
-use Rattle.std.specs.Option.{ForSome}
+use Rattle.std.proofs.Common.{◌∷◌, None, refl, sym, ap, ◌∙◌, subst, to_z-of_z, w64}
 use Rattle.ac_cursor.specs.Steps.{first_reason}
 use Rattle.ac_model.specs.Objects.{plain}
 use Rattle.ac_model.specs.Letters.{count_of, tampers_cursors}
 use Rattle.ac_model.specs.Sequences as sequences
 use Rattle.ac_model.specs.Sequences.{room_for_copies}
-use Rattle.ac_list.specs.State.{Listed, mark, may_cursor}
-use Rattle.ac_list.specs.Put.{Takes, IsNamed, spot}
+use Rattle.ac_list.specs.Put.{Takes, spot}
 use Rattle.ac_list.proofs.Grows.{takes_from, copies_changed}
 use Rattle.ac_list.proofs.list.List.append.Goals as goal
 

@@ -1,4 +1,4 @@
-use Rattle.std.proofs.Common.{◌≡◌, Some, None, sym, ap, ◌∙◌, subst}
+use Rattle.std.proofs.Common.{ap}
 use Rattle.ac_list.specs.State.{Listed}
 use Rattle.ac_list.proofs.Looks.{marks_at}
 use Rattle.ac_list.proofs.list.List.first.Goals as goal

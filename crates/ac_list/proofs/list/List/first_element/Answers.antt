@@ -1,4 +1,4 @@
-use Rattle.std.proofs.Common.{◌≡◌, Some, None, sym, ap, ◌∙◌, subst}
+use Rattle.std.proofs.Common.{ap}
 use Rattle.ac_list.specs.State.{Listed}
 use Rattle.ac_list.proofs.Looks.{live_name, first_element_looks, first_element_empty}
 use Rattle.ac_list.proofs.list.List.first_element.Goals as goal

@@ -1,12 +1,11 @@
-use Rattle.std.proofs.Common.{◌≡◌, ◌∷◌, None, refl, sym, ap, ◌∙◌, subst, to_z-of_z, w64}
-use Rattle.std.specs.Option.{ForSome}
+use Rattle.std.proofs.Common.{◌∷◌, sym, ap, ◌∙◌, subst, to_z-of_z, w64}
 use Rattle.ac_cursor.specs.Steps.{first_reason}
 use Rattle.ac_model.specs.Objects.{plain}
 use Rattle.ac_model.specs.Letters.{count_of, tampers_cursors, place_at}
 use Rattle.ac_model.specs.Sequences as sequences
 use Rattle.ac_model.specs.Sequences.{room_for_copies}
-use Rattle.ac_list.specs.State.{Listed, mark, may_cursor}
-use Rattle.ac_list.specs.Put.{Takes, IsNamed, spot}
+use Rattle.ac_list.specs.State.{mark}
+use Rattle.ac_list.specs.Put.{Takes}
 use Rattle.ac_list.proofs.Grows.{takes_from, copies_changed, place_none}
 use Rattle.ac_list.proofs.list.List.insert.Goals as goal
 

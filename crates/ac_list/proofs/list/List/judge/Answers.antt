@@ -1,4 +1,4 @@
-use Rattle.std.proofs.Common.{◌≡◌, Some, None, true, false, sym, ap, ◌∙◌, subst}
+use Rattle.std.proofs.Common.{true, false, ap, ◌∙◌}
 use Rattle.ac_list.specs.State.{Listed}
 use Rattle.ac_list.proofs.Looks.{judged}
 use Rattle.ac_list.proofs.list.List.judge.Goals as goal

@@ -1,4 +1,4 @@
-use Rattle.std.proofs.Common.{◌≡◌, Some, None, sym, ap, ◌∙◌, subst}
+use Rattle.std.proofs.Common.{ap}
 use Rattle.ac_list.specs.State.{Listed}
 use Rattle.ac_list.proofs.Looks.{marks_last}
 use Rattle.ac_list.proofs.list.List.last.Goals as goal

@@ -1,4 +1,4 @@
-use Rattle.std.proofs.Common.{◌≡◌, Some, None, sym, ap, ◌∙◌, subst}
+use Rattle.std.proofs.Common.{sym, ap}
 use Rattle.ac_list.specs.State.{Listed}
 use Rattle.ac_list.proofs.Looks.{live_needed, next_looks}
 use Rattle.ac_list.proofs.list.List.next.Goals as goal

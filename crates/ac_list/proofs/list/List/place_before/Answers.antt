@@ -1,6 +1,5 @@
-use Rattle.std.proofs.Common.{◌≡◌, sym, ap, ◌∙◌, subst}
+use Rattle.std.proofs.Common.{sym, ap, ◌∙◌, subst}
 use Rattle.std.specs.Option.{ForSome}
-use Rattle.ac_model.specs.Objects.{plain}
 use Rattle.ac_list.specs.State.{Listed}
 use Rattle.ac_list.specs.Put.{IsNamed, spot}
 use Rattle.ac_list.proofs.Grows.{insert_spot}

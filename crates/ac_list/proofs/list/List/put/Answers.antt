@@ -1,4 +1,4 @@
-use Rattle.std.proofs.Common.{◌≡◌, Some, None, sym, ap, ◌∙◌, subst}
+use Rattle.std.proofs.Common.{sym, ap, subst}
 use Rattle.ac_model.specs.Objects.{Object}
 use Rattle.ac_model.specs.Calls.{Changing, Same}
 use Rattle.ac_list.specs.State.{Listed, object_of}
@@ -28,6 +28,6 @@ pub returns : goal.returns
 returns g c =
     let i = c.self.inside in let view = ap (λ (x : Listed _). x.object) c.self.view_is in let o = c.args.self.now.object in let p = c.put_copies in
     let done = put_changes i.guards i.limit i.chain p.new.chain c.args.n c.args.place c.args.e p.result c.self.invariant
-        (named_live i.guards i.limit i.chain o view c.args.place c.requires.place) (takes_within i.guards i.limit i.chain o view c.args.n c.requires.room) p.ensures.put p.ensures.refused p.ensures.room in
+    (named_live i.guards i.limit i.chain o view c.args.place c.requires.place) (takes_within i.guards i.limit i.chain o view c.args.n c.requires.room) p.ensures.put p.ensures.refused p.ensures.room in
     subst (λ r. Changing Same (put_call o c.args.place c.args.e c.args.n) o (object_of i.guards i.limit p.new.chain) r) (sym c.as_fault.ensures)
     (subst (λ (q : Object _ _). Changing Same (put_call q c.args.place c.args.e c.args.n) q (object_of i.guards i.limit p.new.chain) (as_fault p.result)) view done)

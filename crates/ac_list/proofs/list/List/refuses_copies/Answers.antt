@@ -1,4 +1,4 @@
-use Rattle.std.proofs.Common.{ap, ◌∙◌, sym, to_z-of_z, w64}
+use Rattle.std.proofs.Common.{ap, ◌∙◌, to_z-of_z, w64}
 use Rattle.ac_list.specs.State.{Listed}
 use Rattle.ac_model.specs.Letters.{count_of, in_range}
 use Rattle.ac_list.proofs.Grows.{refused}
