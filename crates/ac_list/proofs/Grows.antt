@@ -1,0 +1,225 @@
+-- What a list is after copies were put into it.
+use Rattle.std.proofs.Common.{◌≡◌, ℕ, zero, suc, ◌+◌, ◌<◌, ◌≤◌, ◌&&◌, not, true, false, List, [], ◌∷◌, ◌++◌, length, map, reverse, replicate, Option, Some, None, Result, Ok, Err, IsTrue, refl, sym, ap, ◌∙◌, subst, inl, inr, arith, eqb-true, lt-ltb, true≢false, ◌^◌, ne_eqb}
+use Rattle.std.specs.Prelude.{◌==◌, IfOk, IfErr, IsOk, All, nat_lt}
+use Rattle.std.specs.Option.{ForSome}
+use Rattle.std.proofs.lemmas.Bool.{cases_Bool, cond-false, cases_lt}
+use Rattle.std.proofs.lemmas.List.{length-map, length-replicate, reverse-append}
+use Rattle.ac_base.specs.declared.limit.Limit.{Limit}
+use Rattle.ac_base.specs.declared.limit.Limit.TheVariants.{Unbounded, Bounded}
+use Rattle.ac_base.specs.declared.name.Name.{Name}
+use Rattle.ac_base.specs.declared.reason.Reason.{Reason}
+use Rattle.ac_base.specs.declared.reason.Reason.TheVariants.{LengthRange, CapacityFull, NamesSpent}
+use Rattle.ac_base.specs.declared.fault.Fault.{Fault}
+use Rattle.ac_base.specs.declared.fault.NoMemory.{NoMemory}
+use Rattle.ac_base.specs.declared.fault.Fault.TheVariants as fault
+use Rattle.ac_cursor.specs.Guards.{GuardCounts, forbids}
+use Rattle.ac_cursor.specs.declared.guard.Class.TheVariants as class
+use Rattle.ac_cursor.specs.declared.cursor.Cursor.{Cursor}
+use Rattle.ac_cursor.specs.declared.cursor.Cursor.TheVariants.{NoElement, At}
+use Rattle.ac_cursor.specs.Steps.{first_reason}
+use Rattle.ac_chain.specs.Rows as chain
+use Rattle.ac_chain.specs.Rows.{Chained, IsLive, IsSound, place_of, index_of, name_at, reversed}
+use Rattle.ac_chain.specs.ChainFields.{HasName}
+use Rattle.ac_chain.proofs.Cuts.{HasName-left, HasName-right, HasName-either, has_live, live_has, index_here}
+use Rattle.ac_model.specs.Rows as model
+use Rattle.ac_model.specs.Rows.{Row, row, names, fresh, put}
+use Rattle.ac_model.specs.Objects.{Object, plain, plain_row, length_of, is_past, greatest_length, numbers_end, capacity_after, with_rows}
+use Rattle.ac_model.specs.Letters.{is_among, has_room, tampers_cursors, room, in_range, count_of, reason_if, place_at}
+use Rattle.ac_model.specs.Calls.{call, Changing, IsAfter, Same, Done}
+use Rattle.ac_model.specs.Sequences.{with_new, room_for_copies, copies_take_memory, with_copies}
+use Rattle.ac_model.proofs.Reasons.{after_two, none_first, none_others, room_none}
+use Rattle.ac_list.specs.Put.{plains, IsPut, spot, IsNamed, Takes, put_call, as_fault}
+use Rattle.ac_list.specs.State.{row_of, object_of, IsList, may_cursor, mark, place_in}
+use Rattle.ac_list.proofs.Standing.{among_has, has_among, place_live, stands, may_by_name}
+use Rattle.ac_list.proofs.Puts.{plains-append, length-plains, put_length}
+
+pub accepted : {V : Type 0} (memory : _) (reason : Option Reason) (after : Object ℕ V) (old new : Object Name V) (r : Result Done Fault) → reason ≡ None
+    → Changing Same (call memory None after tt) old new r → Changing Same (call memory reason after tt) old new r
+accepted memory reason after old new (Ok x) e h = (e, h.1, h.2)
+accepted memory reason after old new (Err (fault.Raised q)) e h = absurd (let k : None ≡ Some q = h.0 in cc)
+accepted memory reason after old new (Err fault.NoMemory) e h = (h.0, e, h.2)
+
+no_capacity : (l : Limit) (n : ℕ) → capacity_after l None n ≡ None
+no_capacity Unbounded n = refl
+no_capacity (Bounded most) n = refl
+
+module _ {X : Type 0} where
+  -- of a list that takes so many more, the chain does too
+  pub takes_few : (g : GuardCounts) (l : Limit) (k : Chained X) (o : Object Name X) → object_of g l k ≡ o → (n : ℕ) → Takes o n → length k.rows + n ≤ 1000000
+  takes_few g l k o view n t = let few = (subst (λ (p : Object Name X). Takes p n) (sym view) t).few in let e = length-map k.rows row_of in omega arith
+
+  pub takes_names : (g : GuardCounts) (l : Limit) (k : Chained X) (o : Object Name X) → object_of g l k ≡ o → (n : ℕ) → Takes o n → k.next_serial + n < 2 ^ 64
+  takes_names g l k o view n t = let few = (subst (λ (p : Object Name X). Takes p n) (sym view) t).unspent in omega arith
+
+  pub named_live : (g : GuardCounts) (l : Limit) (k : Chained X) (o : Object Name X) → object_of g l k ≡ o → (place : Option Name) → ForSome place (IsNamed o) → ForSome place (IsLive k)
+  named_live g l k o view place h = λ a e. has_live a k.rows (among_has a k.rows (subst (λ (p : Object Name X). IsNamed p a) (sym view) (h a e)))
+
+  -- a bounded list that takes so many more has the slots
+  has_slots : (most : ℕ) (k : Chained X) (n : ℕ) → IsList (Bounded most) k → is_past (Bounded most) (length k.rows + n) ≡ false → n ≤ k.spare
+  has_slots most k n s h = let sum = s.limit_fits.1 in let le : length k.rows + n ≤ most = elim (cases_lt most (length k.rows + n)) [ inl lt ↦ absurd (let t = lt-ltb most (length k.rows + n) lt in true≢false (sym t ∙ h)) | inr le ↦ le ] in omega arith
+
+  pub list_after : (l : Limit) (k now : Chained X) (n : ℕ) (place : Option Name) (e : X) (r : Result Done NoMemory) → IsList l k → length k.rows + n ≤ 1000000 → is_past l (length k.rows + n) ≡ false
+      → IfOk r (λ _. IsPut k.rows k.next_serial place (replicate n e) now) → IfErr r (λ _. now ≡ k)
+      → (n ≤ k.spare → length now.rows + now.spare ≡ length k.rows + k.spare) → IsSound now → IsList l now
+  list_after l k now n place e (Err x) s few within ok err slots sound = subst (λ c. IsList l c) (sym err) s
+  list_after Unbounded k now n place e (Ok x) s few within ok err slots sound =
+      let a = put_length k.rows k.next_serial place (replicate n e) now ok in let b = length-replicate n e in
+      record { sound = sound; within_greatest = omega arith; limit_fits = tt }
+  list_after (Bounded most) k now n place e (Ok x) s few within ok err slots sound =
+      let a = put_length k.rows k.next_serial place (replicate n e) now ok in let b = length-replicate n e in
+      let sum = s.limit_fits.1 in let all = slots (has_slots most k n s within) in
+      let total : length now.rows + now.spare ≡ most = all ∙ sum in
+      record { sound = sound; within_greatest = omega arith; limit_fits = (s.limit_fits.0, total) }
+
+  all_from : (P : Name → Type 0) (rows : List (chain.Row X)) → ((a : Name) → HasName a rows → P a) → All P (names (map row_of rows))
+  all_from P [] h i d lt = absurd (omega arith)
+  all_from P (r ∷ rows) h zero d lt = h r.name (inl refl)
+  all_from P (r ∷ rows) h (suc i) d lt = all_from P rows (λ a t. h a (inr t)) i d (omega arith)
+
+  more_serials : (a : Name) (next : ℕ) (vs : List X) (more : List (chain.Row X)) → plains more ≡ fresh next vs → HasName a more → next ≤ a.serial
+  more_serials a next vs [] e h = absurd h
+  more_serials a next [] (r ∷ more) e h = absurd (cc)
+  more_serials a next (v ∷ vs) (r ∷ more) e h =
+      let first : row r.name.serial r.value ≡ row next v = cc in
+      let others : plains more ≡ fresh (next + 1) vs = cc in
+      let serial : r.name.serial ≡ next = ap (λ (q : Row ℕ X). q.name) first in
+      elim h [
+        | inl same ↦ let s : a.serial ≡ r.name.serial = ap (λ (n : Name). n.serial) same in omega arith
+        | inr t ↦ let later = more_serials a (next + 1) vs more others t in omega arith
+      ]
+
+  put_cut : (xs ys zs : List (Row ℕ X)) → put (xs ++ ys) (length xs) zs ≡ xs ++ zs ++ ys
+  put_cut [] ys zs = refl
+  put_cut (x ∷ xs) ys zs = ap (λ rows. x ∷ rows) (put_cut xs ys zs)
+
+  spot_is : (g : GuardCounts) (l : Limit) (k : Chained X) (place : Option Name) → IsSound k → ForSome place (IsLive k) → spot (object_of g l k) place ≡ place_of place k.rows
+  spot_is g l k None s h = length-plains k.rows
+  spot_is g l k (Some a) s h = place_live k a s (h a refl)
+
+  rows_put : (g : GuardCounts) (l : Limit) (k now : Chained X) (place : Option Name) (vs : List X) → IsSound k → ForSome place (IsLive k) → IsPut k.rows k.next_serial place vs now
+      → plains now.rows ≡ put (plains k.rows) (spot (object_of g l k) place) (fresh k.next_serial vs)
+  rows_put g l k now place vs s h p =
+      let fr = fresh k.next_serial vs in
+      let there : plains now.rows ≡ plains p.before ++ fr ++ plains p.after =
+      ap plains p.are ∙ plains-append (p.before ++ p.more) p.after ∙ ap (λ xs. xs ++ plains p.after) (plains-append p.before p.more ∙ ap (λ ys. plains p.before ++ ys) p.fresh_names) in
+      let at : spot (object_of g l k) place ≡ length (plains p.before) = spot_is g l k place s h ∙ p.at ∙ sym (length-plains p.before) in
+      let were : plains k.rows ≡ plains p.before ++ plains p.after = ap plains p.were ∙ plains-append p.before p.after in
+      there ∙ sym (put_cut (plains p.before) (plains p.after) fr) ∙ (λ i. put (sym were i) (sym at i) fr)
+
+  put_after : (g : GuardCounts) (l : Limit) (k now : Chained X) (n : ℕ) (place : Option Name) (e : X) → IsSound k → ForSome place (IsLive k) → IsPut k.rows k.next_serial place (replicate n e) now
+      → IsAfter (object_of g l k) (object_of g l now) (with_new (plain (object_of g l k)) (spot (object_of g l k) place) (replicate n e) n)
+  put_after g l k now n place e s h p =
+      let rows = rows_put g l k now place (replicate n e) s h p in
+      let next : now.next_serial ≡ k.next_serial + n = p.risen ∙ ap (λ m. k.next_serial + m) (length-replicate n e) in
+      let capacity = no_capacity l (length (put (plains k.rows) (spot (object_of g l k) place) (fresh k.next_serial (replicate n e)))) in
+      record {
+        plainly = λ i. record { number = g.number; limit = l; capacity = sym capacity i; next = next i; rows = rows i; cursor_guards = g.cursor_guards; element_guards = g.element_guards };
+        slots = all_from (λ name. name.serial < k.next_serial → IsTrue (is_among (names (map row_of k.rows)) name)) now.rows (λ a t lt.
+            elim (HasName-either a (p.before ++ p.more) p.after (subst (λ zs. HasName a zs) p.are t)) [
+              | inl left ↦ elim (HasName-either a p.before p.more left) [
+                | inl b ↦ has_among a k.rows (subst (λ zs. HasName a zs) (sym p.were) (HasName-left a p.before p.after b))
+                | inr m ↦ absurd (let high = more_serials a k.next_serial (replicate n e) p.more p.fresh_names m in omega arith)
+              ]
+              | inr right ↦ has_among a k.rows (subst (λ zs. HasName a zs) (sym p.were) (HasName-right a p.before p.after right))
+            ]);
+      }
+
+  wants : (g : GuardCounts) (l : Limit) (k : Chained X) (n : ℕ) → IsList l k → is_past l (length k.rows + n) ≡ false → (n ≤ 1 → n ≤ k.spare → ⊥) → IsTrue (not ((n == 1) && has_room (plain (object_of g l k))))
+  wants g Unbounded k n s within room = elim (cases_Bool (n == 1)) [ inl t ↦ ap (λ b. not (b && false)) t | inr f ↦ ap (λ b. not (b && false)) f ]
+  wants g (Bounded most) k n s within room = elim (cases_Bool (n == 1)) [
+    | inl t ↦ absurd (let one = eqb-true n 1 t in room (omega arith) (has_slots most k n s within))
+    | inr f ↦ ap (λ b. not (b && true)) f
+  ]
+
+  -- the copies are put, or memory is wanting and nothing has changed
+  pub put_changes : (g : GuardCounts) (l : Limit) (k now : Chained X) (n : ℕ) (place : Option Name) (e : X) (r : Result Done NoMemory) → IsList l k → ForSome place (IsLive k) → is_past l (length k.rows + n) ≡ false
+      → IfOk r (λ _. IsPut k.rows k.next_serial place (replicate n e) now) → IfErr r (λ _. now ≡ k) → (n ≤ 1 → n ≤ k.spare → IsOk r)
+      → Changing Same (put_call (object_of g l k) place e n) (object_of g l k) (object_of g l now) (as_fault r)
+  put_changes g l k now n place e (Ok x) s h within ok err room = (refl, put_after g l k now n place e s.sound h ok, refl)
+  put_changes g l k now n place e (Err q) s h within ok err room =
+      (wants g l k n s within (λ a b. absurd (let t : false ≡ true = room a b in true≢false (sym t))), refl, ap (object_of g l) err)
+
+  pub takes_within : (g : GuardCounts) (l : Limit) (k : Chained X) (o : Object Name X) → object_of g l k ≡ o → (n : ℕ) → Takes o n → is_past l (length k.rows + n) ≡ false
+  takes_within g l k o view n t =
+      subst (λ m. is_past l (m + n) ≡ false) (length-map k.rows row_of) (subst (λ (p : Object Name X). Takes p n) (sym view) t).within
+
+  pub takes_from : (o : Object Name X) (place : Option Reason) (n : _) → None ≡ first_reason (tampers_cursors (plain o) ∷ place ∷ room_for_copies (plain o) n) → Takes o (count_of n)
+  takes_from o place n h =
+      let rest = after_two (tampers_cursors (plain o)) place (room_for_copies (plain o) n) (sym h) in
+      let has = room_none (plain o) (length_of (plain o) + count_of n) (count_of n) (none_others (in_range n) (room (plain o) (length_of (plain o) + count_of n) (count_of n)) rest) in
+      subst (λ m. (m + count_of n ≤ greatest_length) → (is_past o.limit (m + count_of n) ≡ false) → Takes o (count_of n)) (sym (length-map o.rows plain_row)) (λ few within. record { few = few; within = within; unspent = has.within_names }) has.within_greatest has.within_limit
+
+  pub first_spot : (g : GuardCounts) (l : Limit) (k : Chained X) (o : Object Name X) → object_of g l k ≡ o → IsSound k → (place : Option Name) → place ≡ name_at k.rows 0 → (ForSome place (IsNamed o)) × (spot o place ≡ 0)
+  first_spot g l k o view s place e = subst (λ (p : Object Name X). (ForSome place (IsNamed p)) × (spot p place ≡ 0)) view (subst (λ q. (ForSome q (IsNamed (object_of g l k))) × (spot (object_of g l k) q ≡ 0)) (sym e) (at_first k.rows refl))
+    where
+      at_first : (rows : List (chain.Row X)) → k.rows ≡ rows → (ForSome (name_at k.rows 0) (IsNamed (object_of g l k))) × (spot (object_of g l k) (name_at k.rows 0) ≡ 0)
+      at_first [] is = subst (λ rows. (ForSome (name_at rows 0) (IsNamed (object_of g l k))) × (spot (object_of g l k) (name_at rows 0) ≡ 0)) (sym is) ((λ a q. absurd (let n : None ≡ Some a = q in cc)), ap (λ rows. length (plains rows)) is)
+      at_first (r ∷ rows) is =
+          let h : HasName r.name k.rows = subst (λ zs. HasName r.name zs) (sym is) (inl refl) in
+          subst (λ zs. (ForSome (name_at zs 0) (IsNamed (object_of g l k))) × (spot (object_of g l k) (name_at zs 0) ≡ 0)) (sym is) (
+            (λ a q. subst (λ n. IsNamed (object_of g l k) n) (let same : r.name ≡ a = cc in same) (has_among r.name k.rows h)),
+            place_live k r.name s (has_live r.name k.rows h) ∙ ap (index_of r.name) is ∙ index_here r.name r rows refl,
+          )
+
+  -- no row has the name that a cursor at no element has
+  past_end : (rows : List (chain.Row X)) → ((a : Name) → HasName a rows → 0 < a.serial) → model.place_of (plains rows) 0 ≡ length (plains rows)
+  past_end [] h = refl
+  past_end (r ∷ rows) h =
+      let some = h r.name (inl refl) in
+      cond-false _ _ _ (ne_eqb r.name.serial 0 (λ e. omega arith)) ∙ ap suc (past_end rows (λ a t. h a (inr t)))
+
+  pub insert_spot : (g : GuardCounts) (l : Limit) (k : Chained X) (o : Object Name X) → object_of g l k ≡ o → IsSound k → (b : Cursor) → may_cursor o b ≡ None
+      → (ForSome (place_in b) (IsNamed o)) × (spot o (place_in b) ≡ place_at (plain o).rows (mark o b))
+  insert_spot g l k o view s b h =
+      subst (λ (p : Object Name X). may_cursor p b ≡ None → (ForSome (place_in b) (IsNamed p)) × (spot p (place_in b) ≡ place_at (plain p).rows (mark p b))) view (at b) h
+    where
+      at : (b : Cursor) → may_cursor (object_of g l k) b ≡ None → (ForSome (place_in b) (IsNamed (object_of g l k))) × (spot (object_of g l k) (place_in b) ≡ place_at (plains k.rows) (mark (object_of g l k) b))
+      at NoElement e = ((λ a q. absurd (let n : None ≡ Some a = q in cc)), sym (past_end k.rows (λ a t. (s.issued a (has_live a k.rows t)).0)))
+      at (At object a) e =
+          let t = stands g l k (At object a) (sym (may_by_name (object_of g l k) object a) ∙ e) in (
+            (λ n q. subst (λ m. IsNamed (object_of g l k) m) (let same : a ≡ n = cc in same) (has_among a k.rows (live_has a k.rows t.live))),
+            ap (λ m. place_at (plains k.rows) m) (sym t.marked),
+          )
+
+  -- the reasons that were looked for are the definition's
+  pub refused : (g : GuardCounts) (l : Limit) (k : Chained X) (o : Object Name X) → object_of g l k ≡ o → (n : _) (more len next : ℕ) (place result t a b c d : Option Reason)
+      → more ≡ count_of n → len ≡ length k.rows → next ≡ k.next_serial → t ≡ forbids class.Cursors g.cursor_guards g.element_guards → a ≡ in_range n
+      → b ≡ reason_if (nat_lt greatest_length (len + more)) LengthRange → c ≡ reason_if (is_past l (len + more)) CapacityFull → d ≡ reason_if (nat_lt numbers_end (next + more)) NamesSpent
+      → result ≡ first_reason (t ∷ place ∷ a ∷ b ∷ c ∷ d ∷ []) → result ≡ first_reason (tampers_cursors (plain o) ∷ place ∷ room_for_copies (plain o) n)
+  refused g l k o view n more len next place result t a b c d em el en et ea eb ec ed er =
+      let sum : len + more ≡ length (plains k.rows) + count_of n = λ i. (el ∙ sym (length-plains k.rows)) i + em i in
+      er ∙ (λ i. first_reason (et i ∷ place ∷ ea i
+      ∷ (eb ∙ ap (λ m. reason_if (nat_lt greatest_length m) LengthRange) sum) i
+      ∷ (ec ∙ ap (λ m. reason_if (is_past l m) CapacityFull) sum) i
+      ∷ (ed ∙ (λ j. reason_if (nat_lt numbers_end (en j + em j)) NamesSpent)) i ∷ []))
+      ∙ ap (λ (p : Object Name X). first_reason (tampers_cursors (plain p) ∷ place ∷ room_for_copies (plain p) n)) view
+
+  pub place_none : (o : Object Name X) (place : Option Reason) (n : _) → first_reason (tampers_cursors (plain o) ∷ place ∷ room_for_copies (plain o) n) ≡ None → place ≡ None
+  place_none o place n h = none_first place (room_for_copies (plain o) n) (none_others (tampers_cursors (plain o)) (place ∷ room_for_copies (plain o) n) h)
+
+  pub copies_changed : (o new : Object Name X) (place : Option Name) (at m : ℕ) (n : _) (e : X) (r : Result Done Fault) (reason : Option Reason) → spot o place ≡ at → m ≡ count_of n → reason ≡ None
+      → Changing Same (put_call o place e m) o new r → Changing Same (call (copies_take_memory (plain o) n) reason (with_copies (plain o) at e n) tt) o new r
+  copies_changed o new place at m n e r reason spot_at count none h =
+      accepted (copies_take_memory (plain o) n) reason (with_copies (plain o) at e n) o new r none
+      (subst (λ a. Changing Same (call (copies_take_memory (plain o) n) None (with_copies (plain o) a e n) tt) o new r) spot_at
+      (subst (λ q. Changing Same (put_call o place e q) o new r) count h))
+
+  plains-reverse : (rows : List (chain.Row X)) → plains (reverse rows) ≡ reverse (plains rows)
+  plains-reverse [] = refl
+  plains-reverse (r ∷ rows) =
+      ap plains (reverse-append (r ∷ []) rows) ∙ plains-append (reverse rows) (r ∷ []) ∙ ap (λ zs. zs ++ plains (r ∷ [])) (plains-reverse rows) ∙ sym (reverse-append (plains (r ∷ [])) (plains rows))
+
+  reverse_has : (a : Name) (rows : List (chain.Row X)) → HasName a (reverse rows) → HasName a rows
+  reverse_has a [] h = h
+  reverse_has a (r ∷ rows) h = elim (HasName-either a (reverse rows) (r ∷ []) (subst (λ zs. HasName a zs) (reverse-append (r ∷ []) rows) h)) [
+    | inl t ↦ inr (reverse_has a rows t)
+    | inr e ↦ elim e [ inl same ↦ inl same | inr none ↦ absurd none ]
+  ]
+
+  pub reversed_after : (g : GuardCounts) (l : Limit) (k now : Chained X) (o : Object Name X) → object_of g l k ≡ o → now ≡ reversed k → IsAfter o (object_of g l now) (with_rows (plain o) (reverse (plain o).rows))
+  reversed_after g l k now o view e =
+      subst (λ (p : Object Name X). IsAfter p (object_of g l now) (with_rows (plain p) (reverse (plain p).rows))) view
+      (subst (λ (d : Chained X). IsAfter (object_of g l k) (object_of g l d) (with_rows (plain (object_of g l k)) (reverse (plains k.rows)))) (sym e) (record {
+        plainly = ap (λ rows. record { number = g.number; limit = l; capacity = None; next = k.next_serial; rows = rows; cursor_guards = g.cursor_guards; element_guards = g.element_guards }) (plains-reverse k.rows);
+        slots = all_from (λ name. name.serial < k.next_serial → IsTrue (is_among (names (map row_of k.rows)) name)) (reverse k.rows) (λ a t lt. has_among a k.rows (reverse_has a k.rows t));
+      }))

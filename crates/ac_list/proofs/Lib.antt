@@ -1,0 +1,4 @@
+pub mod Standing
+pub mod Looks
+pub mod Puts
+pub mod Grows

@@ -1,0 +1,388 @@
+//! The list. A contract sees its object, with the slots of its names, and how many elements more it takes without memory.
+ghost use Rattle.std.specs.Prelude.{◌≡◌, ◌∷◌, ℕ, ◌+◌, ◌≤◌, None, pos, IfOk, IfErr, IsOk, length, false, refl};
+ghost use Rattle.ac_list.specs.State.{IsLimit, first_spare, with_guards, guards_of, mark, needs_cursor, may_cursor, cursor_at, name_in, place_in};
+ghost use Rattle.std.specs.Option.{ForSome};
+ghost use Rattle.ac_list.specs.Put.{IsNamed, Takes, put_call, as_fault, spot};
+ghost use Rattle.ac_model.specs.Letters.{tampers_cursors, place_at};
+ghost use Rattle.ac_model.specs.Sequences.{room_for_copies};
+ghost use Rattle.ac_cursor.specs.Steps.{first_reason};
+ghost use Rattle.ac_model.specs.Objects.{empty_object, plain, length_of};
+ghost use Rattle.ac_model.specs.Calls.{Changing, Looking, Same, Lends, Marks};
+ghost use Rattle.ac_model.specs.Common as common;
+ghost use Rattle.ac_model.specs.Sequences as sequences;
+ghost use Rattle.ac_model.specs.Lists as lists;
+
+use crate::put::put_copies;
+use crate::reasons::{count_of, in_range, names_spent, too_long, too_many};
+use ac_base::{Elem, Fault, Limit, Name, NoMemory, Reason};
+use ac_chain::Chain;
+use ac_cursor::{Class, Cursor, GuardKey, GuardKind, Guarded, Guards, Tag, first_reason};
+use std::alloc::Global;
+use std::marker::Model;
+
+/// A doubly linked list (A.18.3), which is told its number by a tag.
+#[derive(Drop)]
+pub struct List<T> {
+    alloc: Global,
+    chain: Chain<T>,
+    guards: Guards,
+    limit: Limit,
+}
+
+impl<T> Model for List<T> {
+    ghost use Rattle.ac_list.specs.State.{Listed, listed, listed_code, object_of, IsList};
+
+    ghost Value = { Listed T };
+
+    ghost coded = { listed_code T.code };
+
+    ghost view = { λ l. listed (object_of l.guards l.limit l.chain) l.chain.spare };
+
+    ghost invariant = { λ l. IsList l.limit l.chain };
+}
+
+impl<T: Drop> List<T> {
+    /// An empty list. A bounded one takes all its memory here, and an unbounded one takes none.
+    pub fn new(alloc: Global, tag: Tag, limit: Limit) -> Result<List<T>, Fault>
+        requires { IsLimit limit }
+        ensures empty { IfOk result (λ made. made.object ≡ empty_object false tag limit) }
+        ensures spare { IfOk result (λ made. made.spare ≡ first_spare limit) }
+        ensures memory { IfErr result (λ e. e ≡ Fault.NoMemory) }
+        ensures unbounded { limit ≡ Limit.Unbounded → IsOk result }
+    {
+        let chain = match limit {
+            Limit::Unbounded => Chain::new(alloc),
+            Limit::Bounded(most) => match Chain::with_slots(alloc, most) {
+                Ok(chain) => chain,
+                Err(_) => return Err(Fault::NoMemory),
+            },
+        };
+        Ok(List {
+            alloc,
+            chain,
+            guards: Guards::new(tag),
+            limit,
+        })
+    }
+}
+
+impl<T> List<T> {
+    pub fn number(&self) -> u64
+        ensures { result ≡ self.now.object.number }
+    {
+        self.guards.number()
+    }
+
+    pub fn limit(&self) -> Limit
+        ensures { result ≡ self.now.object.limit }
+    {
+        self.limit
+    }
+
+    /// Length (A.18.3).
+    pub fn length(&self) -> i64
+        ensures { result ≡ common.length_call (plain self.now.object) }
+    {
+        self.chain.len() as i64
+    }
+
+    /// Is_Empty (A.18.3).
+    pub fn is_empty(&self) -> bool
+        ensures { result ≡ common.is_empty_call (plain self.now.object) }
+    {
+        self.chain.len() == 0
+    }
+
+    /// How many elements have a slot.
+    pub fn live_nodes(&self) -> u64
+        ensures { result ≡ length_of self.now.object }
+    {
+        self.chain.len()
+    }
+
+    /// How many slots there are, with and without an element.
+    pub fn slots(&self) -> u64
+        ensures { result ≡ length_of self.now.object + self.now.spare }
+    {
+        self.chain.len() + self.chain.spare()
+    }
+}
+
+impl<T> List<T> {
+    /// Has_Element (A.18.3): false for a cursor of another list, and for one whose element is gone.
+    pub fn has_element(&self, c: Cursor) -> bool
+        ensures { result ≡ common.has_element_call (plain self.now.object) (mark self.now.object c) }
+    {
+        self.needs(c).is_none()
+    }
+
+    /// First (A.18.3).
+    pub fn first(&self) -> Cursor
+        ensures { Marks self.now.object result (sequences.first_call (plain self.now.object)) }
+    {
+        self.cursor_at(self.chain.first())
+    }
+
+    /// Last (A.18.3).
+    pub fn last(&self) -> Cursor
+        ensures { Marks self.now.object result (sequences.last_call (plain self.now.object)) }
+    {
+        self.cursor_at(self.chain.last())
+    }
+
+    /// Next (A.18.3).
+    pub fn next(&self, b: Cursor) -> Result<Cursor, Fault>
+        ensures { Looking (Marks self.now.object) (sequences.next_call (plain self.now.object) (mark self.now.object b)) result }
+    {
+        if b == Cursor::NoElement {
+            return Ok(Cursor::NoElement);
+        }
+        match self.needs(b) {
+            Some(reason) => Err(Fault::Raised(reason)),
+            None => Ok(self.cursor_at(self.chain.next(name_in(b)))),
+        }
+    }
+
+    /// Previous (A.18.3).
+    pub fn previous(&self, b: Cursor) -> Result<Cursor, Fault>
+        ensures { Looking (Marks self.now.object) (sequences.previous_call (plain self.now.object) (mark self.now.object b)) result }
+    {
+        if b == Cursor::NoElement {
+            return Ok(Cursor::NoElement);
+        }
+        match self.needs(b) {
+            Some(reason) => Err(Fault::Raised(reason)),
+            None => Ok(self.cursor_at(self.chain.prev(name_in(b)))),
+        }
+    }
+
+    /// First_Element (A.18.3).
+    pub fn first_element(&self) -> Result<&T, Fault>
+        ensures { Looking Lends (sequences.first_element_call (plain self.now.object)) result }
+    {
+        match self.chain.first() {
+            Some(name) => Ok(self.chain.at(name)),
+            None => Err(Fault::Raised(Reason::Empty)),
+        }
+    }
+
+    /// Last_Element (A.18.3).
+    pub fn last_element(&self) -> Result<&T, Fault>
+        ensures { Looking Lends (sequences.last_element_call (plain self.now.object)) result }
+    {
+        match self.chain.last() {
+            Some(name) => Ok(self.chain.at(name)),
+            None => Err(Fault::Raised(Reason::Empty)),
+        }
+    }
+
+    /// Element (A.18.3).
+    pub fn element(&self, c: Cursor) -> Result<&T, Fault>
+        ensures { Looking Lends (sequences.element_call (plain self.now.object) (mark self.now.object c)) result }
+    {
+        match self.needs(c) {
+            Some(reason) => Err(Fault::Raised(reason)),
+            None => Ok(self.chain.at(name_in(c))),
+        }
+    }
+
+    /// Why a cursor that must designate an element is refused.
+    fn needs(&self, c: Cursor) -> Option<Reason>
+        ensures { result ≡ needs_cursor self.now.object c }
+    {
+        match c {
+            Cursor::NoElement => Some(Reason::NoElement),
+            Cursor::At { object, name } => self.judge(object, name),
+        }
+    }
+
+    /// Why a cursor that may be No_Element is refused.
+    fn may(&self, c: Cursor) -> Option<Reason>
+        ensures { result ≡ may_cursor self.now.object c }
+    {
+        match c {
+            Cursor::NoElement => None,
+            Cursor::At { object, name } => self.judge(object, name),
+        }
+    }
+
+    fn judge(&self, object: u64, name: Name) -> Option<Reason>
+        ensures { result ≡ needs_cursor self.now.object (Cursor.At object name) }
+    {
+        if object != self.guards.number() {
+            return Some(Reason::ForeignCursor);
+        }
+        if self.chain.is_live(name) {
+            None
+        } else {
+            Some(Reason::DeadCursor)
+        }
+    }
+
+    fn cursor_at(&self, name: Option<Name>) -> Cursor
+        ensures { result ≡ cursor_at self.now.object.number name }
+    {
+        match name {
+            None => Cursor::NoElement,
+            Some(name) => Cursor::At {
+                object: self.guards.number(),
+                name,
+            },
+        }
+    }
+}
+
+fn as_fault(done: Result<(), NoMemory>) -> Result<(), Fault>
+    ensures { result ≡ as_fault done }
+{
+    match done {
+        Ok(()) => Ok(()),
+        Err(_) => Err(Fault::NoMemory),
+    }
+}
+
+fn place_in(c: Cursor) -> Option<Name>
+    ensures { result ≡ place_in c }
+{
+    match c {
+        Cursor::NoElement => None,
+        Cursor::At { object: _, name } => Some(name),
+    }
+}
+
+fn name_in(c: Cursor) -> Name
+    ensures { result ≡ name_in c }
+{
+    match c {
+        Cursor::NoElement => Name { slot: 0, serial: 0 },
+        Cursor::At { object: _, name } => name,
+    }
+}
+
+impl<T> List<T> {
+    /// Reverse_Elements (A.18.3): the elements with their names.
+    pub fn reverse_elements(&mut self) -> Result<(), Fault>
+        ensures { Changing Same (lists.reverse_elements_call (plain self.old.object)) self.old.object self.new.object result }
+    {
+        match self.guards.forbids(Class::Cursors) {
+            Some(reason) => Err(Fault::Raised(reason)),
+            None => {
+                self.chain.reverse();
+                Ok(())
+            }
+        }
+    }
+}
+
+impl<T: Drop> List<T> {
+    /// Clear (A.18.3).
+    pub fn clear(&mut self) -> Result<(), Fault>
+        ensures { Changing Same (common.clear_call (plain self.old.object)) self.old.object self.new.object result }
+    {
+        match self.guards.forbids(Class::Cursors) {
+            Some(reason) => Err(Fault::Raised(reason)),
+            None => {
+                self.chain.clear();
+                Ok(())
+            }
+        }
+    }
+}
+
+impl<T: Elem> List<T> {
+    /// Append (A.18.3): so many copies at the end.
+    pub fn append(&mut self, e: T, n: i64) -> Result<(), Fault>
+        ensures { Changing Same (sequences.append_call (plain self.old.object) e n) self.old.object self.new.object result }
+    {
+        match self.refuses_copies(None, n) {
+            Some(reason) => Err(Fault::Raised(reason)),
+            None => self.put(None, e, count_of(n)),
+        }
+    }
+
+    /// Prepend (A.18.3): so many copies at the front.
+    pub fn prepend(&mut self, e: T, n: i64) -> Result<(), Fault>
+        ensures { Changing Same (sequences.prepend_call (plain self.old.object) e n) self.old.object self.new.object result }
+    {
+        match self.refuses_copies(None, n) {
+            Some(reason) => Err(Fault::Raised(reason)),
+            None => {
+                let first = self.chain.first();
+                self.put(first, e, count_of(n))
+            }
+        }
+    }
+
+    /// Insert (A.18.3): so many copies before the cursor, where No_Element is the end.
+    pub fn insert(&mut self, b: Cursor, e: T, n: i64) -> Result<(), Fault>
+        ensures { Changing Same (sequences.insert_call (plain self.old.object) (mark self.old.object b) e n) self.old.object self.new.object result }
+    {
+        match self.refuses_copies(self.may(b), n) {
+            Some(reason) => Err(Fault::Raised(reason)),
+            None => self.put(self.place_before(b), e, count_of(n)),
+        }
+    }
+
+    /// The place before the cursor.
+    fn place_before(&self, b: Cursor) -> Option<Name>
+        requires { may_cursor self.now.object b ≡ None }
+        ensures named { ForSome result (IsNamed self.now.object) }
+        ensures spot { spot self.now.object result ≡ place_at (plain self.now.object).rows (mark self.now.object b) }
+    {
+        let _chain = &self.chain;
+        place_in(b)
+    }
+
+    /// Why so many copies before a place are refused, where this reason was found for the place.
+    fn refuses_copies(&self, place: Option<Reason>, n: i64) -> Option<Reason>
+        ensures { result ≡ first_reason (tampers_cursors (plain self.now.object) ∷ place ∷ room_for_copies (plain self.now.object) n) }
+    {
+        let more = count_of(n);
+        let length = self.chain.len() + more;
+        first_reason(&[
+            self.guards.forbids(Class::Cursors),
+            place,
+            in_range(n),
+            too_long(length),
+            too_many(self.limit, length),
+            names_spent(self.chain.next_serial(), more),
+        ])
+    }
+
+    /// Puts so many copies before the place.
+    fn put(&mut self, place: Option<Name>, e: T, n: u64) -> Result<(), Fault>
+        requires place { ForSome place (IsNamed self.old.object) }
+        requires room { Takes self.old.object n }
+        ensures { Changing Same (put_call self.old.object place e n) self.old.object self.new.object result }
+    {
+        as_fault(put_copies(&mut self.chain, self.alloc, place, e, n))
+    }
+}
+
+impl<T> Guarded for List<T> {
+    ghost is_set = { λ _. false };
+
+    ghost guards = { guards_of };
+
+    ghost with_guards = { with_guards };
+
+    fn hold(&mut self, kind: GuardKind) -> GuardKey {
+        self.guards.hold(kind)
+    }
+
+    fn release(&mut self, key: GuardKey) {
+        self.guards.release(key);
+    }
+
+    fn held(&self, kind: GuardKind) -> u64 {
+        self.guards.held(kind)
+    }
+
+    ghost guards_given = { λ _ _. refl };
+
+    ghost guards_own = { λ _. refl };
+
+    ghost rest_kept = { λ _ _ _. refl };
+
+    ghost set_kept = { λ _ _. refl };
+}

@@ -1,0 +1,75 @@
+use super::*;
+use ac_base::{Fault, Limit, Reason};
+use ac_cursor::{Cursor, GuardKind, Guarded, TagMint};
+use std::alloc::Global;
+use std::process::Abort;
+use std::test::Fail;
+
+fn list(rt: &impl Abort, alloc: Global, number: u64, limit: Limit) -> List<i64> {
+    assert!(rt; limit == Limit::Unbounded || limit == Limit::Bounded(2));
+    match TagMint::starting_at(number).next() {
+        Some(tag) => match List::new(alloc, tag, limit) {
+            Ok(made) => made,
+            Err(_) => panic!(rt; "no memory"),
+        },
+        None => panic!(rt; "no tag"),
+    }
+}
+
+fn element(list: &List<i64>, c: Cursor) -> Option<i64> {
+    list.element(c).ok().copied()
+}
+
+#[test]
+fn elements_stand_in_order(rt: HostRuntime) {
+    let mut list = list(&rt, rt.alloc(), 1, Limit::Unbounded);
+    assert!(rt; list.append(20, 2).is_ok());
+    assert!(rt; list.prepend(10, 1).is_ok());
+    assert!(rt; list.append(40, 1).is_ok());
+    let last = list.last();
+    assert!(rt; list.insert(last, 30, 1).is_ok());
+    assert_eq!(rt; list.length(), 5);
+    assert!(rt; list.reverse_elements().is_ok());
+    let mut c = list.first();
+    for wanted in [40, 30, 20, 20, 10] {
+        assert_eq!(rt; element(&list, c), Some(wanted));
+        c = list.next(c).unwrap_or(Cursor::NoElement);
+    }
+    assert!(rt; c == Cursor::NoElement);
+    assert_eq!(rt; list.first_element().ok().copied(), Some(40));
+    assert_eq!(rt; list.last_element().ok().copied(), Some(10));
+    assert_eq!(rt; list.slots(), 8);
+}
+
+#[test]
+fn a_dead_cursor_stays_dead(rt: HostRuntime) {
+    let mut list = list(&rt, rt.alloc(), 1, Limit::Unbounded);
+    assert!(rt; list.append(10, 1).is_ok());
+    let c = list.first();
+    assert!(rt; list.clear().is_ok());
+    assert!(rt; list.append(20, 1).is_ok());
+    assert!(rt; !list.has_element(c));
+    assert!(rt; list.next(c) == Err(Fault::Raised(Reason::DeadCursor)));
+    assert_eq!(rt; element(&list, c), None);
+}
+
+#[test]
+fn a_bounded_list_is_full(rt: HostRuntime) {
+    let mut list = list(&rt, rt.alloc(), 1, Limit::Bounded(2));
+    assert_eq!(rt; list.slots(), 2);
+    assert!(rt; list.append(10, 3) == Err(Fault::Raised(Reason::CapacityFull)));
+    assert!(rt; list.append(10, 2).is_ok());
+    assert!(rt; list.prepend(10, 1) == Err(Fault::Raised(Reason::CapacityFull)));
+    assert!(rt; list.prepend(10, -1) == Err(Fault::Raised(Reason::LengthRange)));
+    assert_eq!(rt; list.live_nodes(), 2);
+}
+
+#[test]
+fn a_guard_refuses_what_adds(rt: HostRuntime) {
+    let mut list = list(&rt, rt.alloc(), 1, Limit::Unbounded);
+    assert!(rt; list.held(GuardKind::Cursors) < 9);
+    let key = list.hold(GuardKind::Cursors);
+    assert!(rt; list.append(10, 1) == Err(Fault::Raised(Reason::CursorTampering)));
+    list.release(key);
+    assert!(rt; list.append(10, 1).is_ok());
+}
