@@ -2,3 +2,4 @@ pub mod Standing
 pub mod Looks
 pub mod Puts
 pub mod Grows
+pub mod Valid

@@ -125,3 +125,8 @@ IsLimit (Bounded most) = most ≤ greatest_length
 abbrev pub first_spare : Limit → ℕ
 first_spare Unbounded = 0
 first_spare (Bounded most) = most
+
+-- a bounded list has the slots of all that it may hold
+abbrev pub HasSlots : Limit → ℕ → ℕ → Type 0
+HasSlots Unbounded length spare = ⊤
+HasSlots (Bounded most) length spare = length + spare ≡ most

@@ -1,12 +1,12 @@
 //! The list. A contract sees its object, with the slots of its names, and how many elements more it takes without memory.
 ghost use Rattle.std.specs.Prelude.{◌≡◌, ◌∷◌, ℕ, ◌+◌, ◌≤◌, None, pos, IfOk, IfErr, IsOk, length, false, refl};
-ghost use Rattle.ac_list.specs.State.{IsLimit, first_spare, with_guards, guards_of, mark, needs_cursor, may_cursor, cursor_at, name_in, place_in};
+ghost use Rattle.ac_list.specs.State.{IsLimit, HasSlots, first_spare, with_guards, guards_of, mark, needs_cursor, may_cursor, cursor_at, name_in, place_in};
 ghost use Rattle.std.specs.Option.{ForSome};
 ghost use Rattle.ac_list.specs.Put.{IsNamed, Takes, put_call, as_fault, spot};
 ghost use Rattle.ac_model.specs.Letters.{tampers_cursors, place_at};
 ghost use Rattle.ac_model.specs.Sequences.{room_for_copies};
 ghost use Rattle.ac_cursor.specs.Steps.{first_reason};
-ghost use Rattle.ac_model.specs.Objects.{empty_object, plain, length_of};
+ghost use Rattle.ac_model.specs.Objects.{IsValid, empty_object, plain, length_of};
 ghost use Rattle.ac_model.specs.Calls.{Changing, Looking, Same, Lends, Marks};
 ghost use Rattle.ac_model.specs.Common as common;
 ghost use Rattle.ac_model.specs.Sequences as sequences;
@@ -67,6 +67,15 @@ impl<T: Drop> List<T> {
 }
 
 impl<T> List<T> {
+    /// What holds of every list, for proofs alone.
+    pub fn law(&self)
+        ensures valid { IsValid (plain self.now.object) }
+        ensures limit { IsLimit self.now.object.limit }
+        ensures slots { HasSlots self.now.object.limit (length_of self.now.object) self.now.spare }
+    {
+        let _chain = &self.chain;
+    }
+
     pub fn number(&self) -> u64
         ensures { result ≡ self.now.object.number }
     {

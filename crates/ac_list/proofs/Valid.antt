@@ -1,0 +1,63 @@
+-- What holds of every list, in the words of the definitions.
+use Rattle.std.proofs.Common.{◌≡◌, ◌≢◌, ℕ, ◌+◌, ◌≤◌, false, List, [], ◌∷◌, length, map, refl, sym, ◌∙◌, subst, inl, inr, arith, eq-eqb, ne_eqb, le_of_eq}
+use Rattle.std.specs.Prelude.{◌==◌, if◌then◌else◌}
+use Rattle.std.proofs.lemmas.Bool.{cases_eq, cond-true, cond-false, le-ltb}
+use Rattle.std.proofs.lemmas.List.{length-map}
+use Rattle.ac_base.specs.declared.limit.Limit.{Limit}
+use Rattle.ac_base.specs.declared.limit.Limit.TheVariants.{Unbounded, Bounded}
+use Rattle.ac_base.specs.declared.name.Name.{Name}
+use Rattle.ac_cursor.specs.Guards.{GuardCounts}
+use Rattle.ac_chain.specs.Rows as chain
+use Rattle.ac_chain.specs.Rows.{Chained}
+use Rattle.ac_chain.specs.ChainFields.{HasName, IsOnce}
+use Rattle.ac_chain.proofs.Cuts.{has_live}
+use Rattle.ac_chain.proofs.Moves.{once_from}
+use Rattle.ac_model.specs.Objects.{Object, plain, times, is_past, IsValid}
+use Rattle.ac_list.specs.Put.{plains}
+use Rattle.ac_list.specs.State.{row_of, object_of, IsList, IsLimit, HasSlots}
+use Rattle.ac_list.proofs.Puts.{length-plains}
+
+module _ {X : Type 0} where
+  times_none : (s : ℕ) (rows : List (chain.Row X)) → ((a : Name) → HasName a rows → a.serial ≢ s) → times s (plains rows) ≡ 0
+  times_none s [] h = refl
+  times_none s (r ∷ rows) h =
+      let here : (if r.name.serial == s then 1 else 0) ≡ 0 = cond-false (r.name.serial == s) 1 0 (ne_eqb r.name.serial s (h r.name (inl refl))) in
+      let others : times s (plains rows) ≡ 0 = times_none s rows (λ a t. h a (inr t)) in
+      here_and here others
+    where
+      here_and : {m n : ℕ} → m ≡ 0 → n ≡ 0 → m + n ≡ 0
+      here_and e f = omega arith
+
+  times_once : (s : ℕ) (rows : List (chain.Row X)) → IsOnce rows → ((a b : Name) → HasName a rows → HasName b rows → a.serial ≡ b.serial → a ≡ b) → times s (plains rows) ≤ 1
+  times_once s [] once same = omega arith
+  times_once s (r ∷ rows) once same = elim (cases_eq r.name.serial s) [
+    | inl e ↦ at_most 1 0 (cond-true (r.name.serial == s) 1 0 (eq-eqb r.name.serial s e)) (le_of_eq (times_none s rows (λ a t q. once.0 (subst (λ n. HasName n rows) (same a r.name (inr t) (inl refl) (q ∙ sym e)) t)))) (omega arith)
+    | inr n ↦ at_most 0 1 (cond-false (r.name.serial == s) 1 0 (ne_eqb r.name.serial s n)) (times_once s rows once.1 (λ a b t q. same a b (inr t) (inr q))) (omega arith)
+  ]
+    where
+      at_most : {m n : ℕ} (j k : ℕ) → m ≡ j → n ≤ k → j + k ≤ 1 → m + n ≤ 1
+      at_most j k e f h = omega arith
+
+  within : (l : Limit) (k : Chained X) → IsList l k → is_past l (length (plains k.rows)) ≡ false
+  within Unbounded k s = refl
+  within (Bounded most) k s = let count = length-plains k.rows in let sum = s.limit_fits.1 in le-ltb most (length (plains k.rows)) (omega arith)
+
+  pub valid : (g : GuardCounts) (l : Limit) (k : Chained X) (o : Object Name X) → object_of g l k ≡ o → IsList l k → IsValid (plain o)
+  valid g l k o view s = subst (λ (p : Object Name X). IsValid (plain p)) view (record {
+    names_differ = λ n. times_once n k.rows (once_from k.rows s.sound.once) (λ a b t q e. s.sound.serials a b (has_live a k.rows t) (has_live b k.rows q) e);
+    names_below_next = λ n low. times_none n k.rows (λ a t e. let issued = s.sound.issued a (has_live a k.rows t) in absurd (omega arith));
+    names_from_one = times_none 0 k.rows (λ a t e. let issued = s.sound.issued a (has_live a k.rows t) in absurd (omega arith));
+    next_from_one = let next = s.sound.next in omega arith;
+    next_in_range = let next = s.sound.next in omega arith;
+    within_limit = within l k s;
+    within_greatest = let count = length-plains k.rows in let most = s.within_greatest in omega arith;
+    capacity_fits = tt;
+  })
+
+  pub limited : (l : Limit) (k : Chained X) → IsList l k → IsLimit l
+  limited Unbounded k s = tt
+  limited (Bounded most) k s = s.limit_fits.0
+
+  pub has_slots : (l : Limit) (k : Chained X) → IsList l k → HasSlots l (length (map row_of k.rows)) k.spare
+  has_slots Unbounded k s = tt
+  has_slots (Bounded most) k s = let count = length-map k.rows row_of in let sum = s.limit_fits.1 in omega arith
