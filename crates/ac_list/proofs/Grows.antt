@@ -71,7 +71,7 @@ module _ {X : Type 0} where
       let total : length now.rows + now.spare ≡ most = all ∙ sum in
       record { sound = sound; within_greatest = omega arith; limit_fits = (s.limit_fits.0, total) }
 
-  all_from : (P : Name → Type 0) (rows : List (chain.Row X)) → ((a : Name) → HasName a rows → P a) → All P (names (map row_of rows))
+  pub all_from : (P : Name → Type 0) (rows : List (chain.Row X)) → ((a : Name) → HasName a rows → P a) → All P (names (map row_of rows))
   all_from P [] h i d lt = absurd (omega arith)
   all_from P (r ∷ rows) h zero d lt = h r.name (inl refl)
   all_from P (r ∷ rows) h (suc i) d lt = all_from P rows (λ a t. h a (inr t)) i d (omega arith)

@@ -3,3 +3,4 @@ pub mod Looks
 pub mod Puts
 pub mod Grows
 pub mod Valid
+pub mod Swaps

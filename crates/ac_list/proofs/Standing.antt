@@ -111,7 +111,7 @@ module _ {X : Type 0} where
           rw e (marked_live number rows r.name has)
 
   -- no other row has the name's serial
-  pub Alone : Name → List (chain.Row X) → Type 0
+  unfoldable pub Alone : Name → List (chain.Row X) → Type 0
   Alone a rows = (b : Name) → HasName b rows → b.serial ≡ a.serial → b ≡ a
 
   pub alone : (c : Chained X) (a : Name) → IsSound c → IsLive c a → Alone a c.rows

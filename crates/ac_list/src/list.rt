@@ -1,9 +1,9 @@
 //! The list. A contract sees its object, with the slots of its names, and how many elements more it takes without memory.
-ghost use Rattle.std.specs.Prelude.{◌≡◌, ◌∷◌, ℕ, ◌+◌, ◌≤◌, None, pos, IfOk, IfErr, IsOk, length, false, refl};
+ghost use Rattle.std.specs.Prelude.{◌≡◌, ◌∷◌, [], ℕ, ◌+◌, ◌≤◌, None, pos, IfOk, IfErr, IsOk, length, false, refl};
 ghost use Rattle.ac_list.specs.State.{IsLimit, HasSlots, first_spare, with_guards, guards_of, mark, needs_cursor, may_cursor, cursor_at, name_in, place_in};
 ghost use Rattle.std.specs.Option.{ForSome};
 ghost use Rattle.ac_list.specs.Put.{IsNamed, Takes, put_call, as_fault, spot};
-ghost use Rattle.ac_model.specs.Letters.{tampers_cursors, place_at};
+ghost use Rattle.ac_model.specs.Letters.{tampers_cursors, tampers_elements, place_at};
 ghost use Rattle.ac_model.specs.Sequences.{room_for_copies};
 ghost use Rattle.ac_cursor.specs.Steps.{first_reason};
 ghost use Rattle.ac_model.specs.Objects.{IsValid, empty_object, plain, length_of};
@@ -280,6 +280,32 @@ impl<T> List<T> {
                 Ok(())
             }
         }
+    }
+}
+
+impl<T> List<T> {
+    /// Swap (A.18.3): the two elements change places, and each name keeps its place.
+    pub fn swap(&mut self, first: Cursor, second: Cursor) -> Result<(), Fault>
+        ensures { Changing Same (sequences.swap_call (plain self.old.object) (mark self.old.object first) (mark self.old.object second)) self.old.object self.new.object result }
+    {
+        match self.refuses_swap(first, second) {
+            Some(reason) => Err(Fault::Raised(reason)),
+            None => {
+                self.chain.swap_values(name_in(first), name_in(second));
+                Ok(())
+            }
+        }
+    }
+
+    /// Why a swap is refused.
+    fn refuses_swap(&self, first: Cursor, second: Cursor) -> Option<Reason>
+        ensures { result ≡ first_reason (tampers_elements (plain self.now.object) ∷ needs_cursor self.now.object first ∷ needs_cursor self.now.object second ∷ []) }
+    {
+        first_reason(&[
+            self.guards.forbids(Class::Elements),
+            self.needs(first),
+            self.needs(second),
+        ])
     }
 }
 

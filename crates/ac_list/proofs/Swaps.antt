@@ -1,0 +1,115 @@
+-- What a list is after two of its values changed places.
+use Rattle.std.proofs.Common.{◌≡◌, ◌≢◌, ℕ, zero, suc, ◌<◌, List, [], ◌∷◌, length, map, Option, Some, None, IsTrue, refl, sym, ap, ◌∙◌, subst, inl, inr, arith, eq-eqb, ne_eqb}
+use Rattle.std.specs.Prelude.{◌==◌, if◌then◌else◌, slice_get, slice_set}
+use Rattle.std.specs.Option.{option_map}
+use Rattle.std.proofs.lemmas.Option.{none-some}
+use Rattle.std.proofs.lemmas.Bool.{cases_eq, cond-true, cond-false}
+use Rattle.ac_base.specs.declared.limit.Limit.{Limit}
+use Rattle.ac_base.specs.declared.name.Name.{Name}
+use Rattle.ac_cursor.specs.declared.cursor.Cursor.{Cursor}
+use Rattle.ac_cursor.specs.Guards.{GuardCounts}
+use Rattle.ac_chain.specs.Rows as chain
+use Rattle.ac_chain.specs.Rows.{Chained, index_of, IsLive, IsSound, values_swapped, values_exchanged}
+use Rattle.ac_chain.specs.ChainFields.{HasName, IsOnce}
+use Rattle.ac_chain.proofs.Cuts.{index_here, index_past}
+use Rattle.ac_chain.proofs.Moves.{once_from}
+use Rattle.ac_model.specs.Rows.{row, names, with_value, with_some_value, with_exchanged_values}
+use Rattle.ac_model.specs.Objects.{Object, plain, with_rows}
+use Rattle.ac_model.specs.Letters.{is_among, name_of}
+use Rattle.ac_model.specs.Calls.{IsAfter}
+use Rattle.ac_list.specs.Put.{plains}
+use Rattle.ac_list.specs.State.{row_of, object_of, needs_cursor, mark, name_in}
+use Rattle.ac_list.proofs.Standing.{Alone, alone, has_among, value_live, stands}
+use Rattle.ac_list.proofs.Grows.{all_from}
+
+module _ {X : Type 0} where
+  -- the rows with another value under the name
+  abbrev set : List (chain.Row X) → Name → X → List (chain.Row X)
+  set rows a w = slice_set rows (index_of a rows) (chain.row a w)
+
+  set_here : (a : Name) (w : X) (r : chain.Row X) (rows : List (chain.Row X)) → r.name ≡ a → set (r ∷ rows) a w ≡ chain.row a w ∷ rows
+  set_here a w r rows e = ap (λ i. slice_set (r ∷ rows) i (chain.row a w)) (index_here a r rows (sym e))
+
+  set_past : (a : Name) (w : X) (r : chain.Row X) (rows : List (chain.Row X)) → r.name.serial ≢ a.serial → set (r ∷ rows) a w ≡ r ∷ set rows a w
+  set_past a w r rows n = ap (λ i. slice_set (r ∷ rows) i (chain.row a w)) (index_past a r rows (λ e. n (ap (λ (k : Name). k.serial) (sym e))))
+
+  set_has : (a : Name) (w : X) (rows : List (chain.Row X)) → Alone a rows → (b : Name) → HasName b (set rows a w) → HasName b rows
+  unfolding Alone
+  set_has a w [] h b t = t
+  set_has a w (r ∷ rows) h b t = elim (cases_eq r.name.serial a.serial) [
+    | inl e ↦ let same : r.name ≡ a = h r.name (inl refl) e in elim (subst (λ zs. HasName b zs) (set_here a w r rows same) t) [ inl q ↦ inl (q ∙ sym same) | inr q ↦ inr q ]
+    | inr n ↦ elim (subst (λ zs. HasName b zs) (set_past a w r rows n) t) [ inl q ↦ inl q | inr q ↦ inr (set_has a w rows (λ d s. h d (inr s)) b q) ]
+  ]
+
+  set_once : (a : Name) (w : X) (rows : List (chain.Row X)) → Alone a rows → IsOnce rows → IsOnce (set rows a w)
+  unfolding Alone
+  set_once a w [] h once = once
+  set_once a w (r ∷ rows) h once = elim (cases_eq r.name.serial a.serial) [
+    | inl e ↦ let same : r.name ≡ a = h r.name (inl refl) e in subst (λ zs. IsOnce zs) (sym (set_here a w r rows same)) (subst (λ n. HasName n rows → ⊥) same once.0, once.1)
+    | inr n ↦ subst (λ zs. IsOnce zs) (sym (set_past a w r rows n)) ((λ t. once.0 (set_has a w rows (λ d s. h d (inr s)) r.name t)), set_once a w rows (λ d s. h d (inr s)) once.1)
+  ]
+
+  set_alone : (a b : Name) (w : X) (rows : List (chain.Row X)) → Alone a rows → Alone b rows → Alone b (set rows a w)
+  unfolding Alone
+  set_alone a b w rows h k = λ d t. k d (set_has a w rows h d t)
+
+  others : (s : ℕ) (w : X) (rows : List (chain.Row X)) → ((b : Name) → HasName b rows → b.serial ≢ s) → with_value (plains rows) s w ≡ plains rows
+  others s w [] h = refl
+  others s w (r ∷ rows) h =
+      let here : (if r.name.serial == s then row s w else row r.name.serial r.value) ≡ row r.name.serial r.value = cond-false _ _ _ (ne_eqb r.name.serial s (h r.name (inl refl))) in
+      λ i. here i ∷ others s w rows (λ b t. h b (inr t)) i
+
+  set_value : (a : Name) (w : X) (rows : List (chain.Row X)) → Alone a rows → IsOnce rows → plains (set rows a w) ≡ with_value (plains rows) a.serial w
+  unfolding Alone
+  set_value a w [] h once = refl
+  set_value a w (r ∷ rows) h once = elim (cases_eq r.name.serial a.serial) [
+    | inl e ↦
+        let same : r.name ≡ a = h r.name (inl refl) e in
+        let here : (if r.name.serial == a.serial then row a.serial w else row r.name.serial r.value) ≡ row a.serial w = cond-true _ _ _ (eq-eqb r.name.serial a.serial e) in
+        let rest = others a.serial w rows (λ b t q. once.0 (subst (λ n. HasName n rows) (h b (inr t) q ∙ sym same) t)) in
+        ap plains (set_here a w r rows same) ∙ (λ i. sym here i ∷ sym rest i)
+    | inr n ↦
+        let here : (if r.name.serial == a.serial then row a.serial w else row r.name.serial r.value) ≡ row r.name.serial r.value = cond-false _ _ _ (ne_eqb r.name.serial a.serial n) in
+        let rest = set_value a w rows (λ d s. h d (inr s)) once.1 in
+        ap plains (set_past a w r rows n) ∙ (λ i. sym here i ∷ rest i)
+  ]
+
+  value_there : (rows : List (chain.Row X)) (i : ℕ) → i < length rows → option_map (λ (r : chain.Row X). r.value) (slice_get rows i) ≢ None
+  value_there [] i h = absurd (omega arith)
+  value_there (r ∷ rows) zero h = λ e. none-some r.value (sym e)
+  value_there (r ∷ rows) (suc i) h = value_there rows i (omega arith)
+
+  exchanged : (g : GuardCounts) (l : Limit) (k : Chained X) (a b : Name) (x y : Option X) → x ≢ None → y ≢ None → IsOnce k.rows → Alone a k.rows → Alone b k.rows
+      → IsAfter (object_of g l k) (object_of g l (values_exchanged k a b x y)) (with_rows (plain (object_of g l k)) (with_some_value (with_some_value (plains k.rows) a.serial y) b.serial x))
+  exchanged g l k a b None y nx ny once ha hb = absurd (nx refl)
+  exchanged g l k a b (Some x) None nx ny once ha hb = absurd (ny refl)
+  exchanged g l k a b (Some x) (Some y) nx ny once ha hb =
+      let first = set_value a y k.rows ha once in
+      let second = set_value b x (set k.rows a y) (set_alone a b y k.rows ha hb) (set_once a y k.rows ha once) in
+      record {
+        plainly = ap (λ rows. record { number = g.number; limit = l; capacity = None; next = k.next_serial; rows = rows; cursor_guards = g.cursor_guards; element_guards = g.element_guards })
+            (second ∙ ap (λ rows. with_value rows b.serial x) first);
+        slots = all_from (λ name. name.serial < k.next_serial → IsTrue (is_among (names (map row_of k.rows)) name)) (set (set k.rows a y) b x)
+            (λ d t lt. has_among d k.rows (set_has a y k.rows ha d (set_has b x (set k.rows a y) (set_alone a b y k.rows ha hb) d t)));
+      }
+
+  pub swapped_after : (g : GuardCounts) (l : Limit) (k now : Chained X) (o : Object Name X) → object_of g l k ≡ o → IsSound k → (first second : Cursor) (a b : Name) → a ≡ name_in first → b ≡ name_in second
+      → needs_cursor o first ≡ None → needs_cursor o second ≡ None → now ≡ values_swapped k a b
+      → IsAfter o (object_of g l now) (with_rows (plain o) (with_exchanged_values (plain o).rows (name_of (mark o first)) (name_of (mark o second))))
+  swapped_after g l k now o view s first second a b ea eb ha hb e =
+      subst (λ (p : Object Name X). needs_cursor p first ≡ None → needs_cursor p second ≡ None → IsAfter p (object_of g l now) (with_rows (plain p) (with_exchanged_values (plain p).rows (name_of (mark p first)) (name_of (mark p second))))) view at ha hb
+    where
+      at : needs_cursor (object_of g l k) first ≡ None → needs_cursor (object_of g l k) second ≡ None
+          → IsAfter (object_of g l k) (object_of g l now) (with_rows (plain (object_of g l k)) (with_exchanged_values (plains k.rows) (name_of (mark (object_of g l k) first)) (name_of (mark (object_of g l k) second))))
+      at p q =
+          let one = stands g l k first p in
+          let two = stands g l k second q in
+          let la : IsLive k a = subst (λ n. IsLive k n) (sym ea) one.live in
+          let lb : IsLive k b = subst (λ n. IsLive k n) (sym eb) two.live in
+          let na : name_of (mark (object_of g l k) first) ≡ a.serial = ap name_of one.marked ∙ ap (λ (n : Name). n.serial) (sym ea) in
+          let nb : name_of (mark (object_of g l k) second) ≡ b.serial = ap name_of two.marked ∙ ap (λ (n : Name). n.serial) (sym eb) in
+          let done = exchanged g l k a b (chain.value_of k a) (chain.value_of k b) (value_there k.rows (index_of a k.rows) la) (value_there k.rows (index_of b k.rows) lb) (once_from k.rows s.once) (alone k a s la) (alone k b s lb) in
+          let values : with_exchanged_values (plains k.rows) a.serial b.serial ≡ with_some_value (with_some_value (plains k.rows) a.serial (chain.value_of k b)) b.serial (chain.value_of k a) =
+          (λ i. with_some_value (with_some_value (plains k.rows) a.serial (value_live k b s lb i)) b.serial (value_live k a s la i)) in
+          subst (λ rows. IsAfter (object_of g l k) (object_of g l now) (with_rows (plain (object_of g l k)) rows)) (sym values ∙ (λ i. with_exchanged_values (plains k.rows) (sym na i) (sym nb i)))
+          (subst (λ (d : Chained X). IsAfter (object_of g l k) (object_of g l d) (with_rows (plain (object_of g l k)) (with_some_value (with_some_value (plains k.rows) a.serial (chain.value_of k b)) b.serial (chain.value_of k a)))) (sym e) done)
