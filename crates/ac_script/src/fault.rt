@@ -1,28 +1,9 @@
-ghost use Rattle.std.specs.Prelude.{◌≡◌};
-ghost use Rattle.ac_script.specs.declared.fault.ScriptFault.TheVariants.{NoMemory};
+use ac_syntax::RefusalKind;
 
-use std::alloc::{AllocError, AllocFailed};
-
-/// Why no script was made of a text.
+/// Why no script was made of a text, or a script isn't taken.
 #[derive(Clone, Copy, Debug, PartialEq, Eq)]
 pub enum ScriptFault {
-    /// The bytes aren't a script.
-    Refused,
+    /// The first refused line, from 1, and why.
+    Refused { line: u64, kind: RefusalKind },
     NoMemory,
-}
-
-impl From<AllocError> for ScriptFault {
-    ghost from_gives = { λ _ e. e ≡ NoMemory };
-
-    fn from(_error: AllocError) -> ScriptFault {
-        ScriptFault::NoMemory
-    }
-}
-
-impl<T: Drop> From<AllocFailed<T>> for ScriptFault {
-    ghost from_gives = { λ _ e. e ≡ NoMemory };
-
-    fn from(_error: AllocFailed<T>) -> ScriptFault {
-        ScriptFault::NoMemory
-    }
 }

@@ -1,25 +1,9 @@
-//! The script language: a script's type, and how bytes spell it.
+//! Scripts from their texts, and back: what `ac_syntax` defines is read and written here.
 #![tactic(auto)]
 
-mod command;
-mod cut;
-mod declaration;
 mod fault;
-mod ident;
-mod law;
-mod literal;
-mod parser;
-mod piece;
-mod reader;
-mod reserved;
-mod script;
-mod token;
 
+pub use ac_syntax::{
+    Arg, Args, Decl, Decls, ElemKind, Ident, Idents, Kind, RefusalKind, Script, Stmt, Stmts, TypeDef, ViewKind,
+};
 pub use fault::ScriptFault;
-pub use ident::Ident;
-pub use law::{examples, one_script};
-pub use parser::parse;
-pub use script::{Action, Command, Script};
-
-#[cfg(test)]
-mod tests;

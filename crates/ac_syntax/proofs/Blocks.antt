@@ -16,7 +16,7 @@ use Rattle.ac_syntax.specs.declared.kind.ElemKind.{ElemKind}
 use Rattle.ac_syntax.specs.declared.kind.ElemKind.TheVariants.{Integer, Str}
 use Rattle.ac_syntax.specs.declared.type_def.TypeDef.{TypeDef}
 use Rattle.ac_syntax.specs.declared.view_kind.ViewKind.TheVariants.{Query, Update, Reference, UpdateKey}
-use Rattle.ac_syntax.specs.declared.literal.Literal.TheVariants as literal
+use Rattle.ac_base.specs.declared.value.Value.TheVariants as value
 use Rattle.ac_syntax.specs.declared.token.Token.{Token}
 use Rattle.ac_syntax.specs.declared.token.Placed.{Placed}
 use Rattle.ac_syntax.specs.declared.script.Script.{Script}
@@ -52,9 +52,9 @@ part_counted words none (says word) front h = rw h (omega arith)
 part_counted words none (marks _) front h = rw h refl
 part_counted words none (names word) front h = rw (h.1, none word h.0) refl
 part_counted words none (counts _) front h = rw h refl
-part_counted words none (writes (literal.Int z)) front (inl h) = rw h.2 refl
-part_counted words none (writes (literal.Int z)) front (inr h) = rw h.2 refl
-part_counted words none (writes (literal.Text _)) front h = rw h refl
+part_counted words none (writes (value.Int z)) front (inl h) = rw h.2 refl
+part_counted words none (writes (value.Int z)) front (inr h) = rw h.2 refl
+part_counted words none (writes (value.Text _)) front h = rw h refl
 part_counted words none lacks front h = absurd h
 
 parts_counted : (words : List (List ℕ)) → NamesNone words → (parts : List Part) (spelled : List Token)

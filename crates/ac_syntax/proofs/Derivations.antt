@@ -4,7 +4,7 @@ use Rattle.std.proofs.lemmas.Bool.{and_parts}
 use Rattle.std.proofs.Math.Bool.{true≢false}
 use Rattle.std.specs.Prelude.{nat_le, Option, Some, None, flat_map}
 use Rattle.std.specs.List.{list_all}
-use Rattle.ac_syntax.specs.declared.literal.Literal.TheVariants as literal
+use Rattle.ac_base.specs.declared.value.Value.TheVariants as value
 use Rattle.ac_syntax.specs.declared.token.Token.{Token}
 use Rattle.ac_syntax.specs.declared.token.Placed.{Placed}
 use Rattle.ac_syntax.specs.declared.script.Script.{Script}
@@ -32,9 +32,9 @@ part_spelled (says _) p = refl
 part_spelled (marks _) p = refl
 part_spelled (names word) p = (false-not (is_reserved word) p, refl)
 part_spelled (counts _) p = refl
-part_spelled (writes (literal.Int (pos n))) p = inl (n, refl, refl)
-part_spelled (writes (literal.Int (negsuc n))) p = inr (suc n, refl, refl)
-part_spelled (writes (literal.Text _)) p = refl
+part_spelled (writes (value.Int (pos n))) p = inl (n, refl, refl)
+part_spelled (writes (value.Int (negsuc n))) p = inr (suc n, refl, refl)
+part_spelled (writes (value.Text _)) p = refl
 part_spelled lacks p = absurd (true≢false (sym p))
 
 pub parts_spelled : (parts : List Part) → list_all is_sayable parts ≡ true → AreParts parts (flat_map part_tokens parts)

@@ -5,8 +5,8 @@ use Rattle.std.specs.List.{list_all}
 use Rattle.std.specs.Fmt.{signed_decimal}
 use denote.Enum.Bare.{sameb}
 use Rattle.ac_syntax.specs.contracts.token.Mark.{the_type}
-use Rattle.ac_syntax.specs.declared.literal.Literal.{Literal}
-use Rattle.ac_syntax.specs.declared.literal.Literal.TheVariants as literal
+use Rattle.ac_base.specs.declared.value.Value.{Value}
+use Rattle.ac_base.specs.declared.value.Value.TheVariants as value
 use Rattle.ac_syntax.specs.declared.token.Token.{Token}
 use Rattle.ac_syntax.specs.declared.token.Token.TheVariants as token
 use Rattle.ac_syntax.specs.declared.token.Mark.{Mark}
@@ -40,9 +40,9 @@ abbrev pub quoted : List ℕ → List ℕ
 quoted bytes = 34 ∷ (flat_map quoted_byte bytes ++ 34 ∷ [])
 
 -- a number without leading zeros, and its minus right before it
-abbrev pub literal_text : Literal → List ℕ
-literal_text (literal.Int z) = signed_decimal z
-literal_text (literal.Text bytes) = quoted bytes
+abbrev pub literal_text : Value → List ℕ
+literal_text (value.Int z) = signed_decimal z
+literal_text (value.Text bytes) = quoted bytes
 
 abbrev pub part_text : Part → List ℕ
 part_text (says word) = word
@@ -102,10 +102,10 @@ canonical_text script = with_last_line_feed (items_text 1 true (script_items scr
 
 -- the tokens of the canonical text
 
-abbrev pub literal_tokens : Literal → List Token
-literal_tokens (literal.Int (pos n)) = token.Number n ∷ []
-literal_tokens (literal.Int (negsuc n)) = token.Mark Minus ∷ token.Number (suc n) ∷ []
-literal_tokens (literal.Text bytes) = token.Text bytes ∷ []
+abbrev pub literal_tokens : Value → List Token
+literal_tokens (value.Int (pos n)) = token.Number n ∷ []
+literal_tokens (value.Int (negsuc n)) = token.Mark Minus ∷ token.Number (suc n) ∷ []
+literal_tokens (value.Text bytes) = token.Text bytes ∷ []
 
 abbrev pub part_tokens : Part → List Token
 part_tokens (says word) = token.Word word ∷ []

@@ -1,7 +1,7 @@
 -- Texts, their tokens, their scripts and canonical texts, worked out by hand.
 use Rattle.std.specs.Prelude.{◌≡◌, ℕ, ◌+◌, zero, suc, pos, neg_ℤ, codes, false, true, List, [], ◌∷◌, ◌++◌, Some, None}
 use Rattle.ac_syntax.specs.Code.{Code, call_at, loop_at, view_at, stable_at, declare_at, stop, one, block}
-use Rattle.ac_syntax.specs.declared.literal.Literal.TheVariants as literal
+use Rattle.ac_base.specs.declared.value.Value.TheVariants as value
 use Rattle.ac_syntax.specs.declared.arg.Arg.TheVariants.{Lit, Var}
 use Rattle.ac_syntax.specs.declared.decl.Decl.{Decl}
 use Rattle.ac_syntax.specs.declared.decl.Decl.TheVariants.{TypeDecl, Object}
@@ -36,7 +36,7 @@ abbrev pub loose_text : List ℕ
 loose_text = lines (codes "TYPE L is list(Integer);A:L; -- x" ∷ codes "A.Append( - 007 );" ∷ [])
 
 abbrev pub loose_script : Script
-loose_script = with_list (one (call_at 2 None (codes "a") (codes "append") (Lit (literal.Int (neg_ℤ (pos 7))) ∷ [])) stop)
+loose_script = with_list (one (call_at 2 None (codes "a") (codes "append") (Lit (value.Int (neg_ℤ (pos 7))) ∷ [])) stop)
 
 abbrev pub SpellsLoosely : Type 0
 SpellsLoosely = Spells loose_script loose_text
@@ -50,7 +50,7 @@ abbrev pub nested_script : Script
 nested_script = with_list (
     block (loop_at 2 (codes "c") false true (codes "a"))
     (block (view_at 3 Query (codes "a") (Some (codes "c")) (codes "x"))
-    (one (call_at 4 None (codes "a") (codes "append") (Var (codes "x") ∷ Lit (literal.Int (pos 2)) ∷ [])) stop) stop)
+    (one (call_at 4 None (codes "a") (codes "append") (Var (codes "x") ∷ Lit (value.Int (pos 2)) ∷ [])) stop) stop)
     (block (declare_at 6 (Object 6 (codes "b") (codes "l") None ∷ []))
     (one (call_at 6 (Some (codes "x")) (codes "b") (codes "length") []) stop) stop))
 

@@ -1,7 +1,7 @@
 -- Each form of the grammar, and spellings that the canonical text doesn't keep, worked out by hand.
 use Rattle.std.specs.Prelude.{◌≡◌, ℕ, pos, negsuc, codes, false, true, List, [], ◌∷◌, ◌++◌, Some, None}
 use Rattle.ac_syntax.specs.Code.{Code, call_at, set_at, sum_at, loop_at, view_at, stable_at, stop, one, block}
-use Rattle.ac_syntax.specs.declared.literal.Literal.TheVariants as literal
+use Rattle.ac_base.specs.declared.value.Value.TheVariants as value
 use Rattle.ac_syntax.specs.declared.arg.Arg.TheVariants.{Lit, NoElement, Var}
 use Rattle.ac_syntax.specs.declared.decl.Decl.{Decl}
 use Rattle.ac_syntax.specs.declared.decl.Decl.TheVariants.{TypeDecl, Object, CursorVar, IntVar, TextVar}
@@ -23,7 +23,7 @@ abbrev pub every_command : Code → Code
 every_command rest =
     one (sum_at 5 (codes "n") (codes "n") false 1) (one (sum_at 5 (codes "n") (codes "n") true 2) (one (set_at 5 (codes "c") NoElement)
     (one (call_at 6 (Some (codes "t")) (codes "a") (codes "element") (Var (codes "c") ∷ []))
-    (one (call_at 6 None (codes "a") (codes "insert") (Lit (literal.Int (negsuc 0)) ∷ Lit (literal.Text (97 ∷ 34 ∷ [])) ∷ Var (codes "c") ∷ [])) rest))))
+    (one (call_at 6 None (codes "a") (codes "insert") (Lit (value.Int (negsuc 0)) ∷ Lit (value.Text (97 ∷ 34 ∷ [])) ∷ Var (codes "c") ∷ [])) rest))))
 
 abbrev pub every_block : Code
 every_block =
@@ -54,7 +54,7 @@ IsEveryFormWell = IsWellFormed every_form
 -- a minus before 0 is read and not written
 
 abbrev pub zero_set : Script
-zero_set = record { decls = []; stmts = one (set_at 1 (codes "x") (Lit (literal.Int (pos 0)))) stop }
+zero_set = record { decls = []; stmts = one (set_at 1 (codes "x") (Lit (value.Int (pos 0)))) stop }
 
 abbrev pub SpellsMinusZero : Type 0
 SpellsMinusZero = Spells zero_set (codes "X := -0;")

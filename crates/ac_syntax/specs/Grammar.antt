@@ -2,7 +2,7 @@
 use Rattle.std.specs.Prelude.{◌≡◌, ℕ, ℤ, pos, neg_ℤ, ◌⊎◌, codes, Bool, false, List, [], ◌∷◌, ◌++◌, Option, Some, None}
 use Rattle.std.specs.List.{list_any}
 use Rattle.std.specs.Str.{bytes_eq}
-use Rattle.ac_syntax.specs.declared.literal.Literal.TheVariants as literal
+use Rattle.ac_base.specs.declared.value.Value.TheVariants as value
 use Rattle.ac_syntax.specs.declared.token.Token.{Token}
 use Rattle.ac_syntax.specs.declared.token.Token.TheVariants as token
 use Rattle.ac_syntax.specs.declared.token.Mark.TheVariants.{Minus}
@@ -37,8 +37,8 @@ IsPart (says word) spelled = spelled ≡ token.Word word ∷ []
 IsPart (marks mark) spelled = spelled ≡ token.Mark mark ∷ []
 IsPart (names word) spelled = (is_reserved word ≡ false) × (spelled ≡ token.Word word ∷ [])
 IsPart (counts n) spelled = spelled ≡ token.Number n ∷ []
-IsPart (writes (literal.Int z)) spelled = IsInteger z spelled
-IsPart (writes (literal.Text bytes)) spelled = spelled ≡ token.Text bytes ∷ []
+IsPart (writes (value.Int z)) spelled = IsInteger z spelled
+IsPart (writes (value.Text bytes)) spelled = spelled ≡ token.Text bytes ∷ []
 IsPart lacks spelled = ⊥
 
 -- these tokens are these parts, one after another

@@ -2,7 +2,7 @@
 use Rattle.std.specs.Prelude.{ℕ, codes, Bool, true, false, List, [], ◌∷◌, ◌++◌, Option, Some, None, if◌then◌else◌}
 use Rattle.ac_syntax.specs.Code.{Simple, call_at, set_at, sum_at, Head, loop_at, view_at, stable_at, declare_at}
 use Rattle.ac_syntax.specs.Items.{Item, declares, commands, opens, begins, closes}
-use Rattle.ac_syntax.specs.declared.literal.Literal.{Literal}
+use Rattle.ac_base.specs.declared.value.Value.{Value}
 use Rattle.ac_syntax.specs.declared.arg.Arg.{Arg}
 use Rattle.ac_syntax.specs.declared.arg.Arg.TheVariants.{Lit, NoElement, Var}
 use Rattle.ac_syntax.specs.declared.decl.Decl.{Decl}
@@ -25,7 +25,7 @@ pub data Part : Type 0 where
   names : List ℕ → Part
   -- a number that isn't a literal
   counts : ℕ → Part
-  writes : Literal → Part
+  writes : Value → Part
   -- what no tokens spell
   lacks : Part
 

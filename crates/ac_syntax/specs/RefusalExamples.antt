@@ -1,7 +1,7 @@
 -- Texts that are refused, with the line and the kind, worked out by hand.
 use Rattle.std.specs.Prelude.{◌^◌, ℕ, pos, neg_ℤ, replicate, codes, false, true, List, [], ◌∷◌, ◌++◌, Some, None}
 use Rattle.ac_syntax.specs.Code.{Code, call_at, set_at, sum_at, loop_at, stop, one, block}
-use Rattle.ac_syntax.specs.declared.literal.Literal.TheVariants as literal
+use Rattle.ac_base.specs.declared.value.Value.TheVariants as value
 use Rattle.ac_syntax.specs.declared.arg.Arg.TheVariants.{Lit}
 use Rattle.ac_syntax.specs.declared.decl.Decl.TheVariants.{Object, IntVar}
 use Rattle.ac_syntax.specs.declared.refusal.RefusalKind.TheVariants.{Syntax, Limit}
@@ -28,7 +28,7 @@ RefusesName65 = IsFirstRefusal (naming 65) 1 Limit
 
 -- a string of so many letters
 abbrev pub with_string : ℕ → Script
-with_string n = record { decls = []; stmts = one (set_at 1 (codes "x") (Lit (literal.Text (replicate n 97)))) stop }
+with_string n = record { decls = []; stmts = one (set_at 1 (codes "x") (Lit (value.Text (replicate n 97)))) stop }
 
 abbrev pub string_text : ℕ → List ℕ
 string_text n = codes "x := " ++ 34 ∷ (replicate n 97 ++ 34 ∷ codes ";")
@@ -42,7 +42,7 @@ RefusesString1001 = IsFirstRefusal (string_text 1001) 1 Limit
 -- 2 ^ 63 has to be negative as a literal, and may not be added or a capacity
 
 abbrev pub least : Script
-least = with_list (one (call_at 2 None (codes "a") (codes "append") (Lit (literal.Int (neg_ℤ (pos (2 ^ 63)))) ∷ [])) stop)
+least = with_list (one (call_at 2 None (codes "a") (codes "append") (Lit (value.Int (neg_ℤ (pos (2 ^ 63)))) ∷ [])) stop)
 
 abbrev pub TakesLeast : Type 0
 TakesLeast = Spells least (on_list (codes "a.append (-9223372036854775808);"))
@@ -51,7 +51,7 @@ abbrev pub counting : Code → Script
 counting last =
     record {
       decls = IntVar 1 (codes "n") ∷ [];
-      stmts = one (set_at 2 (codes "n") (Lit (literal.Int (neg_ℤ (pos (2 ^ 63)))))) (one (sum_at 3 (codes "n") (codes "n") true 1) last);
+      stmts = one (set_at 2 (codes "n") (Lit (value.Int (neg_ℤ (pos (2 ^ 63)))))) (one (sum_at 3 (codes "n") (codes "n") true 1) last);
     }
 
 abbrev pub counting_text : List (List ℕ) → List ℕ
@@ -61,7 +61,7 @@ abbrev pub TakesCounting : Type 0
 TakesCounting = Spells (counting stop) (counting_text [])
 
 abbrev pub past_greatest : Script
-past_greatest = counting (one (set_at 4 (codes "n") (Lit (literal.Int (pos (2 ^ 63))))) stop)
+past_greatest = counting (one (set_at 4 (codes "n") (Lit (value.Int (pos (2 ^ 63))))) stop)
 
 abbrev pub RefusesPastGreatest : Type 0
 RefusesPastGreatest = IsFirstRefusal (counting_text (codes "N := 9223372036854775808;" ∷ [])) 4 Limit
@@ -81,7 +81,7 @@ RefusesTooRoomy = IsFirstRefusal (on_list (codes "b : l (9223372036854775808);")
 -- what is malformed, behind tokens that aren't bad
 
 abbrev pub appended : Script
-appended = with_list (one (call_at 2 None (codes "a") (codes "append") (Lit (literal.Int (pos 12)) ∷ [])) stop)
+appended = with_list (one (call_at 2 None (codes "a") (codes "append") (Lit (value.Int (pos 12)) ∷ [])) stop)
 
 abbrev pub RefusesMalformed : Type 0
 RefusesMalformed = IsFirstRefusal (on_list (codes "a.append (12a);")) 2 Syntax

@@ -1,13 +1,13 @@
 ghost use Rattle.std.specs.Prelude.{◌≡◌};
 
 use crate::ident::Ident;
-use crate::literal::Literal;
+use ac_base::Value;
 use std::marker::Model;
 
 /// An argument of a call, or what is assigned.
 #[derive(Debug, Drop)]
 pub enum Arg {
-    Lit(Literal),
+    Lit(Value),
     NoElement,
     Var(Ident),
 }

@@ -6,11 +6,11 @@ mod decl;
 mod ident;
 mod kind;
 mod law;
-mod literal;
 mod piece;
 mod refusal;
 mod script;
 mod stmt;
+mod string_bytes;
 mod token;
 mod type_def;
 mod view_kind;
@@ -22,11 +22,11 @@ pub use kind::{ElemKind, Kind};
 pub use law::{
     blocks_end, examples, first_word, forms, items_alone, items_order, one_refusal, refusals,
 };
-pub use literal::{Literal, StringBytes};
 pub use piece::Piece;
 pub use refusal::RefusalKind;
 pub use script::Script;
 pub use stmt::{Stmt, Stmts};
+pub use string_bytes::StringBytes;
 pub use token::{Mark, Placed, Token};
 pub use type_def::TypeDef;
 pub use view_kind::ViewKind;

@@ -1,5 +1,5 @@
 use crate::ident::Ident;
-use crate::literal::StringBytes;
+use crate::string_bytes::StringBytes;
 
 /// A mark of one or two bytes.
 #[derive(Clone, Copy, Debug, PartialEq, Eq)]

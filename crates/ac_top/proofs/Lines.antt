@@ -1,6 +1,6 @@
 -- The lines of a script, one command after another.
 use Rattle.std.proofs.Common.{◌≡◌, ◌+◌, ◌<◌, ℕ, ℤ, List, ◌++◌, refl, length, get_or, drop, drop-cons, add-one}
-use Rattle.ac_script.specs.declared.script.Command.{Command}
+use Rattle.ac_first_path.specs.declared.script.Command.{Command}
 use Rattle.ac_top.specs.Output.{line_of}
 use Rattle.ac_top.specs.Meaning.{list_after, answer, lines_from}
 

@@ -1,8 +1,8 @@
 -- What an input means, by its length and by the script that it spells.
 use Rattle.std.proofs.Common.{◌≡◌, ◌<◌, ◌≤◌, ℕ, List, length, Option, ap, refl, codes, arith, nat_lt, true, false}
 use Rattle.std.proofs.lemmas.Bool.Decides.{nat_tests}
-use Rattle.ac_script.specs.declared.script.Command.{Command}
-use Rattle.ac_script.specs.Reading.{script_of}
+use Rattle.ac_first_path.specs.declared.script.Command.{Command}
+use Rattle.ac_first_path.specs.Reading.{script_of}
 use Rattle.ac_top.specs.declared.limits.TheConstants.{INPUT_LIMIT}
 use Rattle.ac_top.specs.Meaning.{meaning_of, meaning_of_script, refusal}
 

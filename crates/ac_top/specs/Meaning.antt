@@ -1,10 +1,10 @@
 -- What a text means: what is written for it, and the status that the program ends with.
 use Rattle.std.specs.Prelude.{ℕ, ℤ, codes, nat_lt, List, [], ◌∷◌, ◌++◌, length, Option, Some, None, if◌then◌else◌}
 use Rattle.ac_base.specs.declared.reason.Reason.TheVariants.{LengthRange}
-use Rattle.ac_script.specs.declared.script.Action.{Action}
-use Rattle.ac_script.specs.declared.script.Action.TheVariants.{Append, Print}
-use Rattle.ac_script.specs.declared.script.Command.{Command}
-use Rattle.ac_script.specs.Reading.{script_of}
+use Rattle.ac_first_path.specs.declared.script.Action.{Action}
+use Rattle.ac_first_path.specs.declared.script.Action.TheVariants.{Append, Print}
+use Rattle.ac_first_path.specs.declared.script.Command.{Command}
+use Rattle.ac_first_path.specs.Reading.{script_of}
 use Rattle.ac_top.specs.declared.limits.TheConstants.{INPUT_LIMIT, LENGTH_LIMIT}
 use Rattle.ac_top.specs.Output.{line_of, raised, listing}
 

@@ -8,7 +8,7 @@ use crate::gate::Gate;
 use crate::limits::INPUT_LIMIT;
 use crate::status::Status;
 use ac_io::{ReadEnd, Sink, Source, read_all, write_all};
-use ac_script::{Script, ScriptFault, parse};
+use ac_first_path::{Script, ScriptFault, parse};
 use std::alloc::Global;
 use std::sync::Wait;
 use std::thread::Threads;

@@ -8,7 +8,7 @@ use crate::limits::LENGTH_LIMIT;
 use crate::line::{append_done, append_listing, append_raised, begin_line, end_line};
 use ac_base::Reason;
 use ac_io::{Sink, WriteFault, write_all};
-use ac_script::{Action, Command};
+use ac_first_path::{Action, Command};
 use std::alloc::{AllocError, Global};
 use thiserror::Error;
 

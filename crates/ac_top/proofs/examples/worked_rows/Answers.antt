@@ -1,7 +1,7 @@
 use Rattle.std.proofs.Common.{refl}
 use Rattle.std.specs.Fmt.{digits}
-use Rattle.ac_script.specs.Grammar.{reserved}
-use Rattle.ac_script.specs.Reading.{literal_at, type_at, object_at, argument_at, action_at, command_after}
+use Rattle.ac_first_path.specs.Grammar.{reserved}
+use Rattle.ac_first_path.specs.Reading.{literal_at, type_at, object_at, argument_at, action_at, command_after}
 use Rattle.ac_top.specs.Meaning.{meaning_of}
 use Rattle.ac_top.proofs.examples.worked_rows.Goals as goal
 

@@ -1,0 +1,97 @@
+-- A text as tokens: the piece at its front, taken as long as possible, then the piece at the front of what follows, and so on. The standard's 2.2 is followed where it applies.
+use Rattle.std.specs.Prelude.{ℕ, ◌==◌, ◌+◌, ◌-◌, ◌^◌, zero, suc, min, List, [], ◌∷◌, ◌++◌, map, take, Option, Some, None, if◌then◌else◌}
+use Rattle.std.specs.Option.{option_map}
+use Rattle.std.specs.List.{prefix_len}
+use Rattle.std.specs.Char.{is_ascii_alphabetic, is_ascii_digit, to_ascii_lowercase}
+use Rattle.std.specs.Str.Parse.{digits_value}
+use Rattle.ac_first_path.specs.Characters.{is_word_byte, is_line_feed, is_blank, is_comment_byte}
+use Rattle.ac_first_path.specs.declared.token.Token.{Token}
+use Rattle.ac_first_path.specs.declared.token.Token.TheVariants.{Word, Number}
+use Rattle.ac_first_path.specs.declared.token.Token.TheVariants as token
+use Rattle.ac_first_path.specs.declared.token.Mark.{Mark}
+use Rattle.ac_first_path.specs.declared.token.Mark.TheVariants.{Colon, Semicolon, Comma, Open, Close, Dot, Assign, Plus, Minus}
+use Rattle.ac_first_path.specs.declared.token.Placed.{Placed}
+use Rattle.ac_first_path.specs.declared.piece.Piece.{Piece}
+
+abbrev pub blank_of : ℕ → Option Piece
+blank_of len = Some (record { len = len; token = None })
+
+abbrev pub token_of : ℕ → Token → Option Piece
+token_of len token = Some (record { len = len; token = Some token })
+
+abbrev pub mark_of : ℕ → Mark → Option Piece
+mark_of len mark = token_of len (token.Mark mark)
+
+-- a letter, then letters, digits and `_`; case is ignored
+abbrev pub word_piece : List ℕ → Option Piece
+word_piece text = token_of (prefix_len is_word_byte text) (Word (map to_ascii_lowercase (take (prefix_len is_word_byte text) text)))
+
+-- what a number is kept as: its value, or the greatest u64 where that is less
+abbrev pub number_value : List ℕ → ℕ
+number_value digits = min (digits_value 10 digits) (2 ^ 64 - 1)
+
+-- digits, with no letter and no `_` right after them
+abbrev pub number_piece : List ℕ → Option Piece
+number_piece text =
+    if prefix_len is_word_byte text == prefix_len is_ascii_digit text
+    then token_of (prefix_len is_ascii_digit text) (Number (number_value (take (prefix_len is_ascii_digit text) text)))
+    else None
+
+-- `:=` or `:`, after the colon
+abbrev pub colon_piece : List ℕ → Option Piece
+colon_piece [] = mark_of 1 Colon
+colon_piece (b ∷ _) = if b == 61 then mark_of 2 Assign else mark_of 1 Colon
+
+-- a comment to the end of its line, or `-`, after the first `-`
+abbrev pub minus_piece : List ℕ → Option Piece
+minus_piece [] = mark_of 1 Minus
+minus_piece (b ∷ rest) = if b == 45 then blank_of (2 + prefix_len is_comment_byte rest) else mark_of 1 Minus
+
+-- any other mark
+abbrev pub mark_piece : ℕ → Option Piece
+mark_piece b =
+    if b == 59 then mark_of 1 Semicolon
+    else if b == 44 then mark_of 1 Comma
+    else if b == 40 then mark_of 1 Open
+    else if b == 41 then mark_of 1 Close
+    else if b == 46 then mark_of 1 Dot
+    else if b == 43 then mark_of 1 Plus
+    else None
+
+-- the piece at the front of a byte and the rest; None where no piece begins so
+abbrev pub piece_at : ℕ → List ℕ → Option Piece
+piece_at b rest =
+    if is_ascii_alphabetic b then word_piece (b ∷ rest)
+    else if is_ascii_digit b then number_piece (b ∷ rest)
+    else if is_blank b rest then blank_of 1
+    else if b == 58 then colon_piece rest
+    else if b == 45 then minus_piece rest
+    else mark_piece b
+
+abbrev pub front_piece : List ℕ → Option Piece
+front_piece [] = None
+front_piece (b ∷ rest) = piece_at b rest
+
+-- lines end with LF
+abbrev pub line_after : ℕ → ℕ → ℕ
+line_after line b = if is_line_feed b then line + 1 else line
+
+-- a piece's token with its line, if the piece is a token
+abbrev pub placed_at : ℕ → Option Token → List Placed
+placed_at line None = []
+placed_at line (Some token) = (record { token = token; line = line }) ∷ []
+
+-- the tokens of a piece on this line, and then those of the rest, which is given the bytes of the piece still to be passed over
+abbrev pub with_piece : Option Piece → ℕ → (ℕ → Option (List Placed)) → Option (List Placed)
+with_piece None line rest = None
+with_piece (Some piece) line rest = option_map (λ others. placed_at line piece.token ++ others) (rest (piece.len - 1))
+
+-- the tokens of a text on whose first byte the line is `line`, where `skip` bytes are still of the piece before
+abbrev pub tokens_from : ℕ → ℕ → List ℕ → Option (List Placed)
+tokens_from skip line [] = Some []
+tokens_from (suc skip) line (b ∷ rest) = tokens_from skip (line_after line b) rest
+tokens_from zero line (b ∷ rest) = with_piece (piece_at b rest) line (λ skip. tokens_from skip (line_after line b) rest)
+
+-- the tokens of a whole text, each with its line, from 1; None where a piece is malformed
+abbrev pub tokens_of : List ℕ → Option (List Placed)
+tokens_of text = tokens_from 0 1 text
