@@ -6,3 +6,5 @@ pub mod ItemsAlone
 pub mod Blocks
 pub mod OneRefusal
 pub mod Orders
+pub mod Fronts
+pub mod Pieces
