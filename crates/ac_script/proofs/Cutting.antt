@@ -1,5 +1,5 @@
 -- One turn of the loop that cuts a text into tokens.
-use Rattle.std.proofs.Common.{◌≡◌, ◌+◌, ◌-◌, ◌<◌, ◌≤◌, ℕ, zero, suc, List, [], ◌∷◌, ◌++◌, refl, sym, ap, ◌∙◌, drop, length, get_or, Option, Some, None, Result, Ok, Err, IfOk, IfSome, arith, append_assoc, length-append, Bool, true, false, cond}
+use Rattle.std.proofs.Common.{◌≡◌, ◌+◌, ◌-◌, ◌<◌, ◌≤◌, ℕ, zero, suc, List, [], ◌∷◌, ◌++◌, refl, sym, ap, ◌∙◌, drop, length, get_or, Option, Some, None, Result, Ok, Err, IfOk, IfSome, arith, append_assoc, Bool, true, false, cond}
 use Rattle.std.proofs.lemmas.Option.{none-some}
 use Rattle.std.proofs.lemmas.List.{append-nil}
 use Rattle.ac_base.specs.declared.fault.NoMemory.{NoMemory}

@@ -1,5 +1,5 @@
 -- What a byte behind a string's first quote does, as a function of the string's end behind the byte.
-use Rattle.std.specs.Prelude.{ℕ, List, [], ◌∷◌, Option, Some, None}
+use Rattle.std.specs.Prelude.{ℕ, [], ◌∷◌, Option, Some, None}
 use Rattle.ac_syntax.specs.Tokens.{Ending, with_byte}
 use Rattle.ac_script.specs.declared.piece.StringByte.{StringByte}
 use Rattle.ac_script.specs.declared.piece.StringByte.TheVariants.{Keeps, Quotes, Ends, Malformed}

@@ -3,6 +3,7 @@
 
 mod cut;
 mod fault;
+mod limits;
 mod piece;
 
 pub use ac_syntax::{

@@ -1,6 +1,4 @@
-use Rattle.std.proofs.Common.{◌≡◌, ◌∙◌, sym, ap, Option, Some, List, arith, get_or, length-drop}
-use Rattle.ac_syntax.specs.Tokens as tokens
-use Rattle.ac_syntax.specs.declared.piece.Piece.{Piece}
+use Rattle.std.proofs.Common.{◌∙◌, sym, arith, get_or, length-drop}
 use Rattle.ac_script.proofs.Cutting.{more_tokens, line_small, all_cut, stopped, front_some}
 use Rattle.ac_script.proofs.cut.cut.Goals as goal
 

@@ -1,9 +1,4 @@
-use Rattle.std.proofs.Common.{rules, Vec, Global, ◌∙◌, ap, ◌≡◌, ◌<◌, ◌≤◌, ◌+◌, ◌^◌, length, map, Option, IfOk, IfSome, ℕ, ◌-◌, ◌*◌, ◌/◌, ◌%◌, Bool, true, false, nat_eq, nat_lt, List, [], ◌∷◌, ◌++◌, slice_index_or, slice_set, bit_and, bit_or, Fits, w8, w32, w64, Bor, MutBor}
-use Rattle.std.specs.List.{prefix_len, AllPass}
-use Rattle.std.specs.Char.{is_ascii_digit, to_ascii_lowercase}
-use Rattle.ac_syntax.specs.Characters as characters
-use Rattle.ac_syntax.specs.Tokens as tokens
-use Rattle.ac_syntax.specs.Characters.{is_word_byte, is_comment_byte}
+use Rattle.std.proofs.Common.{Vec, Global, ◌∙◌, ap, ℕ}
 use Rattle.ac_script.proofs.Strings.{read_none, kept, quoted, ended, malformed, closed, unclosed}
 use Rattle.ac_script.proofs.piece.string_piece.Goals as goal
 use Rattle.ac_script.proofs.piece.string_piece.Goals.{in-Keeps+in_ok-push-in-Keeps, in-Quotes, then-after_quote, else-after_quote}

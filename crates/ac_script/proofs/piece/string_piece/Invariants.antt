@@ -1,9 +1,3 @@
-use Rattle.std.proofs.Common.{◌≡◌, ◌<◌, ◌≤◌, ◌+◌, ◌^◌, length, map, Option, IfOk, IfSome, ℕ, ◌-◌, ◌*◌}
-use Rattle.std.specs.List.{prefix_len, AllPass}
-use Rattle.std.specs.Char.{is_ascii_digit, to_ascii_lowercase}
-use Rattle.ac_syntax.specs.Characters as characters
-use Rattle.ac_syntax.specs.Tokens as tokens
-use Rattle.ac_syntax.specs.Characters.{is_word_byte, is_comment_byte}
 use Rattle.ac_script.proofs.Strings.{IsRead}
 use Rattle.ac_script.proofs.piece.string_piece.Given as goal
 

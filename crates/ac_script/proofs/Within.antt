@@ -1,0 +1,39 @@
+-- How far tokens keep the limits, one token more at a time.
+use Rattle.std.proofs.Common.{◌≡◌, ◌+◌, ◌<◌, ℕ, suc, false, List, [], ◌∷◌, ◌++◌, take, length, refl, ap, ◌∙◌, arith, get_or, inl, inr}
+use Rattle.std.specs.Prelude.{◌⊎◌}
+use Rattle.std.proofs.lemmas.List.{map-append}
+use Rattle.std.proofs.Math.Seq.{take-suc}
+use Rattle.ac_syntax.specs.declared.token.Token.{Token}
+use Rattle.ac_syntax.specs.declared.token.Placed.{Placed}
+use Rattle.ac_syntax.specs.Tokens.{tokens}
+use Rattle.ac_syntax.specs.Limits.{is_past_limit, AreWithinLimits}
+use Rattle.ac_syntax.proofs.Withins.{not_ended}
+
+-- a list with one item more is cut at that item, or before it
+cut_at : {X : Type 0} (done before after : List X) (next x : X) → done ++ next ∷ [] ≡ before ++ x ∷ after
+    → ((done ≡ before) × (next ≡ x)) ⊎ ((more : List X) × (done ≡ before ++ x ∷ more))
+cut_at [] [] after next x e = inl (refl, cc e)
+cut_at [] (b ∷ before) after next x e = let others : [] ≡ before ++ x ∷ after = cc e in absurd (not_ended before after x others)
+cut_at (a ∷ done) [] after next x e = let same : a ≡ x = cc e in inr (done, (λ i. same i ∷ done))
+cut_at (a ∷ done) (b ∷ before) after next x e =
+    let same : a ≡ b = cc e in
+    let others : done ++ next ∷ [] ≡ before ++ x ∷ after = cc e in
+    elim (cut_at done before after next x others) [
+      | inl h ↦ inl ((λ i. same i ∷ h.0 i), h.1)
+      | inr h ↦ inr (h.0, (λ i. same i ∷ h.1 i))
+    ]
+
+pub one_more : (done : List Token) (next : Token) → AreWithinLimits done → is_past_limit done next ≡ false → AreWithinLimits (done ++ next ∷ [])
+one_more done next h past before after token e = elim (cut_at done before after next token e) [
+  | inl k ↦ rw (← k.0, ← k.1) past
+  | inr k ↦ h before k.0 token k.1
+]
+
+pub none_within : AreWithinLimits []
+none_within before after token e = absurd (not_ended before after token e)
+
+-- the tokens of the first n placed ones and the next
+pub taken : (placed : List Placed) (n : ℕ) (d : Placed) → n < length placed → tokens (take (n + 1) placed) ≡ tokens (take n placed) ++ (get_or placed n d).token ∷ []
+taken placed n d h =
+    let same : n + 1 ≡ suc n = omega arith in
+    ap (λ m. tokens (take m placed)) same ∙ ap tokens (take-suc placed n d h) ∙ map-append (λ (p : Placed). p.token) (take n placed) (get_or placed n d ∷ [])
