@@ -1,0 +1,139 @@
+-- What is faulty in a script, and where the first fault is.
+use Rattle.std.specs.Prelude.{◌≡◌, ℕ, ◌+◌, ◌||◌, nat_lt, nat_le, Bool, true, false, not, List, [], ◌∷◌, ◌++◌, length, is_some, is_none, unwrap_or, Option, Some, None, if◌then◌else◌}
+use Rattle.std.specs.List.{list_any, sum_by}
+use Rattle.ac_syntax.specs.Code.{Simple, call_at, set_at, sum_at, Head, loop_at, view_at, stable_at, declare_at}
+use Rattle.ac_syntax.specs.Items.{Item, declares, commands, opens, begins, closes, item_line}
+use Rattle.ac_syntax.specs.declared.arg.Arg.{Arg}
+use Rattle.ac_syntax.specs.declared.arg.Arg.TheVariants.{Lit, NoElement, Var}
+use Rattle.ac_syntax.specs.declared.decl.Decl.{Decl}
+use Rattle.ac_syntax.specs.declared.decl.Decl.TheVariants.{TypeDecl, Object, CursorVar, IntVar, TextVar}
+use Rattle.ac_syntax.specs.declared.refusal.RefusalKind.{RefusalKind}
+use Rattle.ac_syntax.specs.declared.refusal.RefusalKind.TheVariants.{Limit, UnknownName, WrongType, Twice}
+use Rattle.ac_syntax.specs.declared.script.Script.{Script}
+use Rattle.ac_check.specs.Scopes.{Scope, meaning_in, Standing, standings}
+use Rattle.ac_check.specs.Rules.{is_well_typed}
+
+abbrev pub optional_name : Option (List ℕ) → List (List ℕ)
+optional_name None = []
+optional_name (Some name) = name ∷ []
+
+abbrev pub arg_names : Arg → List (List ℕ)
+arg_names (Lit _) = []
+arg_names NoElement = []
+arg_names (Var name) = name ∷ []
+
+abbrev pub args_names : List Arg → List (List ℕ)
+args_names [] = []
+args_names (arg ∷ args) = arg_names arg ++ args_names args
+
+abbrev pub decl_names : Decl → List (List ℕ)
+decl_names (TypeDecl line name def) = []
+decl_names (Object line name of capacity) = of ∷ []
+decl_names (CursorVar line name of) = of ∷ []
+decl_names (IntVar line name) = []
+decl_names (TextVar line name) = []
+
+abbrev pub simple_names : Simple → List (List ℕ)
+simple_names (call_at line target object operation args) = optional_name target ++ object ∷ args_names args
+simple_names (set_at line target from) = target ∷ arg_names from
+simple_names (sum_at line target from minus number) = target ∷ from ∷ []
+
+abbrev pub head_names : Head → List (List ℕ)
+head_names (loop_at line name elements backward object) = object ∷ []
+head_names (view_at line view object at name) = object ∷ optional_name at
+head_names (stable_at line object) = object ∷ []
+head_names (declare_at line decls) = []
+
+-- the names that an item uses, but for its operation's
+abbrev pub used : Item → List (List ℕ)
+used (declares decl) = decl_names decl
+used (commands simple) = simple_names simple
+used (opens head) = head_names head
+used begins = []
+used (closes _) = []
+
+abbrev pub decl_name : Decl → List ℕ
+decl_name (TypeDecl line name def) = name
+decl_name (Object line name of capacity) = name
+decl_name (CursorVar line name of) = name
+decl_name (IntVar line name) = name
+decl_name (TextVar line name) = name
+
+abbrev pub head_name : Head → Option (List ℕ)
+head_name (loop_at line name elements backward object) = Some name
+head_name (view_at line view object at name) = Some name
+head_name (stable_at line object) = None
+head_name (declare_at line decls) = None
+
+-- the name that an item declares
+abbrev pub declared : Item → Option (List ℕ)
+declared (declares decl) = Some (decl_name decl)
+declared (commands simple) = None
+declared (opens head) = head_name head
+declared begins = None
+declared (closes _) = None
+
+abbrev pub decl_capacity : Decl → ℕ
+decl_capacity (TypeDecl line name def) = 0
+decl_capacity (Object line name of capacity) = unwrap_or capacity 0
+decl_capacity (CursorVar line name of) = 0
+decl_capacity (IntVar line name) = 0
+decl_capacity (TextVar line name) = 0
+
+-- the capacity that an item gives
+abbrev pub capacity : Item → ℕ
+capacity (declares decl) = decl_capacity decl
+capacity (commands simple) = 0
+capacity (opens head) = 0
+capacity begins = 0
+capacity (closes _) = 0
+
+-- how many names may be in scope, and how much room the objects of a text may have in all
+abbrev pub most_names : ℕ
+most_names = 1000
+
+abbrev pub most_room : ℕ
+most_room = 1000000
+
+abbrev pub is_in_scope : Scope → List ℕ → Bool
+is_in_scope scope name = is_some (meaning_in scope name)
+
+abbrev pub is_twice : Scope → Option (List ℕ) → Bool
+is_twice scope None = false
+is_twice scope (Some name) = is_in_scope scope name
+
+-- one name more is one too many
+abbrev pub is_crowded : Scope → Option (List ℕ) → Bool
+is_crowded scope None = false
+is_crowded scope (Some name) = nat_le most_names (length scope)
+
+-- the capacities of these items in all
+abbrev pub room_of : List Standing → ℕ
+room_of earlier = sum_by (λ (s : Standing). capacity s.item) earlier
+
+-- what is faulty in an item behind those before it: the first of these that is
+abbrev pub fault : List Standing → Standing → Option RefusalKind
+fault earlier s =
+    if list_any (λ name. not (is_in_scope s.scope name)) (used s.item) then Some UnknownName
+    else if not (is_well_typed s) then Some WrongType
+    else if is_twice s.scope (declared s.item) then Some Twice
+    else if is_crowded s.scope (declared s.item) || nat_lt most_room (room_of earlier + capacity s.item) then Some Limit
+    else None
+
+-- no item of these is faulty
+abbrev pub AreFaultless : List Standing → Type 0
+AreFaultless all = (earlier later : List Standing) (s : Standing) → all ≡ earlier ++ s ∷ later → fault earlier s ≡ None
+
+-- the first faulty item of a script stands on this line, and this is its fault
+pub record IsFirstFault (script : Script) (line : ℕ) (kind : RefusalKind) : Type 0 where
+  pub earlier : List Standing
+  pub later : List Standing
+  pub faulty : Standing
+  pub split : standings script ≡ earlier ++ faulty ∷ later
+  pub first : AreFaultless earlier
+  pub is : fault earlier faulty ≡ Some kind
+  pub stands : item_line faulty.item ≡ Some line
+
+-- a script that can run
+abbrev pub IsChecked : Script → Type 0
+IsChecked script = AreFaultless (standings script)

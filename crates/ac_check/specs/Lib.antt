@@ -1,0 +1,4 @@
+pub mod Table
+pub mod Scopes
+pub mod Rules
+pub mod Faults
