@@ -1,3 +1,5 @@
 pub mod Telling
 pub mod Lines
 pub mod Meant
+mod Walks
+mod Growing

@@ -4,9 +4,8 @@ ghost use Rattle.ac_top.specs.Output.{line_of};
 ghost use Rattle.ac_top.specs.Meaning.{list_after, answer, lines_from};
 ghost use Rattle.ac_top.specs.declared.execute.HostEnd.TheVariants as host_end;
 
-use crate::limits::LENGTH_LIMIT;
 use crate::line::{append_done, append_listing, append_raised, begin_line, end_line};
-use ac_base::Reason;
+use crate::numbers::Numbers;
 use ac_io::{Sink, WriteFault, write_all};
 use ac_first_path::{Action, Command};
 use std::alloc::{AllocError, Global};
@@ -38,27 +37,23 @@ impl From<WriteFault> for HostEnd {
 }
 
 /// Runs a command on the list, and adds what it answers to the text.
-fn run_action(list: &mut Vec<i64>, action: Action, text: &mut Vec<u8>) -> Result<(), AllocError>
-    ensures list { OnOk result (list.new.items ≡ list_after list.old.items action) }
-    ensures text { OnOk result (text.new.items ≡ text.old.items ++ answer list.old.items action) }
+fn run_action(list: &mut Numbers, action: Action, text: &mut Vec<u8>) -> Result<(), AllocError>
+    ensures list { OnOk result (list.new ≡ list_after list.old action) }
+    ensures text { OnOk result (text.new.items ≡ text.old.items ++ answer list.old action) }
 {
     match action {
-        Action::Append(value) => {
-            if list.len() < LENGTH_LIMIT {
-                list.push(value)?;
-                append_done(text)
-            } else {
-                append_raised(text, Reason::LengthRange)
-            }
-        }
+        Action::Append(value) => match list.append(value)? {
+            None => append_done(text),
+            Some(reason) => append_raised(text, reason),
+        },
         Action::Print => append_listing(text, list),
     }
 }
 
 /// Runs a command on the list, and makes the text its line.
-fn run_command(list: &mut Vec<i64>, command: Command, text: &mut Vec<u8>) -> Result<(), AllocError>
-    ensures list { OnOk result (list.new.items ≡ list_after list.old.items command.action) }
-    ensures text { OnOk result (text.new.items ≡ line_of command.line (answer list.old.items command.action)) }
+fn run_command(list: &mut Numbers, command: Command, text: &mut Vec<u8>) -> Result<(), AllocError>
+    ensures list { OnOk result (list.new ≡ list_after list.old command.action) }
+    ensures text { OnOk result (text.new.items ≡ line_of command.line (answer list.old command.action)) }
 {
     text.clear();
     begin_line(text, command.line)?;
@@ -74,7 +69,7 @@ pub fn execute<K: Sink>(alloc: Global, commands: &[Command], sink: &mut K) -> Re
     ensures counted { K.faults sink.old ≤ K.faults sink.new }
     ensures within { IfSome (K.room sink.old) (λ room. length (lines_from [] commands.now) ≤ room → result ≢ Err HostEnd.WriteFault) }
 {
-    let mut list = Vec::new(alloc);
+    let mut list = Numbers::new(alloc);
     let mut text = Vec::new(alloc);
     for command in commands {
         run_command(&mut list, *command, &mut text)?;

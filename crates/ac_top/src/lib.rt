@@ -7,6 +7,7 @@ mod execute;
 mod gate;
 mod limits;
 mod line;
+mod numbers;
 mod status;
 
 pub use entry::run;

@@ -1,8 +1,8 @@
 ghost use Rattle.std.specs.Prelude.{◌≡◌, ◌∷◌, ◌++◌, [], codes, decimal, OnOk};
 ghost use Rattle.std.specs.Fmt.{signed_decimal};
-ghost use Rattle.std.specs.List.{flat_map};
-ghost use Rattle.ac_top.specs.Output.{raised, listed, listing, after_comma};
+ghost use Rattle.ac_top.specs.Output.{raised, item, listing};
 
+use crate::numbers::Numbers;
 use ac_base::Reason;
 use itoa::{Buffer, Integer};
 use std::alloc::AllocError;
@@ -43,33 +43,21 @@ fn append_integer(text: &mut Vec<u8>, value: i64) -> Result<(), AllocError>
     append(text, Buffer::new().format(value))
 }
 
-fn append_after_commas(text: &mut Vec<u8>, values: &[i64]) -> Result<(), AllocError>
-    ensures { OnOk result (text.new.items ≡ text.old.items ++ flat_map after_comma values.now) }
+/// Adds one integer of a listing, with a comma before it unless it is the first.
+pub fn append_item(text: &mut Vec<u8>, is_first: bool, value: &i64) -> Result<(), AllocError>
+    ensures { OnOk result (text.new.items ≡ text.old.items ++ item is_first value.now) }
 {
-    for value in values {
+    if !is_first {
         append(text, ", ")?;
-        append_integer(text, *value)?;
     }
-    Ok(())
+    append_integer(text, *value)
 }
 
-fn append_listed(text: &mut Vec<u8>, values: &[i64]) -> Result<(), AllocError>
-    ensures { OnOk result (text.new.items ≡ text.old.items ++ listed values.now) }
-{
-    match values {
-        [] => Ok(()),
-        [first, rest @ ..] => {
-            append_integer(text, *first)?;
-            append_after_commas(text, rest)
-        }
-    }
-}
-
-pub fn append_listing(text: &mut Vec<u8>, values: &[i64]) -> Result<(), AllocError>
-    ensures { OnOk result (text.new.items ≡ text.old.items ++ listing values.now) }
+pub fn append_listing(text: &mut Vec<u8>, numbers: &Numbers) -> Result<(), AllocError>
+    ensures { OnOk result (text.new.items ≡ text.old.items ++ listing numbers.now) }
 {
     append(text, "[")?;
-    append_listed(text, values)?;
+    numbers.append_listed(text)?;
     append(text, "]")
 }
 

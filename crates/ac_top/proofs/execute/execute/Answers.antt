@@ -16,13 +16,13 @@ returns-in_err-run_command-clause-within g c =
 
 pub returns-in_err-write_all-clause-front : goal.returns-in_err-write_all-clause-front
 returns-in_err-write_all-clause-front g c =
-    let next = next_line c.loop-command.list.items c.run_command.new.list.items c.args.commands.now c.loop-command.command-index _ c.deref.result.now (omega arith) c.in_ok-run_command.ensures.list (c.deref.ensures.value ∙ c.in_ok-run_command.ensures.text) in
+    let next = next_line c.loop-command.list c.run_command.new.list c.args.commands.now c.loop-command.command-index _ c.deref.result.now (omega arith) c.in_ok-run_command.ensures.list (c.deref.ensures.value ∙ c.in_ok-run_command.ensures.text) in
     let told = subst (λ rest. IsTold (g.K.Sink.held c.args.sink.now) (g.K.Sink.held c.loop-command.sink) (g.K.Sink.room c.args.sink.now) (g.K.Sink.room c.loop-command.sink) rest (lines_from [] c.args.commands.now)) next c.loop-command.invariant.told in
     on_err_of c.from_residual-in_err-write_all.result (told_broken _ _ _ _ _ _ _ _ told c.in_err-write_all.ensures.front)
 
 pub loop-command-preserved : goal.loop-command-preserved
 loop-command-preserved g c =
-    let next = next_line c.loop-command.list.items c.run_command.new.list.items c.args.commands.now c.loop-command.command-index _ c.deref.result.now (omega arith) c.in_ok-run_command.ensures.list (c.deref.ensures.value ∙ c.in_ok-run_command.ensures.text) in
+    let next = next_line c.loop-command.list c.run_command.new.list c.args.commands.now c.loop-command.command-index _ c.deref.result.now (omega arith) c.in_ok-run_command.ensures.list (c.deref.ensures.value ∙ c.in_ok-run_command.ensures.text) in
     let told = subst (λ rest. IsTold (g.K.Sink.held c.args.sink.now) (g.K.Sink.held c.loop-command.sink) (g.K.Sink.room c.args.sink.now) (g.K.Sink.room c.loop-command.sink) rest (lines_from [] c.args.commands.now)) next c.loop-command.invariant.told in
     record {
       told = told_more _ _ _ _ _ _ _ _ _ _ told c.in_ok-write_all.ensures.whole c.in_ok-write_all.ensures.within;

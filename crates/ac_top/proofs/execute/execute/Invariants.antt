@@ -7,6 +7,6 @@ abbrev pub invariant-loop-command : goal.invariant-loop-command
 invariant-loop-command g l =
     let sink = g.K.Sink in
     record {
-      told : IsTold (sink.held l.fn.sink) (sink.held l.sink) (sink.room l.fn.sink) (sink.room l.sink) (lines_from l.list.items (drop l.command-index l.commands)) (lines_from [] l.commands);
+      told : IsTold (sink.held l.fn.sink) (sink.held l.sink) (sink.room l.fn.sink) (sink.room l.sink) (lines_from l.list (drop l.command-index l.commands)) (lines_from [] l.commands);
       counted : sink.faults l.fn.sink ≤ sink.faults l.sink;
     }
