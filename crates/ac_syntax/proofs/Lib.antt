@@ -6,3 +6,5 @@ pub mod ItemsAlone
 pub mod Blocks
 pub mod OneRefusal
 pub mod Orders
+mod Cuts
+mod RoundTrip
