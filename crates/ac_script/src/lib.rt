@@ -2,6 +2,8 @@
 #![tactic(auto)]
 
 mod fault;
+mod literal;
+mod page;
 
 pub use ac_syntax::{
     Arg, Args, Decl, Decls, ElemKind, Ident, Idents, Kind, RefusalKind, Script, Stmt, Stmts, TypeDef, ViewKind,
