@@ -3,9 +3,11 @@
 
 mod fault;
 mod literal;
+mod mark;
 mod page;
 
 pub use ac_syntax::{
-    Arg, Args, Decl, Decls, ElemKind, Ident, Idents, Kind, RefusalKind, Script, Stmt, Stmts, TypeDef, ViewKind,
+    Arg, Args, Decl, Decls, ElemKind, Ident, Idents, Kind, RefusalKind, Script, Stmt, Stmts,
+    TypeDef, ViewKind,
 };
 pub use fault::ScriptFault;
