@@ -1,6 +1,8 @@
 //! Scripts from their texts, and back: what `ac_syntax` defines is read and written here.
 #![tactic(auto)]
 
+mod block;
+mod command;
 mod declaration;
 mod fault;
 mod literal;

@@ -1,5 +1,5 @@
 ghost use Rattle.std.specs.Prelude.{◌≡◌, ◌<◌, ◌++◌, replicate, IfOk, OnOk, Some, None};
-ghost use Rattle.ac_syntax.specs.Parts.{says, marks, names, counts, writes};
+ghost use Rattle.ac_syntax.specs.Parts.{says, marks, names, counts, writes, lacks};
 ghost use Rattle.ac_syntax.specs.Canonical.{with_last_line_feed};
 ghost use Rattle.ac_script.specs.Page.{blank_page, put_space, put_bytes, put_part, begin_item};
 
@@ -92,6 +92,15 @@ impl Page {
     {
         self.space(false, false)?;
         self.bytes(Buffer::new().format(number).as_bytes())
+    }
+
+    /// Writes what has no bytes.
+    #[tactic(auto, unfolding(crate::specs::Page::put_part))]
+    pub fn empty_part(&mut self) -> Result<(), NoMemory>
+        ensures { OnOk result (self.new ≡ put_part self.old lacks) }
+    {
+        self.space(false, false)?;
+        self.bytes(b"")
     }
 
     #[tactic(auto, unfolding(crate::specs::Page::put_part, crate::specs::Page::put_bytes))]
