@@ -1,2 +1,4 @@
 pub mod LineFeeds
 pub mod Pages
+pub mod StatementSizes
+pub mod PageTexts

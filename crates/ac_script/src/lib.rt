@@ -1,17 +1,12 @@
 //! Scripts from their texts, and back: what `ac_syntax` defines is read and written here.
 #![tactic(auto)]
 
-mod block;
-mod command;
-mod declaration;
 mod fault;
-mod literal;
-mod mark;
-mod page;
-mod words;
+mod printer;
 
 pub use ac_syntax::{
     Arg, Args, Decl, Decls, ElemKind, Ident, Idents, Kind, RefusalKind, Script, Stmt, Stmts,
     TypeDef, ViewKind,
 };
 pub use fault::ScriptFault;
+pub use printer::print;

@@ -4,7 +4,7 @@ ghost use Rattle.ac_syntax.specs.Code.{call_at, set_at, sum_at};
 ghost use Rattle.ac_syntax.specs.Items.{commands};
 ghost use Rattle.ac_script.specs.Page.{put_part, put_parts, put_item};
 
-use crate::page::Page;
+use crate::printer::page::Page;
 use ac_base::NoMemory;
 use ac_syntax::{Arg, Args, Ident, Mark};
 

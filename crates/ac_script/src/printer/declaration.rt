@@ -5,8 +5,8 @@ ghost use Rattle.ac_syntax.specs.declared.decl.Decl.TheVariants.{TypeDecl, Objec
 ghost use Rattle.ac_syntax.specs.declared.token.Mark.TheVariants.{Colon, Semicolon};
 ghost use Rattle.ac_script.specs.Page.{begin_item, put_parts, put_item, put_items};
 
-use crate::page::Page;
-use crate::words::{elem_word, kind_word};
+use crate::printer::page::Page;
+use crate::printer::words::{elem_word, kind_word};
 use ac_base::NoMemory;
 use ac_syntax::{Decl, Decls, ElemKind, Ident, Mark, TypeDef};
 

@@ -3,8 +3,8 @@ ghost use Rattle.ac_syntax.specs.Parts.{says, marks, names, counts, writes, lack
 ghost use Rattle.ac_syntax.specs.Canonical.{with_last_line_feed};
 ghost use Rattle.ac_script.specs.Page.{blank_page, put_space, put_bytes, put_part, begin_item};
 
-use crate::literal::append_literal;
-use crate::mark::{follows_closely, leads_closely, mark_text};
+use crate::printer::literal::append_literal;
+use crate::printer::mark::{follows_closely, leads_closely, mark_text};
 use ac_base::{NoMemory, Value};
 use ac_syntax::{Ident, Mark};
 use itoa::Buffer;

@@ -5,8 +5,8 @@ ghost use Rattle.ac_syntax.specs.Parts.{says, names, place_parts, needed_place, 
 ghost use Rattle.ac_syntax.specs.declared.view_kind.ViewKind.TheVariants.{Reference};
 ghost use Rattle.ac_script.specs.Page.{put_parts, put_item, put_items};
 
-use crate::declaration::{put_declarations, put_word_if};
-use crate::page::Page;
+use crate::printer::declaration::{put_declarations, put_word_if};
+use crate::printer::page::Page;
 use ac_base::NoMemory;
 use ac_syntax::{Decls, Ident, Mark, ViewKind};
 

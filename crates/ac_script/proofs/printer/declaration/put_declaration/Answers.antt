@@ -1,5 +1,5 @@
 use Rattle.ac_syntax.specs.Parts.{item_parts}
-use Rattle.ac_script.proofs.declaration.put_declaration.Goals as goal
+use Rattle.ac_script.proofs.printer.declaration.put_declaration.Goals as goal
 
 pub returns-in-IntVar : goal.returns-in-IntVar
 unfolding item_parts
