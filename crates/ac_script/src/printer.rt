@@ -11,14 +11,16 @@ mod declaration;
 mod literal;
 mod mark;
 mod page;
+#[cfg(test)]
+mod tests;
 mod words;
 
-use crate::printer::block::{put_declare, put_end, put_loop, put_stable, put_view};
-use crate::printer::command::{put_call, put_set, put_sum};
-use crate::printer::declaration::put_declarations;
-use crate::printer::page::Page;
 use ac_base::NoMemory;
 use ac_syntax::{Script, Stmt, Stmts};
+use block::{put_declare, put_end, put_loop, put_stable, put_view};
+use command::{put_call, put_set, put_sum};
+use declaration::put_declarations;
+use page::Page;
 use std::alloc::Global;
 
 /// Writes the statements in a block, and what ends it.
