@@ -1,3 +1,7 @@
 mod Cutting
 mod Strings
 mod Within
+pub mod LineFeeds
+pub mod Pages
+pub mod StatementSizes
+pub mod PageTexts

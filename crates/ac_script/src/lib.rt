@@ -5,8 +5,11 @@ mod cut;
 mod fault;
 mod limits;
 mod piece;
+mod printer;
 
 pub use ac_syntax::{
-    Arg, Args, Decl, Decls, ElemKind, Ident, Idents, Kind, RefusalKind, Script, Stmt, Stmts, TypeDef, ViewKind,
+    Arg, Args, Decl, Decls, ElemKind, Ident, Idents, Kind, RefusalKind, Script, Stmt, Stmts,
+    TypeDef, ViewKind,
 };
 pub use fault::ScriptFault;
+pub use printer::print;

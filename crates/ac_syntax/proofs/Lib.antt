@@ -8,3 +8,5 @@ pub mod OneRefusal
 pub mod Orders
 pub mod Fronts
 pub mod Pieces
+mod Cuts
+mod RoundTrip

@@ -1,11 +1,13 @@
 //! What holds of the language itself, whatever reads it.
-ghost use Rattle.std.specs.Prelude.{◌≡◌, ℕ, List, ◌∷◌, ◌++◌, true, count_by, Some};
+ghost use Rattle.std.specs.Prelude.{◌≡◌, ℕ, List, ◌∷◌, ◌++◌, true, count_by, Some, None, IsTrue};
+ghost use Rattle.std.specs.List.{list_all};
 ghost use Rattle.ac_syntax.specs.declared.token.Placed.{Placed};
 ghost use Rattle.ac_syntax.specs.declared.script.Script.{Script};
 ghost use Rattle.ac_syntax.specs.Grammar.{Derives};
 ghost use Rattle.ac_syntax.specs.Items.{Item, script_items};
 ghost use Rattle.ac_syntax.specs.Limits.{is_word_of, block_words, end_words};
-ghost use Rattle.ac_syntax.specs.Tokens.{tokens};
+ghost use Rattle.ac_syntax.specs.Tokens.{tokens, cut_of};
+ghost use Rattle.ac_syntax.specs.Canonical.{canonical_text, canonical_placed, canonical_tokens, is_written, IsWellFormed};
 ghost use Rattle.ac_syntax.specs.Order.{Context, context_after, at_front, IsEnd};
 ghost use Rattle.ac_syntax.specs.Refusals.{Spells, IsFirstRefusal};
 ghost use Rattle.ac_syntax.specs.declared.refusal.RefusalKind.{RefusalKind};
@@ -42,6 +44,14 @@ pub fn items_order()
 /// No two scripts have the same items.
 pub fn items_alone()
     ensures { (script other : Script) → script_items script ≡ script_items other → script ≡ other }
+{}
+
+/// The canonical text of a script whose tokens can be written is cut into these, each on its line, and it spells the script where that is
+/// well formed.
+pub fn round_trip()
+    ensures cut { (script : Script) → IsTrue (list_all is_written (canonical_tokens script)) →
+        cut_of (canonical_text script) ≡ record { placed = canonical_placed script; malformed = None } }
+    ensures spelled { (script : Script) → IsWellFormed script → Spells script (canonical_text script) }
 {}
 
 /// Texts whose tokens, scripts and canonical texts were worked out by hand.

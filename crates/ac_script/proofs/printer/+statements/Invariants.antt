@@ -1,0 +1,18 @@
+use Rattle.std.proofs.Common.{◌≡◌, ◌+◌, ◌*◌, drop}
+use Rattle.ac_syntax.specs.Code.{code_size, stop}
+use Rattle.ac_syntax.specs.Items.{items}
+use Rattle.ac_syntax.specs.Statements.{before, code_of}
+use Rattle.ac_script.specs.Page.{put_items}
+use Rattle.ac_script.proofs.printer.+statements.Given as goal
+
+abbrev pub decreases-put_body : goal.decreases-put_body
+decreases-put_body l = 3 * code_size l.body.now + 2
+
+abbrev pub decreases-put_statement : goal.decreases-put_statement
+decreases-put_statement l = 3 * code_size (before l.stmt.now stop)
+
+abbrev pub decreases-put_statements : goal.decreases-put_statements
+decreases-put_statements l = 3 * code_size l.stmts.now + 1
+
+abbrev pub invariant-put_statements-loop-stmt : goal.invariant-put_statements-loop-stmt
+invariant-put_statements-loop-stmt l = put_items l.page (items (code_of (drop l.stmt-index l.stmt-items))) ≡ put_items l.initial.page (items l.stmts)

@@ -1,0 +1,14 @@
+use Rattle.std.proofs.Common.{◌≡◌, ap, ◌∙◌, map}
+use Rattle.ac_syntax.specs.Items.{declares, items}
+use Rattle.ac_syntax.specs.Canonical.{with_last_line_feed, canonical_text}
+use Rattle.ac_script.specs.Page.{Page, blank_page, put_items}
+use Rattle.ac_script.proofs.PageTexts.{script_put}
+use Rattle.ac_script.proofs.printer.print.Goals as goal
+
+pub returns : goal.returns
+returns c =
+    let script = c.args.script.now in
+    let page : c.put_statements.new.page ≡ put_items (put_items blank_page (map declares script.decls)) (items script.stmts)
+    = c.in_ok-put_statements.ensures ∙ ap (λ (p : Page). put_items p (items script.stmts)) (c.in_ok-put_declarations.ensures ∙ ap (λ (p : Page). put_items p (map declares script.decls)) c.new-page.ensures) in
+    let whole : with_last_line_feed c.put_statements.new.page.text ≡ canonical_text script = ap (λ (p : Page). with_last_line_feed p.text) page ∙ script_put script in
+    rw (← whole) c.finish.ensures

@@ -1,0 +1,106 @@
+ghost use Rattle.std.specs.Prelude.{◌≡◌, IfOk, OnOk};
+ghost use Rattle.ac_syntax.specs.Code.{stop};
+ghost use Rattle.ac_syntax.specs.Items.{items, closes};
+ghost use Rattle.ac_syntax.specs.Statements.{before};
+ghost use Rattle.ac_syntax.specs.Canonical.{canonical_text};
+ghost use Rattle.ac_script.specs.Page.{put_item, put_items};
+
+mod block;
+mod command;
+mod declaration;
+mod literal;
+mod mark;
+mod page;
+#[cfg(test)]
+mod tests;
+mod words;
+
+use ac_base::NoMemory;
+use ac_syntax::{Script, Stmt, Stmts};
+use block::{put_declare, put_end, put_loop, put_stable, put_view};
+use command::{put_call, put_set, put_sum};
+use declaration::put_declarations;
+use page::Page;
+use std::alloc::Global;
+
+/// Writes the statements in a block, and what ends it.
+#[cycle(statements)]
+fn put_body(page: &mut Page, body: &Stmts, is_loop: bool) -> Result<(), NoMemory>
+    ensures { OnOk result (page.new ≡ put_item (put_items page.old (items body.now)) (closes is_loop)) }
+{
+    put_statements(page, body)?;
+    put_end(page, is_loop)
+}
+
+#[cycle(statements)]
+fn put_statement(page: &mut Page, stmt: &Stmt) -> Result<(), NoMemory>
+    ensures { OnOk result (page.new ≡ put_items page.old (items (before stmt.now stop))) }
+{
+    match stmt {
+        Stmt::Call {
+            line,
+            target,
+            object,
+            op,
+            args,
+        } => put_call(page, *line, target, object, op, args),
+        Stmt::Set { line, target, from } => put_set(page, *line, target, from),
+        Stmt::Sum {
+            line,
+            target,
+            from,
+            minus,
+            number,
+        } => put_sum(page, *line, target, from, *minus, *number),
+        Stmt::Loop {
+            line,
+            name,
+            elements,
+            backward,
+            object,
+            body,
+        } => {
+            put_loop(page, *line, name, *elements, *backward, object)?;
+            put_body(page, body, true)
+        }
+        Stmt::View {
+            line,
+            kind,
+            object,
+            at,
+            name,
+            body,
+        } => {
+            put_view(page, *line, *kind, object, at, name)?;
+            put_body(page, body, false)
+        }
+        Stmt::Stable { line, object, body } => {
+            put_stable(page, *line, object)?;
+            put_body(page, body, false)
+        }
+        Stmt::Declare { line, decls, body } => {
+            put_declare(page, *line, decls)?;
+            put_body(page, body, false)
+        }
+    }
+}
+
+#[cycle(statements)]
+fn put_statements(page: &mut Page, stmts: &Stmts) -> Result<(), NoMemory>
+    ensures { OnOk result (page.new ≡ put_items page.old (items stmts.now)) }
+{
+    for stmt in stmts.items() {
+        put_statement(page, stmt)?;
+    }
+    Ok(())
+}
+
+/// The canonical text of a script.
+pub fn print(alloc: Global, script: &Script) -> Result<Vec<u8>, NoMemory>
+    ensures { IfOk result (λ text. text.items ≡ canonical_text script.now) }
+{
+    let mut page = Page::new(alloc);
+    put_declarations(&mut page, &script.decls)?;
+    put_statements(&mut page, &script.stmts)?;
+    page.finish()
+}

@@ -1,0 +1,183 @@
+ghost use Rattle.std.specs.Prelude.{◌≡◌, ◌∷◌, ◌++◌, [], codes, OnOk};
+ghost use Rattle.ac_syntax.specs.Code.{loop_at, view_at, stable_at, declare_at};
+ghost use Rattle.ac_syntax.specs.Items.{opens, begins, closes, declared};
+ghost use Rattle.ac_syntax.specs.Parts.{says, names, place_parts, needed_place, view_parts};
+ghost use Rattle.ac_syntax.specs.declared.view_kind.ViewKind.TheVariants.{Reference};
+ghost use Rattle.ac_script.specs.Page.{put_parts, put_item, put_items};
+
+use crate::printer::declaration::{put_declarations, put_word_if};
+use crate::printer::page::Page;
+use ac_base::NoMemory;
+use ac_syntax::{Decls, Ident, Mark, ViewKind};
+
+#[tactic(auto, using(crate::proofs::Pages::put_more), unfolding(ac_syntax::specs::Parts::item_parts))]
+pub fn put_loop(
+    page: &mut Page,
+    line: u64,
+    name: &Ident,
+    elements: bool,
+    backward: bool,
+    object: &Ident,
+) -> Result<(), NoMemory>
+    ensures { OnOk result (page.new ≡ put_item page.old (opens (loop_at line name.now elements backward object.now))) }
+{
+    page.begin_on(line)?;
+    page.word("for")?;
+    page.name(name)?;
+    page.word(if elements { "of" } else { "in" })?;
+    put_word_if(page, backward, "reverse")?;
+    page.name(object)?;
+    page.word("loop")
+}
+
+/// Writes a reserved word and a name.
+fn put_named(page: &mut Page, word: &str, name: &Ident) -> Result<(), NoMemory>
+    ensures { OnOk result (page.new ≡ put_parts page.old (says word.now ∷ names name.now ∷ [])) }
+{
+    page.word(word)?;
+    page.name(name)
+}
+
+fn put_place(page: &mut Page, at: &Option<Ident>) -> Result<(), NoMemory>
+    ensures { OnOk result (page.new ≡ put_parts page.old (place_parts at.now)) }
+{
+    match at {
+        None => Ok(()),
+        Some(cursor) => put_named(page, "at", cursor),
+    }
+}
+
+fn put_needed_place(page: &mut Page, at: &Option<Ident>) -> Result<(), NoMemory>
+    ensures { OnOk result (page.new ≡ put_parts page.old (needed_place at.now)) }
+{
+    match at {
+        None => page.empty_part(),
+        Some(cursor) => put_named(page, "at", cursor),
+    }
+}
+
+/// Writes the words of a query or an update, which may do without a cursor.
+#[tactic(auto, using(crate::proofs::Pages::put_more))]
+fn put_query(
+    page: &mut Page,
+    word: &str,
+    object: &Ident,
+    at: &Option<Ident>,
+    name: &Ident,
+) -> Result<(), NoMemory>
+    ensures { OnOk result (page.new ≡ put_parts page.old (says word.now ∷ names object.now ∷ (place_parts at.now ++ says (codes "as") ∷ names name.now ∷ []))) }
+{
+    put_named(page, word, object)?;
+    put_place(page, at)?;
+    put_named(page, "as", name)
+}
+
+/// Writes the words of an update of a key.
+#[tactic(auto, using(crate::proofs::Pages::put_more))]
+fn put_keyed(
+    page: &mut Page,
+    word: &str,
+    object: &Ident,
+    at: &Option<Ident>,
+    name: &Ident,
+) -> Result<(), NoMemory>
+    ensures { OnOk result (page.new ≡ put_parts page.old (says word.now ∷ names object.now ∷ (needed_place at.now ++ says (codes "as") ∷ names name.now ∷ []))) }
+{
+    put_named(page, word, object)?;
+    put_needed_place(page, at)?;
+    put_named(page, "as", name)
+}
+
+fn put_reference(
+    page: &mut Page,
+    object: &Ident,
+    at: &Option<Ident>,
+    name: &Ident,
+) -> Result<(), NoMemory>
+    ensures { OnOk result (page.new ≡ put_parts page.old (view_parts Reference object.now at.now name.now)) }
+{
+    put_named(page, "reference", name)?;
+    put_named(page, "of", object)?;
+    put_place(page, at)
+}
+
+fn put_view_words(
+    page: &mut Page,
+    kind: ViewKind,
+    object: &Ident,
+    at: &Option<Ident>,
+    name: &Ident,
+) -> Result<(), NoMemory>
+    ensures { OnOk result (page.new ≡ put_parts page.old (view_parts kind object.now at.now name.now)) }
+{
+    match kind {
+        ViewKind::Query => put_query(page, "query", object, at, name),
+        ViewKind::Update => put_query(page, "update", object, at, name),
+        ViewKind::UpdateKey => put_keyed(page, "update_key", object, at, name),
+        ViewKind::Reference => put_reference(page, object, at, name),
+    }
+}
+
+#[tactic(auto, using(crate::proofs::Pages::put_more), unfolding(ac_syntax::specs::Parts::item_parts))]
+pub fn put_view(
+    page: &mut Page,
+    line: u64,
+    kind: ViewKind,
+    object: &Ident,
+    at: &Option<Ident>,
+    name: &Ident,
+) -> Result<(), NoMemory>
+    ensures { OnOk result (page.new ≡ put_item page.old (opens (view_at line kind object.now at.now name.now))) }
+{
+    page.begin_on(line)?;
+    put_view_words(page, kind, object, at, name)?;
+    page.word("do")
+}
+
+#[tactic(auto, unfolding(ac_syntax::specs::Parts::item_parts))]
+pub fn put_stable(page: &mut Page, line: u64, object: &Ident) -> Result<(), NoMemory>
+    ensures { OnOk result (page.new ≡ put_item page.old (opens (stable_at line object.now))) }
+{
+    page.begin_on(line)?;
+    put_named(page, "stable", object)?;
+    page.word("do")
+}
+
+#[tactic(auto, unfolding(ac_syntax::specs::Parts::item_parts))]
+fn put_declare_word(page: &mut Page, line: u64) -> Result<(), NoMemory>
+    ensures { OnOk result (page.new ≡ put_item page.old (opens (declare_at line []))) }
+{
+    page.begin_on(line)?;
+    page.word("declare")
+}
+
+#[tactic(auto, unfolding(ac_syntax::specs::Parts::item_parts))]
+fn put_begin_word(page: &mut Page) -> Result<(), NoMemory>
+    ensures { OnOk result (page.new ≡ put_item page.old begins) }
+{
+    page.begin_here()?;
+    page.word("begin")
+}
+
+/// Writes a block's head with its declarations.
+#[tactic(auto, using(crate::proofs::Pages::put_more_items))]
+pub fn put_declare(page: &mut Page, line: u64, decls: &Decls) -> Result<(), NoMemory>
+    ensures { OnOk result (page.new ≡ put_items page.old (opens (declare_at line []) ∷ declared (declare_at line decls.now))) }
+{
+    put_declare_word(page, line)?;
+    put_declarations(page, decls)?;
+    put_begin_word(page)
+}
+
+/// Writes what ends a block.
+#[tactic(auto, unfolding(ac_syntax::specs::Parts::item_parts))]
+pub fn put_end(page: &mut Page, is_loop: bool) -> Result<(), NoMemory>
+    ensures { OnOk result (page.new ≡ put_item page.old (closes is_loop)) }
+{
+    page.begin_here()?;
+    page.word("end")?;
+    if is_loop {
+        page.word("loop")?;
+    }
+    page.mark(Mark::Semicolon)
+}
