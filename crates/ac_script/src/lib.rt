@@ -2,6 +2,9 @@
 #![tactic(auto)]
 
 mod fault;
+mod reader;
+mod reserved;
+mod stop;
 
 pub use ac_syntax::{
     Arg, Args, Decl, Decls, ElemKind, Ident, Idents, Kind, RefusalKind, Script, Stmt, Stmts, TypeDef, ViewKind,
