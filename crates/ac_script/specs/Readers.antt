@@ -1,14 +1,13 @@
 -- Readers of one token.
-use Rattle.std.specs.Prelude.{◌≡◌, ℕ, Bool, List, [], ◌∷◌, Option, Some, None, if◌then◌else◌}
+use Rattle.std.specs.Prelude.{ℕ, List, Option, Some, None, if◌then◌else◌}
 use Rattle.std.specs.Str.{bytes_eq}
 use denote.Enum.Bare.{sameb}
 use Rattle.ac_syntax.specs.contracts.token.Mark.{the_type}
 use Rattle.ac_syntax.specs.declared.token.Token.{Token}
 use Rattle.ac_syntax.specs.declared.token.Token.TheVariants as token
 use Rattle.ac_syntax.specs.declared.token.Mark.{Mark}
-use Rattle.ac_syntax.specs.declared.token.Placed.{Placed}
 use Rattle.ac_syntax.specs.Grammar.{is_reserved}
-use Rattle.ac_script.specs.Outcomes.{Outcome, got, stopped, Reader, one}
+use Rattle.ac_script.specs.Outcomes.{Reader, one}
 
 abbrev pub as_word : List ℕ → Token → Option (Unit {0})
 as_word wanted (token.Word found) = if bytes_eq found wanted then Some tt else None

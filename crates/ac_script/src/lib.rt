@@ -1,7 +1,10 @@
 //! Scripts from their texts, and back: what `ac_syntax` defines is read and written here.
 #![tactic(auto)]
 
+mod declaration;
 mod fault;
+mod item;
+mod names;
 mod reader;
 mod reserved;
 mod stop;

@@ -1,11 +1,18 @@
 //! Readers of one token. Those that only look answer None where it isn't the one that is wanted.
 ghost use Rattle.std.specs.Prelude.{◌≡◌};
+ghost use Rattle.std.specs.Str.{bytes_eq};
 ghost use Rattle.ac_script.specs.Outcomes.{Sees, Finds};
 ghost use Rattle.ac_script.specs.Readers as readers;
 
 use crate::reserved::is_reserved;
 use crate::stop::Stop;
 use ac_syntax::{Ident, Mark, Placed, StringBytes, Token};
+
+pub fn is(word: &[u8], wanted: &[u8]) -> bool
+    ensures { result ≡ bytes_eq word.now wanted.now }
+{
+    word == wanted
+}
 
 pub fn find_word<'a>(tokens: &'a [Placed], wanted: &[u8]) -> Option<&'a [Placed]>
     ensures { Finds (λ rest. (tt, rest.now)) result tokens.now (readers.word wanted.now tokens.now) }
