@@ -3,8 +3,8 @@ use Rattle.std.specs.Prelude.{ℕ, ℤ, pos, neg_ℤ, Bool, if◌then◌else◌}
 use Rattle.ac_base.specs.declared.value.Value.TheVariants as value
 use Rattle.ac_syntax.specs.declared.arg.Arg.{Arg}
 use Rattle.ac_syntax.specs.declared.arg.Arg.TheVariants as arg
-use Rattle.ac_script.specs.declared.item.Argument.{Argument}
-use Rattle.ac_script.specs.declared.item.Argument.TheVariants.{Integer, Text, NoElement, Var}
+use Rattle.ac_script.specs.declared.argument.Argument.{Argument}
+use Rattle.ac_script.specs.declared.argument.Argument.TheVariants.{Integer, Text, NoElement, Var}
 
 -- the integer with this magnitude
 abbrev pub integer_of : (minus : Bool) → ℕ → ℤ

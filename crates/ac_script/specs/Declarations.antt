@@ -8,23 +8,15 @@ use Rattle.ac_syntax.specs.declared.kind.Kind.TheVariants as kinds
 use Rattle.ac_syntax.specs.declared.kind.ElemKind.{ElemKind}
 use Rattle.ac_syntax.specs.declared.kind.ElemKind.TheVariants.{Integer, Str}
 use Rattle.ac_syntax.specs.declared.type_def.TypeDef.{TypeDef}
-use Rattle.ac_syntax.specs.declared.token.Token.{Token}
-use Rattle.ac_syntax.specs.declared.token.Token.TheVariants as token
 use Rattle.ac_syntax.specs.declared.token.Mark.TheVariants.{Semicolon, Comma, Open, Close, Dot}
 use Rattle.ac_script.specs.Outcomes.{Reader, ◌>>=◌, gives, fork, one}
-use Rattle.ac_script.specs.Readers.{word, mark, name, number}
+use Rattle.ac_script.specs.Readers.{as_word_of, word, mark, name, number}
 
 abbrev pub elem_of : List ℕ → Option ElemKind
 elem_of found = if bytes_eq found (codes "integer") then Some Integer else if bytes_eq found (codes "string") then Some Str else None
 
-abbrev pub as_elem : Token → Option ElemKind
-as_elem (token.Word found) = elem_of found
-as_elem (token.Number _) = None
-as_elem (token.Text _) = None
-as_elem (token.Mark _) = None
-
 abbrev pub elem : Reader ElemKind
-elem = one as_elem
+elem = one (as_word_of elem_of)
 
 unfoldable pub late_kind : List ℕ → Option Kind
 late_kind found =
@@ -44,14 +36,8 @@ kind_of found =
     else if bytes_eq found (codes "hashed_set") then Some kinds.HashedSet
     else late_kind found
 
-abbrev pub as_kind : Token → Option Kind
-as_kind (token.Word found) = kind_of found
-as_kind (token.Number _) = None
-as_kind (token.Text _) = None
-as_kind (token.Mark _) = None
-
 abbrev pub kind : Reader Kind
-kind = one as_kind
+kind = one (as_word_of kind_of)
 
 -- `bounded` where there is that word, and a kind
 unfoldable pub bounded_kind : Reader (Bool × Kind)

@@ -14,11 +14,15 @@ pub data Outcome (A : Type 0) : Type 0 where
 abbrev pub Reader : Type 0 → Type 0
 Reader A = List Placed → Outcome A
 
+-- reading stopped there, unless memory ran out
+abbrev pub Stops : {A : Type 0} → Stop → Outcome A → Type 0
+Stops (At at) outcome = outcome ≡ stopped at.now
+Stops NoMemory outcome = Unit {0}
+
 -- what a function answered, seen by `view`, is the outcome, unless memory ran out
 abbrev pub Sees : {X A : Type 0} → (X → A × List Placed) → Result X Stop → Outcome A → Type 0
 Sees view (Ok x) outcome = outcome ≡ got (view x).0 (view x).1
-Sees view (Err (At at)) outcome = outcome ≡ stopped at.now
-Sees view (Err NoMemory) outcome = Unit {0}
+Sees view (Err stop) outcome = Stops stop outcome
 
 -- what a function found at the front of the tokens, seen by `view`, is the outcome
 abbrev pub Finds : {X A : Type 0} → (X → A × List Placed) → Option X → List Placed → Outcome A → Type 0
@@ -28,13 +32,13 @@ Finds view None tokens outcome = outcome ≡ stopped tokens
 abbrev pub gives : {A : Type 0} → A → Reader A
 gives x tokens = got x tokens
 
-abbrev pub then : {A B : Type 0} → Outcome A → (A → Reader B) → Outcome B
-then (got x rest) next = next x rest
-then (stopped at) next = stopped at
+abbrev pub onward : {A B : Type 0} → Outcome A → (A → Reader B) → Outcome B
+onward (got x rest) next = next x rest
+onward (stopped at) next = stopped at
 
 infixl 10 ◌>>=◌
 abbrev pub ◌>>=◌ : {A B : Type 0} → Reader A → (A → Reader B) → Reader B
-◌>>=◌ reader next tokens = then (reader tokens) next
+◌>>=◌ reader next tokens = onward (reader tokens) next
 
 abbrev pub either : {X A : Type 0} → Outcome X → (X → Reader A) → Reader A → Reader A
 either (got x rest) next other tokens = next x rest

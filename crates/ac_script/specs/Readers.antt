@@ -15,6 +15,13 @@ as_word wanted (token.Number _) = None
 as_word wanted (token.Text _) = None
 as_word wanted (token.Mark _) = None
 
+-- a word that is one of some, looked up by `pick`
+abbrev pub as_word_of : {A : Type 0} → (List ℕ → Option A) → Token → Option A
+as_word_of pick (token.Word found) = pick found
+as_word_of pick (token.Number _) = None
+as_word_of pick (token.Text _) = None
+as_word_of pick (token.Mark _) = None
+
 abbrev pub as_mark : Mark → Token → Option (Unit {0})
 as_mark wanted (token.Word _) = None
 as_mark wanted (token.Number _) = None
@@ -33,12 +40,6 @@ as_number (token.Number n) = Some n
 as_number (token.Text _) = None
 as_number (token.Mark _) = None
 
-abbrev pub as_text : Token → Option (List ℕ)
-as_text (token.Word _) = None
-as_text (token.Number _) = None
-as_text (token.Text bytes) = Some bytes
-as_text (token.Mark _) = None
-
 abbrev pub word : List ℕ → Reader (Unit {0})
 word wanted = one (as_word wanted)
 
@@ -51,7 +52,3 @@ name = one as_name
 
 abbrev pub number : Reader ℕ
 number = one as_number
-
--- a string
-abbrev pub text : Reader (List ℕ)
-text = one as_text

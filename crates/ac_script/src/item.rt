@@ -1,49 +1,7 @@
 //! Items as they are read: the order in which they may come is looked at elsewhere.
-ghost use Rattle.std.specs.Prelude.{◌≡◌, List, map};
-ghost use Rattle.ac_syntax.specs.declared.arg.Arg.{Arg};
-ghost use Rattle.ac_script.specs.Arguments.{argument_view};
 
-use ac_syntax::{Decl, Ident, StringBytes, ViewKind};
-use std::marker::Model;
-
-/// An argument as it is spelled, whatever its size.
-#[derive(Drop)]
-pub enum Argument {
-    Integer { minus: bool, magnitude: u64 },
-    Text(StringBytes),
-    NoElement,
-    Var(Ident),
-}
-
-/// The arguments of a call in order.
-#[derive(Drop)]
-pub struct Arguments {
-    items: Vec<Argument>,
-}
-
-impl Model for Arguments {
-    ghost use Rattle.std.specs.Prelude.{List, map};
-    ghost use Rattle.ac_syntax.specs.declared.arg.Arg.{Arg};
-    ghost use Rattle.ac_script.specs.Arguments.{argument_view};
-
-    ghost Value = { List Arg };
-
-    ghost view = { λ arguments. map argument_view arguments.items.items };
-}
-
-impl Arguments {
-    pub fn from_vec(items: Vec<Argument>) -> Arguments
-        ensures { result ≡ map argument_view items.items }
-    {
-        Arguments { items }
-    }
-
-    pub fn items(&self) -> &[Argument]
-        ensures { map argument_view result.now ≡ self.now }
-    {
-        &self.items
-    }
-}
+use crate::argument::{Argument, Arguments};
+use ac_syntax::{Decl, Ident, ViewKind};
 
 /// A command, with the line of its first token.
 #[derive(Drop)]

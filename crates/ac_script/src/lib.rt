@@ -1,8 +1,11 @@
 //! Scripts from their texts, and back: what `ac_syntax` defines is read and written here.
 #![tactic(auto)]
 
+mod argument;
+mod command;
 mod declaration;
 mod fault;
+mod head;
 mod item;
 mod names;
 mod reader;

@@ -1,4 +1,5 @@
 ghost use Rattle.std.specs.Prelude.{◌≡◌, IfOk};
+ghost use Rattle.std.specs.Option.{option_copied};
 
 use ac_syntax::{Ident, StringBytes};
 use std::alloc::{AllocError, Global};
@@ -7,6 +8,15 @@ pub fn copy(alloc: Global, name: &Ident) -> Result<Ident, AllocError>
     ensures { IfOk result (λ copy. copy ≡ name.now) }
 {
     Ok(Ident::new(name.bytes().to_vec(alloc)?))
+}
+
+pub fn copy_any(alloc: Global, name: Option<&Ident>) -> Result<Option<Ident>, AllocError>
+    ensures { IfOk result (λ copy. copy ≡ option_copied name.entry) }
+{
+    match name {
+        Some(name) => Ok(Some(copy(alloc, name)?)),
+        None => Ok(None),
+    }
 }
 
 pub fn copy_text(alloc: Global, text: &StringBytes) -> Result<StringBytes, AllocError>

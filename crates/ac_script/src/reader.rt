@@ -6,7 +6,7 @@ ghost use Rattle.ac_script.specs.Readers as readers;
 
 use crate::reserved::is_reserved;
 use crate::stop::Stop;
-use ac_syntax::{Ident, Mark, Placed, StringBytes, Token};
+use ac_syntax::{Ident, Mark, Placed, Token};
 
 pub fn is(word: &[u8], wanted: &[u8]) -> bool
     ensures { result ≡ bytes_eq word.now wanted.now }
@@ -55,21 +55,6 @@ pub fn find_number(tokens: &[Placed]) -> Option<(u64, &[Placed])>
             },
             rest @ ..,
         ] => Some((*number, rest)),
-        _ => None,
-    }
-}
-
-pub fn find_text(tokens: &[Placed]) -> Option<(&StringBytes, &[Placed])>
-    ensures { Finds (λ read. (read.0.now, read.1.now)) result tokens.now (readers.text tokens.now) }
-{
-    match tokens {
-        [
-            Placed {
-                token: Token::Text(text),
-                ..
-            },
-            rest @ ..,
-        ] => Some((text, rest)),
         _ => None,
     }
 }

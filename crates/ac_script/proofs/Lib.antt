@@ -1,0 +1,9 @@
+mod Spelled
+mod Cases
+mod Exact
+mod Forks
+mod Looked
+mod DeclarationsExact
+mod HeadsExact
+mod Arguments
+mod Turns
