@@ -7,3 +7,4 @@ mod DeclarationsExact
 mod HeadsExact
 mod Arguments
 mod Turns
+mod CommandsExact
