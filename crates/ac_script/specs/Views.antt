@@ -2,6 +2,9 @@
 use Rattle.std.specs.Prelude.{[]}
 use Rattle.ac_syntax.specs.Code as code
 use Rattle.ac_syntax.specs.Items as items
+use Rattle.ac_syntax.specs.Order as order
+use Rattle.ac_script.specs.declared.stage.Stage.{Stage}
+use Rattle.ac_script.specs.declared.stage.Stage.TheVariants.{Listing, Heading, Running}
 use Rattle.ac_script.specs.declared.item.Command.{Command}
 use Rattle.ac_script.specs.declared.item.Command.TheVariants.{Call, Set, Sum}
 use Rattle.ac_script.specs.declared.item.Head.{Head}
@@ -27,3 +30,8 @@ item_view (Commands command) = items.commands (command_view command)
 item_view (Opens head) = items.opens (head_view head)
 item_view Begins = items.begins
 item_view (Closes is_loop) = items.closes is_loop
+
+abbrev pub stage_view : Stage → order.Stage
+stage_view Listing = order.listing
+stage_view Heading = order.heading
+stage_view Running = order.running

@@ -7,9 +7,11 @@ mod declaration;
 mod fault;
 mod head;
 mod item;
+mod item_reader;
 mod names;
 mod reader;
 mod reserved;
+mod stage;
 mod stop;
 
 pub use ac_syntax::{
