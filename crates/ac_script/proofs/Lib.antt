@@ -5,3 +5,13 @@ pub mod LineFeeds
 pub mod Pages
 pub mod StatementSizes
 pub mod PageTexts
+mod Spelled
+mod Cases
+mod Exact
+mod Forks
+mod Looked
+mod DeclarationsExact
+mod HeadsExact
+mod Arguments
+mod Turns
+mod CommandsExact

@@ -6,6 +6,17 @@ mod fault;
 mod limits;
 mod piece;
 mod printer;
+mod argument;
+mod command;
+mod declaration;
+mod head;
+mod item;
+mod item_reader;
+mod names;
+mod reader;
+mod reserved;
+mod stage;
+mod stop;
 
 pub use ac_syntax::{
     Arg, Args, Decl, Decls, ElemKind, Ident, Idents, Kind, RefusalKind, Script, Stmt, Stmts,

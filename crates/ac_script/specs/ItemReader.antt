@@ -1,0 +1,71 @@
+-- The reader of one item, where it may come.
+use Rattle.std.specs.Prelude.{ℕ, codes, Bool, true, false, List, [], ◌∷◌, Option, Some, None}
+use Rattle.ac_syntax.specs.Items.{Item, declares, commands, opens, begins, closes}
+use Rattle.ac_syntax.specs.Order.{Stage, listing, heading, running}
+use Rattle.ac_syntax.specs.declared.token.Mark.TheVariants.{Colon, Semicolon}
+use Rattle.ac_script.specs.declared.head.Lead.{Lead}
+use Rattle.ac_script.specs.Outcomes.{stopped, Reader, ◌>>=◌, gives, fork}
+use Rattle.ac_script.specs.Readers.{word, mark, name}
+use Rattle.ac_script.specs.Declarations.{type_declaration, declared}
+use Rattle.ac_script.specs.Heads.{first_word, head}
+use Rattle.ac_script.specs.Commands.{command}
+
+-- what stands behind `end`
+unfoldable pub closing : (is_loop : Bool) → Reader Item
+closing true = word (codes "loop") >>= λ _. mark Semicolon >>= λ _. gives (closes true)
+closing false = mark Semicolon >>= λ _. gives (closes false)
+
+unfoldable pub type_item : ℕ → Reader Item
+type_item line = type_declaration line >>= λ decl. gives (declares decl)
+
+unfoldable pub declared_item : ℕ → List ℕ → Reader Item
+declared_item line n = declared line n >>= λ decl. gives (declares decl)
+
+unfoldable pub command_item : ℕ → List ℕ → Reader Item
+command_item line n = command line n >>= λ simple. gives (commands simple)
+
+unfoldable pub head_item : Lead → ℕ → Reader Item
+head_item lead line = head lead line >>= λ h. gives (opens h)
+
+-- what stands behind the name with which an item begins
+unfoldable pub behind_name : Stage → ℕ → List ℕ → Reader Item
+behind_name listing line n = fork (mark Colon) (λ _. declared_item line n) (command_item line n)
+behind_name heading line n = mark Colon >>= λ _. declared_item line n
+behind_name running line n = command_item line n
+
+unfoldable pub named : Stage → ℕ → Reader Item
+named stage line = name >>= λ n. behind_name stage line n
+
+-- the end of the innermost block, where one is open
+unfoldable pub ended : Stage → Option Bool → ℕ → Reader Item
+ended stage None line = named stage line
+ended stage (Some is_loop) line = fork (word (codes "end")) (λ _. closing is_loop) (named stage line)
+
+-- what isn't a type and doesn't begin the statements of a block
+unfoldable pub statement : Stage → Option Bool → ℕ → Reader Item
+statement stage innermost line = fork first_word (λ lead. head_item lead line) (ended stage innermost line)
+
+unfoldable pub in_listing : Option Bool → ℕ → Reader Item
+in_listing innermost line = fork (word (codes "type")) (λ _. type_item line) (statement listing innermost line)
+
+unfoldable pub type_or_named : ℕ → Reader Item
+type_or_named line = fork (word (codes "type")) (λ _. type_item line) (named heading line)
+
+unfoldable pub in_heading : ℕ → Reader Item
+in_heading line = fork (word (codes "begin")) (λ _. gives begins) (type_or_named line)
+
+-- an item whose first token stands on this line
+abbrev pub item_on : Stage → Option Bool → ℕ → Reader Item
+item_on listing innermost line = in_listing innermost line
+item_on heading innermost line = in_heading line
+item_on running innermost line = statement running innermost line
+
+-- an item where this is how far the script has come, and whether the innermost open block is a loop
+abbrev pub item : Stage → Option Bool → Reader Item
+item stage innermost [] = stopped []
+item stage innermost (first ∷ rest) = item_on stage innermost first.line (first ∷ rest)
+
+-- whether the innermost of the open blocks is a loop
+abbrev pub innermost_of : List Bool → Option Bool
+innermost_of [] = None
+innermost_of (is_loop ∷ _) = Some is_loop

@@ -1,0 +1,220 @@
+//! The reader of one item, where it may come.
+ghost use Rattle.std.specs.Prelude.{◌≡◌};
+ghost use Rattle.ac_script.specs.Outcomes.{Sees};
+ghost use Rattle.ac_script.specs.Views.{item_view, stage_view};
+ghost use Rattle.ac_script.specs.ItemReader as readers;
+
+use crate::command::command;
+use crate::declaration::{declared, type_declaration};
+use crate::head::{Lead, find_lead, head};
+use crate::item::Item;
+use crate::reader::{find_mark, find_word, mark, name, word};
+use crate::stage::Stage;
+use crate::stop::Stop;
+use ac_syntax::{Ident, Mark, Placed};
+use std::alloc::Global;
+
+/// What follows `end`.
+#[tactic(auto, unfolding(crate::specs::ItemReader::closing))]
+fn closing(is_loop: bool, tokens: &[Placed]) -> Result<(Item, &[Placed]), Stop<'_>>
+    ensures { Sees (λ read. (item_view read.0, read.1.now)) result (readers.closing is_loop tokens.now) }
+{
+    if is_loop {
+        let rest = word(tokens, b"loop")?;
+        let rest = mark(rest, Mark::Semicolon)?;
+        Ok((Item::Closes { is_loop }, rest))
+    } else {
+        let rest = mark(tokens, Mark::Semicolon)?;
+        Ok((Item::Closes { is_loop }, rest))
+    }
+}
+
+#[tactic(auto, unfolding(crate::specs::ItemReader::type_item))]
+fn type_item(alloc: Global, line: u64, tokens: &[Placed]) -> Result<(Item, &[Placed]), Stop<'_>>
+    ensures { Sees (λ read. (item_view read.0, read.1.now)) result (readers.type_item line tokens.now) }
+{
+    let (decl, rest) = type_declaration(alloc, line, tokens)?;
+    Ok((Item::Declares(decl), rest))
+}
+
+#[tactic(auto, unfolding(crate::specs::ItemReader::declared_item))]
+fn declared_item<'a>(
+    alloc: Global,
+    line: u64,
+    name: &Ident,
+    tokens: &'a [Placed],
+) -> Result<(Item, &'a [Placed]), Stop<'a>>
+    ensures { Sees (λ read. (item_view read.0, read.1.now)) result (readers.declared_item line name.now tokens.now) }
+{
+    let (decl, rest) = declared(alloc, line, name, tokens)?;
+    Ok((Item::Declares(decl), rest))
+}
+
+#[tactic(auto, unfolding(crate::specs::ItemReader::command_item))]
+fn command_item<'a>(
+    alloc: Global,
+    line: u64,
+    name: &Ident,
+    tokens: &'a [Placed],
+) -> Result<(Item, &'a [Placed]), Stop<'a>>
+    ensures { Sees (λ read. (item_view read.0, read.1.now)) result (readers.command_item line name.now tokens.now) }
+{
+    let (command, rest) = command(alloc, line, name, tokens)?;
+    Ok((Item::Commands(command), rest))
+}
+
+#[tactic(auto, unfolding(crate::specs::ItemReader::head_item))]
+fn head_item(
+    alloc: Global,
+    lead: Lead,
+    line: u64,
+    tokens: &[Placed],
+) -> Result<(Item, &[Placed]), Stop<'_>>
+    ensures { Sees (λ read. (item_view read.0, read.1.now)) result (readers.head_item lead line tokens.now) }
+{
+    let (head, rest) = head(alloc, lead, line, tokens)?;
+    Ok((Item::Opens(head), rest))
+}
+
+#[tactic(auto, unfolding(crate::specs::ItemReader::behind_name))]
+fn behind_name<'a>(
+    alloc: Global,
+    stage: Stage,
+    line: u64,
+    name: &Ident,
+    tokens: &'a [Placed],
+) -> Result<(Item, &'a [Placed]), Stop<'a>>
+    ensures { Sees (λ read. (item_view read.0, read.1.now)) result (readers.behind_name (stage_view stage) line name.now tokens.now) }
+{
+    match stage {
+        Stage::Listing => match find_mark(tokens, Mark::Colon) {
+            Some(rest) => declared_item(alloc, line, name, rest),
+            None => command_item(alloc, line, name, tokens),
+        },
+        Stage::Heading => {
+            let rest = mark(tokens, Mark::Colon)?;
+            declared_item(alloc, line, name, rest)
+        }
+        Stage::Running => command_item(alloc, line, name, tokens),
+    }
+}
+
+#[tactic(auto, unfolding(crate::specs::ItemReader::named))]
+fn named(
+    alloc: Global,
+    stage: Stage,
+    line: u64,
+    tokens: &[Placed],
+) -> Result<(Item, &[Placed]), Stop<'_>>
+    ensures { Sees (λ read. (item_view read.0, read.1.now)) result (readers.named (stage_view stage) line tokens.now) }
+{
+    let (name, rest) = name(tokens)?;
+    behind_name(alloc, stage, line, name, rest)
+}
+
+/// The end of the innermost block, where one is open, or what begins with a name.
+#[tactic(auto, unfolding(crate::specs::ItemReader::ended))]
+fn ended(
+    alloc: Global,
+    stage: Stage,
+    innermost: Option<bool>,
+    line: u64,
+    tokens: &[Placed],
+) -> Result<(Item, &[Placed]), Stop<'_>>
+    ensures { Sees (λ read. (item_view read.0, read.1.now)) result (readers.ended (stage_view stage) innermost line tokens.now) }
+{
+    match innermost {
+        Some(is_loop) => match find_word(tokens, b"end") {
+            Some(rest) => closing(is_loop, rest),
+            None => named(alloc, stage, line, tokens),
+        },
+        None => named(alloc, stage, line, tokens),
+    }
+}
+
+#[tactic(auto, unfolding(crate::specs::ItemReader::statement))]
+fn statement(
+    alloc: Global,
+    stage: Stage,
+    innermost: Option<bool>,
+    line: u64,
+    tokens: &[Placed],
+) -> Result<(Item, &[Placed]), Stop<'_>>
+    ensures { Sees (λ read. (item_view read.0, read.1.now)) result (readers.statement (stage_view stage) innermost line tokens.now) }
+{
+    match find_lead(tokens) {
+        Some((lead, rest)) => head_item(alloc, lead, line, rest),
+        None => ended(alloc, stage, innermost, line, tokens),
+    }
+}
+
+#[tactic(auto, unfolding(crate::specs::ItemReader::in_listing))]
+fn in_listing(
+    alloc: Global,
+    innermost: Option<bool>,
+    line: u64,
+    tokens: &[Placed],
+) -> Result<(Item, &[Placed]), Stop<'_>>
+    ensures { Sees (λ read. (item_view read.0, read.1.now)) result (readers.in_listing innermost line tokens.now) }
+{
+    match find_word(tokens, b"type") {
+        Some(rest) => type_item(alloc, line, rest),
+        None => statement(alloc, Stage::Listing, innermost, line, tokens),
+    }
+}
+
+#[tactic(auto, unfolding(crate::specs::ItemReader::type_or_named))]
+fn type_or_named(
+    alloc: Global,
+    line: u64,
+    tokens: &[Placed],
+) -> Result<(Item, &[Placed]), Stop<'_>>
+    ensures { Sees (λ read. (item_view read.0, read.1.now)) result (readers.type_or_named line tokens.now) }
+{
+    match find_word(tokens, b"type") {
+        Some(rest) => type_item(alloc, line, rest),
+        None => named(alloc, Stage::Heading, line, tokens),
+    }
+}
+
+#[tactic(auto, unfolding(crate::specs::ItemReader::in_heading))]
+fn in_heading(alloc: Global, line: u64, tokens: &[Placed]) -> Result<(Item, &[Placed]), Stop<'_>>
+    ensures { Sees (λ read. (item_view read.0, read.1.now)) result (readers.in_heading line tokens.now) }
+{
+    match find_word(tokens, b"begin") {
+        Some(rest) => Ok((Item::Begins, rest)),
+        None => type_or_named(alloc, line, tokens),
+    }
+}
+
+fn item_on(
+    alloc: Global,
+    stage: Stage,
+    innermost: Option<bool>,
+    line: u64,
+    tokens: &[Placed],
+) -> Result<(Item, &[Placed]), Stop<'_>>
+    ensures { Sees (λ read. (item_view read.0, read.1.now)) result (readers.item_on (stage_view stage) innermost line tokens.now) }
+{
+    match stage {
+        Stage::Listing => in_listing(alloc, innermost, line, tokens),
+        Stage::Heading => in_heading(alloc, line, tokens),
+        Stage::Running => statement(alloc, stage, innermost, line, tokens),
+    }
+}
+
+/// The item at the front of the tokens, where it may come: `innermost` says whether the innermost open
+/// block is a loop, where one is open.
+pub fn read_item(
+    alloc: Global,
+    stage: Stage,
+    innermost: Option<bool>,
+    tokens: &[Placed],
+) -> Result<(Item, &[Placed]), Stop<'_>>
+    ensures { Sees (λ read. (item_view read.0, read.1.now)) result (readers.item (stage_view stage) innermost tokens.now) }
+{
+    match tokens {
+        [first, ..] => item_on(alloc, stage, innermost, first.line, tokens),
+        [] => Err(Stop::At(tokens)),
+    }
+}
