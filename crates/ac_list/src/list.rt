@@ -12,6 +12,7 @@ ghost use Rattle.ac_model.specs.Common as common;
 ghost use Rattle.ac_model.specs.Sequences as sequences;
 ghost use Rattle.ac_model.specs.Lists as lists;
 
+mod deletions;
 mod values;
 
 use crate::put::put_copies;
@@ -314,7 +315,8 @@ impl<T> List<T> {
 impl<T: Drop> List<T> {
     /// Clear (A.18.3).
     pub fn clear(&mut self) -> Result<(), Fault>
-        ensures { Changing Same (common.clear_call (plain self.old.object)) self.old.object self.new.object result }
+        ensures changed { Changing Same (common.clear_call (plain self.old.object)) self.old.object self.new.object result }
+        ensures slots { length_of self.new.object + self.new.spare ≡ length_of self.old.object + self.old.spare }
     {
         match self.guards.forbids(Class::Cursors) {
             Some(reason) => Err(Fault::Raised(reason)),
