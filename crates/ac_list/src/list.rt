@@ -342,8 +342,8 @@ impl<T: Elem> List<T> {
         ensures slots { Grows result self.old self.new }
     {
         match self.refuses_copies(None, n) {
-            Some(reason) => Err(Fault::Raised(reason)),
             None => done(self.put(None, e, count_of(n))),
+            Some(reason) => Err(Fault::Raised(reason)),
         }
     }
 
