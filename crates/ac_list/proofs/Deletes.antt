@@ -119,18 +119,18 @@ module _ {X : Type 0} where
   pub dropping_start : (from : Chained X) → IsSound from → Dropping from 0 from
   dropping_start from sound = record { gone = []; was = sym (append-nil from.rows); many = refl; next = refl; spare = omega arith; sound = sound }
 
-  record LastOf (rows : List (chain.Row X)) (a : Name) : Type 0 where
-    rest : List (chain.Row X)
-    last : chain.Row X
-    is : rows ≡ rest ++ last ∷ []
-    named : a ≡ last.name
+  pub record LastOf (rows : List (chain.Row X)) (a : Name) : Type 0 where
+    pub rest : List (chain.Row X)
+    pub last : chain.Row X
+    pub is : rows ≡ rest ++ last ∷ []
+    pub named : a ≡ last.name
 
-  last_split : (rows : List (chain.Row X)) (a : Name) → Some a ≡ name_before rows (length rows) → LastOf rows a
+  pub last_split : (rows : List (chain.Row X)) (a : Name) → Some a ≡ name_before rows (length rows) → LastOf rows a
   last_split [] a e = absurd (let k : Some a ≡ None = e in cc)
   last_split (r ∷ []) a e = record { rest = []; last = r; is = refl; named = let k : Some a ≡ Some r.name = e in cc }
   last_split (r ∷ q ∷ rows) a e = let s = last_split (q ∷ rows) a e in record { rest = r ∷ s.rest; last = s.last; is = ap (λ xs. r ∷ xs) s.is; named = s.named }
 
-  none_last : (rows : List (chain.Row X)) → None ≡ name_before rows (length rows) → rows ≡ []
+  pub none_last : (rows : List (chain.Row X)) → None ≡ name_before rows (length rows) → rows ≡ []
   none_last [] e = refl
   none_last (r ∷ rows) e = absurd (there r rows e)
     where

@@ -97,7 +97,7 @@ module _ {X : Type 0} where
   all_from P (r ∷ rows) h zero d lt = h r.name (inl refl)
   all_from P (r ∷ rows) h (suc i) d lt = all_from P rows (λ a t. h a (inr t)) i d (omega arith)
 
-  more_serials : (a : Name) (next : ℕ) (vs : List X) (more : List (chain.Row X)) → plains more ≡ fresh next vs → HasName a more → next ≤ a.serial
+  pub more_serials : (a : Name) (next : ℕ) (vs : List X) (more : List (chain.Row X)) → plains more ≡ fresh next vs → HasName a more → next ≤ a.serial
   more_serials a next vs [] e h = absurd h
   more_serials a next [] (r ∷ more) e h = absurd (cc)
   more_serials a next (v ∷ vs) (r ∷ more) e h =

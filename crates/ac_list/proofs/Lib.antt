@@ -5,3 +5,4 @@ pub mod Grows
 pub mod Valid
 pub mod Swaps
 pub mod Deletes
+pub mod Refills

@@ -5,6 +5,7 @@ mod cut;
 mod list;
 mod put;
 mod reasons;
+mod refill;
 
 pub use list::List;
 

@@ -22,7 +22,7 @@ fn copies<T: Elem>(alloc: Global, e: &T, n: u64) -> Result<Vec<T>, NoMemory>
 }
 
 /// Puts the first value before the place, and then the others, the last one first. The answer is the first one's name.
-fn put_each<T: Drop>(
+pub fn put_each<T: Drop>(
     chain: &mut Chain<T>,
     place: Option<Name>,
     first: T,
