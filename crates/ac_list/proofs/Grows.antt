@@ -60,7 +60,7 @@ unanswered Answers c old new (Ok x) h = (h.0, h.1, refl)
 unanswered Answers c old new (Err (fault.Raised q)) h = h
 unanswered Answers c old new (Err fault.NoMemory) h = h
 
-no_capacity : (l : Limit) (n : ℕ) → capacity_after l None n ≡ None
+pub no_capacity : (l : Limit) (n : ℕ) → capacity_after l None n ≡ None
 no_capacity Unbounded n = refl
 no_capacity (Bounded most) n = refl
 

@@ -6,3 +6,4 @@ pub mod Valid
 pub mod Swaps
 pub mod Deletes
 pub mod Refills
+pub mod Copied

@@ -1,12 +1,15 @@
 -- Rows that give way to copies, and what a list is after that.
-use Rattle.std.proofs.Common.{◌≡◌, ℕ, zero, suc, ◌+◌, ◌-◌, ◌<◌, ◌≤◌, ◌^◌, List, [], ◌∷◌, ◌++◌, length, take, reverse, map, Option, Some, None, refl, sym, ap, ◌∙◌, subst, inl, inr, arith, append_assoc, append-nil, length-append}
-use Rattle.std.specs.Prelude.{max}
+use Rattle.std.proofs.Common.{◌≡◌, ℕ, zero, suc, ◌+◌, ◌-◌, ◌<◌, ◌≤◌, ◌^◌, List, [], ◌∷◌, ◌++◌, length, take, reverse, map, Option, Some, None, Result, Ok, Err, false, true≢false, lt-ltb, refl, sym, ap, ◌∙◌, subst, inl, inr, arith, append_assoc, append-nil, length-append}
+use Rattle.std.specs.Prelude.{max, IfOk, IfErr, IsTrue}
 use Rattle.std.specs.List.{slice_get}
 use Rattle.std.specs.Option.{option_map}
 use Rattle.std.proofs.lemmas.Bool.{cases_lt}
 use Rattle.std.proofs.lemmas.List.{reverse-append, reverse-reverse, length-reverse, length-map, nil_from_length}
 use Rattle.std.proofs.Math.Nat.{le-max_left}
 use Rattle.ac_base.specs.declared.name.Name.{Name}
+use Rattle.ac_base.specs.declared.fault.NoMemory.{NoMemory}
+use Rattle.ac_base.specs.declared.limit.Limit.{Limit}
+use Rattle.ac_base.specs.declared.limit.Limit.TheVariants.{Unbounded, Bounded}
 use Rattle.ac_pool.specs.Growth.{pow8}
 use Rattle.ac_chain.specs.Rows as chain
 use Rattle.ac_chain.specs.Rows.{Chained, IsLive, IsSound, index_of, name_before, prev_name, reserved, cleared}
@@ -14,10 +17,20 @@ use Rattle.ac_chain.specs.ChainFields.{HasName, IsOnce, last_or}
 use Rattle.ac_chain.proofs.Cuts.{apart, index_of-cut, name_before-cut, slice_get-cut, has_live, HasName-right}
 use Rattle.ac_chain.proofs.Chains.{index_at}
 use Rattle.ac_chain.proofs.Moves.{once_from}
-use Rattle.ac_model.specs.Rows.{fresh}
+use Rattle.ac_cursor.specs.Guards.{GuardCounts}
+use Rattle.ac_cursor.specs.Steps.{first_reason}
+use Rattle.ac_model.specs.Rows.{names, values, fresh}
+use Rattle.ac_model.specs.Objects.{Object, plain, contents, length_of, grown, is_past, greatest_length}
+use Rattle.ac_model.specs.Letters.{is_among, tampers_cursors, room}
+use Rattle.ac_model.specs.Calls.{Changing, IsAfter, Same, Done}
+use Rattle.ac_model.specs.Common.{assign_call}
+use Rattle.ac_model.proofs.Lengths.{length-fresh}
+use Rattle.ac_model.proofs.Reasons.{none_others, room_none}
+use Rattle.ac_list.specs.State.{row_of, object_of, IsList}
+use Rattle.ac_list.proofs.Grows.{no_capacity, all_from, more_serials}
 use Rattle.ac_list.specs.Put.{plains, IsPut}
-use Rattle.ac_list.specs.Copy.{values_of, IsRefilled}
-use Rattle.ac_list.proofs.Puts.{put_none, put_length, reserved_enough, reserved_slots, reserved_kept}
+use Rattle.ac_list.specs.Copy.{values_of, IsRefilled, as_fault}
+use Rattle.ac_list.proofs.Puts.{length-plains, put_none, put_length, reserved_enough, reserved_slots, reserved_kept}
 use Rattle.ac_list.proofs.Deletes.{last_split, none_last}
 
 module _ {X : Type 0} where
@@ -159,3 +172,54 @@ module _ {X : Type 0} where
       let zero : count - 1 ≡ 0 = omega arith in
       let empty : values ≡ [] = e ∙ ap (λ vs. vs ++ []) (r ∙ ap (λ n. take n values) zero) in
       subst (λ vs. IsPut c.rows c.next_serial None (reverse vs) c) (sym empty) (put_none c None (λ a t. absurd (let k : None ≡ Some a = t in cc)))
+
+  values-plains : (rows : List (chain.Row X)) → values (plains rows) ≡ values_of rows
+  values-plains [] = refl
+  values-plains (r ∷ rows) = ap (λ vs. r.value ∷ vs) (values-plains rows)
+
+  refilled_length : (k now : Chained X) (source : List (chain.Row X)) → IsRefilled k (values_of source) now → length now.rows ≡ length source
+  refilled_length k now source f =
+      sym (length-plains now.rows) ∙ ap length f.rows ∙ length-fresh k.next_serial (values_of source) ∙ length-map source (λ (r : chain.Row X). r.value)
+
+  pub refill_list : (l : Limit) (k now : Chained X) (source : List (chain.Row X)) (r : Result Done NoMemory) → IsList l k → length source ≤ greatest_length → is_past l (length source) ≡ false
+      → IfOk r (λ _. IsRefilled k (values_of source) now) → IfErr r (λ _. now ≡ k) → (length source ≤ length k.rows + k.spare → length now.rows + now.spare ≡ length k.rows + k.spare) → IsSound now → IsList l now
+  refill_list l k now source (Err e) s few within ok err slots sound = subst (λ c. IsList l c) (sym err) s
+  refill_list Unbounded k now source (Ok x) s few within ok err slots sound = let count = refilled_length k now source ok in record { sound = sound; within_greatest = omega arith; limit_fits = tt }
+  refill_list (Bounded most) k now source (Ok x) s few within ok err slots sound =
+      let count = refilled_length k now source ok in
+      let sum = s.limit_fits.1 in
+      let le : length source ≤ most = elim (cases_lt most (length source)) [ inl lt ↦ absurd (let t = lt-ltb most (length source) lt in true≢false (sym t ∙ within)) | inr le ↦ le ] in
+      record { sound = sound; within_greatest = omega arith; limit_fits = (s.limit_fits.0, slots (omega arith) ∙ sum) }
+
+  -- what the rows of the source are to the definitions
+  pub source_is : (g : GuardCounts) (l : Limit) (k : Chained X) (o : Object Name X) → object_of g l k ≡ o → (contents (plain o) ≡ values_of k.rows) × (length_of (plain o) ≡ length k.rows)
+  source_is g l k o view = subst (λ (p : Object Name X). (contents (plain p) ≡ values_of k.rows) × (length_of (plain p) ≡ length k.rows)) view (values-plains k.rows, length-plains k.rows)
+
+  refill_after : (g : GuardCounts) (l : Limit) (k now : Chained X) (o : Object Name X) (vs : List X) (n : ℕ) → object_of g l k ≡ o → length vs ≡ n → IsRefilled k vs now → IsAfter o (object_of g l now) (grown (plain o) (fresh (plain o).next vs) n)
+  refill_after g l k now o vs n view count f =
+      subst (λ (p : Object Name X). IsAfter p (object_of g l now) (grown (plain p) (fresh (plain p).next vs) n)) view (record {
+        plainly = λ i. record {
+          number = g.number; limit = l; capacity = sym (no_capacity l (length (fresh k.next_serial vs))) i; next = (f.next ∙ ap (λ m. k.next_serial + m) count) i;
+          rows = f.rows i; cursor_guards = g.cursor_guards; element_guards = g.element_guards
+        };
+        slots = all_from (λ name. name.serial < k.next_serial → IsTrue (is_among (names (map row_of k.rows)) name)) now.rows (λ a t lt. absurd (let high = more_serials a k.next_serial vs now.rows f.rows t in omega arith));
+      })
+
+  pub refill_changes : (g : GuardCounts) (l : Limit) (k now : Chained X) (o : Object Name X) → object_of g l k ≡ o → (h : GuardCounts) (m : Limit) (j : Chained X) (from : Object Name X) → object_of h m j ≡ from
+      → (r : Result Done NoMemory) → (assign_call (plain o) (plain from)).reason ≡ None → IfOk r (λ _. IsRefilled k (values_of j.rows) now) → IfErr r (λ _. now ≡ k)
+      → Changing Same (assign_call (plain o) (plain from)) o (object_of g l now) (as_fault r)
+  refill_changes g l k now o view h m j from seen (Ok x) none ok err =
+      let s = source_is h m j from seen in
+      let count : length (contents (plain from)) ≡ length_of (plain from) = ap length s.0 ∙ length-map j.rows (λ (r : chain.Row X). r.value) ∙ sym s.1 in
+      (none, refill_after g l k now o (contents (plain from)) (length_of (plain from)) view count (subst (λ vs. IsRefilled k vs now) (sym s.0) ok), refl)
+  refill_changes g l k now o view h m j from seen (Err e) none ok err = (refl, none, ap (object_of g l) err ∙ view)
+
+  -- the reasons that were looked for are the definition's
+  pub refill_reason : (h : GuardCounts) (m : Limit) (j : Chained X) (o from : Object Name X) → object_of h m j ≡ from → (len : ℕ) → len ≡ length j.rows
+      → first_reason (tampers_cursors (plain o) ∷ room (plain o) len len) ≡ (assign_call (plain o) (plain from)).reason
+  refill_reason h m j o from seen len e = ap (λ n. first_reason (tampers_cursors (plain o) ∷ room (plain o) n n)) (e ∙ sym (source_is h m j from seen).1)
+
+  pub refill_within : (g : GuardCounts) (l : Limit) (k : Chained X) (o : Object Name X) → object_of g l k ≡ o → (len n : ℕ) → len ≡ n → first_reason (tampers_cursors (plain o) ∷ room (plain o) len len) ≡ None → is_past l n ≡ false
+  refill_within g l k o view len n e none =
+      subst (λ m. is_past l m ≡ false) e
+      (subst (λ (p : Object Name X). is_past p.limit len ≡ false) (sym view) (room_none (plain o) len len (none_others (tampers_cursors (plain o)) (room (plain o) len len) none)).within_limit)

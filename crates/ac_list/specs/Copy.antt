@@ -2,6 +2,7 @@
 use Rattle.std.specs.Prelude.{◌≡◌, ℕ, ◌+◌, List, length, map, Option, Some, None, IsTrue, Result, Ok, Err}
 use Rattle.ac_base.specs.declared.fault.Fault.{Fault}
 use Rattle.ac_base.specs.declared.fault.Fault.TheVariants as fault
+use Rattle.ac_base.specs.declared.fault.NoMemory.{NoMemory}
 use Rattle.ac_chain.specs.Rows as chain
 use Rattle.ac_chain.specs.Rows.{Chained}
 use Rattle.ac_model.specs.Rows.{fresh}
@@ -9,6 +10,11 @@ use Rattle.ac_model.specs.Objects.{Object, plain}
 use Rattle.ac_model.specs.Calls.{Call, Done}
 use Rattle.ac_list.specs.State.{Listed}
 use Rattle.ac_list.specs.Put.{plains}
+
+-- want of memory as a fault
+abbrev pub as_fault : Result Done NoMemory → Result Done Fault
+as_fault (Ok x) = Ok x
+as_fault (Err e) = Err fault.NoMemory
 
 module _ {X : Type 0} where
   abbrev pub values_of : List (chain.Row X) → List X

@@ -12,6 +12,7 @@ ghost use Rattle.ac_model.specs.Common as common;
 ghost use Rattle.ac_model.specs.Sequences as sequences;
 ghost use Rattle.ac_model.specs.Lists as lists;
 
+mod copies;
 mod deletions;
 mod values;
 
