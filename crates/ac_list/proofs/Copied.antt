@@ -1,5 +1,5 @@
 -- What the copy of a list is refused for, and how many slots it has.
-use Rattle.std.proofs.Common.{◌≡◌, ℕ, zero, suc, ◌+◌, ◌<◌, ◌≤◌, ◌&&◌, false, true, [], ◌∷◌, length, map, Option, Some, None, Result, Ok, Err, refl, sym, ap, ◌∙◌, subst, inl, inr, arith, lt-ltb}
+use Rattle.std.proofs.Common.{◌≡◌, ℕ, zero, suc, ◌+◌, ◌≤◌, ◌&&◌, false, true, [], ◌∷◌, length, map, Some, None, Result, Err, refl, sym, ap, ◌∙◌, subst, inl, inr, arith, lt-ltb}
 use Rattle.std.specs.Prelude.{nat_lt, max}
 use Rattle.std.proofs.lemmas.Bool.{cases_lt, le-ltb}
 use Rattle.std.proofs.lemmas.List.{length-map}
@@ -7,16 +7,13 @@ use Rattle.std.proofs.Math.Nat.{le-max_left, max-le}
 use Rattle.ac_base.specs.declared.limit.Limit.{Limit}
 use Rattle.ac_base.specs.declared.limit.Limit.TheVariants.{Unbounded, Bounded}
 use Rattle.ac_base.specs.declared.name.Name.{Name}
-use Rattle.ac_base.specs.declared.reason.Reason.{Reason}
 use Rattle.ac_base.specs.declared.reason.Reason.TheVariants.{LengthRange, CapacityFull, NamesSpent}
 use Rattle.ac_base.specs.declared.fault.Fault.{Fault}
 use Rattle.ac_base.specs.declared.fault.Fault.TheVariants as fault
-use Rattle.ac_cursor.specs.Guards.{GuardCounts}
 use Rattle.ac_cursor.specs.Steps.{first_reason}
 use Rattle.ac_pool.specs.Growth.{pow8}
 use Rattle.ac_pool.proofs.Powers.{pow8-rises}
-use Rattle.ac_chain.specs.Rows.{Chained}
-use Rattle.ac_model.specs.Rows.{Row, row, values, fresh}
+use Rattle.ac_model.specs.Rows.{Row}
 use Rattle.ac_model.specs.Objects.{Object, plain, plain_row, contents, length_of, is_past, greatest_length, numbers_end, empty_object}
 use Rattle.ac_model.specs.Letters.{reason_if}
 use Rattle.ac_model.specs.Calls.{Changing, IsAfter, Same, Done}

@@ -1,6 +1,6 @@
 -- What a list is after copies were put into it.
 use Rattle.std.proofs.Common.{◌≡◌, ℕ, zero, suc, ◌+◌, ◌<◌, ◌≤◌, ◌&&◌, not, true, false, List, [], ◌∷◌, ◌++◌, length, map, reverse, replicate, Option, Some, None, Result, Ok, Err, IsTrue, refl, sym, ap, ◌∙◌, subst, inl, inr, arith, eqb-true, lt-ltb, true≢false, ◌^◌, ne_eqb}
-use Rattle.std.specs.Prelude.{◌==◌, IfOk, IfErr, IsOk, All, nat_lt, max}
+use Rattle.std.specs.Prelude.{◌==◌, IfOk, IfErr, All, nat_lt, max}
 use Rattle.std.specs.Option.{ForSome}
 use Rattle.std.proofs.lemmas.Bool.{cases_Bool, cond-false, cases_lt}
 use Rattle.std.proofs.lemmas.List.{length-map, length-replicate, reverse-append}

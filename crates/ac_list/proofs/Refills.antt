@@ -1,5 +1,5 @@
 -- Rows that give way to copies, and what a list is after that.
-use Rattle.std.proofs.Common.{◌≡◌, ℕ, zero, suc, ◌+◌, ◌-◌, ◌<◌, ◌≤◌, ◌^◌, List, [], ◌∷◌, ◌++◌, length, take, reverse, map, Option, Some, None, Result, Ok, Err, false, true≢false, lt-ltb, refl, sym, ap, ◌∙◌, subst, inl, inr, arith, append_assoc, append-nil, length-append}
+use Rattle.std.proofs.Common.{◌≡◌, ℕ, zero, suc, ◌+◌, ◌-◌, ◌<◌, ◌≤◌, List, [], ◌∷◌, ◌++◌, length, take, reverse, map, Option, Some, None, Result, Ok, Err, false, true≢false, lt-ltb, refl, sym, ap, ◌∙◌, subst, inl, inr, arith, append_assoc, append-nil, length-append}
 use Rattle.std.specs.Prelude.{max, IfOk, IfErr, IsTrue}
 use Rattle.std.specs.List.{slice_get}
 use Rattle.std.specs.Option.{option_map}
@@ -199,8 +199,13 @@ module _ {X : Type 0} where
   refill_after g l k now o vs n view count f =
       subst (λ (p : Object Name X). IsAfter p (object_of g l now) (grown (plain p) (fresh (plain p).next vs) n)) view (record {
         plainly = λ i. record {
-          number = g.number; limit = l; capacity = sym (no_capacity l (length (fresh k.next_serial vs))) i; next = (f.next ∙ ap (λ m. k.next_serial + m) count) i;
-          rows = f.rows i; cursor_guards = g.cursor_guards; element_guards = g.element_guards
+          number = g.number;
+          limit = l;
+          capacity = sym (no_capacity l (length (fresh k.next_serial vs))) i;
+          next = (f.next ∙ ap (λ m. k.next_serial + m) count) i;
+          rows = f.rows i;
+          cursor_guards = g.cursor_guards;
+          element_guards = g.element_guards;
         };
         slots = all_from (λ name. name.serial < k.next_serial → IsTrue (is_among (names (map row_of k.rows)) name)) now.rows (λ a t lt. absurd (let high = more_serials a k.next_serial vs now.rows f.rows t in omega arith));
       })

@@ -1,5 +1,5 @@
 -- What a chain is after rows were taken out of it.
-use Rattle.std.specs.Prelude.{◌≡◌, ℕ, ◌+◌, List, ◌++◌, length, take, drop}
+use Rattle.std.specs.Prelude.{◌≡◌, ℕ, ◌+◌, ◌++◌, length, take, drop}
 use Rattle.ac_chain.specs.Rows.{Chained}
 
 module _ {X : Type 0} where
