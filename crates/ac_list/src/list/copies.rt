@@ -86,7 +86,8 @@ fn limit_of_copy(limit: Limit, capacity: u64, length: u64) -> Limit
 impl<T> List<T> {
     /// Assign (A.18.3) of a list to itself.
     pub fn assign_self(&mut self) -> Result<(), Fault>
-        ensures { Changing Same (common.assign_self_call (plain self.old.object)) self.old.object self.new.object result }
+        ensures changed { Changing Same (common.assign_self_call (plain self.old.object)) self.old.object self.new.object result }
+        ensures same { self.new ≡ self.old }
     {
         match self.guards.forbids(Class::Cursors) {
             Some(reason) => Err(Fault::Raised(reason)),
@@ -96,14 +97,16 @@ impl<T> List<T> {
 
     /// Move (A.18.3) of a list to itself.
     pub fn move_from_self(&mut self) -> Result<(), Fault>
-        ensures { Changing Same (common.move_from_self_call (plain self.old.object)) self.old.object self.new.object result }
+        ensures changed { Changing Same (common.move_from_self_call (plain self.old.object)) self.old.object self.new.object result }
+        ensures same { self.new ≡ self.old }
     {
         self.assign_self()
     }
 
     /// Merge (A.18.3) of a list with itself: refused where the list isn't empty.
     pub fn merge_self(&mut self) -> Result<(), Fault>
-        ensures { Changing Same (sequences.merge_self_call (plain self.old.object)) self.old.object self.new.object result }
+        ensures changed { Changing Same (sequences.merge_self_call (plain self.old.object)) self.old.object self.new.object result }
+        ensures same { self.new ≡ self.old }
     {
         match self.refuses_merge_self() {
             Some(reason) => Err(Fault::Raised(reason)),

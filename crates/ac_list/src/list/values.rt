@@ -15,7 +15,8 @@ use ac_cursor::{Class, Cursor, first_reason};
 impl<T: Drop> List<T> {
     /// Replace_Element (A.18.3).
     pub fn replace_element(&mut self, c: Cursor, e: T) -> Result<(), Fault>
-        ensures { Changing Same (sequences.replace_element_call (plain self.old.object) (mark self.old.object c) e) self.old.object self.new.object result }
+        ensures changed { Changing Same (sequences.replace_element_call (plain self.old.object) (mark self.old.object c) e) self.old.object self.new.object result }
+        ensures spare { self.new.spare ≡ self.old.spare }
     {
         match self.refuses_replacement(c) {
             Some(reason) => Err(Fault::Raised(reason)),
@@ -28,7 +29,8 @@ impl<T: Drop> List<T> {
 
     /// A write through a name that a view or a loop gives for the element (A.18.3): no tampering check.
     pub fn write(&mut self, c: Cursor, e: T) -> Result<(), Fault>
-        ensures { Changing Same (sequences.write_call (plain self.old.object) (mark self.old.object c) e) self.old.object self.new.object result }
+        ensures changed { Changing Same (sequences.write_call (plain self.old.object) (mark self.old.object c) e) self.old.object self.new.object result }
+        ensures spare { self.new.spare ≡ self.old.spare }
     {
         match self.needs(c) {
             Some(reason) => Err(Fault::Raised(reason)),
@@ -48,7 +50,8 @@ impl<T: Drop> List<T> {
 
     fn set_value(&mut self, c: Cursor, e: T)
         requires { needs_cursor self.old.object c ≡ None }
-        ensures { IsAfter self.old.object self.new.object (with_rows (plain self.old.object) (with_value (plain self.old.object).rows (name_of (mark self.old.object c)) e)) }
+        ensures written { IsAfter self.old.object self.new.object (with_rows (plain self.old.object) (with_value (plain self.old.object).rows (name_of (mark self.old.object c)) e)) }
+        ensures spare { self.new.spare ≡ self.old.spare }
     {
         *self.chain.at_mut(name_in(c)) = e;
     }

@@ -14,8 +14,8 @@ invariant_of-self g c =
     set_list i.limit i.chain c.name_in.result c.args.e c.self.invariant
     (live_needed i.guards i.limit i.chain c.args.self.now.object (ap (λ (x : Listed _). x.object) c.self.view_is) c.args.c c.name_in.result c.name_in.ensures c.requires)
 
-pub returns : goal.returns
-returns g c =
+pub returns-clause-written : goal.returns-clause-written
+returns-clause-written g c =
     let i = c.self.inside in
     set_after i.guards i.limit i.chain _ c.args.self.now.object (ap (λ (x : Listed _). x.object) c.self.view_is) c.self.invariant.sound c.args.c c.name_in.result c.args.e
     c.name_in.ensures c.requires refl
