@@ -1,6 +1,6 @@
 -- What a list is after copies were put into it.
 use Rattle.std.proofs.Common.{◌≡◌, ℕ, zero, suc, ◌+◌, ◌<◌, ◌≤◌, ◌&&◌, not, true, false, List, [], ◌∷◌, ◌++◌, length, map, reverse, replicate, Option, Some, None, Result, Ok, Err, IsTrue, refl, sym, ap, ◌∙◌, subst, inl, inr, arith, eqb-true, lt-ltb, true≢false, ◌^◌, ne_eqb}
-use Rattle.std.specs.Prelude.{◌==◌, IfOk, IfErr, IsOk, All, nat_lt}
+use Rattle.std.specs.Prelude.{◌==◌, IfOk, IfErr, All, nat_lt, max}
 use Rattle.std.specs.Option.{ForSome}
 use Rattle.std.proofs.lemmas.Bool.{cases_Bool, cond-false, cases_lt}
 use Rattle.std.proofs.lemmas.List.{length-map, length-replicate, reverse-append}
@@ -17,6 +17,7 @@ use Rattle.ac_cursor.specs.declared.guard.Class.TheVariants as class
 use Rattle.ac_cursor.specs.declared.cursor.Cursor.{Cursor}
 use Rattle.ac_cursor.specs.declared.cursor.Cursor.TheVariants.{NoElement, At}
 use Rattle.ac_cursor.specs.Steps.{first_reason}
+use Rattle.ac_pool.specs.Growth.{pow8}
 use Rattle.ac_chain.specs.Rows as chain
 use Rattle.ac_chain.specs.Rows.{Chained, IsLive, IsSound, place_of, index_of, name_at, reversed}
 use Rattle.ac_chain.specs.ChainFields.{HasName}
@@ -24,22 +25,42 @@ use Rattle.ac_chain.proofs.Cuts.{HasName-left, HasName-right, HasName-either, ha
 use Rattle.ac_model.specs.Rows as model
 use Rattle.ac_model.specs.Rows.{Row, row, names, fresh, put}
 use Rattle.ac_model.specs.Objects.{Object, plain, plain_row, length_of, is_past, greatest_length, numbers_end, capacity_after, with_rows}
-use Rattle.ac_model.specs.Letters.{is_among, has_room, tampers_cursors, room, in_range, count_of, reason_if, place_at}
-use Rattle.ac_model.specs.Calls.{call, Changing, IsAfter, Same, Done}
-use Rattle.ac_model.specs.Sequences.{with_new, room_for_copies, copies_take_memory, with_copies}
+use Rattle.ac_model.specs.Letters.{no_mark, mark_at, mark_of, is_among, has_room, tampers_cursors, room, in_range, count_of, reason_if, place_at}
+use Rattle.ac_model.specs.Calls.{Call, call, Changing, IsAfter, Same, Marks, Done}
+use Rattle.ac_model.specs.Sequences.{with_new, first_new, room_for_copies, copies_take_memory, with_copies}
 use Rattle.ac_model.proofs.Reasons.{after_two, none_first, none_others, room_none}
-use Rattle.ac_list.specs.Put.{plains, IsPut, spot, IsNamed, Takes, put_call, as_fault}
-use Rattle.ac_list.specs.State.{row_of, object_of, IsList, may_cursor, mark, place_in}
-use Rattle.ac_list.proofs.Standing.{among_has, has_among, place_live, stands, may_by_name}
+use Rattle.ac_list.specs.Put.{plains, IsPut, HasFirst, spot, IsNamed, Takes, Grows, put_call, done, slots_of}
+use Rattle.ac_list.specs.State.{Listed, listed, row_of, object_of, IsList, may_cursor, mark, place_in, cursor_at}
+use Rattle.ac_list.proofs.Standing.{among_has, has_among, place_live, stands, may_by_name, marked_live}
 use Rattle.ac_list.proofs.Puts.{plains-append, length-plains, put_length}
 
-pub accepted : {V : Type 0} (memory : _) (reason : Option Reason) (after : Object ℕ V) (old new : Object Name V) (r : Result Done Fault) → reason ≡ None
-    → Changing Same (call memory None after tt) old new r → Changing Same (call memory reason after tt) old new r
-accepted memory reason after old new (Ok x) e h = (e, h.1, h.2)
-accepted memory reason after old new (Err (fault.Raised q)) e h = absurd (let k : None ≡ Some q = h.0 in cc)
-accepted memory reason after old new (Err fault.NoMemory) e h = (h.0, e, h.2)
+pub accepted : {V X A : Type 0} (Answers : X → A → Type 0) (memory : _) (reason : Option Reason) (after : Object ℕ V) (answer : A) (old new : Object Name V) (r : Result X Fault) → reason ≡ None
+    → Changing Answers (call memory None after answer) old new r → Changing Answers (call memory reason after answer) old new r
+accepted Answers memory reason after answer old new (Ok x) e h = (e, h.1, h.2)
+accepted Answers memory reason after answer old new (Err (fault.Raised q)) e h = absurd (let k : None ≡ Some q = h.0 in cc)
+accepted Answers memory reason after answer old new (Err fault.NoMemory) e h = (h.0, e, h.2)
 
-no_capacity : (l : Limit) (n : ℕ) → capacity_after l None n ≡ None
+-- the answer is let go
+pub done_changes : {V X A : Type 0} (Answers : X → A → Type 0) (memory : _) (reason : Option Reason) (after : Object ℕ V) (answer : A) (old new : Object Name V) (r : Result X Fault)
+    → Changing Answers (call memory reason after answer) old new r → Changing Same (call memory reason after tt) old new (done r)
+done_changes Answers memory reason after answer old new (Ok x) h = (h.0, h.1, refl)
+done_changes Answers memory reason after answer old new (Err (fault.Raised q)) h = h
+done_changes Answers memory reason after answer old new (Err fault.NoMemory) h = h
+
+done_grows : {V A : Type 0} (r : Result A Fault) (old new : Listed V) → Grows r old new → Grows (done r) old new
+done_grows (Ok x) old new h = h
+done_grows (Err e) old new h = h
+
+pub done_slots : {V A : Type 0} (r : Result A Fault) (d : Result Done Fault) (old new : Listed V) → d ≡ done r → Grows r old new → Grows d old new
+done_slots r d old new e h = subst (λ q. Grows q old new) (sym e) (done_grows r old new h)
+
+-- of a call that answers by a variable, without the variable
+pub unanswered : {V A : Type 0} (Answers : Done → A → Type 0) (c : Call (Object ℕ V) A) (old new : Object Name V) (r : Result Done Fault) → Changing Answers c old new r → Changing Same (call c.memory c.reason c.after tt) old new r
+unanswered Answers c old new (Ok x) h = (h.0, h.1, refl)
+unanswered Answers c old new (Err (fault.Raised q)) h = h
+unanswered Answers c old new (Err fault.NoMemory) h = h
+
+pub no_capacity : (l : Limit) (n : ℕ) → capacity_after l None n ≡ None
 no_capacity Unbounded n = refl
 no_capacity (Bounded most) n = refl
 
@@ -58,7 +79,7 @@ module _ {X : Type 0} where
   has_slots : (most : ℕ) (k : Chained X) (n : ℕ) → IsList (Bounded most) k → is_past (Bounded most) (length k.rows + n) ≡ false → n ≤ k.spare
   has_slots most k n s h = let sum = s.limit_fits.1 in let le : length k.rows + n ≤ most = elim (cases_lt most (length k.rows + n)) [ inl lt ↦ absurd (let t = lt-ltb most (length k.rows + n) lt in true≢false (sym t ∙ h)) | inr le ↦ le ] in omega arith
 
-  pub list_after : (l : Limit) (k now : Chained X) (n : ℕ) (place : Option Name) (e : X) (r : Result Done NoMemory) → IsList l k → length k.rows + n ≤ 1000000 → is_past l (length k.rows + n) ≡ false
+  pub list_after : (l : Limit) (k now : Chained X) (n : ℕ) (place : Option Name) (e : X) (r : Result (Option Name) NoMemory) → IsList l k → length k.rows + n ≤ 1000000 → is_past l (length k.rows + n) ≡ false
       → IfOk r (λ _. IsPut k.rows k.next_serial place (replicate n e) now) → IfErr r (λ _. now ≡ k)
       → (n ≤ k.spare → length now.rows + now.spare ≡ length k.rows + k.spare) → IsSound now → IsList l now
   list_after l k now n place e (Err x) s few within ok err slots sound = subst (λ c. IsList l c) (sym err) s
@@ -76,7 +97,7 @@ module _ {X : Type 0} where
   all_from P (r ∷ rows) h zero d lt = h r.name (inl refl)
   all_from P (r ∷ rows) h (suc i) d lt = all_from P rows (λ a t. h a (inr t)) i d (omega arith)
 
-  more_serials : (a : Name) (next : ℕ) (vs : List X) (more : List (chain.Row X)) → plains more ≡ fresh next vs → HasName a more → next ≤ a.serial
+  pub more_serials : (a : Name) (next : ℕ) (vs : List X) (more : List (chain.Row X)) → plains more ≡ fresh next vs → HasName a more → next ≤ a.serial
   more_serials a next vs [] e h = absurd h
   more_serials a next [] (r ∷ more) e h = absurd (cc)
   more_serials a next (v ∷ vs) (r ∷ more) e h =
@@ -131,13 +152,30 @@ module _ {X : Type 0} where
     | inr f ↦ ap (λ b. not (b && true)) f
   ]
 
-  -- the copies are put, or memory is wanting and nothing has changed
-  pub put_changes : (g : GuardCounts) (l : Limit) (k now : Chained X) (n : ℕ) (place : Option Name) (e : X) (r : Result Done NoMemory) → IsList l k → ForSome place (IsLive k) → is_past l (length k.rows + n) ≡ false
-      → IfOk r (λ _. IsPut k.rows k.next_serial place (replicate n e) now) → IfErr r (λ _. now ≡ k) → (n ≤ 1 → n ≤ k.spare → IsOk r)
-      → Changing Same (put_call (object_of g l k) place e n) (object_of g l k) (object_of g l now) (as_fault r)
-  put_changes g l k now n place e (Ok x) s h within ok err room = (refl, put_after g l k now n place e s.sound h ok, refl)
-  put_changes g l k now n place e (Err q) s h within ok err room =
-      (wants g l k n s within (λ a b. absurd (let t : false ≡ true = room a b in true≢false (sym t))), refl, ap (object_of g l) err)
+  -- the copies are put, and the first one's cursor is the answer
+  pub put_done : (g : GuardCounts) (l : Limit) (k now : Chained X) (n : ℕ) (place : Option Name) (e : X) (first : Option Name) (c : Cursor) → IsList l k → ForSome place (IsLive k)
+      → IsPut k.rows k.next_serial place (replicate n e) now → HasFirst k.next_serial n now first → c ≡ cursor_at g.number first
+      → Changing (Marks (object_of g l now)) (put_call (object_of g l k) place e n) (object_of g l k) (object_of g l now) (Ok c)
+  put_done g l k now n place e first c s h ok has is =
+      (refl, put_after g l k now n place e s.sound h ok, ap (mark_of g.number (names (map row_of now.rows))) is ∙ marked n first has)
+    where
+      marked : (n : ℕ) (first : Option Name) → HasFirst k.next_serial n now first → mark_of g.number (names (map row_of now.rows)) (cursor_at g.number first) ≡ first_new (plain (object_of g l k)) no_mark n
+      marked zero first has = ap (λ f. mark_of g.number (names (map row_of now.rows)) (cursor_at g.number f)) has
+      marked (suc n) None has = absurd has
+      marked (suc n) (Some a) has = marked_live g.number now.rows a (live_has a now.rows has.live) ∙ ap (mark_at g.number) has.serial
+
+  -- memory is wanting, and nothing has changed
+  pub put_wants : (g : GuardCounts) (l : Limit) (k now : Chained X) (n : ℕ) (place : Option Name) (e : X) → IsList l k → is_past l (length k.rows + n) ≡ false → now ≡ k → (n ≤ 1 → n ≤ k.spare → ⊥)
+      → Changing (Marks (object_of g l now)) (put_call (object_of g l k) place e n) (object_of g l k) (object_of g l now) (Err fault.NoMemory)
+  put_wants g l k now n place e s within err room = (wants g l k n s within room, refl, ap (object_of g l) err)
+
+  -- the slots of the chain are the list's
+  pub grown_slots : (g : GuardCounts) (l : Limit) (k now : Chained X) (o : Listed X) → listed (object_of g l k) k.spare ≡ o → length now.rows + now.spare ≤ max (length k.rows + k.spare) (pow8 (length now.rows))
+      → slots_of (listed (object_of g l now) now.spare) ≤ max (slots_of o) (pow8 (length_of (object_of g l now)))
+  grown_slots g l k now o view h =
+      subst (λ (x : Listed X). slots_of (listed (object_of g l now) now.spare) ≤ max (slots_of x) (pow8 (length_of (object_of g l now)))) view
+      (subst (λ m. m + now.spare ≤ max (length (map row_of k.rows) + k.spare) (pow8 m)) (sym (length-map now.rows row_of))
+      (subst (λ m. length now.rows + now.spare ≤ max (m + k.spare) (pow8 (length now.rows))) (sym (length-map k.rows row_of)) h))
 
   pub takes_within : (g : GuardCounts) (l : Limit) (k : Chained X) (o : Object Name X) → object_of g l k ≡ o → (n : ℕ) → Takes o n → is_past l (length k.rows + n) ≡ false
   takes_within g l k o view n t =
@@ -197,12 +235,19 @@ module _ {X : Type 0} where
   pub place_none : (o : Object Name X) (place : Option Reason) (n : _) → first_reason (tampers_cursors (plain o) ∷ place ∷ room_for_copies (plain o) n) ≡ None → place ≡ None
   place_none o place n h = none_first place (room_for_copies (plain o) n) (none_others (tampers_cursors (plain o)) (place ∷ room_for_copies (plain o) n) h)
 
-  pub copies_changed : (o new : Object Name X) (place : Option Name) (at m : ℕ) (n : _) (e : X) (r : Result Done Fault) (reason : Option Reason) → spot o place ≡ at → m ≡ count_of n → reason ≡ None
-      → Changing Same (put_call o place e m) o new r → Changing Same (call (copies_take_memory (plain o) n) reason (with_copies (plain o) at e n) tt) o new r
+  pub copies_changed : (o new : Object Name X) (place : Option Name) (at m : ℕ) (n : _) (e : X) (r : Result Cursor Fault) (reason : Option Reason) → spot o place ≡ at → m ≡ count_of n → reason ≡ None
+      → Changing (Marks new) (put_call o place e m) o new r → Changing (Marks new) (call (copies_take_memory (plain o) n) reason (with_copies (plain o) at e n) (first_new (plain o) no_mark (count_of n))) o new r
   copies_changed o new place at m n e r reason spot_at count none h =
-      accepted (copies_take_memory (plain o) n) reason (with_copies (plain o) at e n) o new r none
-      (subst (λ a. Changing Same (call (copies_take_memory (plain o) n) None (with_copies (plain o) a e n) tt) o new r) spot_at
-      (subst (λ q. Changing Same (put_call o place e q) o new r) count h))
+      accepted (Marks new) (copies_take_memory (plain o) n) reason (with_copies (plain o) at e n) (first_new (plain o) no_mark (count_of n)) o new r none
+      (subst (λ a. Changing (Marks new) (call (copies_take_memory (plain o) n) None (with_copies (plain o) a e n) (first_new (plain o) no_mark (count_of n))) o new r) spot_at
+      (subst (λ q. Changing (Marks new) (put_call o place e q) o new r) count h))
+
+  pub copies_done : (o new : Object Name X) (place : Option Name) (at m : ℕ) (n : _) (e : X) (r : Result Cursor Fault) (d : Result Done Fault) (reason : Option Reason) → spot o place ≡ at → m ≡ count_of n → reason ≡ None
+      → Changing (Marks new) (put_call o place e m) o new r → d ≡ done r → Changing Same (call (copies_take_memory (plain o) n) reason (with_copies (plain o) at e n) tt) o new d
+  copies_done o new place at m n e r d reason spot_at count none h is =
+      subst (λ q. Changing Same (call (copies_take_memory (plain o) n) reason (with_copies (plain o) at e n) tt) o new q) (sym is)
+      (done_changes (Marks new) (copies_take_memory (plain o) n) reason (with_copies (plain o) at e n) (first_new (plain o) no_mark (count_of n)) o new r
+      (copies_changed o new place at m n e r reason spot_at count none h))
 
   plains-reverse : (rows : List (chain.Row X)) → plains (reverse rows) ≡ reverse (plains rows)
   plains-reverse [] = refl

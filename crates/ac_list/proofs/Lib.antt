@@ -4,3 +4,6 @@ pub mod Puts
 pub mod Grows
 pub mod Valid
 pub mod Swaps
+pub mod Deletes
+pub mod Refills
+pub mod Copied

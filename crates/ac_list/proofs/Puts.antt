@@ -1,18 +1,20 @@
 -- Rows that are put before a place, one after another.
 use Rattle.std.proofs.Common.{◌≡◌, ℕ, zero, suc, ◌+◌, ◌-◌, ◌^◌, ◌<◌, ◌≤◌, List, [], ◌∷◌, ◌++◌, length, reverse, replicate, Option, Some, None, refl, sym, ap, ◌∙◌, subst, inl, inr, arith, append_assoc, append-nil, length-append, le-leb}
 use Rattle.std.proofs.lemmas.List.{reverse-append, length-reverse, replicate_more, length-replicate}
+use Rattle.std.specs.Prelude.{max}
 use Rattle.std.specs.List.{insert}
+use Rattle.std.proofs.Math.Nat.{le-max_left, le-max_right}
 use Rattle.ac_base.specs.declared.name.Name.{Name}
 use Rattle.ac_chain.specs.Rows as chain
 use Rattle.ac_chain.specs.Rows.{Chained, IsLive, IsSound, IsFresh, place_of, inserted, reserved, chained, index_of}
 use Rattle.ac_chain.specs.ChainFields.{first_or, HasName, IsOnce}
-use Rattle.ac_chain.proofs.Cuts.{split, apart, index_of-cut, insert-cut, live_has, has_live, HasName-right}
+use Rattle.ac_chain.proofs.Cuts.{split, apart, index_of-cut, insert-cut, live_has, has_live, HasName-right, HasName-put}
 use Rattle.ac_chain.proofs.Moves.{once_from}
 use Rattle.ac_model.specs.Rows.{row, fresh}
 use Rattle.ac_pool.specs.Growth.{pow8}
 use Rattle.ac_pool.proofs.Powers.{pow8-enough}
 use Rattle.std.proofs.lemmas.Bool.{cond-true, cond-false, cases_lt, cases_eq, lt-leb}
-use Rattle.ac_list.specs.Put.{plains, IsPut}
+use Rattle.ac_list.specs.Put.{plains, IsPut, IsFirst, HasFirst}
 
 module _ {X : Type 0} where
   pub plains-append : (xs ys : List (chain.Row X)) → plains (xs ++ ys) ≡ plains xs ++ plains ys
@@ -164,7 +166,7 @@ module _ {X : Type 0} where
   all_copies zero v others n e = absurd (n refl)
   all_copies (suc n) v others _ e = let same : suc n - 1 ≡ n = omega arith in ap (λ vs. v ∷ reverse vs) (e ∙ ap (λ m. replicate m v) same) ∙ ap (λ vs. v ∷ vs) (reverse-replicate n v)
 
-  reserved_kept : (c : Chained X) (n : ℕ) → n ≤ c.spare → reserved c n ≡ c
+  pub reserved_kept : (c : Chained X) (n : ℕ) → n ≤ c.spare → reserved c n ≡ c
   reserved_kept c n h = cond-true _ _ _ (le-leb n c.spare h)
 
   -- what was reserved
@@ -204,3 +206,47 @@ module _ {X : Type 0} where
       let count : length now.rows ≡ length d.rows + suc (length (reverse others)) = put_length d.rows d.next_serial place (e ∷ reverse others) now p in
       let all = length-reverse others in
       omega arith
+
+  -- a row's name is live once it was put, and the other names stay live
+  pub live_new : (now then : Chained X) (place : Option Name) (b : Name) (v : X) → ((a : Name) → place ≡ Some a → IsLive now a) → then ≡ inserted now place (chain.row b v) → (IsLive then b) × ((a : Name) → IsLive now a → IsLive then a)
+  live_new now then place b v h e =
+      let s = split place now.rows (λ a q. live_has a now.rows (h a q)) in
+      let r = chain.row b v in
+      let is : then.rows ≡ s.before ++ r ∷ s.after = ap (λ (d : Chained X). d.rows) e ∙ (λ i. insert (s.is i) (s.at i) r) ∙ insert-cut s.before r s.after in (
+        has_live b then.rows (subst (λ rows. HasName b rows) (sym is) (HasName-right b s.before (r ∷ s.after) (inl refl))),
+        λ a live. has_live a then.rows (subst (λ rows. HasName a rows) (sym is) (HasName-put a s.before r s.after (subst (λ rows. HasName a rows) s.is (live_has a now.rows live)))),
+      )
+
+  pub first_start : (from now : Chained X) (place : Option Name) (a : Name) (v : X) → ((b : Name) → place ≡ Some b → IsLive from b) → IsFresh from a → now ≡ inserted from place (chain.row a v) → IsFirst from.next_serial now a
+  first_start from now place a v h f e = record { serial = f.serial; live = (live_new from now place a v h e).0 }
+
+  pub first_more : (next : ℕ) (now then : Chained X) (place : Option Name) (a b : Name) (v : X) → ((d : Name) → place ≡ Some d → IsLive now d) → then ≡ inserted now place (chain.row b v) → IsFirst next now a → IsFirst next then a
+  first_more next now then place a b v h e f = record { serial = f.serial; live = (live_new now then place b v h e).1 a f.live }
+
+  pub has_first : (n next : ℕ) (now : Chained X) (a : Name) → (n ≡ 0 → ⊥) → IsFirst next now a → HasFirst next n now (Some a)
+  has_first zero next now a some f = absurd (some refl)
+  has_first (suc n) next now a some f = f
+
+  -- the slots after so many were reserved
+  pub reserved_slots : (c d : Chained X) (n : ℕ) → d ≡ reserved c n → length d.rows + d.spare ≤ max (length c.rows + c.spare) (pow8 (length c.rows + n))
+  reserved_slots c d n e = subst (λ (x : Chained X). length x.rows + x.spare ≤ max (length c.rows + c.spare) (pow8 (length c.rows + n))) (sym e) (elim (cases_lt c.spare n) [
+    | inl lt ↦ let grown : reserved c n ≡ chained c.rows c.next_serial (pow8 (length c.rows + n) - length c.rows) = cond-false _ _ _ (lt-leb n c.spare lt) in
+        let enough = pow8-enough (length c.rows + n) in
+        let all : length c.rows + (pow8 (length c.rows + n) - length c.rows) ≡ pow8 (length c.rows + n) = omega arith in
+        subst (λ (x : Chained X). length x.rows + x.spare ≤ max (length c.rows + c.spare) (pow8 (length c.rows + n))) (sym grown)
+        (subst (λ m. m ≤ max (length c.rows + c.spare) (pow8 (length c.rows + n))) (sym all) (le-max_right (length c.rows + c.spare) (pow8 (length c.rows + n))))
+    | inr le ↦ subst (λ (x : Chained X). length x.rows + x.spare ≤ max (length c.rows + c.spare) (pow8 (length c.rows + n))) (sym (reserved_kept c n le)) (le-max_left (length c.rows + c.spare) (pow8 (length c.rows + n)))
+  ])
+
+  pub copies_grown : (c d now : Chained X) (n : ℕ) (place : Option Name) (e : X) (others : List X) → (n ≡ 0 → ⊥) → d ≡ reserved c n → others ≡ replicate (n - 1) e
+      → IsPut d.rows d.next_serial place (e ∷ reverse others) now → now.spare + length others + 1 ≡ d.spare → length now.rows + now.spare ≤ max (length c.rows + c.spare) (pow8 (length now.rows))
+  copies_grown c d now n place e others some is copies p spare =
+      let count : length now.rows ≡ length d.rows + suc (length (reverse others)) = put_length d.rows d.next_serial place (e ∷ reverse others) now p in
+      let all = length-reverse others in
+      let same : now.spare + length now.rows ≡ d.spare + length d.rows = omega arith in
+      let more : length now.rows ≡ length c.rows + n = put_length c.rows c.next_serial place (replicate n e) now (copies_put c d now n place e others some is copies p) ∙ ap (λ m. length c.rows + m) (length-replicate n e) in
+      let slots = reserved_slots c d n is in
+      subst (λ m. length now.rows + now.spare ≤ max (length c.rows + c.spare) (pow8 m)) (sym more) (let sum : length now.rows + now.spare ≡ length d.rows + d.spare = omega arith in subst (λ m. m ≤ max (length c.rows + c.spare) (pow8 (length c.rows + n))) (sym sum) slots)
+
+  pub first_put : (c d now : Chained X) (n : ℕ) (a : Name) → (n ≡ 0 → ⊥) → d ≡ reserved c n → IsFirst d.next_serial now a → HasFirst c.next_serial n now (Some a)
+  first_put c d now n a some is f = has_first n c.next_serial now a some (subst (λ next. IsFirst next now a) (reserved_enough c d n is).next f)

@@ -1,24 +1,26 @@
--- What a list is after two of its values changed places.
-use Rattle.std.proofs.Common.{◌≡◌, ◌≢◌, ℕ, zero, suc, ◌<◌, List, [], ◌∷◌, length, map, Option, Some, None, IsTrue, refl, sym, ap, ◌∙◌, subst, inl, inr, arith, eq-eqb, ne_eqb}
+-- What a list is after a value was written, and after two of its values changed places.
+use Rattle.std.proofs.Common.{◌≡◌, ◌≢◌, ℕ, zero, suc, ◌+◌, ◌<◌, List, [], ◌∷◌, length, map, Option, Some, None, IsTrue, refl, sym, ap, ◌∙◌, subst, inl, inr, arith, eq-eqb, ne_eqb}
 use Rattle.std.specs.Prelude.{◌==◌, if◌then◌else◌, slice_get, slice_set}
 use Rattle.std.specs.Option.{option_map}
 use Rattle.std.proofs.lemmas.Option.{none-some}
 use Rattle.std.proofs.lemmas.Bool.{cases_eq, cond-true, cond-false}
+use Rattle.std.proofs.lemmas.List.{length-set}
 use Rattle.ac_base.specs.declared.limit.Limit.{Limit}
+use Rattle.ac_base.specs.declared.limit.Limit.TheVariants.{Unbounded, Bounded}
 use Rattle.ac_base.specs.declared.name.Name.{Name}
 use Rattle.ac_cursor.specs.declared.cursor.Cursor.{Cursor}
 use Rattle.ac_cursor.specs.Guards.{GuardCounts}
 use Rattle.ac_chain.specs.Rows as chain
 use Rattle.ac_chain.specs.Rows.{Chained, index_of, IsLive, IsSound, values_swapped, values_exchanged}
 use Rattle.ac_chain.specs.ChainFields.{HasName, IsOnce}
-use Rattle.ac_chain.proofs.Cuts.{index_here, index_past}
+use Rattle.ac_chain.proofs.Cuts.{index_here, index_past, has_live, live_has, once_at}
 use Rattle.ac_chain.proofs.Moves.{once_from}
 use Rattle.ac_model.specs.Rows.{row, names, with_value, with_some_value, with_exchanged_values}
 use Rattle.ac_model.specs.Objects.{Object, plain, with_rows}
 use Rattle.ac_model.specs.Letters.{is_among, name_of}
 use Rattle.ac_model.specs.Calls.{IsAfter}
 use Rattle.ac_list.specs.Put.{plains}
-use Rattle.ac_list.specs.State.{row_of, object_of, needs_cursor, mark, name_in}
+use Rattle.ac_list.specs.State.{row_of, object_of, needs_cursor, mark, name_in, IsList, LimitFits}
 use Rattle.ac_list.proofs.Standing.{Alone, alone, has_among, value_live, stands}
 use Rattle.ac_list.proofs.Grows.{all_from}
 
@@ -113,3 +115,45 @@ module _ {X : Type 0} where
           (λ i. with_some_value (with_some_value (plains k.rows) a.serial (value_live k b s lb i)) b.serial (value_live k a s la i)) in
           subst (λ rows. IsAfter (object_of g l k) (object_of g l now) (with_rows (plain (object_of g l k)) rows)) (sym values ∙ (λ i. with_exchanged_values (plains k.rows) (sym na i) (sym nb i)))
           (subst (λ (d : Chained X). IsAfter (object_of g l k) (object_of g l d) (with_rows (plain (object_of g l k)) (with_some_value (with_some_value (plains k.rows) a.serial (chain.value_of k b)) b.serial (chain.value_of k a)))) (sym e) done)
+
+  -- a chain with another value under a name is a list's where it was one
+  pub set_list : (l : Limit) (k : Chained X) (a : Name) (w : X) → IsList l k → IsLive k a → IsList l (chain.with_value k a w)
+  set_list l k a w s live =
+      let ha = alone k a s.sound live in
+      let back = λ (b : Name) (t : IsLive (chain.with_value k a w) b). has_live b k.rows (set_has a w k.rows ha b (live_has b (set k.rows a w) t)) in
+      let count = length-set k.rows (index_of a k.rows) (chain.row a w) in
+      let few = s.sound.few in
+      let within = s.within_greatest in
+      record {
+        sound = record {
+          once = once_at (set k.rows a w) (set_once a w k.rows ha (once_from k.rows s.sound.once));
+          slots = λ b d p q e. s.sound.slots b d (back b p) (back d q) e;
+          serials = λ b d p q e. s.sound.serials b d (back b p) (back d q) e;
+          issued = λ b p. s.sound.issued b (back b p);
+          next = s.sound.next;
+          few = omega arith;
+        };
+        within_greatest = omega arith;
+        limit_fits = fits l s.limit_fits;
+      }
+    where
+      fits : (l : Limit) → LimitFits l k → LimitFits l (chain.with_value k a w)
+      fits Unbounded h = tt
+      fits (Bounded most) h = (h.0, ap (λ n. n + k.spare) (length-set k.rows (index_of a k.rows) (chain.row a w)) ∙ h.1)
+
+  pub set_after : (g : GuardCounts) (l : Limit) (k now : Chained X) (o : Object Name X) → object_of g l k ≡ o → IsSound k → (c : Cursor) (a : Name) (w : X) → a ≡ name_in c
+      → needs_cursor o c ≡ None → now ≡ chain.with_value k a w → IsAfter o (object_of g l now) (with_rows (plain o) (with_value (plain o).rows (name_of (mark o c)) w))
+  set_after g l k now o view s c a w is none e =
+      subst (λ (p : Object Name X). needs_cursor p c ≡ None → IsAfter p (object_of g l now) (with_rows (plain p) (with_value (plain p).rows (name_of (mark p c)) w))) view at none
+    where
+      at : needs_cursor (object_of g l k) c ≡ None → IsAfter (object_of g l k) (object_of g l now) (with_rows (plain (object_of g l k)) (with_value (plains k.rows) (name_of (mark (object_of g l k) c)) w))
+      at q =
+          let one = stands g l k c q in
+          let live : IsLive k a = subst (λ n. IsLive k n) (sym is) one.live in
+          let ha = alone k a s live in
+          let named : name_of (mark (object_of g l k) c) ≡ a.serial = ap name_of one.marked ∙ ap (λ (n : Name). n.serial) (sym is) in
+          subst (λ (d : Chained X). IsAfter (object_of g l k) (object_of g l d) (with_rows (plain (object_of g l k)) (with_value (plains k.rows) (name_of (mark (object_of g l k) c)) w))) (sym e) (record {
+            plainly = ap (λ rows. record { number = g.number; limit = l; capacity = None; next = k.next_serial; rows = rows; cursor_guards = g.cursor_guards; element_guards = g.element_guards })
+                (set_value a w k.rows ha (once_from k.rows s.once) ∙ ap (λ n. with_value (plains k.rows) n w) (sym named));
+            slots = all_from (λ name. name.serial < k.next_serial → IsTrue (is_among (names (map row_of k.rows)) name)) (set k.rows a w) (λ d t lt. has_among d k.rows (set_has a w k.rows ha d t));
+          })

@@ -1,24 +1,29 @@
 -- What a chain is after values were put before a place, and after each name that stays kept its slot.
-use Rattle.std.specs.Prelude.{◌≡◌, ℕ, ◌+◌, List, ◌++◌, length, map, replicate, Option, None, Some, ◌≤◌, ◌==◌, ◌&&◌, false, not, IsTrue, Result, Ok, Err}
+use Rattle.std.specs.Prelude.{◌≡◌, ℕ, zero, suc, ◌+◌, max, List, ◌++◌, length, map, replicate, Option, None, Some, ◌≤◌, ◌==◌, ◌&&◌, false, not, IsTrue, Result, Ok, Err}
 use Rattle.ac_base.specs.declared.name.Name.{Name}
 use Rattle.ac_base.specs.declared.fault.Fault.{Fault}
-use Rattle.ac_base.specs.declared.fault.Fault.TheVariants as fault
-use Rattle.ac_base.specs.declared.fault.NoMemory.{NoMemory}
+use Rattle.ac_cursor.specs.declared.cursor.Cursor.{Cursor}
+use Rattle.ac_pool.specs.Growth.{pow8}
 use Rattle.ac_chain.specs.Rows as chain
-use Rattle.ac_chain.specs.Rows.{Chained, place_of}
+use Rattle.ac_chain.specs.Rows.{Chained, IsLive, place_of}
 use Rattle.ac_chain.specs.ChainFields.{first_or}
 use Rattle.ac_model.specs.Rows as model
 use Rattle.ac_model.specs.Rows.{Row, fresh, names}
 use Rattle.ac_model.specs.Objects.{Object, plain_row, plain, length_of, is_past, greatest_length, numbers_end}
-use Rattle.ac_model.specs.Letters.{is_among, has_room}
+use Rattle.ac_model.specs.Letters.{Mark, no_mark, is_among, has_room}
 use Rattle.ac_model.specs.Calls.{Call, call, Done}
-use Rattle.ac_model.specs.Sequences.{with_new}
-use Rattle.ac_list.specs.State.{row_of}
+use Rattle.ac_model.specs.Sequences.{with_new, first_new}
+use Rattle.ac_list.specs.State.{Listed, row_of}
 
--- want of memory as a fault
-abbrev pub as_fault : Result Done NoMemory → Result Done Fault
-as_fault (Ok x) = Ok x
-as_fault (Err e) = Err fault.NoMemory
+-- the answer let go
+abbrev pub done : {A : Type 0} → Result A Fault → Result Done Fault
+done (Ok x) = Ok tt
+done (Err e) = Err e
+
+-- the cursor of the first of so many, and this one where there is none
+abbrev pub cursor_of_first : ℕ → Cursor → Cursor → Cursor
+cursor_of_first zero first none = none
+cursor_of_first (suc count) first none = first
 
 module _ {X : Type 0} where
   -- the chain's rows as the definitions see them
@@ -37,6 +42,26 @@ module _ {X : Type 0} where
     pub fresh_names : plains more ≡ fresh next vs
     pub risen : now.next_serial ≡ next + length vs
 
+  -- the name of the first new row
+  pub record IsFirst (next : ℕ) (now : Chained X) (a : Name) : Type 0 where
+    pub serial : a.serial ≡ next
+    pub live : IsLive now a
+
+  -- the same of so many new rows, which may be none
+  abbrev pub HasFirst : ℕ → ℕ → Chained X → Option Name → Type 0
+  HasFirst next zero now first = first ≡ None
+  HasFirst next (suc count) now None = ⊥
+  HasFirst next (suc count) now (Some a) = IsFirst next now a
+
+  -- the slots of a list
+  abbrev pub slots_of : Listed X → ℕ
+  slots_of l = length_of l.object + l.spare
+
+  -- a call that adds elements leaves no more slots than there were, or than the least 8 * 2 ^ k with room for all elements; one that fails leaves the slots as they were
+  abbrev pub Grows : {A : Type 0} → Result A Fault → Listed X → Listed X → Type 0
+  Grows (Ok x) old new = slots_of new ≤ max (slots_of old) (pow8 (length_of new.object))
+  Grows (Err e) old new = slots_of new ≡ slots_of old
+
   -- the place before a name of the object, and the end
   abbrev pub spot : Object Name X → Option Name → ℕ
   spot o None = length_of (plain o)
@@ -51,6 +76,6 @@ module _ {X : Type 0} where
     pub within : is_past o.limit (length_of o + n) ≡ false
     pub unspent : o.next + n ≤ numbers_end
 
-  -- so many copies are put before the place
-  abbrev pub put_call : Object Name X → Option Name → X → ℕ → Call (Object ℕ X) Done
-  put_call o place e n = call (not ((n == 1) && has_room (plain o))) None (with_new (plain o) (spot o place) (replicate n e) n) tt
+  -- so many copies are put before the place, and the answer is the first one's cursor
+  abbrev pub put_call : Object Name X → Option Name → X → ℕ → Call (Object ℕ X) Mark
+  put_call o place e n = call (not ((n == 1) && has_room (plain o))) None (with_new (plain o) (spot o place) (replicate n e) n) (first_new (plain o) no_mark n)

@@ -1,8 +1,8 @@
 //! The list. A contract sees its object, with the slots of its names, and how many elements more it takes without memory.
-ghost use Rattle.std.specs.Prelude.{◌≡◌, ◌∷◌, [], ℕ, ◌+◌, ◌≤◌, None, pos, IfOk, IfErr, IsOk, length, false, refl};
+ghost use Rattle.std.specs.Prelude.{◌≡◌, ◌∷◌, [], ℕ, ◌+◌, ◌≤◌, None, pos, IfOk, IfErr, OnErr, IsOk, length, false, refl};
 ghost use Rattle.ac_list.specs.State.{IsLimit, HasSlots, first_spare, with_guards, guards_of, mark, needs_cursor, may_cursor, cursor_at, name_in, place_in};
 ghost use Rattle.std.specs.Option.{ForSome};
-ghost use Rattle.ac_list.specs.Put.{IsNamed, Takes, put_call, as_fault, spot};
+ghost use Rattle.ac_list.specs.Put.{IsNamed, Takes, Grows, put_call, done, cursor_of_first, spot};
 ghost use Rattle.ac_model.specs.Letters.{tampers_cursors, tampers_elements, place_at};
 ghost use Rattle.ac_model.specs.Sequences.{room_for_copies};
 ghost use Rattle.ac_cursor.specs.Steps.{first_reason};
@@ -12,9 +12,13 @@ ghost use Rattle.ac_model.specs.Common as common;
 ghost use Rattle.ac_model.specs.Sequences as sequences;
 ghost use Rattle.ac_model.specs.Lists as lists;
 
+mod copies;
+mod deletions;
+mod values;
+
 use crate::put::put_copies;
 use crate::reasons::{count_of, in_range, names_spent, too_long, too_many};
-use ac_base::{Elem, Fault, Limit, Name, NoMemory, Reason};
+use ac_base::{Elem, Fault, Limit, Name, Reason};
 use ac_chain::Chain;
 use ac_cursor::{Class, Cursor, GuardKey, GuardKind, Guarded, Guards, Tag, first_reason};
 use std::alloc::Global;
@@ -241,13 +245,20 @@ impl<T> List<T> {
     }
 }
 
-fn as_fault(done: Result<(), NoMemory>) -> Result<(), Fault>
-    ensures { result ≡ as_fault done }
+fn done(put: Result<Cursor, Fault>) -> Result<(), Fault>
+    ensures { result ≡ done put }
 {
-    match done {
-        Ok(()) => Ok(()),
-        Err(_) => Err(Fault::NoMemory),
+    match put {
+        Ok(_) => Ok(()),
+        Err(fault) => Err(fault),
     }
+}
+
+/// The cursor of the first of so many, and this one where there is none.
+fn cursor_of_first(count: u64, first: Cursor, none: Cursor) -> Cursor
+    ensures { result ≡ cursor_of_first count first none }
+{
+    if count == 0 { none } else { first }
 }
 
 fn place_in(c: Cursor) -> Option<Name>
@@ -312,7 +323,8 @@ impl<T> List<T> {
 impl<T: Drop> List<T> {
     /// Clear (A.18.3).
     pub fn clear(&mut self) -> Result<(), Fault>
-        ensures { Changing Same (common.clear_call (plain self.old.object)) self.old.object self.new.object result }
+        ensures changed { Changing Same (common.clear_call (plain self.old.object)) self.old.object self.new.object result }
+        ensures slots { length_of self.new.object + self.new.spare ≡ length_of self.old.object + self.old.spare }
     {
         match self.guards.forbids(Class::Cursors) {
             Some(reason) => Err(Fault::Raised(reason)),
@@ -327,34 +339,52 @@ impl<T: Drop> List<T> {
 impl<T: Elem> List<T> {
     /// Append (A.18.3): so many copies at the end.
     pub fn append(&mut self, e: T, n: i64) -> Result<(), Fault>
-        ensures { Changing Same (sequences.append_call (plain self.old.object) e n) self.old.object self.new.object result }
+        ensures changed { Changing Same (sequences.append_call (plain self.old.object) e n) self.old.object self.new.object result }
+        ensures slots { Grows result self.old self.new }
     {
         match self.refuses_copies(None, n) {
+            None => done(self.put(None, e, count_of(n))),
             Some(reason) => Err(Fault::Raised(reason)),
-            None => self.put(None, e, count_of(n)),
         }
     }
 
     /// Prepend (A.18.3): so many copies at the front.
     pub fn prepend(&mut self, e: T, n: i64) -> Result<(), Fault>
-        ensures { Changing Same (sequences.prepend_call (plain self.old.object) e n) self.old.object self.new.object result }
+        ensures changed { Changing Same (sequences.prepend_call (plain self.old.object) e n) self.old.object self.new.object result }
+        ensures slots { Grows result self.old self.new }
     {
         match self.refuses_copies(None, n) {
             Some(reason) => Err(Fault::Raised(reason)),
             None => {
                 let first = self.chain.first();
-                self.put(first, e, count_of(n))
+                done(self.put(first, e, count_of(n)))
             }
         }
     }
 
     /// Insert (A.18.3): so many copies before the cursor, where No_Element is the end.
     pub fn insert(&mut self, b: Cursor, e: T, n: i64) -> Result<(), Fault>
-        ensures { Changing Same (sequences.insert_call (plain self.old.object) (mark self.old.object b) e n) self.old.object self.new.object result }
+        ensures changed { Changing Same (sequences.insert_call (plain self.old.object) (mark self.old.object b) e n) self.old.object self.new.object result }
+        ensures slots { Grows result self.old self.new }
+    {
+        let mut first = b;
+        self.insert_pos(b, e, &mut first, n)
+    }
+
+    /// Insert with a position (A.18.3): the same, and the variable is set to the first copy, or to the cursor where there is none.
+    pub fn insert_pos(&mut self, b: Cursor, e: T, p: &mut Cursor, n: i64) -> Result<(), Fault>
+        ensures changed { Changing (λ _ m. Marks self.new.object p.new m) (sequences.insert_pos_call (plain self.old.object) (mark self.old.object b) e n) self.old.object self.new.object result }
+        ensures kept { OnErr result (p.new ≡ p.old) }
+        ensures slots { Grows result self.old self.new }
     {
         match self.refuses_copies(self.may(b), n) {
             Some(reason) => Err(Fault::Raised(reason)),
-            None => self.put(self.place_before(b), e, count_of(n)),
+            None => {
+                let count = count_of(n);
+                let first = self.put(self.place_before(b), e, count)?;
+                *p = cursor_of_first(count, first, b);
+                Ok(())
+            }
         }
     }
 
@@ -384,13 +414,18 @@ impl<T: Elem> List<T> {
         ])
     }
 
-    /// Puts so many copies before the place.
-    fn put(&mut self, place: Option<Name>, e: T, n: u64) -> Result<(), Fault>
+    /// Puts so many copies before the place. The answer is the first one's cursor.
+    fn put(&mut self, place: Option<Name>, e: T, n: u64) -> Result<Cursor, Fault>
         requires place { ForSome place (IsNamed self.old.object) }
         requires room { Takes self.old.object n }
-        ensures { Changing Same (put_call self.old.object place e n) self.old.object self.new.object result }
+        ensures changed { Changing (Marks self.new.object) (put_call self.old.object place e n) self.old.object self.new.object result }
+        ensures none { n ≡ 0 → self.new ≡ self.old }
+        ensures slots { Grows result self.old self.new }
     {
-        as_fault(put_copies(&mut self.chain, self.alloc, place, e, n))
+        match put_copies(&mut self.chain, self.alloc, place, e, n) {
+            Ok(first) => Ok(self.cursor_at(first)),
+            Err(_) => Err(Fault::NoMemory),
+        }
     }
 }
 

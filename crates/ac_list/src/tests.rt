@@ -1,18 +1,22 @@
 use super::*;
 use ac_base::{Fault, Limit, Reason};
-use ac_cursor::{Cursor, GuardKind, Guarded, TagMint};
+use ac_cursor::{Cursor, GuardKind, Guarded, Tag, TagMint};
 use std::alloc::Global;
 use std::process::Abort;
 use std::test::Fail;
 
+fn tag(rt: &impl Abort, number: u64) -> Tag {
+    match TagMint::starting_at(number).next() {
+        Some(tag) => tag,
+        None => panic!(rt; "no tag"),
+    }
+}
+
 fn list(rt: &impl Abort, alloc: Global, number: u64, limit: Limit) -> List<i64> {
     assert!(rt; limit == Limit::Unbounded || limit == Limit::Bounded(2));
-    match TagMint::starting_at(number).next() {
-        Some(tag) => match List::new(alloc, tag, limit) {
-            Ok(made) => made,
-            Err(_) => panic!(rt; "no memory"),
-        },
-        None => panic!(rt; "no tag"),
+    match List::new(alloc, tag(rt, number), limit) {
+        Ok(made) => made,
+        Err(_) => panic!(rt; "no memory"),
     }
 }
 
@@ -72,4 +76,71 @@ fn a_guard_refuses_what_adds(rt: HostRuntime) {
     assert!(rt; list.append(10, 1) == Err(Fault::Raised(Reason::CursorTampering)));
     list.release(key);
     assert!(rt; list.append(10, 1).is_ok());
+}
+
+#[test]
+fn an_insertion_sets_its_position(rt: HostRuntime) {
+    let mut list = list(&rt, rt.alloc(), 1, Limit::Unbounded);
+    assert!(rt; list.append(10, 1).is_ok());
+    let first = list.first();
+    let mut p = Cursor::NoElement;
+    assert!(rt; list.insert_pos(first, 20, &mut p, 2).is_ok());
+    assert!(rt; p == list.first());
+    assert!(rt; list.replace_element(p, 30).is_ok());
+    assert_eq!(rt; element(&list, p), Some(30));
+    assert!(rt; list.insert_pos(first, 40, &mut p, 0).is_ok());
+    assert!(rt; p == first);
+}
+
+#[test]
+fn deletions_stop_at_the_end(rt: HostRuntime) {
+    let mut list = list(&rt, rt.alloc(), 1, Limit::Unbounded);
+    for value in [10, 20, 30, 40] {
+        assert!(rt; list.append(value, 1).is_ok());
+    }
+    let mut q = list.last();
+    assert!(rt; list.delete(&mut q, 5).is_ok());
+    assert!(rt; q == Cursor::NoElement);
+    assert!(rt; list.delete(&mut q, 1) == Err(Fault::Raised(Reason::NoElement)));
+    assert!(rt; list.delete_first(1).is_ok());
+    assert_eq!(rt; list.first_element().ok().copied(), Some(20));
+    assert!(rt; list.delete_last(1).is_ok());
+    assert_eq!(rt; list.last_element().ok().copied(), Some(20));
+    assert_eq!(rt; list.length(), 1);
+    assert_eq!(rt; list.slots(), 8);
+}
+
+#[test]
+fn a_copy_has_its_own_elements(rt: HostRuntime) {
+    let mut list = list(&rt, rt.alloc(), 1, Limit::Unbounded);
+    assert!(rt; list.append(10, 3).is_ok());
+    match list.copy(rt.alloc(), tag(&rt, 2), 2) {
+        Ok(_) => panic!(rt; "a copy without room"),
+        Err(fault) => assert!(rt; fault == Fault::Raised(Reason::CapacityFull)),
+    }
+    match list.copy(rt.alloc(), tag(&rt, 2), 0) {
+        Ok(copy) => {
+            assert!(rt; list.clear().is_ok());
+            assert_eq!(rt; copy.number(), 2);
+            assert_eq!(rt; copy.length(), 3);
+            assert_eq!(rt; copy.last_element().ok().copied(), Some(10));
+        }
+        Err(_) => panic!(rt; "no memory"),
+    }
+}
+
+#[test]
+fn an_assignment_keeps_the_order(rt: HostRuntime) {
+    let mut source = list(&rt, rt.alloc(), 1, Limit::Unbounded);
+    assert!(rt; source.append(10, 1).is_ok());
+    assert!(rt; source.append(20, 1).is_ok());
+    let mut target = list(&rt, rt.alloc(), 2, Limit::Bounded(2));
+    assert!(rt; target.append(30, 1).is_ok());
+    assert!(rt; target.assign(&source).is_ok());
+    assert_eq!(rt; target.first_element().ok().copied(), Some(10));
+    assert_eq!(rt; target.last_element().ok().copied(), Some(20));
+    assert!(rt; source.append(30, 1).is_ok());
+    assert!(rt; target.assign(&source) == Err(Fault::Raised(Reason::CapacityFull)));
+    assert_eq!(rt; target.length(), 2);
+    assert!(rt; target.merge_self() == Err(Fault::Raised(Reason::SameContainer)));
 }

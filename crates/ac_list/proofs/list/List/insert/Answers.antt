@@ -1,23 +1,16 @@
-use Rattle.std.proofs.Common.{◌∷◌, sym, ap, ◌∙◌, subst, to_z-of_z, w64}
-use Rattle.ac_cursor.specs.Steps.{first_reason}
+use Rattle.std.proofs.Common.{subst, to_z, of_z, to_z-of_z, w64}
 use Rattle.ac_model.specs.Objects.{plain}
-use Rattle.ac_model.specs.Letters.{count_of, tampers_cursors, place_at}
+use Rattle.ac_model.specs.Calls.{Changing, Same, Marks}
 use Rattle.ac_model.specs.Sequences as sequences
-use Rattle.ac_model.specs.Sequences.{room_for_copies}
 use Rattle.ac_list.specs.State.{mark}
-use Rattle.ac_list.specs.Put.{Takes}
-use Rattle.ac_list.proofs.Grows.{takes_from, copies_changed, place_none}
+use Rattle.ac_list.proofs.Grows.{unanswered}
 use Rattle.ac_list.proofs.list.List.insert.Goals as goal
 
-pub place_before-requires : goal.place_before-requires
-place_before-requires g c = sym c.may.ensures ∙ place_none c.args.self.now.object c.may.result c.args.n (sym (c.in-None.ensures ∙ ap (λ m. first_reason (tampers_cursors (plain c.args.self.now.object) ∷ c.may.result ∷ room_for_copies (plain c.args.self.now.object) m)) (to_z-of_z {w = w64} {z = c.args.n} c.ranges.n)))
+pub returns-clause-slots : goal.returns-clause-slots
+returns-clause-slots g c = c.insert_pos.ensures.slots
 
-pub put-requires-clause-room : goal.put-requires-clause-room
-put-requires-clause-room g c = let o = c.args.self.now.object in subst (λ m. Takes o m) (sym (c.count_of.ensures ∙ ap count_of (to_z-of_z {w = w64} {z = c.args.n} c.ranges.n))) (takes_from o c.may.result c.args.n (c.in-None.ensures ∙ ap (λ m. first_reason (tampers_cursors (plain c.args.self.now.object) ∷ c.may.result ∷ room_for_copies (plain c.args.self.now.object) m)) (to_z-of_z {w = w64} {z = c.args.n} c.ranges.n)))
-
-pub returns-in-None : goal.returns-in-None
-returns-in-None g c =
-    let o = c.args.self.now.object in
-    let none = ap (λ q. first_reason (tampers_cursors (plain o) ∷ q ∷ room_for_copies (plain o) c.args.n)) (sym c.may.ensures) ∙ sym (c.in-None.ensures ∙ ap (λ m. first_reason (tampers_cursors (plain c.args.self.now.object) ∷ c.may.result ∷ room_for_copies (plain c.args.self.now.object) m)) (to_z-of_z {w = w64} {z = c.args.n} c.ranges.n)) in
-    copies_changed o c.put.new.self.object c.place_before.result (place_at (plain o).rows (mark o c.args.b)) c.count_of.result c.args.n c.args.e c.put.result (sequences.insert_call (plain o) (mark o c.args.b) c.args.e c.args.n).reason
-    c.place_before.ensures.spot (c.count_of.ensures ∙ ap count_of (to_z-of_z {w = w64} {z = c.args.n} c.ranges.n)) none c.put.ensures
+pub returns-clause-changed : goal.returns-clause-changed
+returns-clause-changed g c =
+    let o = c.args.self.now.object in let new = c.insert_pos.new.self.object in let m = to_z w64 (of_z w64 c.args.n) in
+    subst (λ n. Changing Same (sequences.insert_call (plain o) (mark o c.args.b) c.args.e n) o new c.insert_pos.result) (to_z-of_z {w = w64} {z = c.args.n} c.ranges.n)
+    (unanswered (λ _ m. Marks new c.insert_pos.new.p m) (sequences.insert_pos_call (plain o) (mark o c.args.b) c.args.e m) o new c.insert_pos.result c.insert_pos.ensures.changed)

@@ -1,0 +1,32 @@
+-- What a chain is after its rows gave way to copies, and what a call means that makes an object.
+use Rattle.std.specs.Prelude.{◌≡◌, ℕ, ◌+◌, List, length, map, Some, None, IsTrue, Result, Ok, Err}
+use Rattle.ac_base.specs.declared.fault.Fault.{Fault}
+use Rattle.ac_base.specs.declared.fault.Fault.TheVariants as fault
+use Rattle.ac_base.specs.declared.fault.NoMemory.{NoMemory}
+use Rattle.ac_chain.specs.Rows as chain
+use Rattle.ac_chain.specs.Rows.{Chained}
+use Rattle.ac_model.specs.Rows.{fresh}
+use Rattle.ac_model.specs.Objects.{Object, plain}
+use Rattle.ac_model.specs.Calls.{Call, Done}
+use Rattle.ac_list.specs.State.{Listed}
+use Rattle.ac_list.specs.Put.{plains}
+
+-- want of memory as a fault
+abbrev pub as_fault : Result Done NoMemory → Result Done Fault
+as_fault (Ok x) = Ok x
+as_fault (Err e) = Err fault.NoMemory
+
+module _ {X : Type 0} where
+  abbrev pub values_of : List (chain.Row X) → List X
+  values_of rows = map (λ (r : chain.Row X). r.value) rows
+
+  -- the chain with these values under new names, and nothing else
+  pub record IsRefilled (c : Chained X) (vs : List X) (now : Chained X) : Type 0 where
+    pub rows : plains now.rows ≡ fresh c.next_serial vs
+    pub next : now.next_serial ≡ c.next_serial + length vs
+
+  -- Ok, no reason and the object that the call means; or the first reason; or want of memory, where the call may take some, and no reason
+  abbrev pub Making : Call (Object ℕ X) Done → Result (Listed X) Fault → Type 0
+  Making c (Ok made) = (c.reason ≡ None) × (plain made.object ≡ c.after)
+  Making c (Err (fault.Raised reason)) = c.reason ≡ Some reason
+  Making c (Err fault.NoMemory) = IsTrue c.memory × (c.reason ≡ None)

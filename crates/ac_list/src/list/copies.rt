@@ -1,0 +1,125 @@
+//! Copies of a list, and the calls of a list with itself.
+ghost use Rattle.std.specs.Prelude.{◌≡◌, ◌∷◌, [], ◌≤◌, ◌&&◌, not, max, nat_lt, IfOk};
+ghost use Rattle.ac_pool.specs.Growth.{pow8};
+ghost use Rattle.ac_list.specs.Put.{Grows, slots_of};
+ghost use Rattle.ac_list.specs.Copy.{Making, as_fault};
+ghost use Rattle.ac_cursor.specs.Steps.{first_reason};
+ghost use Rattle.ac_model.specs.Objects.{plain, length_of, greatest_length};
+ghost use Rattle.ac_model.specs.Letters.{tampers_cursors, room, reason_if};
+ghost use Rattle.ac_model.specs.Calls.{Changing, Same};
+ghost use Rattle.ac_model.specs.Common as common;
+ghost use Rattle.ac_model.specs.Sequences as sequences;
+ghost use Rattle.ac_model.specs.Common.{limit_of_copy};
+
+use super::List;
+use crate::reasons::{names_spent, reason_if, too_long, too_many};
+use crate::refill::refill;
+use ac_base::{Elem, Fault, Limit, NoMemory, Reason};
+use ac_cursor::{Class, Tag, first_reason};
+use std::alloc::Global;
+
+impl<T: Elem> List<T> {
+    /// Copy (A.18.3): a list of its own number with copies of the elements. A bounded one's limit is the capacity, or the length where that is 0.
+    pub fn copy(&self, alloc: Global, tag: Tag, capacity: u64) -> Result<List<T>, Fault>
+        requires { capacity ≤ greatest_length }
+        ensures made { Making (common.copy_call (plain self.now.object) tag capacity) result }
+        ensures slots { self.now.object.limit ≡ Limit.Unbounded → IfOk result (λ made. slots_of made ≤ pow8 (max (length_of self.now.object) capacity)) }
+    {
+        let length = self.chain.len();
+        if let Some(reason) = too_small(capacity, length) {
+            return Err(Fault::Raised(reason));
+        }
+        let mut made = List::new(alloc, tag, limit_of_copy(self.limit, capacity, length))?;
+        made.assign(self)?;
+        Ok(made)
+    }
+
+    /// Assign (A.18.3): copies of the source's elements take the place of the elements.
+    pub fn assign(&mut self, source: &List<T>) -> Result<(), Fault>
+        ensures changed { Changing Same (common.assign_call (plain self.old.object) (plain source.now.object)) self.old.object self.new.object result }
+        ensures slots { Grows result self.old self.new }
+    {
+        match self.refuses_refill(source.chain.len()) {
+            Some(reason) => Err(Fault::Raised(reason)),
+            None => as_fault(refill(&mut self.chain, &source.chain, self.alloc)),
+        }
+    }
+
+    /// Why so many elements in place of the old ones are refused.
+    fn refuses_refill(&self, length: u64) -> Option<Reason>
+        ensures { result ≡ first_reason (tampers_cursors (plain self.now.object) ∷ room (plain self.now.object) length length) }
+    {
+        first_reason(&[
+            self.guards.forbids(Class::Cursors),
+            too_long(length),
+            too_many(self.limit, length),
+            names_spent(self.chain.next_serial(), length),
+        ])
+    }
+}
+
+fn as_fault(filled: Result<(), NoMemory>) -> Result<(), Fault>
+    ensures { result ≡ as_fault filled }
+{
+    match filled {
+        Ok(()) => Ok(()),
+        Err(_) => Err(Fault::NoMemory),
+    }
+}
+
+/// A capacity that is asked for, and too small.
+fn too_small(capacity: u64, length: u64) -> Option<Reason>
+    ensures { result ≡ reason_if (nat_lt 0 capacity && nat_lt capacity length) Reason.CapacityFull }
+{
+    reason_if(capacity > 0 && capacity < length, Reason::CapacityFull)
+}
+
+fn limit_of_copy(limit: Limit, capacity: u64, length: u64) -> Limit
+    ensures { result ≡ limit_of_copy limit capacity length }
+{
+    match limit {
+        Limit::Unbounded => Limit::Unbounded,
+        Limit::Bounded(_) => Limit::Bounded(if capacity == 0 { length } else { capacity }),
+    }
+}
+
+impl<T> List<T> {
+    /// Assign (A.18.3) of a list to itself.
+    pub fn assign_self(&mut self) -> Result<(), Fault>
+        ensures changed { Changing Same (common.assign_self_call (plain self.old.object)) self.old.object self.new.object result }
+        ensures same { self.new ≡ self.old }
+    {
+        match self.guards.forbids(Class::Cursors) {
+            Some(reason) => Err(Fault::Raised(reason)),
+            None => Ok(()),
+        }
+    }
+
+    /// Move (A.18.3) of a list to itself.
+    pub fn move_from_self(&mut self) -> Result<(), Fault>
+        ensures changed { Changing Same (common.move_from_self_call (plain self.old.object)) self.old.object self.new.object result }
+        ensures same { self.new ≡ self.old }
+    {
+        self.assign_self()
+    }
+
+    /// Merge (A.18.3) of a list with itself: refused where the list isn't empty.
+    pub fn merge_self(&mut self) -> Result<(), Fault>
+        ensures changed { Changing Same (sequences.merge_self_call (plain self.old.object)) self.old.object self.new.object result }
+        ensures same { self.new ≡ self.old }
+    {
+        match self.refuses_merge_self() {
+            Some(reason) => Err(Fault::Raised(reason)),
+            None => Ok(()),
+        }
+    }
+
+    fn refuses_merge_self(&self) -> Option<Reason>
+        ensures { result ≡ first_reason (tampers_cursors (plain self.now.object) ∷ reason_if (not (sequences.is_without_rows (plain self.now.object))) Reason.SameContainer ∷ []) }
+    {
+        first_reason(&[
+            self.guards.forbids(Class::Cursors),
+            reason_if(!self.is_empty(), Reason::SameContainer),
+        ])
+    }
+}

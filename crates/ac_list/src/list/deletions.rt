@@ -1,0 +1,79 @@
+//! Elements that are deleted.
+ghost use Rattle.std.specs.Prelude.{◌≡◌, ◌∷◌, [], ◌+◌, OnErr};
+ghost use Rattle.ac_list.specs.State.{mark, needs_cursor};
+ghost use Rattle.ac_cursor.specs.Steps.{first_reason};
+ghost use Rattle.ac_model.specs.Objects.{plain, length_of};
+ghost use Rattle.ac_model.specs.Letters.{tampers_cursors, in_range};
+ghost use Rattle.ac_model.specs.Calls.{Changing, Same, Marks};
+ghost use Rattle.ac_model.specs.Sequences as sequences;
+
+use super::{List, place_in};
+use crate::cut::{remove_from, remove_last};
+use crate::reasons::{count_of, in_range};
+use ac_base::{Fault, Reason};
+use ac_cursor::{Class, Cursor, first_reason};
+
+impl<T: Drop> List<T> {
+    /// Delete (A.18.3): at most so many elements from the cursor on, which becomes No_Element.
+    pub fn delete(&mut self, q: &mut Cursor, n: i64) -> Result<(), Fault>
+        ensures changed { Changing (λ _ m. Marks self.new.object q.new m) (sequences.delete_call (plain self.old.object) (mark self.old.object q.old) n) self.old.object self.new.object result }
+        ensures kept { OnErr result (q.new ≡ q.old) }
+        ensures slots { length_of self.new.object + self.new.spare ≡ length_of self.old.object + self.old.spare }
+    {
+        match self.refuses_deletion(*q, n) {
+            Some(reason) => Err(Fault::Raised(reason)),
+            None => {
+                remove_from(&mut self.chain, place_in(*q), count_of(n));
+                *q = Cursor::NoElement;
+                Ok(())
+            }
+        }
+    }
+
+    /// Delete_First (A.18.3): at most so many elements from the first on.
+    pub fn delete_first(&mut self, n: i64) -> Result<(), Fault>
+        ensures changed { Changing Same (sequences.delete_first_call (plain self.old.object) n) self.old.object self.new.object result }
+        ensures slots { length_of self.new.object + self.new.spare ≡ length_of self.old.object + self.old.spare }
+    {
+        match self.refuses_count(n) {
+            Some(reason) => Err(Fault::Raised(reason)),
+            None => {
+                let first = self.chain.first();
+                remove_from(&mut self.chain, first, count_of(n));
+                Ok(())
+            }
+        }
+    }
+
+    /// Delete_Last (A.18.3): at most so many elements at the end.
+    pub fn delete_last(&mut self, n: i64) -> Result<(), Fault>
+        ensures changed { Changing Same (sequences.delete_last_call (plain self.old.object) n) self.old.object self.new.object result }
+        ensures slots { length_of self.new.object + self.new.spare ≡ length_of self.old.object + self.old.spare }
+    {
+        match self.refuses_count(n) {
+            Some(reason) => Err(Fault::Raised(reason)),
+            None => {
+                remove_last(&mut self.chain, count_of(n));
+                Ok(())
+            }
+        }
+    }
+
+    /// Why a deletion from the cursor on is refused.
+    fn refuses_deletion(&self, c: Cursor, n: i64) -> Option<Reason>
+        ensures { result ≡ first_reason (tampers_cursors (plain self.now.object) ∷ needs_cursor self.now.object c ∷ in_range n ∷ []) }
+    {
+        first_reason(&[
+            self.guards.forbids(Class::Cursors),
+            self.needs(c),
+            in_range(n),
+        ])
+    }
+
+    /// Why a deletion at an end is refused.
+    fn refuses_count(&self, n: i64) -> Option<Reason>
+        ensures { result ≡ first_reason (tampers_cursors (plain self.now.object) ∷ in_range n ∷ []) }
+    {
+        first_reason(&[self.guards.forbids(Class::Cursors), in_range(n)])
+    }
+}

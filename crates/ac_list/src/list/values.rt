@@ -1,0 +1,58 @@
+//! Another value under a name that stays.
+ghost use Rattle.std.specs.Prelude.{◌≡◌, ◌∷◌, [], None};
+ghost use Rattle.ac_list.specs.State.{mark, needs_cursor};
+ghost use Rattle.ac_cursor.specs.Steps.{first_reason};
+ghost use Rattle.ac_model.specs.Rows.{with_value};
+ghost use Rattle.ac_model.specs.Objects.{plain, with_rows};
+ghost use Rattle.ac_model.specs.Letters.{tampers_elements, name_of};
+ghost use Rattle.ac_model.specs.Calls.{Changing, IsAfter, Same};
+ghost use Rattle.ac_model.specs.Sequences as sequences;
+
+use super::{List, name_in};
+use ac_base::{Fault, Reason};
+use ac_cursor::{Class, Cursor, first_reason};
+
+impl<T: Drop> List<T> {
+    /// Replace_Element (A.18.3).
+    pub fn replace_element(&mut self, c: Cursor, e: T) -> Result<(), Fault>
+        ensures changed { Changing Same (sequences.replace_element_call (plain self.old.object) (mark self.old.object c) e) self.old.object self.new.object result }
+        ensures spare { self.new.spare ≡ self.old.spare }
+    {
+        match self.refuses_replacement(c) {
+            Some(reason) => Err(Fault::Raised(reason)),
+            None => {
+                self.set_value(c, e);
+                Ok(())
+            }
+        }
+    }
+
+    /// A write through a name that a view or a loop gives for the element (A.18.3): no tampering check.
+    pub fn write(&mut self, c: Cursor, e: T) -> Result<(), Fault>
+        ensures changed { Changing Same (sequences.write_call (plain self.old.object) (mark self.old.object c) e) self.old.object self.new.object result }
+        ensures spare { self.new.spare ≡ self.old.spare }
+    {
+        match self.needs(c) {
+            Some(reason) => Err(Fault::Raised(reason)),
+            None => {
+                self.set_value(c, e);
+                Ok(())
+            }
+        }
+    }
+
+    /// Why a replacement is refused.
+    fn refuses_replacement(&self, c: Cursor) -> Option<Reason>
+        ensures { result ≡ first_reason (tampers_elements (plain self.now.object) ∷ needs_cursor self.now.object c ∷ []) }
+    {
+        first_reason(&[self.guards.forbids(Class::Elements), self.needs(c)])
+    }
+
+    fn set_value(&mut self, c: Cursor, e: T)
+        requires { needs_cursor self.old.object c ≡ None }
+        ensures written { IsAfter self.old.object self.new.object (with_rows (plain self.old.object) (with_value (plain self.old.object).rows (name_of (mark self.old.object c)) e)) }
+        ensures spare { self.new.spare ≡ self.old.spare }
+    {
+        *self.chain.at_mut(name_in(c)) = e;
+    }
+}
