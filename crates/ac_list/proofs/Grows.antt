@@ -88,7 +88,7 @@ module _ {X : Type 0} where
         | inr t ↦ let later = more_serials a (next + 1) vs more others t in omega arith
       ]
 
-  put_cut : (xs ys zs : List (Row ℕ X)) → put (xs ++ ys) (length xs) zs ≡ xs ++ zs ++ ys
+  pub put_cut : (xs ys zs : List (Row ℕ X)) → put (xs ++ ys) (length xs) zs ≡ xs ++ zs ++ ys
   put_cut [] ys zs = refl
   put_cut (x ∷ xs) ys zs = ap (λ rows. x ∷ rows) (put_cut xs ys zs)
 
@@ -162,7 +162,7 @@ module _ {X : Type 0} where
           )
 
   -- no row has the name that a cursor at no element has
-  past_end : (rows : List (chain.Row X)) → ((a : Name) → HasName a rows → 0 < a.serial) → model.place_of (plains rows) 0 ≡ length (plains rows)
+  pub past_end : (rows : List (chain.Row X)) → ((a : Name) → HasName a rows → 0 < a.serial) → model.place_of (plains rows) 0 ≡ length (plains rows)
   past_end [] h = refl
   past_end (r ∷ rows) h =
       let some = h r.name (inl refl) in

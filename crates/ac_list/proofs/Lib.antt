@@ -4,3 +4,4 @@ pub mod Puts
 pub mod Grows
 pub mod Valid
 pub mod Swaps
+pub mod Links

@@ -12,6 +12,8 @@ ghost use Rattle.ac_model.specs.Common as common;
 ghost use Rattle.ac_model.specs.Sequences as sequences;
 ghost use Rattle.ac_model.specs.Lists as lists;
 
+mod links;
+
 use crate::put::put_copies;
 use crate::reasons::{count_of, in_range, names_spent, too_long, too_many};
 use ac_base::{Elem, Fault, Limit, Name, NoMemory, Reason};
