@@ -204,12 +204,12 @@ module _ {X : Type 0} where
       (subst (λ a. Changing Same (call (copies_take_memory (plain o) n) None (with_copies (plain o) a e n) tt) o new r) spot_at
       (subst (λ q. Changing Same (put_call o place e q) o new r) count h))
 
-  plains-reverse : (rows : List (chain.Row X)) → plains (reverse rows) ≡ reverse (plains rows)
+  pub plains-reverse : (rows : List (chain.Row X)) → plains (reverse rows) ≡ reverse (plains rows)
   plains-reverse [] = refl
   plains-reverse (r ∷ rows) =
       ap plains (reverse-append (r ∷ []) rows) ∙ plains-append (reverse rows) (r ∷ []) ∙ ap (λ zs. zs ++ plains (r ∷ [])) (plains-reverse rows) ∙ sym (reverse-append (plains (r ∷ [])) (plains rows))
 
-  reverse_has : (a : Name) (rows : List (chain.Row X)) → HasName a (reverse rows) → HasName a rows
+  pub reverse_has : (a : Name) (rows : List (chain.Row X)) → HasName a (reverse rows) → HasName a rows
   reverse_has a [] h = h
   reverse_has a (r ∷ rows) h = elim (HasName-either a (reverse rows) (r ∷ []) (subst (λ zs. HasName a zs) (reverse-append (r ∷ []) rows) h)) [
     | inl t ↦ inr (reverse_has a rows t)

@@ -5,3 +5,6 @@ pub mod Grows
 pub mod Valid
 pub mod Swaps
 pub mod Links
+pub mod Walks
+pub mod Searches
+pub mod Finds

@@ -13,6 +13,7 @@ ghost use Rattle.ac_model.specs.Sequences as sequences;
 ghost use Rattle.ac_model.specs.Lists as lists;
 
 mod links;
+mod searches;
 
 use crate::put::put_copies;
 use crate::reasons::{count_of, in_range, names_spent, too_long, too_many};
