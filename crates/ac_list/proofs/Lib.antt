@@ -8,3 +8,4 @@ pub mod Links
 pub mod Walks
 pub mod Searches
 pub mod Finds
+pub mod Compares

@@ -1,5 +1,5 @@
 -- What is found among a chain's rows, and equality of elements as a test.
-use Rattle.std.specs.Prelude.{◌≡◌, ◌↔◌, ℕ, ◌+◌, List, length, Bool, IsTrue, Option, None, Some, find}
+use Rattle.std.specs.Prelude.{◌≡◌, ◌↔◌, ℕ, ◌+◌, List, length, map, Bool, IsTrue, Option, None, Some, find}
 use Rattle.std.specs.Option.{option_map}
 use Rattle.ac_base.specs.declared.name.Name.{Name}
 use Rattle.ac_cursor.specs.declared.cursor.Cursor.{Cursor}
@@ -33,3 +33,6 @@ module _ {T : Type 0} where
   abbrev pub end_of : List (chain.Row T) → Cursor → Option Name
   end_of rows NoElement = name_before rows (length rows)
   end_of rows (At object name) = Some name
+
+  abbrev pub values_in : List (chain.Row T) → List T
+  values_in rows = map (λ (r : chain.Row T). r.value) rows
