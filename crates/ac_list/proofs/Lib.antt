@@ -9,3 +9,5 @@ pub mod Walks
 pub mod Searches
 pub mod Finds
 pub mod Compares
+pub mod StableSorts
+pub mod Sorts

@@ -1,5 +1,5 @@
 -- What a list is after rows changed places, each with its name.
-use Rattle.std.proofs.Common.{◌≡◌, ◌≢◌, ℕ, zero, suc, ◌+◌, ◌<◌, ◌≤◌, List, [], ◌∷◌, ◌++◌, length, map, get_or, take, drop, Option, Some, None, Result, Ok, Err, IsTrue, refl, sym, ap, ◌∙◌, subst, inl, inr, arith, eq-eqb, ne_eqb, append-nil, append_assoc}
+use Rattle.std.proofs.Common.{◌≡◌, ◌≢◌, ◌⊎◌, ℕ, zero, suc, ◌+◌, ◌<◌, ◌≤◌, List, [], ◌∷◌, ◌++◌, length, map, get_or, take, drop, Option, Some, None, Result, Ok, Err, IsTrue, refl, sym, ap, ◌∙◌, subst, inl, inr, arith, eq-eqb, ne_eqb, append-nil, append_assoc}
 use Rattle.std.specs.Prelude.{◌==◌, slice_get, if◌then◌else◌}
 use Rattle.std.specs.Option.{option_map, ForSome}
 use Rattle.std.specs.List.{swap}
@@ -47,6 +47,10 @@ same_rows (x ∷ xs) (y ∷ ys) h =
 abbrev serial_at : Option Name → ℕ
 serial_at None = 0
 serial_at (Some b) = b.serial
+
+-- where a row stood before two rows changed places
+abbrev pub WasAt : ℕ → ℕ → ℕ → ℕ → Type 0
+WasAt i j m n = ((m ≡ i) × (n ≡ j)) ⊎ (((m ≡ j) × (n ≡ i)) ⊎ ((m ≢ i) × (m ≢ j) × (n ≡ m)))
 
 module _ {X : Type 0} where
   -- rows of other places under the same names
@@ -137,19 +141,22 @@ module _ {X : Type 0} where
           let here : exchange (plains rows) a.serial b.serial (plain_of r) ≡ plain_of r = cond-false _ _ _ (ne_eqb r.name.serial a.serial na) ∙ cond-false _ _ _ (ne_eqb r.name.serial b.serial nb) in
           rw is (ap Some (sym here))
 
-  swap_had : (rows : List (chain.Row X)) (d : chain.Row X) (i j : ℕ) → i < length rows → j < length rows → (c : Name) → HasName c (swap rows i j) → HasName c rows
-  swap_had rows d i j hi hj c h =
+  pub swap_was : (rows : List (chain.Row X)) (d : chain.Row X) (i j : ℕ) → i < length rows → j < length rows → (m : ℕ) → (n : ℕ) × (slice_get (swap rows i j) m ≡ slice_get rows n) × WasAt i j m n
+  swap_was rows d i j hi hj m = elim (cases_eq m i) [
+    | inl e ↦ (j, ap (slice_get (swap rows i j)) e ∙ swap_first rows d i j hi hj, inl (e, refl))
+    | inr ni ↦ elim (cases_eq m j) [
+      | inl e ↦ (i, ap (slice_get (swap rows i j)) e ∙ swap_second rows d i j hi hj, inr (inl (e, refl)))
+      | inr nj ↦ (m, swap_other rows d i j m hi hj ni nj, inr (inr (ni, nj, refl)))
+    ]
+  ]
+
+  pub swap_had : (rows : List (chain.Row X)) (i j : ℕ) → i < length rows → j < length rows → (c : Name) → HasName c (swap rows i j) → HasName c rows
+  swap_had rows i j hi hj c h =
       let k = cut_at c (swap rows i j) h in
       let m = index_of c (swap rows i j) in
       let name : name_at (swap rows i j) m ≡ Some c = ap (option_map (λ (q : chain.Row X). q.name)) (cut-row c (swap rows i j) k) ∙ ap Some (sym k.named) in
-      let there = λ (n : ℕ) (e : slice_get (swap rows i j) m ≡ slice_get rows n). name_at_has rows n c (sym (ap (option_map (λ (q : chain.Row X). q.name)) e) ∙ name) in
-      elim (cases_eq m i) [
-        | inl e ↦ there j (ap (slice_get (swap rows i j)) e ∙ swap_first rows d i j hi hj)
-        | inr ni ↦ elim (cases_eq m j) [
-          | inl e ↦ there i (ap (slice_get (swap rows i j)) e ∙ swap_second rows d i j hi hj)
-          | inr nj ↦ there m (swap_other rows d i j m hi hj ni nj)
-        ]
-      ]
+      let was = swap_was rows k.at i j hi hj m in
+      name_at_has rows was.0 c (sym (ap (option_map (λ (q : chain.Row X). q.name)) was.1) ∙ name)
 
   links_after : (g : GuardCounts) (l : Limit) (k : Chained X) (a b : Name) → IsSound k → IsLive k a → IsLive k b
       → IsAfter (object_of g l k) (object_of g l (links_swapped k a b)) (with_rows (plain (object_of g l k)) (with_exchanged_rows (plains k.rows) a.serial b.serial))
@@ -161,7 +168,7 @@ module _ {X : Type 0} where
       let j = index_of b k.rows in
       rows_after g l k (links_swapped k a b) (with_exchanged_rows (plains k.rows) a.serial b.serial) refl
       (same_rows _ _ (exchanged_row k.rows a b ka.at kb.at once (alone k a s la) (alone k b s lb) (cut-row a k.rows ka) (sym ka.named) (cut-row b k.rows kb) (sym kb.named) la lb))
-      (swap_had k.rows ka.at i j la lb)
+      (swap_had k.rows i j la lb)
 
   pub links_swapped_after : (g : GuardCounts) (l : Limit) (k now : Chained X) (o : Object Name X) → object_of g l k ≡ o → IsSound k → (first second : Cursor) (a b : Name) → a ≡ name_in first → b ≡ name_in second
       → needs_cursor o first ≡ None → needs_cursor o second ≡ None → now ≡ links_swapped k a b

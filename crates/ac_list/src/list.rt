@@ -13,6 +13,7 @@ ghost use Rattle.ac_model.specs.Sequences as sequences;
 ghost use Rattle.ac_model.specs.Lists as lists;
 
 mod links;
+mod order;
 mod searches;
 
 use crate::put::put_copies;
