@@ -1,6 +1,6 @@
 -- What a search in a list answers, from what was found among the chain's rows.
-use Rattle.std.proofs.Common.{◌≡◌, ℕ, zero, suc, ◌+◌, ◌≤◌, Bool, true, false, ◌||◌, List, [], ◌∷◌, ◌++◌, length, map, reverse, take, drop, Option, Some, None, is_some, Ok, refl, sym, ap, ◌∙◌, subst, arith, cond, inl, inr, take-append-drop}
-use Rattle.std.specs.Prelude.{find, slice_get, if◌then◌else◌}
+use Rattle.std.proofs.Common.{◌≡◌, ℕ, zero, suc, ◌+◌, Bool, true, false, ◌||◌, List, [], ◌∷◌, length, map, reverse, take, drop, Option, Some, None, is_some, Ok, refl, sym, ap, ◌∙◌, subst, arith, cond, inl, inr, take-append-drop}
+use Rattle.std.specs.Prelude.{find, if◌then◌else◌}
 use Rattle.std.specs.List.{list_any}
 use Rattle.std.specs.Option.{option_map, ForSome}
 use Rattle.std.proofs.lemmas.List.{take-map, drop-map, take_all}
@@ -19,14 +19,13 @@ use Rattle.ac_chain.proofs.Chains.{index_at}
 use Rattle.ac_chain.proofs.Moves.{once_from}
 use Rattle.ac_model.specs.Rows.{Row, row, names, values}
 use Rattle.ac_model.specs.Objects.{Object, plain, plain_row}
-use Rattle.ac_model.specs.Letters.{Mark, mark_of, mark_for, place_at, is_no_mark}
+use Rattle.ac_model.specs.Letters.{mark_of, mark_for, place_at, is_no_mark}
 use Rattle.ac_model.specs.Calls.{Looking, Marks}
 use Rattle.ac_model.specs.Sequences as sequences
 use Rattle.ac_list.specs.Put.{plains}
 use Rattle.ac_list.specs.State.{row_of, object_of, mark, may_cursor, cursor_at}
 use Rattle.ac_list.specs.Searches.{found_in, count_to, start_of, end_of}
 use Rattle.ac_list.proofs.Standing.{stands, marked_live, may_by_name, place_live}
-use Rattle.ac_list.proofs.Puts.{length-plains}
 use Rattle.ac_list.proofs.Grows.{past_end, plains-reverse, reverse_has}
 
 module _ {X : Type 0} where

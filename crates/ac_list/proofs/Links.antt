@@ -1,5 +1,5 @@
 -- What a list is after rows changed places, each with its name.
-use Rattle.std.proofs.Common.{◌≡◌, ◌≢◌, ◌⊎◌, ℕ, zero, suc, ◌+◌, ◌<◌, ◌≤◌, List, [], ◌∷◌, ◌++◌, length, map, get_or, take, drop, Option, Some, None, Result, Ok, Err, IsTrue, refl, sym, ap, ◌∙◌, subst, inl, inr, arith, eq-eqb, ne_eqb, append-nil, append_assoc}
+use Rattle.std.proofs.Common.{◌≡◌, ◌≢◌, ◌⊎◌, ℕ, suc, ◌+◌, ◌<◌, List, [], ◌∷◌, ◌++◌, length, map, Option, Some, None, Result, Ok, Err, IsTrue, refl, sym, ap, ◌∙◌, subst, inl, inr, arith, eq-eqb, ne_eqb, append-nil, append_assoc}
 use Rattle.std.specs.Prelude.{◌==◌, slice_get, if◌then◌else◌}
 use Rattle.std.specs.Option.{option_map, ForSome}
 use Rattle.std.specs.List.{swap}
@@ -25,7 +25,7 @@ use Rattle.ac_chain.proofs.Orders.{length_moved, live_moved}
 use Rattle.ac_model.specs.Rows as model
 use Rattle.ac_model.specs.Rows.{Row, row, named, names, cut, put, with_exchanged_rows}
 use Rattle.ac_model.specs.Objects.{Object, plain, with_rows}
-use Rattle.ac_model.specs.Letters.{Mark, mark_at, mark_of, name_of, is_among}
+use Rattle.ac_model.specs.Letters.{mark_at, name_of, is_among}
 use Rattle.ac_model.specs.Lists.{moved_before, one_row, splice_within_call, splice_one_self_call}
 use Rattle.ac_model.specs.Calls.{IsAfter, Changing, Same, Marks, Done}
 use Rattle.ac_model.proofs.RowLaws.{at_its_place}

@@ -1,10 +1,9 @@
 -- What a search over a chain's rows has found so far.
-use Rattle.std.proofs.Common.{◌≡◌, ℕ, ◌-◌, ◌<◌, Bool, true, false, List, [], ◌∷◌, length, Option, Some, None, IsTrue, refl, sym, ap, ◌∙◌, subst, arith}
-use Rattle.std.specs.Prelude.{◌↔◌, cond}
+use Rattle.std.proofs.Common.{◌≡◌, ◌-◌, ◌<◌, Bool, true, false, List, [], ◌∷◌, length, Option, Some, None, IsTrue, refl, sym, ap, ◌∙◌, subst, arith}
+use Rattle.std.specs.Prelude.{◌↔◌}
 use Rattle.ac_base.specs.declared.name.Name.{Name}
 use Rattle.ac_chain.specs.Rows as chain
 use Rattle.ac_chain.specs.Rows.{Chained, place_of, next_name, prev_name, IsLive, IsSound, value_of}
-use Rattle.ac_chain.specs.ChainFields.{IsOnce}
 use Rattle.ac_chain.proofs.Moves.{once_from}
 use Rattle.ac_list.specs.Searches.{IsEquality, ByEquality, found_in, count_to}
 use Rattle.ac_list.proofs.Looks.{bool_is}

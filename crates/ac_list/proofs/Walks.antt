@@ -1,12 +1,10 @@
 -- Walks over a chain's rows: from a place on, and back from one.
-use Rattle.std.proofs.Common.{◌≡◌, ℕ, zero, suc, ◌+◌, ◌-◌, ◌<◌, List, [], ◌∷◌, ◌++◌, length, reverse, take, drop, Option, Some, None, refl, sym, ap, ◌∙◌, subst, inl, arith, append-nil, append_assoc, length-append}
-use Rattle.std.specs.Prelude.{slice_get}
+use Rattle.std.proofs.Common.{◌≡◌, suc, ◌+◌, ◌-◌, List, [], ◌∷◌, ◌++◌, length, reverse, take, drop, Option, Some, None, refl, sym, ap, ◌∙◌, subst, inl, arith, append_assoc, length-append}
 use Rattle.std.specs.Option.{option_map, ForSome}
 use Rattle.std.proofs.Math.Seq.{drop-append_seam, take-append_seam}
 use Rattle.std.proofs.lemmas.List.{reverse-append, reverse-reverse, length-reverse}
 use Rattle.std.proofs.lemmas.Option.{none-some}
 use Rattle.ac_base.specs.declared.name.Name.{Name}
-use Rattle.ac_chain.specs.Rows as chain
 use Rattle.ac_chain.specs.Rows.{Row, Chained, index_of, place_of, name_at, name_before, next_name, prev_name, IsLive, value_of}
 use Rattle.ac_chain.specs.ChainFields.{HasName, IsOnce, first_or, last_or}
 use Rattle.ac_chain.proofs.Cuts.{Cut, cut, cut-row, split, live_has, has_live, HasName-right, index_of-cut, apart, name_at-first, name_before-cut, last_or-append}

@@ -1,5 +1,5 @@
 -- What a sort of a chain's rows gives: values with their names, and the names in order.
-use Rattle.std.specs.Prelude.{◌≡◌, List, Bool, map, IsPermutation}
+use Rattle.std.specs.Prelude.{◌≡◌, List, Bool, IsPermutation}
 use Rattle.ac_base.specs.declared.name.Name.{Name}
 use Rattle.ac_chain.specs.Rows as chain
 use Rattle.ac_chain.specs.Rows.{names}

@@ -16,7 +16,7 @@ use std::cmp::Ordering;
 
 /// A value with its name.
 #[derive(Drop)]
-pub struct Keyed<'a, T> {
+struct Keyed<'a, T> {
     name: Name,
     value: &'a T,
 }

@@ -1,6 +1,6 @@
-use Rattle.std.proofs.Common.{◌-◌, ◌<◌, length, Some, refl, sym, subst}
+use Rattle.std.proofs.Common.{◌-◌, ◌<◌, length, refl, sym, subst}
 use Rattle.ac_chain.specs.Rows.{place_of}
-use Rattle.ac_list.proofs.Sorts.{Taking, taking_start, taking_live, taking_more, taking_less, taking_end}
+use Rattle.ac_list.proofs.Sorts.{Taking, taking_start, taking_live, taking_more, taking_less}
 use Rattle.ac_list.proofs.list.order.rows_of.Goals as goal
 
 pub loop-place-init : goal.loop-place-init

@@ -1,4 +1,3 @@
-use Rattle.std.proofs.Common.{sym, ap, ◌∙◌}
 use Rattle.ac_list.proofs.Compares.{ascending_start, before_live, name_live, ascending_end, ascending_falls, ascending_more, ascending_less}
 use Rattle.ac_list.proofs.list.searches.is_ascending.Goals as goal
 
