@@ -28,7 +28,7 @@ module _ {T : Type 0} where
   some_value : (v w : T) → Some v ≡ Some w → v ≡ w
   some_value v w e = cc
 
-  values-plains : (rows : List (chain.Row T)) → values_in rows ≡ values (plains rows)
+  pub values-plains : (rows : List (chain.Row T)) → values_in rows ≡ values (plains rows)
   values-plains [] = refl
   values-plains (r ∷ rows) = ap (λ vs. r.value ∷ vs) (values-plains rows)
 

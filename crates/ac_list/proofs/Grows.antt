@@ -39,7 +39,7 @@ accepted memory reason after old new (Ok x) e h = (e, h.1, h.2)
 accepted memory reason after old new (Err (fault.Raised q)) e h = absurd (let k : None ≡ Some q = h.0 in cc)
 accepted memory reason after old new (Err fault.NoMemory) e h = (h.0, e, h.2)
 
-no_capacity : (l : Limit) (n : ℕ) → capacity_after l None n ≡ None
+pub no_capacity : (l : Limit) (n : ℕ) → capacity_after l None n ≡ None
 no_capacity Unbounded n = refl
 no_capacity (Bounded most) n = refl
 
@@ -55,7 +55,7 @@ module _ {X : Type 0} where
   named_live g l k o view place h = λ a e. has_live a k.rows (among_has a k.rows (subst (λ (p : Object Name X). IsNamed p a) (sym view) (h a e)))
 
   -- a bounded list that takes so many more has the slots
-  has_slots : (most : ℕ) (k : Chained X) (n : ℕ) → IsList (Bounded most) k → is_past (Bounded most) (length k.rows + n) ≡ false → n ≤ k.spare
+  pub has_slots : (most : ℕ) (k : Chained X) (n : ℕ) → IsList (Bounded most) k → is_past (Bounded most) (length k.rows + n) ≡ false → n ≤ k.spare
   has_slots most k n s h = let sum = s.limit_fits.1 in let le : length k.rows + n ≤ most = elim (cases_lt most (length k.rows + n)) [ inl lt ↦ absurd (let t = lt-ltb most (length k.rows + n) lt in true≢false (sym t ∙ h)) | inr le ↦ le ] in omega arith
 
   pub list_after : (l : Limit) (k now : Chained X) (n : ℕ) (place : Option Name) (e : X) (r : Result Done NoMemory) → IsList l k → length k.rows + n ≤ 1000000 → is_past l (length k.rows + n) ≡ false
@@ -76,7 +76,7 @@ module _ {X : Type 0} where
   all_from P (r ∷ rows) h zero d lt = h r.name (inl refl)
   all_from P (r ∷ rows) h (suc i) d lt = all_from P rows (λ a t. h a (inr t)) i d (omega arith)
 
-  more_serials : (a : Name) (next : ℕ) (vs : List X) (more : List (chain.Row X)) → plains more ≡ fresh next vs → HasName a more → next ≤ a.serial
+  pub more_serials : (a : Name) (next : ℕ) (vs : List X) (more : List (chain.Row X)) → plains more ≡ fresh next vs → HasName a more → next ≤ a.serial
   more_serials a next vs [] e h = absurd h
   more_serials a next [] (r ∷ more) e h = absurd (cc)
   more_serials a next (v ∷ vs) (r ∷ more) e h =

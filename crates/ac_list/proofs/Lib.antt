@@ -11,3 +11,4 @@ pub mod Finds
 pub mod Compares
 pub mod StableSorts
 pub mod Sorts
+pub mod Transfers

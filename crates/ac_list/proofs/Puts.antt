@@ -164,7 +164,7 @@ module _ {X : Type 0} where
   all_copies zero v others n e = absurd (n refl)
   all_copies (suc n) v others _ e = let same : suc n - 1 ≡ n = omega arith in ap (λ vs. v ∷ reverse vs) (e ∙ ap (λ m. replicate m v) same) ∙ ap (λ vs. v ∷ vs) (reverse-replicate n v)
 
-  reserved_kept : (c : Chained X) (n : ℕ) → n ≤ c.spare → reserved c n ≡ c
+  pub reserved_kept : (c : Chained X) (n : ℕ) → n ≤ c.spare → reserved c n ≡ c
   reserved_kept c n h = cond-true _ _ _ (le-leb n c.spare h)
 
   -- what was reserved

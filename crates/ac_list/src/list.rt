@@ -15,6 +15,7 @@ ghost use Rattle.ac_model.specs.Lists as lists;
 mod links;
 mod order;
 mod searches;
+mod transfers;
 
 use crate::put::put_copies;
 use crate::reasons::{count_of, in_range, names_spent, too_long, too_many};
