@@ -18,16 +18,13 @@ use Rattle.ac_list.specs.Put.{plains}
 use Rattle.ac_list.specs.State.{object_of}
 use Rattle.ac_list.specs.Searches.{IsEquality, ByEquality, values_in}
 use Rattle.ac_list.proofs.Walks.{Forward, Ahead, ahead, forward_first, forward_end, forward_left}
-use Rattle.ac_list.proofs.Searches.{same_is}
+use Rattle.ac_list.proofs.Searches.{some_value, same_is}
 
 turned : (r s : Bool) → s ≡ not r → r ≡ not s
 turned true s e = sym (ap not e)
 turned false s e = sym (ap not e)
 
 module _ {T : Type 0} where
-  some_value : (v w : T) → Some v ≡ Some w → v ≡ w
-  some_value v w e = cc
-
   pub values-plains : (rows : List (chain.Row T)) → values_in rows ≡ values (plains rows)
   values-plains [] = refl
   values-plains (r ∷ rows) = ap (λ vs. r.value ∷ vs) (values-plains rows)

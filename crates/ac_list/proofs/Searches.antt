@@ -14,7 +14,7 @@ module _ {T : Type 0} where
   pub same_is : (same : T → T → Bool) → IsEquality same → (x y : T) (b : Bool) → (IsTrue b ↔ (x ≡ y)) → same x y ≡ b
   same_is same eq x y b h = bool_is (same x y) b (λ t. h.1 ((eq x y).0 t)) (λ t. (eq x y).1 (h.0 t))
 
-  some_value : (v w : T) → Some v ≡ Some w → v ≡ w
+  pub some_value : (v w : T) → Some v ≡ Some w → v ≡ w
   some_value v w e = cc
 
   -- so far nothing was found: what is left decides

@@ -30,6 +30,7 @@ use Rattle.ac_model.specs.Objects.{Object, plain, with_rows}
 use Rattle.ac_model.specs.Calls.{IsAfter}
 use Rattle.ac_list.specs.State.{object_of, IsList}
 use Rattle.ac_list.proofs.Links.{WasAt, swap_was, swap_had, list_same, rows_after}
+use Rattle.ac_list.proofs.Searches.{some_value}
 use Rattle.ac_list.proofs.StableSorts.{strict_order, sort_is}
 use Rattle.ac_list.proofs.Walks.{Forward, Ahead, ahead, forward_first, forward_end, forward_left}
 
@@ -42,9 +43,6 @@ module _ {X : Type 0} where
 
   pub taking_start : (c : Chained X) (place : Option Name) (taken : List (Keyed X)) → taken ≡ [] → place ≡ name_at c.rows 0 → Taking c taken place
   taking_start c place taken none e = let f = forward_first c place e in record { left = c.rows; walk = record { before = []; is = refl; at = f.at }; taken_are = sym (ap (map row_at) none) }
-
-  some_value : (v w : X) → Some v ≡ Some w → v ≡ w
-  some_value v w e = cc
 
   row_there : (l : List (chain.Row X)) (i : ℕ) → i < length l → (r : chain.Row X) × (slice_get l i ≡ Some r)
   row_there [] i h = absurd (omega arith)

@@ -1,37 +1,34 @@
 -- What two lists are after the elements of one moved into the other.
-use Rattle.std.proofs.Common.{◌≡◌, ℕ, zero, suc, ◌+◌, ◌-◌, ◌<◌, ◌≤◌, ◌^◌, List, [], ◌∷◌, ◌++◌, length, map, take, drop, Option, Some, None, Result, Ok, Err, IsTrue, false, refl, sym, ap, ◌∙◌, subst, arith, append-nil, append_assoc, length-append, cond}
-use Rattle.std.specs.Prelude.{IfOk, IfErr, nat_lt}
+use Rattle.std.proofs.Common.{◌≡◌, ℕ, suc, ◌+◌, ◌-◌, ◌<◌, ◌≤◌, ◌^◌, List, [], ◌∷◌, ◌++◌, length, map, Some, None, Result, Ok, Err, IsTrue, false, refl, sym, ap, ◌∙◌, subst, arith, append-nil, append_assoc, length-append}
+use Rattle.std.specs.Prelude.{IfOk, IfErr}
 use Rattle.std.specs.List.{remove}
-use Rattle.std.specs.Option.{ForSome}
 use Rattle.std.proofs.lemmas.Bool.Decides.{nat_tests}
 use Rattle.std.proofs.lemmas.List.{length-map}
 use Rattle.std.proofs.lemmas.Option.{none-some}
 use Rattle.ac_base.specs.declared.limit.Limit.{Limit}
 use Rattle.ac_base.specs.declared.limit.Limit.TheVariants.{Unbounded, Bounded}
 use Rattle.ac_base.specs.declared.name.Name.{Name}
-use Rattle.ac_base.specs.declared.reason.Reason.{Reason}
-use Rattle.ac_base.specs.declared.reason.Reason.TheVariants.{LengthRange, CapacityFull, NamesSpent}
 use Rattle.ac_base.specs.declared.fault.NoMemory.{NoMemory}
-use Rattle.ac_cursor.specs.Guards.{GuardCounts, forbids}
-use Rattle.ac_cursor.specs.declared.guard.Class.TheVariants as class
+use Rattle.ac_cursor.specs.Guards.{GuardCounts}
 use Rattle.ac_cursor.specs.Steps.{first_reason}
 use Rattle.ac_chain.specs.Rows as chain
 use Rattle.ac_chain.specs.Rows.{Chained, chained, index_of, name_at, IsLive, IsSound, IsFresh, value_of, inserted, removed, reserved, cleared}
 use Rattle.ac_chain.specs.ChainFields.{HasName}
 use Rattle.ac_chain.proofs.Cuts.{index_here}
 use Rattle.ac_chain.proofs.Moves.{once_from}
-use Rattle.ac_model.specs.Rows.{Row, names, values, fresh}
-use Rattle.ac_model.specs.Objects.{Object, plain, length_of, contents, is_past, grown, with_rows, numbers_end, greatest_length}
-use Rattle.ac_model.specs.Letters.{is_among, tampers_cursors, room, reason_if}
-use Rattle.ac_model.specs.Calls.{Call, call, ChangingBoth, Same, Both, both, AreAfter, IsAfter, Done}
+use Rattle.ac_model.specs.Rows.{names, values, fresh}
+use Rattle.ac_model.specs.Objects.{Object, plain, length_of, contents, is_past, grown, with_rows, greatest_length}
+use Rattle.ac_model.specs.Letters.{is_among, tampers_cursors, room}
+use Rattle.ac_model.specs.Calls.{ChangingBoth, Same, both, IsAfter, Done}
 use Rattle.ac_model.specs.Common as common
-use Rattle.ac_model.proofs.Reasons.{after_two, room_none, HasRoom}
+use Rattle.ac_model.proofs.Reasons.{after_two, room_none}
 use Rattle.ac_list.specs.Put.{plains, IsPut, as_fault}
 use Rattle.ac_list.specs.Searches.{values_in}
 use Rattle.ac_list.specs.State.{row_of, object_of, IsList}
 use Rattle.ac_list.proofs.Puts.{put_none, put_one, put_length, length-plains, reserved_kept, reserved_enough}
-use Rattle.ac_list.proofs.Grows.{all_from, more_serials, no_capacity, has_slots}
-use Rattle.ac_list.proofs.Walks.{Ahead, ahead, forward_first, forward_end}
+use Rattle.ac_list.proofs.Grows.{all_from, more_serials, no_capacity}
+use Rattle.ac_list.proofs.Walks.{Ahead, ahead, forward_first}
+use Rattle.ac_list.proofs.Searches.{some_value}
 use Rattle.ac_list.proofs.Compares.{values-plains}
 
 module _ {X : Type 0} where
@@ -60,9 +57,6 @@ module _ {X : Type 0} where
     target = t;
     source = s;
   }
-
-  some_value : (v w : X) → Some v ≡ Some w → v ≡ w
-  some_value v w e = cc
 
   module _ (t0 s0 t s : Chained X) (m : Moving t0 s0 t s) (first : Name) (at : Some first ≡ name_at s.rows 0) where
     head : Ahead s first s.rows

@@ -120,3 +120,23 @@ fn a_splice_before_itself_changes_nothing(rt: HostRuntime) {
     assert!(rt; list.swap_links(first, last).is_ok());
     assert!(rt; list.first() == first);
 }
+
+#[test]
+fn a_move_empties_its_source(rt: HostRuntime) {
+    let mut target = list(&rt, rt.alloc(), 1, Limit::Unbounded);
+    let mut source = list(&rt, rt.alloc(), 2, Limit::Bounded(2));
+    assert!(rt; target.append(30, 3).is_ok());
+    let gone = target.first();
+    for e in [10, 20] {
+        assert!(rt; source.append(e, 1).is_ok());
+    }
+    assert!(rt; target.move_from(&mut source).is_ok());
+    assert!(rt; source.is_empty());
+    assert!(rt; !target.has_element(gone));
+    let mut c = target.first();
+    for wanted in [10, 20] {
+        assert_eq!(rt; element(&target, c), Some(wanted));
+        c = target.next(c).unwrap_or(Cursor::NoElement);
+    }
+    assert!(rt; c == Cursor::NoElement);
+}

@@ -8,7 +8,7 @@ ghost use Rattle.ac_model.specs.Calls.{Changing, Same};
 ghost use Rattle.ac_model.specs.Lists as lists;
 
 use super::List;
-use ac_base::{Fault, Name, NoMemory, Rank, Reason, precedes};
+use ac_base::{Fault, Name, NoMemory, Rank, precedes};
 use ac_chain::Chain;
 use ac_cursor::Class;
 use std::alloc::Global;

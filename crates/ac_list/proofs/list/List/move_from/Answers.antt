@@ -3,7 +3,7 @@ use Rattle.ac_model.specs.Objects.{plain}
 use Rattle.ac_model.specs.Common as common
 use Rattle.ac_model.specs.Calls.{ChangingBoth, Same, both}
 use Rattle.ac_list.specs.State.{Listed, object_of}
-use Rattle.ac_list.proofs.Transfers.{Fits, fits, list_filled, moves_both}
+use Rattle.ac_list.proofs.Transfers.{fits, list_filled, moves_both}
 use Rattle.ac_list.proofs.list.List.move_from.Goals as goal
 
 pub invariant_of-self : goal.invariant_of-self

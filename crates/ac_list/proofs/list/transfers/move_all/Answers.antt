@@ -1,6 +1,6 @@
 use Rattle.std.proofs.Common.{◌≤◌, ◌-◌, length, sym, ap, ◌∙◌, subst}
 use Rattle.ac_chain.specs.Rows.{Chained, reserved}
-use Rattle.ac_list.proofs.Transfers.{missing_fits, missing_none}
+use Rattle.ac_list.proofs.Transfers.{missing_fits}
 use Rattle.ac_list.proofs.list.transfers.move_all.Goals as goal
 
 pub move_each-requires-clause-spare : goal.move_each-requires-clause-spare
