@@ -55,7 +55,7 @@ module _ {X : Type 0} where
   named_live g l k o view place h = λ a e. has_live a k.rows (among_has a k.rows (subst (λ (p : Object Name X). IsNamed p a) (sym view) (h a e)))
 
   -- a bounded list that takes so many more has the slots
-  pub has_slots : (most : ℕ) (k : Chained X) (n : ℕ) → IsList (Bounded most) k → is_past (Bounded most) (length k.rows + n) ≡ false → n ≤ k.spare
+  has_slots : (most : ℕ) (k : Chained X) (n : ℕ) → IsList (Bounded most) k → is_past (Bounded most) (length k.rows + n) ≡ false → n ≤ k.spare
   has_slots most k n s h = let sum = s.limit_fits.1 in let le : length k.rows + n ≤ most = elim (cases_lt most (length k.rows + n)) [ inl lt ↦ absurd (let t = lt-ltb most (length k.rows + n) lt in true≢false (sym t ∙ h)) | inr le ↦ le ] in omega arith
 
   pub list_after : (l : Limit) (k now : Chained X) (n : ℕ) (place : Option Name) (e : X) (r : Result Done NoMemory) → IsList l k → length k.rows + n ≤ 1000000 → is_past l (length k.rows + n) ≡ false
