@@ -50,16 +50,13 @@ done_changes Answers memory reason after answer old new (Err fault.NoMemory) h =
 done_grows : {V A : Type 0} (r : Result A Fault) (old new : Listed V) → Grows r old new → Grows (done r) old new
 done_grows (Ok x) old new h = h
 done_grows (Err e) old new h = h
-
 pub done_slots : {V A : Type 0} (r : Result A Fault) (d : Result Done Fault) (old new : Listed V) → d ≡ done r → Grows r old new → Grows d old new
 done_slots r d old new e h = subst (λ q. Grows q old new) (sym e) (done_grows r old new h)
-
 -- of a call that answers by a variable, without the variable
 pub unanswered : {V A : Type 0} (Answers : Done → A → Type 0) (c : Call (Object ℕ V) A) (old new : Object Name V) (r : Result Done Fault) → Changing Answers c old new r → Changing Same (call c.memory c.reason c.after tt) old new r
 unanswered Answers c old new (Ok x) h = (h.0, h.1, refl)
 unanswered Answers c old new (Err (fault.Raised q)) h = h
 unanswered Answers c old new (Err fault.NoMemory) h = h
-
 pub no_capacity : (l : Limit) (n : ℕ) → capacity_after l None n ≡ None
 no_capacity Unbounded n = refl
 no_capacity (Bounded most) n = refl
@@ -109,7 +106,7 @@ module _ {X : Type 0} where
         | inr t ↦ let later = more_serials a (next + 1) vs more others t in omega arith
       ]
 
-  put_cut : (xs ys zs : List (Row ℕ X)) → put (xs ++ ys) (length xs) zs ≡ xs ++ zs ++ ys
+  pub put_cut : (xs ys zs : List (Row ℕ X)) → put (xs ++ ys) (length xs) zs ≡ xs ++ zs ++ ys
   put_cut [] ys zs = refl
   put_cut (x ∷ xs) ys zs = ap (λ rows. x ∷ rows) (put_cut xs ys zs)
 
@@ -200,7 +197,7 @@ module _ {X : Type 0} where
           )
 
   -- no row has the name that a cursor at no element has
-  past_end : (rows : List (chain.Row X)) → ((a : Name) → HasName a rows → 0 < a.serial) → model.place_of (plains rows) 0 ≡ length (plains rows)
+  pub past_end : (rows : List (chain.Row X)) → ((a : Name) → HasName a rows → 0 < a.serial) → model.place_of (plains rows) 0 ≡ length (plains rows)
   past_end [] h = refl
   past_end (r ∷ rows) h =
       let some = h r.name (inl refl) in
@@ -249,12 +246,12 @@ module _ {X : Type 0} where
       (done_changes (Marks new) (copies_take_memory (plain o) n) reason (with_copies (plain o) at e n) (first_new (plain o) no_mark (count_of n)) o new r
       (copies_changed o new place at m n e r reason spot_at count none h))
 
-  plains-reverse : (rows : List (chain.Row X)) → plains (reverse rows) ≡ reverse (plains rows)
+  pub plains-reverse : (rows : List (chain.Row X)) → plains (reverse rows) ≡ reverse (plains rows)
   plains-reverse [] = refl
   plains-reverse (r ∷ rows) =
       ap plains (reverse-append (r ∷ []) rows) ∙ plains-append (reverse rows) (r ∷ []) ∙ ap (λ zs. zs ++ plains (r ∷ [])) (plains-reverse rows) ∙ sym (reverse-append (plains (r ∷ [])) (plains rows))
 
-  reverse_has : (a : Name) (rows : List (chain.Row X)) → HasName a (reverse rows) → HasName a rows
+  pub reverse_has : (a : Name) (rows : List (chain.Row X)) → HasName a (reverse rows) → HasName a rows
   reverse_has a [] h = h
   reverse_has a (r ∷ rows) h = elim (HasName-either a (reverse rows) (r ∷ []) (subst (λ zs. HasName a zs) (reverse-append (r ∷ []) rows) h)) [
     | inl t ↦ inr (reverse_has a rows t)

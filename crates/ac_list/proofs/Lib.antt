@@ -7,3 +7,11 @@ pub mod Swaps
 pub mod Deletes
 pub mod Refills
 pub mod Copied
+pub mod Links
+pub mod Walks
+pub mod Searches
+pub mod Finds
+pub mod Compares
+pub mod StableSorts
+pub mod Sorts
+pub mod Transfers

@@ -26,7 +26,7 @@ use Rattle.ac_list.specs.Put.{plains}
 use Rattle.ac_list.specs.State.{row_of, object_of, mark, needs_cursor, may_cursor, cursor_at, name_in}
 use Rattle.ac_list.proofs.Standing.{among_has, has_among, judged_by_name, may_by_name, stands, marked_at, place_live, value_live}
 
-bool_is : (b d : Bool) → (IsTrue b → IsTrue d) → (IsTrue d → IsTrue b) → b ≡ d
+pub bool_is : (b d : Bool) → (IsTrue b → IsTrue d) → (IsTrue d → IsTrue b) → b ≡ d
 bool_is true d f g = sym (f refl)
 bool_is false true f g = g refl
 bool_is false false f g = refl

@@ -144,3 +144,70 @@ fn an_assignment_keeps_the_order(rt: HostRuntime) {
     assert_eq!(rt; target.length(), 2);
     assert!(rt; target.merge_self() == Err(Fault::Raised(Reason::SameContainer)));
 }
+
+#[test]
+fn level_elements_stay_in_their_order(rt: HostRuntime) {
+    let mut list = list(&rt, rt.alloc(), 1, Limit::Unbounded);
+    for e in [30, 10, 30, 20] {
+        assert!(rt; list.append(e, 1).is_ok());
+    }
+    let first = list.first();
+    assert!(rt; !list.is_sorted());
+    assert!(rt; list.sort().is_ok());
+    assert!(rt; list.is_sorted());
+    let mut c = list.first();
+    for wanted in [10, 20, 30, 30] {
+        assert_eq!(rt; element(&list, c), Some(wanted));
+        c = list.next(c).unwrap_or(Cursor::NoElement);
+    }
+    assert!(rt; list.next(first) == Ok(list.last()));
+}
+
+#[test]
+fn a_search_goes_both_ways(rt: HostRuntime) {
+    let mut list = list(&rt, rt.alloc(), 1, Limit::Unbounded);
+    for e in [10, 20, 10] {
+        assert!(rt; list.append(e, 1).is_ok());
+    }
+    assert!(rt; list.find(&10, Cursor::NoElement) == Ok(list.first()));
+    assert!(rt; list.reverse_find(&10, Cursor::NoElement) == Ok(list.last()));
+    assert!(rt; list.find(&20, list.last()) == Ok(Cursor::NoElement));
+    assert!(rt; list.contains(&20));
+    assert!(rt; list.equal(&list));
+}
+
+#[test]
+fn a_splice_before_itself_changes_nothing(rt: HostRuntime) {
+    let mut list = list(&rt, rt.alloc(), 1, Limit::Unbounded);
+    for e in [10, 20, 30] {
+        assert!(rt; list.append(e, 1).is_ok());
+    }
+    let (first, last) = (list.first(), list.last());
+    assert!(rt; list.splice_within(first, first).is_ok());
+    assert_eq!(rt; list.first_element().ok().copied(), Some(10));
+    assert!(rt; list.splice_within(first, last).is_ok());
+    assert_eq!(rt; list.first_element().ok().copied(), Some(30));
+    assert!(rt; list.first() == last);
+    assert!(rt; list.swap_links(first, last).is_ok());
+    assert!(rt; list.first() == first);
+}
+
+#[test]
+fn a_move_empties_its_source(rt: HostRuntime) {
+    let mut target = list(&rt, rt.alloc(), 1, Limit::Unbounded);
+    let mut source = list(&rt, rt.alloc(), 2, Limit::Bounded(2));
+    assert!(rt; target.append(30, 3).is_ok());
+    let gone = target.first();
+    for e in [10, 20] {
+        assert!(rt; source.append(e, 1).is_ok());
+    }
+    assert!(rt; target.move_from(&mut source).is_ok());
+    assert!(rt; source.is_empty());
+    assert!(rt; !target.has_element(gone));
+    let mut c = target.first();
+    for wanted in [10, 20] {
+        assert_eq!(rt; element(&target, c), Some(wanted));
+        c = target.next(c).unwrap_or(Cursor::NoElement);
+    }
+    assert!(rt; c == Cursor::NoElement);
+}

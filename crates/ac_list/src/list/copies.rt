@@ -58,7 +58,7 @@ impl<T: Elem> List<T> {
     }
 }
 
-fn as_fault(filled: Result<(), NoMemory>) -> Result<(), Fault>
+pub(crate) fn as_fault(filled: Result<(), NoMemory>) -> Result<(), Fault>
     ensures { result ≡ as_fault filled }
 {
     match filled {

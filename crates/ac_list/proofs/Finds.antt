@@ -1,0 +1,164 @@
+-- What a search in a list answers, from what was found among the chain's rows.
+use Rattle.std.proofs.Common.{◌≡◌, ℕ, zero, suc, ◌+◌, Bool, true, false, ◌||◌, List, [], ◌∷◌, length, map, reverse, take, drop, Option, Some, None, is_some, Ok, refl, sym, ap, ◌∙◌, subst, arith, cond, inl, inr, take-append-drop}
+use Rattle.std.specs.Prelude.{find, if◌then◌else◌}
+use Rattle.std.specs.List.{list_any}
+use Rattle.std.specs.Option.{option_map, ForSome}
+use Rattle.std.proofs.lemmas.List.{take-map, drop-map, take_all}
+use Rattle.std.proofs.lemmas.Option.{none-some}
+use Rattle.ac_base.specs.declared.limit.Limit.{Limit}
+use Rattle.ac_base.specs.declared.name.Name.{Name}
+use Rattle.ac_cursor.specs.declared.cursor.Cursor.{Cursor}
+use Rattle.ac_cursor.specs.declared.cursor.Cursor.TheVariants.{NoElement, At}
+use Rattle.ac_cursor.specs.Guards.{GuardCounts}
+use Rattle.ac_cursor.specs.Steps.{first_reason}
+use Rattle.ac_chain.specs.Rows as chain
+use Rattle.ac_chain.specs.Rows.{Chained, index_of, place_of, name_at, name_before, IsLive, IsSound}
+use Rattle.ac_chain.specs.ChainFields.{HasName, IsOnce}
+use Rattle.ac_chain.proofs.Cuts.{index_here, name_at_has, has_live, HasName-left, HasName-right}
+use Rattle.ac_chain.proofs.Chains.{index_at}
+use Rattle.ac_chain.proofs.Moves.{once_from}
+use Rattle.ac_model.specs.Rows.{Row, row, names, values}
+use Rattle.ac_model.specs.Objects.{Object, plain, plain_row}
+use Rattle.ac_model.specs.Letters.{mark_of, mark_for, place_at, is_no_mark}
+use Rattle.ac_model.specs.Calls.{Looking, Marks}
+use Rattle.ac_model.specs.Sequences as sequences
+use Rattle.ac_list.specs.Put.{plains}
+use Rattle.ac_list.specs.State.{row_of, object_of, mark, may_cursor, cursor_at}
+use Rattle.ac_list.specs.Searches.{found_in, count_to, start_of, end_of}
+use Rattle.ac_list.proofs.Standing.{stands, marked_live, may_by_name, place_live}
+use Rattle.ac_list.proofs.Grows.{past_end, plains-reverse, reverse_has}
+
+module _ {X : Type 0} where
+  -- the cursor at what is found is the definitions' mark
+  found_marked : (same : X → X → Bool) (e : X) (number : ℕ) (rows some : List (chain.Row X)) → ((a : Name) → HasName a some → HasName a rows)
+      → mark_of number (names (map row_of rows)) (cursor_at number (found_in same e some)) ≡ mark_for number (find (λ (r : Row ℕ X). same r.value e) (plains some))
+  found_marked same e number rows [] had = refl
+  found_marked same e number rows (r ∷ some) had =
+      elim (same r.value e) as (λ b. mark_of number (names (map row_of rows)) (cursor_at number (option_map (λ (q : chain.Row X). q.name) (cond b (Some r) (find (λ (q : chain.Row X). same q.value e) some))))
+      ≡ mark_for number (cond b (Some (row r.name.serial r.value)) (find (λ (q : Row ℕ X). same q.value e) (plains some)))) [
+        | true ↦ marked_live number rows r.name (had r.name (inl refl))
+        | false ↦ found_marked same e number rows some (λ a t. had a (inr t))
+      ]
+
+  any_found : (same : X → X → Bool) (e : X) (rows : List (chain.Row X)) → is_some (found_in same e rows) ≡ list_any (λ v. same v e) (values (plains rows))
+  any_found same e [] = refl
+  any_found same e (r ∷ rows) =
+      elim (same r.value e) as (λ b. is_some (option_map (λ (q : chain.Row X). q.name) (cond b (Some r) (find (λ (q : chain.Row X). same q.value e) rows))) ≡ (b || list_any (λ v. same v e) (values (plains rows)))) [
+        | true ↦ refl
+        | false ↦ any_found same e rows
+      ]
+
+  drop_had : (n : ℕ) (rows : List (chain.Row X)) (a : Name) → HasName a (drop n rows) → HasName a rows
+  drop_had n rows a h = subst (λ zs. HasName a zs) (take-append-drop n rows) (HasName-right a (take n rows) (drop n rows) h)
+
+  take_had : (n : ℕ) (rows : List (chain.Row X)) (a : Name) → HasName a (take n rows) → HasName a rows
+  take_had n rows a h = subst (λ zs. HasName a zs) (take-append-drop n rows) (HasName-left a (take n rows) (drop n rows) h)
+
+  plains-drop : (n : ℕ) (rows : List (chain.Row X)) → plains (drop n rows) ≡ drop n (plains rows)
+  plains-drop n rows = ap (map plain_row) (sym (drop-map row_of n rows)) ∙ sym (drop-map plain_row n (map row_of rows))
+
+  plains-take : (n : ℕ) (rows : List (chain.Row X)) → plains (take n rows) ≡ take n (plains rows)
+  plains-take n rows = ap (map plain_row) (sym (take-map row_of n rows)) ∙ sym (take-map plain_row n (map row_of rows))
+
+  first_place : (rows : List (chain.Row X)) → place_of (name_at rows 0) rows ≡ 0
+  first_place [] = refl
+  first_place (r ∷ rows) = index_here r.name r rows refl
+
+  pub first_live : (k : Chained X) (place : Option Name) (i : ℕ) → place ≡ name_at k.rows i → ForSome place (IsLive k)
+  first_live k place i e = λ a q. has_live a k.rows (name_at_has k.rows i a (sym e ∙ q))
+
+  last_live : (k : Chained X) (place : Option Name) (i : ℕ) → place ≡ name_before k.rows i → ForSome place (IsLive k)
+  last_live k place zero e = λ a q. absurd (none-some a (sym e ∙ q))
+  last_live k place (suc i) e = first_live k place i e
+
+  count_last : (rows : List (chain.Row X)) → IsOnce rows → count_to (name_before rows (length rows)) rows ≡ length rows
+  count_last [] once = refl
+  count_last (r ∷ rows) once = at (name_at (r ∷ rows) (length rows)) refl
+    where
+      at : (o : Option Name) → name_at (r ∷ rows) (length rows) ≡ o → count_to (name_at (r ∷ rows) (length rows)) (r ∷ rows) ≡ suc (length rows)
+      at None e = absurd (no_last r rows e)
+        where
+          no_last : (r : chain.Row X) (rows : List (chain.Row X)) → name_at (r ∷ rows) (length rows) ≡ None → ⊥
+          no_last r [] e = none-some r.name (sym e)
+          no_last r (q ∷ rows) e = no_last q rows e
+      at (Some a) e =
+          let i = (index_at (r ∷ rows) once (length rows) a e).1 in
+          ap (λ p. count_to p (r ∷ rows)) e ∙ (let n : index_of a (r ∷ rows) + 1 ≡ suc (length rows) = omega arith in n)
+
+  -- where a search begins
+  pub record Begins (g : GuardCounts) (l : Limit) (k : Chained X) (b : Cursor) : Type 0 where
+    pub live : ForSome (start_of k.rows b) (IsLive k)
+    pub count : place_of (start_of k.rows b) k.rows ≡ (if is_no_mark (mark (object_of g l k) b) then 0 else place_at (plains k.rows) (mark (object_of g l k) b))
+
+  begins : (g : GuardCounts) (l : Limit) (k : Chained X) → IsSound k → (b : Cursor) → may_cursor (object_of g l k) b ≡ None → Begins g l k b
+  begins g l k s NoElement h = record { live = first_live k (name_at k.rows 0) 0 refl; count = first_place k.rows }
+  begins g l k s (At object a) h =
+      let t = stands g l k (At object a) (sym (may_by_name (object_of g l k) object a) ∙ h) in
+      record {
+        live = λ n q. subst (λ m. IsLive k m) (let same : a ≡ n = cc in same) t.live;
+        count = sym (place_live k a s t.live) ∙ ap (λ m. if is_no_mark m then 0 else place_at (plains k.rows) m) (sym t.marked);
+      }
+
+  -- and one back
+  pub record Ends (g : GuardCounts) (l : Limit) (k : Chained X) (b : Cursor) : Type 0 where
+    pub live : ForSome (end_of k.rows b) (IsLive k)
+    pub taken : plains (take (count_to (end_of k.rows b) k.rows) k.rows) ≡ take (place_at (plains k.rows) (mark (object_of g l k) b) + 1) (plains k.rows)
+
+  ends : (g : GuardCounts) (l : Limit) (k : Chained X) → IsSound k → (b : Cursor) → may_cursor (object_of g l k) b ≡ None → Ends g l k b
+  ends g l k s NoElement h =
+      let all = count_last k.rows (once_from k.rows s.once) in
+      let past = past_end k.rows (λ a t. (s.issued a (has_live a k.rows t)).0) in
+      record {
+        live = last_live k (name_before k.rows (length k.rows)) (length k.rows) refl;
+        taken = ap plains (take_all (count_to (name_before k.rows (length k.rows)) k.rows) k.rows (omega arith)) ∙ sym (ap (λ n. take (n + 1) (plains k.rows)) past ∙ take_all (length (plains k.rows) + 1) (plains k.rows) (omega arith));
+      }
+  ends g l k s (At object a) h =
+      let t = stands g l k (At object a) (sym (may_by_name (object_of g l k) object a) ∙ h) in
+      record {
+        live = λ n q. subst (λ m. IsLive k m) (let same : a ≡ n = cc in same) t.live;
+        taken = plains-take (index_of a k.rows + 1) k.rows ∙ ap (λ i. take (i + 1) (plains k.rows)) (sym (place_live k a s t.live) ∙ ap (place_at (plains k.rows)) (sym t.marked));
+      }
+
+module _ {X : Type 0} (g : GuardCounts) (l : Limit) (k : Chained X) (o : Object Name X) (view : object_of g l k ≡ o) where
+  pub start_live : IsSound k → (b : Cursor) (start : Option Name) → may_cursor o b ≡ None → start ≡ start_of k.rows b → ForSome start (IsLive k)
+  start_live s b start h e = subst (λ p. ForSome p (IsLive k)) (sym e) (begins g l k s b (ap (λ (p : Object Name X). may_cursor p b) view ∙ h)).live
+
+  pub end_live : IsSound k → (b : Cursor) (end : Option Name) → may_cursor o b ≡ None → end ≡ end_of k.rows b → ForSome end (IsLive k)
+  end_live s b end h e = subst (λ p. ForSome p (IsLive k)) (sym e) (ends g l k s b (ap (λ (p : Object Name X). may_cursor p b) view ∙ h)).live
+
+  pub find_looks : IsSound k → (same : X → X → Bool) (e : X) (b : Cursor) (start name : Option Name) (r : Cursor) → may_cursor o b ≡ None → start ≡ start_of k.rows b
+      → name ≡ found_in same e (drop (place_of start k.rows) k.rows) → r ≡ cursor_at o.number name → Looking (Marks o) (sequences.find_call same (plain o) e (mark o b)) (Ok r)
+  find_looks s same e b start name r h is n er =
+      subst (λ (p : Object Name X). may_cursor p b ≡ None → r ≡ cursor_at p.number name → Looking (Marks p) (sequences.find_call same (plain p) e (mark p b)) (Ok r)) view at h er
+    where
+      at : may_cursor (object_of g l k) b ≡ None → r ≡ cursor_at g.number name → Looking (Marks (object_of g l k)) (sequences.find_call same (plain (object_of g l k)) e (mark (object_of g l k) b)) (Ok r)
+      at q er =
+          let t = begins g l k s b q in
+          let n_b : name ≡ found_in same e (drop (place_of (start_of k.rows b) k.rows) k.rows) = n ∙ ap (λ p. found_in same e (drop (place_of p k.rows) k.rows)) is in
+          let i = place_of (start_of k.rows b) k.rows in (
+            ap (λ m. first_reason (m ∷ [])) q,
+            ap (mark_of g.number (names (map row_of k.rows))) (er ∙ ap (cursor_at g.number) n_b)
+                ∙ found_marked same e g.number k.rows (drop i k.rows) (drop_had i k.rows)
+                ∙ ap (λ zs. mark_for g.number (find (λ (r : Row ℕ X). same r.value e) zs)) (plains-drop i k.rows ∙ ap (λ j. drop j (plains k.rows)) t.count),
+          )
+
+  pub reverse_find_looks : IsSound k → (same : X → X → Bool) (e : X) (b : Cursor) (end name : Option Name) (r : Cursor) → may_cursor o b ≡ None → end ≡ end_of k.rows b
+      → name ≡ found_in same e (reverse (take (count_to end k.rows) k.rows)) → r ≡ cursor_at o.number name → Looking (Marks o) (sequences.reverse_find_call same (plain o) e (mark o b)) (Ok r)
+  reverse_find_looks s same e b end name r h is n er =
+      subst (λ (p : Object Name X). may_cursor p b ≡ None → r ≡ cursor_at p.number name → Looking (Marks p) (sequences.reverse_find_call same (plain p) e (mark p b)) (Ok r)) view at h er
+    where
+      at : may_cursor (object_of g l k) b ≡ None → r ≡ cursor_at g.number name → Looking (Marks (object_of g l k)) (sequences.reverse_find_call same (plain (object_of g l k)) e (mark (object_of g l k) b)) (Ok r)
+      at q er =
+          let t = ends g l k s b q in
+          let i = count_to (end_of k.rows b) k.rows in
+          let n_b : name ≡ found_in same e (reverse (take i k.rows)) = n ∙ ap (λ p. found_in same e (reverse (take (count_to p k.rows) k.rows))) is in (
+            ap (λ m. first_reason (m ∷ [])) q,
+            ap (mark_of g.number (names (map row_of k.rows))) (er ∙ ap (cursor_at g.number) n_b)
+                ∙ found_marked same e g.number k.rows (reverse (take i k.rows)) (λ a t. take_had i k.rows a (reverse_has a (take i k.rows) t))
+                ∙ ap (λ zs. mark_for g.number (find (λ (r : Row ℕ X). same r.value e) zs)) (plains-reverse (take i k.rows) ∙ ap reverse t.taken),
+          )
+
+  pub contains_is : (same : X → X → Bool) (e : X) (first name : Option Name) (r : Bool) → first ≡ name_at k.rows 0 → name ≡ found_in same e (drop (place_of first k.rows) k.rows) → r ≡ is_some name
+      → r ≡ sequences.contains_call same (plain o) e
+  contains_is same e first name r is n er =
+      er ∙ ap is_some (n ∙ ap (λ i. found_in same e (drop i k.rows)) (ap (λ p. place_of p k.rows) is ∙ first_place k.rows)) ∙ any_found same e k.rows ∙ ap (λ (p : Object Name X). sequences.contains_call same (plain p) e) view

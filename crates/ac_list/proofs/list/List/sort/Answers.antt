@@ -1,0 +1,27 @@
+use Rattle.std.proofs.Common.{◌≡◌, ◌∷◌, [], None, refl, sym, ap, ◌∙◌, subst}
+use Rattle.ac_cursor.specs.Steps.{first_reason}
+use Rattle.ac_chain.specs.Rows.{IsOrderOf}
+use Rattle.ac_model.specs.Objects.{Object, plain}
+use Rattle.ac_model.specs.Letters.{tampers_cursors}
+use Rattle.ac_list.specs.State.{Listed}
+use Rattle.ac_list.proofs.Sorts.{order_of, list_sorted, sorted_after}
+use Rattle.ac_list.proofs.list.List.sort.Goals as goal
+
+pub relink-requires : goal.relink-requires
+relink-requires g c =
+    let k = c.self.inside.chain in
+    subst (λ order. IsOrderOf order k) (sym c.deref.ensures.value) (order_of g.T.Rank.is_less k c.self.invariant.sound c.in-Ok.order.items c.in-Ok.ensures)
+
+pub invariant_of-self : goal.invariant_of-self
+invariant_of-self g c =
+    let i = c.self.inside in
+    list_sorted g.T.Rank.is_less i.chain c.self.invariant.sound c.in-Ok.order.items c.in-Ok.ensures i.limit c.relink.new.self c.self.invariant c.relink.ensures.sound (c.relink.ensures.names ∙ c.deref.ensures.value) c.relink.ensures.same
+
+pub returns-in-Ok : goal.returns-in-Ok
+returns-in-Ok g c =
+    let i = c.self.inside in let o = c.args.self.now.object in (
+      subst (λ (p : Object _ _). first_reason (tampers_cursors (plain p) ∷ []) ≡ None) (ap (λ (x : Listed _). x.object) c.self.view_is) (ap (λ q. first_reason (q ∷ [])) (sym c.forbids.ensures ∙ c.in-None.is)),
+      sorted_after g.T.Rank.is_less i.guards i.limit i.chain c.relink.new.self o (ap (λ (x : Listed _). x.object) c.self.view_is) c.self.invariant.sound c.in-Ok.order.items c.in-Ok.ensures
+          c.relink.ensures.sound (c.relink.ensures.names ∙ c.deref.ensures.value) c.relink.ensures.same,
+      refl,
+    )

@@ -1,0 +1,38 @@
+-- What is found among a chain's rows, and equality of elements as a test.
+use Rattle.std.specs.Prelude.{◌≡◌, ◌↔◌, ℕ, ◌+◌, List, length, map, Bool, IsTrue, Option, None, Some, find}
+use Rattle.std.specs.Option.{option_map}
+use Rattle.ac_base.specs.declared.name.Name.{Name}
+use Rattle.ac_cursor.specs.declared.cursor.Cursor.{Cursor}
+use Rattle.ac_cursor.specs.declared.cursor.Cursor.TheVariants.{NoElement, At}
+use Rattle.ac_chain.specs.Rows as chain
+use Rattle.ac_chain.specs.Rows.{index_of, name_at, name_before}
+
+module _ {T : Type 0} where
+  -- the test says whether two elements are equal
+  abbrev pub IsEquality : (T → T → Bool) → Type 0
+  IsEquality same = (x y : T) → IsTrue (same x y) ↔ (x ≡ y)
+
+  -- what holds by a test of equality, whichever is taken
+  abbrev pub ByEquality : ((T → T → Bool) → Type 0) → Type 0
+  ByEquality P = (same : T → T → Bool) → IsEquality same → P same
+
+  -- the name of the first of these rows whose value equals the element
+  abbrev pub found_in : (T → T → Bool) → T → List (chain.Row T) → Option Name
+  found_in same e rows = option_map (λ (r : chain.Row T). r.name) (find (λ (r : chain.Row T). same r.value e) rows)
+
+  -- how many rows stand up to the name
+  abbrev pub count_to : Option Name → List (chain.Row T) → ℕ
+  count_to None rows = 0
+  count_to (Some a) rows = index_of a rows + 1
+
+  -- where a search from the cursor on begins, and one back from it
+  abbrev pub start_of : List (chain.Row T) → Cursor → Option Name
+  start_of rows NoElement = name_at rows 0
+  start_of rows (At object name) = Some name
+
+  abbrev pub end_of : List (chain.Row T) → Cursor → Option Name
+  end_of rows NoElement = name_before rows (length rows)
+  end_of rows (At object name) = Some name
+
+  abbrev pub values_in : List (chain.Row T) → List T
+  values_in rows = map (λ (r : chain.Row T). r.value) rows

@@ -1,0 +1,80 @@
+//! Elements that move within a list with their names.
+ghost use Rattle.std.specs.Prelude.{◌≡◌, ◌∷◌, []};
+ghost use Rattle.ac_list.specs.State.{mark, needs_cursor, may_cursor};
+ghost use Rattle.ac_model.specs.Letters.{tampers_cursors};
+ghost use Rattle.ac_cursor.specs.Steps.{first_reason};
+ghost use Rattle.ac_model.specs.Objects.{plain};
+ghost use Rattle.ac_model.specs.Calls.{Changing, Same, Marks};
+ghost use Rattle.ac_model.specs.Lists as lists;
+
+use super::{List, name_in, place_in};
+use ac_base::{Fault, Reason};
+use ac_cursor::{Class, Cursor, first_reason};
+
+impl<T> List<T> {
+    /// Swap_Links (A.18.3): the two elements change places, and each takes its name with it.
+    pub fn swap_links(&mut self, first: Cursor, second: Cursor) -> Result<(), Fault>
+        ensures { Changing Same (lists.swap_links_call (plain self.old.object) (mark self.old.object first) (mark self.old.object second)) self.old.object self.new.object result }
+    {
+        match self.refuses_swap_links(first, second) {
+            Some(reason) => Err(Fault::Raised(reason)),
+            None => {
+                self.chain.swap_links(name_in(first), name_in(second));
+                Ok(())
+            }
+        }
+    }
+
+    /// Splice (A.18.3) of an element of the list itself: it goes before the cursor, where No_Element is the end.
+    pub fn splice_within(&mut self, b: Cursor, c: Cursor) -> Result<(), Fault>
+        ensures kept { mark self.new.object c ≡ mark self.old.object c }
+        ensures spliced { Changing Same (lists.splice_within_call (plain self.old.object) (mark self.old.object b) (mark self.old.object c)) self.old.object self.new.object result }
+    {
+        match self.refuses_splice(b, c) {
+            Some(reason) => Err(Fault::Raised(reason)),
+            None => {
+                self.chain.move_before(place_in(b), name_in(c));
+                Ok(())
+            }
+        }
+    }
+
+    /// Splice (A.18.3) of a list into itself: nothing changes.
+    pub fn splice_self(&mut self, b: Cursor) -> Result<(), Fault>
+        ensures { Changing Same (lists.splice_self_call (plain self.old.object) (mark self.old.object b)) self.old.object self.new.object result }
+    {
+        match first_reason(&[self.guards.forbids(Class::Cursors), self.may(b)]) {
+            Some(reason) => Err(Fault::Raised(reason)),
+            None => Ok(()),
+        }
+    }
+
+    /// As `splice_within`, with a variable for the element, which keeps its value.
+    pub fn splice_one_self(&mut self, b: Cursor, q: Cursor) -> Result<(), Fault>
+        ensures { Changing (λ _ m. Marks self.new.object q m) (lists.splice_one_self_call (plain self.old.object) (mark self.old.object b) (mark self.old.object q)) self.old.object self.new.object result }
+    {
+        self.splice_within(b, q)
+    }
+
+    /// Why an exchange of links is refused.
+    fn refuses_swap_links(&self, first: Cursor, second: Cursor) -> Option<Reason>
+        ensures { result ≡ first_reason (tampers_cursors (plain self.now.object) ∷ needs_cursor self.now.object first ∷ needs_cursor self.now.object second ∷ []) }
+    {
+        first_reason(&[
+            self.guards.forbids(Class::Cursors),
+            self.needs(first),
+            self.needs(second),
+        ])
+    }
+
+    /// Why a splice within the list is refused.
+    fn refuses_splice(&self, b: Cursor, c: Cursor) -> Option<Reason>
+        ensures { result ≡ first_reason (tampers_cursors (plain self.now.object) ∷ may_cursor self.now.object b ∷ needs_cursor self.now.object c ∷ []) }
+    {
+        first_reason(&[
+            self.guards.forbids(Class::Cursors),
+            self.may(b),
+            self.needs(c),
+        ])
+    }
+}
