@@ -8,3 +8,4 @@ mod HeadsExact
 mod Arguments
 mod Turns
 mod CommandsExact
+mod ItemsExact
