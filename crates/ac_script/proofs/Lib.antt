@@ -9,3 +9,5 @@ mod Arguments
 mod Turns
 mod CommandsExact
 mod ItemsExact
+mod Coming
+mod ReadsItems

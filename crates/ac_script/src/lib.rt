@@ -8,6 +8,7 @@ mod fault;
 mod head;
 mod item;
 mod item_reader;
+mod law;
 mod names;
 mod reader;
 mod reserved;
@@ -18,3 +19,4 @@ pub use ac_syntax::{
     Arg, Args, Decl, Decls, ElemKind, Ident, Idents, Kind, RefusalKind, Script, Stmt, Stmts, TypeDef, ViewKind,
 };
 pub use fault::ScriptFault;
+pub use law::items_read;
