@@ -16,7 +16,8 @@ mod stage;
 mod stop;
 
 pub use ac_syntax::{
-    Arg, Args, Decl, Decls, ElemKind, Ident, Idents, Kind, RefusalKind, Script, Stmt, Stmts, TypeDef, ViewKind,
+    Arg, Args, Decl, Decls, ElemKind, Ident, Idents, Kind, RefusalKind, Script, Stmt, Stmts,
+    TypeDef, ViewKind,
 };
 pub use fault::ScriptFault;
 pub use law::items_read;
