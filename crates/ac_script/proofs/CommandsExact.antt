@@ -12,7 +12,7 @@ use Rattle.ac_syntax.specs.declared.token.Mark.{Mark}
 use Rattle.ac_syntax.specs.declared.token.Mark.TheVariants.{Colon, Semicolon, Comma, Open, Close, Dot, Assign, Plus, Minus}
 use Rattle.ac_syntax.specs.Parts.{Part, marks, names, counts, arg_part, args_parts}
 use Rattle.ac_script.specs.Readers.{as_mark}
-use Rattle.ac_script.specs.Commands.{negative, call, set_end, as_sign, sum, sum_or_set, behind_source, from_name, from_negative, from_other, assigned, assignment, command}
+use Rattle.ac_script.specs.Commands.{as_constant, negative, call, set_end, as_sign, sum, sum_or_set, behind_source, from_name, from_negative, from_other, assigned, assignment, command}
 use Rattle.ac_script.proofs.Cases.{either_by}
 use Rattle.ac_script.proofs.Spelled.{Spelled}
 use Rattle.ac_script.proofs.Exact.{Exact, seq, mapped, recast, respelled}
@@ -115,8 +115,8 @@ from_other_exact line target =
     (either_by _ (λ i. (inl i.1, refl, refl)) (λ i. (inr i, refl, refl)))
     (either_by _ (λ n. (inl (tt, n), refl, refl)) (λ i. (inr i, refl, refl)))
 
-other_apart : (i : ℕ ⊎ (List ℕ × Behind)) (placed : List Placed) → Spelled (other_parts i) placed → Starts Rattle.ac_script.specs.Commands.as_constant None placed
-other_apart (inl n) placed h = mark_apart Rattle.ac_script.specs.Commands.as_constant Minus _ refl placed h
+other_apart : (i : ℕ ⊎ (List ℕ × Behind)) (placed : List Placed) → Spelled (other_parts i) placed → Starts as_constant None placed
+other_apart (inl n) placed h = mark_apart as_constant Minus _ refl placed h
 other_apart (inr i) placed h = not_constant i.0 (behind_parts i.1) placed h
 
 -- what is assigned
