@@ -1,18 +1,19 @@
 //! Scripts from their texts, and back: what `ac_syntax` defines is read and written here.
 #![tactic(auto)]
 
-mod cut;
-mod fault;
-mod limits;
-mod piece;
-mod printer;
 mod argument;
 mod command;
+mod cut;
 mod declaration;
+mod fault;
 mod head;
 mod item;
 mod item_reader;
+mod law;
+mod limits;
 mod names;
+mod piece;
+mod printer;
 mod reader;
 mod reserved;
 mod stage;
@@ -24,3 +25,4 @@ pub use ac_syntax::{
 };
 pub use fault::ScriptFault;
 pub use printer::print;
+pub use law::items_read;
