@@ -10,3 +10,5 @@ pub mod Fronts
 pub mod Pieces
 mod Cuts
 mod RoundTrip
+mod Tidied
+mod WellFormed
