@@ -11,4 +11,6 @@ pub mod Pieces
 mod Cuts
 mod RoundTrip
 mod Tidied
+mod Rising
+mod CutTokens
 mod WellFormed

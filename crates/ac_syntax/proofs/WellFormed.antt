@@ -9,12 +9,17 @@ use Rattle.ac_syntax.specs.declared.token.Token.{Token}
 use Rattle.ac_syntax.specs.declared.token.Token.TheVariants as token
 use Rattle.ac_syntax.specs.declared.token.Mark.TheVariants.{Minus}
 use Rattle.ac_syntax.specs.declared.token.Placed.{Placed}
-use Rattle.ac_syntax.specs.Items.{Item, item_line}
+use Rattle.ac_syntax.specs.declared.script.Script.{Script}
+use Rattle.ac_syntax.specs.Items.{Item, item_line, script_items}
 use Rattle.ac_syntax.specs.Parts.{Part, says, marks, names, counts, writes, lacks, item_parts}
 use Rattle.ac_syntax.specs.Grammar.{IsPart, AreParts, BeginsOn, AreItems}
-use Rattle.ac_syntax.specs.Tokens.{tokens}
-use Rattle.ac_syntax.specs.Canonical.{line_reached, part_tokens, on_line, items_placed, is_written, RisesFrom}
-use Rattle.ac_syntax.proofs.Derivations.{is_sayable, begins_on, are_sayable, tokens-on_line}
+use Rattle.ac_syntax.specs.Tokens.{tokens, cut_of}
+use Rattle.ac_syntax.specs.Canonical.{line_reached, part_tokens, on_line, items_placed, canonical_placed, is_written, RisesFrom, IsWellFormed}
+use Rattle.ac_syntax.specs.Refusals.{Spells}
+use Rattle.ac_syntax.proofs.CutTokens.{cut_tidy}
+use Rattle.ac_syntax.proofs.Rising.{lines_of, rises_behind}
+use Rattle.ac_syntax.proofs.Tidied.{items_within}
+use Rattle.ac_syntax.proofs.Derivations.{is_sayable, begins_on, are_sayable, script_derives, tokens-on_line}
 
 -- parts
 
@@ -84,17 +89,6 @@ items_written line (item ∷ items) placed h w =
 
 -- lines
 
-abbrev pub lines_of : List Placed → List ℕ
-lines_of placed = map (λ p. p.line) placed
-
-pub rises_less : (line later : ℕ) (lines : List ℕ) → line ≤ later → RisesFrom later lines → RisesFrom line lines
-rises_less line later [] le h = tt
-rises_less line later (next ∷ lines) le h = (omega (arith, h.0), h.1)
-
-rises_behind : (line : ℕ) (front lines : List ℕ) → RisesFrom line (front ++ lines) → RisesFrom line lines
-rises_behind line [] lines h = h
-rises_behind line (next ∷ front) lines h = rises_less line next lines h.0 (rises_behind next front lines h.1)
-
 -- an item that begins on its line, behind this one: so do its own tokens, and what follows goes on from there
 record IsReached (line : ℕ) (own : Option ℕ) (spelled : List Token) (lines : List ℕ) : Type 0 where
   begun : begins_on own (map (on_line (line_reached line own)) spelled) ≡ true
@@ -136,4 +130,17 @@ items_told line (item ∷ items) placed h rises =
     record {
       sayable = and_from _ _ (and_from _ _ (parts_sayable (item_parts item) (tokens h.0) h.3.spelled) here.begun) others.sayable;
       rising = here.rising (filter_map item_line items) others.rising;
+    }
+
+pub spelled_well : (script : Script) (text : List ℕ) → Spells script text → IsWellFormed script
+unfolding canonical_placed
+spelled_well script text h =
+    let placed = (cut_of text).placed in
+    let tidy = cut_tidy 0 1 text in
+    let told = items_told 1 (script_items script) placed h.derives tidy.rising in
+    record {
+      derives = script_derives script told.sayable;
+      within = items_within 1 (script_items script) placed h.derives h.within;
+      written = items_written 1 (script_items script) placed h.derives tidy.written;
+      lines = told.rising;
     }
