@@ -1,5 +1,5 @@
 -- Cutting a text that begins with a part's text: the part's tokens on that line, and then the cut of what follows.
-use Rattle.std.proofs.Common.{◌≡◌, ◌+◌, ◌-◌, ◌^◌, ◌<◌, ◌==◌, ℕ, suc, min, Bool, true, false, not, cond, ◌||◌, ◌&&◌, List, [], ◌∷◌, ◌++◌, map, flat_map, take, length, length-append, refl, sym, ap, ap₂, ◌∙◌, append_assoc, Some, nat_lt, nat_eq, option_map, decimal, arith, ltb-true, eqb-true, eq-eqb}
+use Rattle.std.proofs.Common.{◌≡◌, ◌+◌, ◌-◌, ◌^◌, ◌<◌, ◌==◌, ℕ, suc, min, Bool, true, false, cond, ◌||◌, ◌&&◌, List, [], ◌∷◌, ◌++◌, map, flat_map, take, length, length-append, refl, sym, ap, ap₂, ◌∙◌, append_assoc, Some, nat_lt, nat_eq, option_map, decimal, arith, ltb-true, eqb-true, eq-eqb}
 use Rattle.std.proofs.lemmas.Bool.{and_parts, and_from, or_parts, cond-true, cond-false, true≢false}
 use Rattle.std.proofs.lemmas.Bool.Decides.{nat_tests}
 use Rattle.std.proofs.lemmas.Fmt.{decimal_is_IsNumeral}
@@ -19,17 +19,12 @@ use Rattle.ac_syntax.specs.Characters.{is_blank, is_word_byte, is_comment_byte, 
 use Rattle.ac_syntax.specs.Tokens.{Cut, cut_from, piece_at, token_of, line_after, string_from, with_byte, with_piece, word_piece, number_piece, number_value}
 use Rattle.ac_syntax.specs.Canonical.{quoted_byte, quoted, on_line, is_lower_word, mark_text, leads_closely}
 use Rattle.ac_syntax.specs.Parts.{marks}
+use Rattle.ac_syntax.proofs.Fronts.{list_all_weaker}
+use Rattle.ac_syntax.proofs.Pieces.{same_line, no_line_feed}
 
 -- tokens before those of a cut
 abbrev pub put_before : List Placed → Cut → Cut
 put_before front cut = record { placed = front ++ cut.placed; malformed = cut.malformed }
-
-same_line_by : (t : Bool) (line : ℕ) → not t ≡ true → cond t (line + 1) line ≡ line
-same_line_by true line h = absurd (true≢false (sym h))
-same_line_by false line h = refl
-
-same_line : (b line : ℕ) → is_comment_byte b ≡ true → line_after line b ≡ line
-same_line b line h = same_line_by (b == 10) line h
 
 -- a piece's other bytes are passed over on one line
 pass_over : (bytes rest : List ℕ) (line : ℕ) → list_all is_comment_byte bytes ≡ true → cut_from (length bytes) line (bytes ++ rest) ≡ cut_from 0 line rest
@@ -81,16 +76,7 @@ prefix_all p (b ∷ bytes) rest h e =
     let parts : (p b ≡ true) × (list_all p bytes ≡ true) = and_parts _ _ h in
     ap (λ t. cond t (1 + prefix_len p (bytes ++ rest)) 0) parts.0 ∙ omega (arith, prefix_all p bytes rest parts.1 e)
 
-list_all_weaker : (p q : ℕ → Bool) → ((b : ℕ) → p b ≡ true → q b ≡ true) → (bytes : List ℕ) → list_all p bytes ≡ true → list_all q bytes ≡ true
-list_all_weaker p q weaker [] h = refl
-list_all_weaker p q weaker (b ∷ bytes) h =
-    let parts : (p b ≡ true) × (list_all p bytes ≡ true) = and_parts _ _ h in
-    and_from _ _ (weaker b parts.0) (list_all_weaker p q weaker bytes parts.1)
-
 -- words
-
-no_line_feed : (p : ℕ → Bool) → p 10 ≡ false → (b : ℕ) → p b ≡ true → is_comment_byte b ≡ true
-no_line_feed p none b h = grind (arith, none)
 
 abbrev is_lower_byte : ℕ → Bool
 is_lower_byte c = is_word_byte c && to_ascii_lowercase c == c

@@ -10,3 +10,7 @@ pub mod Fronts
 pub mod Pieces
 mod Cuts
 mod RoundTrip
+mod Tidied
+mod Rising
+mod CutTokens
+mod WellFormed

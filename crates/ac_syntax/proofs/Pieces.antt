@@ -9,7 +9,7 @@ use Rattle.std.proofs.lemmas.Option.{none-some}
 use Rattle.std.specs.Int.{is_in_range}
 use Rattle.std.specs.Char.{is_ascii_alphabetic, is_ascii_digit}
 use Rattle.ac_syntax.specs.Characters.{is_word_byte, is_line_feed, is_blank, is_comment_byte, is_quote, is_printable}
-use Rattle.ac_syntax.specs.Tokens.{piece_at, cut_from, line_after, word_piece, number_piece, colon_piece, minus_piece, mark_piece, Ending, string_from, string_step, with_byte, string_piece}
+use Rattle.ac_syntax.specs.Tokens.{piece_at, cut_from, line_after, word_piece, number_piece, colon_piece, minus_piece, mark_piece, Ending, string_from, with_byte, string_piece}
 use Rattle.ac_syntax.specs.declared.piece.Piece.{Piece}
 use Rattle.ac_syntax.specs.declared.token.Token.{Token}
 use Rattle.ac_syntax.proofs.Fronts.{list_all_front, list_all_weaker}
@@ -27,7 +27,7 @@ same_line_by : (t : Bool) (line : ℕ) → not t ≡ true → cond t (line + 1) 
 same_line_by true line h = absurd (cc h)
 same_line_by false line h = refl
 
-same_line : (b : ℕ) (line : ℕ) → is_comment_byte b ≡ true → line_after line b ≡ line
+pub same_line : (b : ℕ) (line : ℕ) → is_comment_byte b ≡ true → line_after line b ≡ line
 same_line b line h = same_line_by (is_line_feed b) line h
 
 -- bytes that are no LF are passed over on one line
@@ -38,7 +38,7 @@ skip_plain (suc skip) line (b ∷ rest) h =
     let parts = both_true (is_comment_byte b) (list_all is_comment_byte (take skip rest)) h in
     ap (λ l. cut_from skip l rest) (same_line b line parts.0) ∙ skip_plain skip line rest parts.1
 
-no_line_feed : (p : ℕ → Bool) → p 10 ≡ false → (b : ℕ) → p b ≡ true → is_comment_byte b ≡ true
+pub no_line_feed : (p : ℕ → Bool) → p 10 ≡ false → (b : ℕ) → p b ≡ true → is_comment_byte b ≡ true
 no_line_feed p none b h = grind (arith, none)
 
 letter_in_word : (x y z w : Bool) → (x || y) ≡ true → (((z || x) || y) || w) ≡ true
@@ -71,7 +71,7 @@ plain_run p b rest token piece none first e =
     plain_at rest (1 + prefix_len p rest) token piece (rw (← len) e) (omega arith) (omega (arith, prefix_len-le-length p rest))
     (let skip : (1 + prefix_len p rest) - 1 ≡ prefix_len p rest = omega arith in rw skip (list_all_weaker p is_comment_byte none (take (prefix_len p rest) rest) (list_all_front p rest)))
 
-word_byte : (b : ℕ) → is_ascii_alphabetic b ≡ true → is_word_byte b ≡ true
+pub word_byte : (b : ℕ) → is_ascii_alphabetic b ≡ true → is_word_byte b ≡ true
 word_byte b h = letter_in_word (is_in_range 65 90 b) (is_in_range 97 122 b) (is_in_range 48 57 b) (b == 95) h
 
 plain_word : (b : ℕ) (rest : List ℕ) (piece : Piece) → is_ascii_alphabetic b ≡ true → word_piece (b ∷ rest) ≡ Some piece → IsPlain rest piece

@@ -54,6 +54,12 @@ pub fn round_trip()
     ensures spelled { (script : Script) → IsWellFormed script → Spells script (canonical_text script) }
 {}
 
+/// A script that some text spells is well formed, so its canonical text spells it too.
+pub fn well_formed()
+    ensures spelled { (script : Script) (text : List ℕ) → Spells script text → IsWellFormed script }
+    ensures again { (script : Script) (text : List ℕ) → Spells script text → Spells script (canonical_text script) }
+{}
+
 /// Texts whose tokens, scripts and canonical texts were worked out by hand.
 pub fn examples()
     ensures loose { SpellsLoosely }

@@ -21,7 +21,7 @@ pub use ident::{Ident, Idents};
 pub use kind::{ElemKind, Kind};
 pub use law::{
     blocks_end, examples, first_word, forms, items_alone, items_order, one_refusal, refusals,
-    round_trip,
+    round_trip, well_formed,
 };
 pub use piece::Piece;
 pub use refusal::RefusalKind;

@@ -1,0 +1,143 @@
+-- Tokens without the minus before some zeros keep the limits that the tokens with it kept.
+use Rattle.std.proofs.Common.{◌≡◌, ◌+◌, ◌-◌, ◌^◌, ◌&&◌, ◌||◌, ℕ, zero, suc, pos, neg_ℤ, ℤ, Bool, true, false, not, cond, List, [], ◌∷◌, ◌++◌, map, flat_map, reverse, length, refl, sym, ap, ap₂, subst, ◌∙◌, append_assoc, append-nil, inl, inr, arith, nat_lt, nat_le, count_by}
+use Rattle.std.proofs.lemmas.Bool.{and_parts, and_from}
+use Rattle.std.proofs.lemmas.List.{map-append, reverse-append}
+use Rattle.std.proofs.lemmas.List.Sums.{sum_by-append}
+use Rattle.ac_base.specs.declared.value.Value.TheVariants as value
+use Rattle.ac_syntax.specs.declared.token.Token.{Token}
+use Rattle.ac_syntax.specs.declared.token.Token.TheVariants as token
+use Rattle.ac_syntax.specs.declared.token.Mark.TheVariants.{Minus}
+use Rattle.ac_syntax.specs.declared.token.Placed.{Placed}
+use Rattle.ac_syntax.specs.Items.{Item, item_line}
+use Rattle.ac_syntax.specs.Parts.{Part, says, marks, names, counts, writes, lacks, item_parts}
+use Rattle.ac_syntax.specs.Grammar.{IsPart, AreParts, AreItems}
+use Rattle.ac_syntax.specs.Tokens.{tokens}
+use Rattle.ac_syntax.specs.Limits.{is_word_of, block_words, end_words, depth, has_minus, is_past_limit, AreWithinLimits}
+use Rattle.ac_syntax.specs.Canonical.{line_reached, part_tokens, on_line, items_placed}
+use Rattle.ac_syntax.proofs.Derivations.{tokens-on_line}
+use Rattle.ac_syntax.proofs.Withins.{within_from, within}
+
+-- the second tokens are the first without the minus before some zeros
+data Tidied : List Token → List Token → Type 0 where
+  done : Tidied [] []
+  kept : (t : Token) (xs ys : List Token) → Tidied xs ys → Tidied (t ∷ xs) (t ∷ ys)
+  dropped : (xs ys : List Token) → Tidied xs ys → Tidied (token.Mark Minus ∷ token.Number 0 ∷ xs) (token.Number 0 ∷ ys)
+
+-- behind either tokens the same token is past a limit
+record AreAlike (xs ys : List Token) : Type 0 where
+  depths : depth xs ≡ depth ys
+  blocks : count_by (is_word_of block_words) xs ≡ count_by (is_word_of block_words) ys
+  ends : count_by (is_word_of end_words) xs ≡ count_by (is_word_of end_words) ys
+  minus : has_minus (reverse xs) ≡ has_minus (reverse ys)
+  next : (t : Token) → has_minus (t ∷ reverse xs) ≡ has_minus (t ∷ reverse ys)
+
+none_alike : AreAlike [] []
+none_alike = record { depths = refl; blocks = refl; ends = refl; minus = refl; next = λ t. refl }
+
+count_behind : (words : List (List ℕ)) (xs : List Token) (t : Token) → count_by (is_word_of words) (xs ++ t ∷ []) ≡ count_by (is_word_of words) xs + count_by (is_word_of words) (t ∷ [])
+count_behind words xs t = sum_by-append (λ u. cond (is_word_of words u) 1 0) xs (t ∷ [])
+
+turned : (xs : List Token) (t : Token) → reverse (xs ++ t ∷ []) ≡ t ∷ reverse xs
+turned xs t = reverse-append xs (t ∷ [])
+
+alike_by : (xs ys : List Token) → count_by (is_word_of block_words) xs ≡ count_by (is_word_of block_words) ys → count_by (is_word_of end_words) xs ≡ count_by (is_word_of end_words) ys
+    → has_minus (reverse xs) ≡ has_minus (reverse ys) → ((t : Token) → has_minus (t ∷ reverse xs) ≡ has_minus (t ∷ reverse ys)) → AreAlike xs ys
+alike_by xs ys blocks ends minus next = record { depths = ap₂ (λ b e. b - e) blocks ends; blocks = blocks; ends = ends; minus = minus; next = next }
+
+-- with one more token
+kept_alike : (xs ys : List Token) (t : Token) → AreAlike xs ys → AreAlike (xs ++ t ∷ []) (ys ++ t ∷ [])
+kept_alike xs ys t h =
+    alike_by (xs ++ t ∷ []) (ys ++ t ∷ [])
+    (count_behind block_words xs t ∙ ap (λ n. n + count_by (is_word_of block_words) (t ∷ [])) h.blocks ∙ sym (count_behind block_words ys t))
+    (count_behind end_words xs t ∙ ap (λ n. n + count_by (is_word_of end_words) (t ∷ [])) h.ends ∙ sym (count_behind end_words ys t))
+    (ap has_minus (turned xs t) ∙ h.next t ∙ sym (ap has_minus (turned ys t)))
+    (λ u. ap (λ ts. has_minus (u ∷ ts)) (turned xs t) ∙ sym (ap (λ ts. has_minus (u ∷ ts)) (turned ys t)))
+
+-- a minus that is dropped is no word, and no minus is last behind the zero
+zero_last : (xs : List Token) → has_minus (token.Number 0 ∷ xs) ≡ false
+zero_last [] = refl
+zero_last (_ ∷ _) = refl
+
+dropped_alike : (xs ys : List Token) → AreAlike xs ys → AreAlike ((xs ++ token.Mark Minus ∷ []) ++ token.Number 0 ∷ []) (ys ++ token.Number 0 ∷ [])
+dropped_alike xs ys h =
+    let signed = xs ++ token.Mark Minus ∷ [] in
+    let all = signed ++ token.Number 0 ∷ [] in
+    alike_by all (ys ++ token.Number 0 ∷ [])
+    (omega (arith, count_behind block_words signed (token.Number 0), count_behind block_words xs (token.Mark Minus), count_behind block_words ys (token.Number 0), h.blocks))
+    (omega (arith, count_behind end_words signed (token.Number 0), count_behind end_words xs (token.Mark Minus), count_behind end_words ys (token.Number 0), h.ends))
+    (ap has_minus (turned signed (token.Number 0)) ∙ zero_last (reverse signed) ∙ sym (zero_last (reverse ys)) ∙ sym (ap has_minus (turned ys (token.Number 0))))
+    (λ u. ap (λ ts. has_minus (u ∷ ts)) (turned signed (token.Number 0)) ∙ sym (ap (λ ts. has_minus (u ∷ ts)) (turned ys (token.Number 0))))
+
+same_limit : (xs ys : List Token) (t : Token) → AreAlike xs ys → is_past_limit xs t ≡ is_past_limit ys t
+same_limit xs ys (token.Word word) h = ap (λ n. nat_lt 64 (length word) || (is_word_of block_words (token.Word word) && nat_le 16 n)) h.depths
+same_limit xs ys (token.Number n) h = ap (λ minus. nat_lt (cond minus (2 ^ 63) (2 ^ 63 - 1)) n) h.minus
+same_limit xs ys (token.Text _) h = refl
+same_limit xs ys (token.Mark _) h = refl
+
+zero_within_by : (minus : Bool) → not (nat_lt (cond minus (2 ^ 63) (2 ^ 63 - 1)) 0) ≡ true
+zero_within_by true = refl
+zero_within_by false = refl
+
+tidied_from : (seen tidy xs ys : List Token) → AreAlike seen tidy → Tidied xs ys → within_from seen xs ≡ true → within_from tidy ys ≡ true
+tidied_from seen tidy xs ys h done w = refl
+tidied_from seen tidy xs ys h (kept t more others d) w =
+    let parts : (not (is_past_limit seen t) ≡ true) × (within_from (seen ++ t ∷ []) more ≡ true) = and_parts _ _ w in
+    and_from _ _ (ap not (sym (same_limit seen tidy t h)) ∙ parts.0) (tidied_from (seen ++ t ∷ []) (tidy ++ t ∷ []) more others (kept_alike seen tidy t h) d parts.1)
+tidied_from seen tidy xs ys h (dropped more others d) w =
+    let zero = token.Number 0 in
+    let signed = seen ++ token.Mark Minus ∷ [] in
+    let parts : (not (is_past_limit signed zero) ≡ true) × (within_from (signed ++ zero ∷ []) more ≡ true) = and_parts _ _ (and_parts (not (is_past_limit seen (token.Mark Minus))) _ w).1 in
+    and_from _ _ (zero_within_by (has_minus (reverse tidy))) (tidied_from (signed ++ zero ∷ []) (tidy ++ zero ∷ []) more others (dropped_alike seen tidy h) d parts.1)
+
+-- the test that these tokens keep the limits succeeds where they do
+within_of : (seen all : List Token) → ((before after : List Token) (t : Token) → all ≡ before ++ t ∷ after → is_past_limit (seen ++ before) t ≡ false) → within_from seen all ≡ true
+within_of seen [] h = refl
+within_of seen (t ∷ all) h =
+    and_from _ _ (ap not (subst (λ s. is_past_limit s t ≡ false) (append-nil seen) (h [] all t refl)))
+    (within_of (seen ++ t ∷ []) all (λ before after u e. subst (λ s. is_past_limit s u ≡ false) (sym (append_assoc seen (t ∷ []) before)) (h (t ∷ before) after u (ap (λ ts. t ∷ ts) e))))
+
+tidied_within : (xs ys : List Token) → Tidied xs ys → AreWithinLimits xs → AreWithinLimits ys
+tidied_within xs ys d h = within ys (tidied_from [] [] xs ys none_alike d (within_of [] xs h))
+
+-- the tokens of a script that others derive are these without the minus before some zeros
+
+integer_tidied : (z : ℤ) (n : ℕ) (xs ys : List Token) → z ≡ neg_ℤ (pos n) → Tidied xs ys → Tidied (token.Mark Minus ∷ token.Number n ∷ xs) (part_tokens (writes (value.Int z)) ++ ys)
+integer_tidied z zero xs ys e d = subst (λ y. Tidied (token.Mark Minus ∷ token.Number 0 ∷ xs) (part_tokens (writes (value.Int y)) ++ ys)) (sym e) (dropped xs ys d)
+integer_tidied z (suc n) xs ys e d =
+    subst (λ y. Tidied (token.Mark Minus ∷ token.Number (suc n) ∷ xs) (part_tokens (writes (value.Int y)) ++ ys)) (sym e) (kept _ _ _ (kept _ xs ys d))
+
+one_tidied : (t : Token) (front xs ys : List Token) → front ≡ t ∷ [] → Tidied xs ys → Tidied (front ++ xs) (t ∷ ys)
+one_tidied t front xs ys h d = subst (λ f. Tidied (f ++ xs) (t ∷ ys)) (sym h) (kept t xs ys d)
+
+part_tidied : (part : Part) (front xs ys : List Token) → IsPart part front → Tidied xs ys → Tidied (front ++ xs) (part_tokens part ++ ys)
+part_tidied (says word) front xs ys h d = one_tidied (token.Word word) front xs ys h d
+part_tidied (marks mark) front xs ys h d = one_tidied (token.Mark mark) front xs ys h d
+part_tidied (names word) front xs ys h d = one_tidied (token.Word word) front xs ys h.1 d
+part_tidied (counts n) front xs ys h d = one_tidied (token.Number n) front xs ys h d
+part_tidied (writes (value.Int z)) front xs ys (inl h) d =
+    subst (λ y. Tidied (front ++ xs) (part_tokens (writes (value.Int y)) ++ ys)) (sym h.1) (one_tidied (token.Number h.0) front xs ys h.2 d)
+part_tidied (writes (value.Int z)) front xs ys (inr h) d =
+    subst (λ f. Tidied (f ++ xs) (part_tokens (writes (value.Int z)) ++ ys)) (sym h.2) (integer_tidied z h.0 xs ys h.1 d)
+part_tidied (writes (value.Text bytes)) front xs ys h d = one_tidied (token.Text bytes) front xs ys h d
+part_tidied lacks front xs ys h d = absurd h
+
+parts_tidied : (parts : List Part) (spelled xs ys : List Token) → AreParts parts spelled → Tidied xs ys → Tidied (spelled ++ xs) (flat_map part_tokens parts ++ ys)
+parts_tidied [] spelled xs ys h d = subst (λ ts. Tidied (ts ++ xs) ys) (sym h) d
+parts_tidied (part ∷ parts) spelled xs ys h d =
+    let more = flat_map part_tokens parts ++ ys in
+    let all : Tidied (h.0 ++ (h.1 ++ xs)) (part_tokens part ++ more) = part_tidied part h.0 (h.1 ++ xs) more h.3 (parts_tidied parts h.1 xs ys h.4 d) in
+    subst (λ ts. Tidied ts ((part_tokens part ++ flat_map part_tokens parts) ++ ys)) (sym (ap (λ ts. ts ++ xs) h.2 ∙ append_assoc h.0 h.1 xs))
+    (subst (Tidied (h.0 ++ (h.1 ++ xs))) (sym (append_assoc (part_tokens part) (flat_map part_tokens parts) ys)) all)
+
+items_tidied : (line : ℕ) (items : List Item) (placed : List Placed) → AreItems items placed → Tidied (tokens placed) (tokens (items_placed line items))
+items_tidied line [] placed h = subst (λ (p : List Placed). Tidied (tokens p) []) (sym h) done
+items_tidied line (item ∷ items) placed h =
+    let reached = line_reached line (item_line item) in
+    let spelled = flat_map part_tokens (item_parts item) in
+    let others = items_placed reached items in
+    let all : Tidied (tokens h.0 ++ tokens h.1) (spelled ++ tokens others) = parts_tidied (item_parts item) (tokens h.0) (tokens h.1) (tokens others) h.3.spelled (items_tidied reached items h.1 h.4) in
+    subst (λ ts. Tidied ts (tokens (map (on_line reached) spelled ++ others))) (sym (ap tokens h.2 ∙ map-append (λ (p : Placed). p.token) h.0 h.1))
+    (subst (Tidied (tokens h.0 ++ tokens h.1)) (sym (map-append (λ (p : Placed). p.token) (map (on_line reached) spelled) others ∙ ap (λ ts. ts ++ tokens others) (tokens-on_line reached spelled))) all)
+
+pub items_within : (line : ℕ) (items : List Item) (placed : List Placed) → AreItems items placed → AreWithinLimits (tokens placed) → AreWithinLimits (tokens (items_placed line items))
+items_within line items placed h w = tidied_within (tokens placed) (tokens (items_placed line items)) (items_tidied line items placed h) w
