@@ -15,3 +15,5 @@ mod HeadsExact
 mod Arguments
 mod Turns
 mod CommandsExact
+mod Buildings
+mod Lefts

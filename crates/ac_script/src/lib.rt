@@ -7,6 +7,7 @@ mod limits;
 mod piece;
 mod printer;
 mod argument;
+mod build;
 mod command;
 mod declaration;
 mod head;
