@@ -18,3 +18,5 @@ mod CommandsExact
 mod ItemsExact
 mod Coming
 mod ReadsItems
+mod Buildings
+mod Lefts

@@ -43,10 +43,10 @@ impl Arguments {
         Arguments { items }
     }
 
-    pub fn items(&self) -> &[Argument]
-        ensures { map argument_view result.now ≡ self.now }
+    pub fn into_vec(self) -> Vec<Argument>
+        ensures { map argument_view result.items ≡ self }
     {
-        &self.items
+        self.items
     }
 }
 

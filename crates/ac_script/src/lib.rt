@@ -2,6 +2,7 @@
 #![tactic(auto)]
 
 mod argument;
+mod build;
 mod command;
 mod cut;
 mod declaration;

@@ -1,0 +1,271 @@
+//! Scripts from their items.
+ghost use Rattle.std.specs.Prelude.{◌≡◌, ◌∷◌, [], ◌++◌, map, All, false, IfOk, OnOk, Some};
+ghost use Rattle.ac_syntax.specs.Code.{Code, Simple, one, block};
+ghost use Rattle.ac_syntax.specs.Items.{script_items, declares, commands, opens, begins, closes};
+ghost use Rattle.ac_syntax.specs.Order.{Context, context_after, next_after, at_front, IsEnd};
+ghost use Rattle.ac_syntax.specs.Statements.{before};
+ghost use Rattle.ac_script.specs.Arguments.{argument_view};
+ghost use Rattle.ac_script.specs.Views.{item_view, command_view, head_view};
+ghost use Rattle.ac_script.specs.Fits.{Fits, FitsSimple, FitsArg, FitArgs, IsInteger};
+ghost use Rattle.ac_script.specs.Arguments.{integer_of};
+ghost use Rattle.ac_script.specs.Building.{items_so_far, IsBuilding, Adds, full_head};
+
+use crate::argument::{Argument, Arguments};
+use crate::item::{Command, Head, Item};
+use ac_base::{NoMemory, Text, Value};
+use ac_syntax::{Arg, Args, Decl, Decls, Script, Stmt, Stmts};
+use std::alloc::Global;
+use std::mem;
+
+/// The magnitude of the least integer.
+const LEAST: u64 = 9223372036854775808;
+
+/// What stands in a block, or outside of all.
+#[derive(Drop)]
+struct Level {
+    decls: Vec<Decl>,
+    /// The word `begin` stands behind the declarations.
+    begun: bool,
+    stmts: Vec<Stmt>,
+}
+
+/// A level in which a block is open, and the block's head.
+#[derive(Drop)]
+struct Enclosing {
+    level: Level,
+    head: Head,
+}
+
+/// A script as far as its items came.
+#[derive(Drop)]
+struct Building {
+    /// The levels around the innermost one, from the outermost on.
+    around: Vec<Enclosing>,
+    level: Level,
+}
+
+fn integer(minus: bool, magnitude: u64) -> i64
+    requires { IsInteger (integer_of minus magnitude) }
+    ensures { result ≡ integer_of minus magnitude }
+{
+    if !minus {
+        magnitude as i64
+    } else if magnitude == LEAST {
+        i64::MIN
+    } else {
+        -(magnitude as i64)
+    }
+}
+
+fn arg(alloc: Global, argument: Argument) -> Result<Arg, NoMemory>
+    requires { FitsArg (argument_view argument) }
+    ensures { IfOk result (λ made. made ≡ argument_view argument) }
+{
+    match argument {
+        Argument::Integer { minus, magnitude } => Ok(Arg::Lit(Value::Int(integer(minus, magnitude)))),
+        Argument::Text(bytes) => match Text::new(alloc, bytes.bytes()) {
+            Ok(text) => Ok(Arg::Lit(Value::Text(text))),
+            Err(_) => Err(NoMemory),
+        },
+        Argument::NoElement => Ok(Arg::NoElement),
+        Argument::Var(name) => Ok(Arg::Var(name)),
+    }
+}
+
+fn args(alloc: Global, arguments: Arguments) -> Result<Args, NoMemory>
+    requires { FitArgs arguments }
+    ensures { IfOk result (λ made. made ≡ arguments) }
+{
+    let mut items = Vec::new(alloc);
+    for argument in arguments.into_vec() {
+        items.push(arg(alloc, argument)?)?;
+    }
+    Ok(Args::from_vec(items))
+}
+
+fn command(alloc: Global, command: Command) -> Result<Stmt, NoMemory>
+    requires { FitsSimple (command_view command) }
+    ensures { IfOk result (λ stmt. (rest : Code) → before stmt rest ≡ one (command_view command) rest) }
+{
+    Ok(match command {
+        Command::Call {
+            line,
+            target,
+            object,
+            op,
+            args: arguments,
+        } => Stmt::Call {
+            line,
+            target,
+            object,
+            op,
+            args: args(alloc, arguments)?,
+        },
+        Command::Set { line, target, from } => Stmt::Set {
+            line,
+            target,
+            from: arg(alloc, from)?,
+        },
+        Command::Sum {
+            line,
+            target,
+            from,
+            minus,
+            number,
+        } => Stmt::Sum {
+            line,
+            target,
+            from,
+            minus,
+            number,
+        },
+    })
+}
+
+/// A block with its declarations and its body.
+fn block(head: Head, decls: Decls, body: Stmts) -> Stmt
+    ensures { (rest : Code) → before result rest ≡ block (full_head head decls) body rest }
+{
+    match head {
+        Head::Loop {
+            line,
+            name,
+            elements,
+            backward,
+            object,
+        } => Stmt::Loop {
+            line,
+            name,
+            elements,
+            backward,
+            object,
+            body,
+        },
+        Head::View {
+            line,
+            kind,
+            object,
+            at,
+            name,
+        } => Stmt::View {
+            line,
+            kind,
+            object,
+            at,
+            name,
+            body,
+        },
+        Head::Stable { line, object } => Stmt::Stable { line, object, body },
+        Head::Declare { line } => Stmt::Declare { line, decls, body },
+    }
+}
+
+impl Level {
+    fn new(alloc: Global) -> Level
+        ensures { (result.decls.items ≡ []) × (result.begun ≡ false) × (result.stmts.items ≡ []) }
+    {
+        Level {
+            decls: Vec::new(alloc),
+            begun: false,
+            stmts: Vec::new(alloc),
+        }
+    }
+}
+
+impl Building {
+    fn new(alloc: Global) -> Building
+        ensures items { items_so_far result ≡ [] }
+        ensures built { IsBuilding result at_front }
+    {
+        Building {
+            around: Vec::new(alloc),
+            level: Level::new(alloc),
+        }
+    }
+
+    /// Adds the item that comes next.
+    fn add(&mut self, alloc: Global, item: Item) -> Result<(), NoMemory>
+        requires { Fits (item_view item) }
+        ensures { OnOk result (Adds (item_view item) self.old self.new) }
+    {
+        match item {
+            Item::Declares(decl) => self.declare(decl),
+            Item::Commands(simple) => self.run(command(alloc, simple)?),
+            Item::Opens(head) => self.enter(alloc, head),
+            Item::Begins => self.begin(),
+            Item::Closes { is_loop } => self.leave(is_loop),
+        }
+    }
+
+    fn declare(&mut self, decl: Decl) -> Result<(), NoMemory>
+        ensures { OnOk result (Adds (declares decl) self.old self.new) }
+    {
+        self.level.decls.push(decl)?;
+        Ok(())
+    }
+
+    fn run(&mut self, stmt: Stmt) -> Result<(), NoMemory>
+        ensures { (simple : Simple) → ((rest : Code) → before stmt rest ≡ one simple rest) → OnOk result (Adds (commands simple) self.old self.new) }
+    {
+        self.level.stmts.push(stmt)?;
+        Ok(())
+    }
+
+    /// Goes into a block.
+    fn enter(&mut self, alloc: Global, head: Head) -> Result<(), NoMemory>
+        ensures { OnOk result (Adds (opens (head_view head)) self.old self.new) }
+    {
+        let level = mem::replace(&mut self.level, Level::new(alloc));
+        self.around.push(Enclosing { level, head })?;
+        Ok(())
+    }
+
+    fn begin(&mut self) -> Result<(), NoMemory>
+        ensures { OnOk result (Adds begins self.old self.new) }
+    {
+        self.level.begun = true;
+        Ok(())
+    }
+
+    /// Goes out of the innermost block.
+    fn leave(&mut self, _is_loop: bool) -> Result<(), NoMemory>
+        ensures { OnOk result (Adds (closes _is_loop) self.old self.new) }
+    {
+        let Some(Enclosing { level, head }) = self.around.pop() else {
+            return Ok(());
+        };
+        let inner = mem::replace(&mut self.level, level);
+        let body = Stmts::from_vec(inner.stmts);
+        self.level
+            .stmts
+            .push(block(head, Decls::from_vec(inner.decls), body))?;
+        Ok(())
+    }
+}
+
+fn built(alloc: Global, items: Vec<Item>) -> Result<Building, NoMemory>
+    requires order { (last : Context) × (context_after at_front (map item_view items.items) ≡ Some last) × IsEnd last }
+    requires fits { All Fits (map item_view items.items) }
+    ensures items { IfOk result (λ made. items_so_far made ≡ map item_view items.items) }
+    ensures ended { IfOk result (λ made. made.around.items ≡ []) }
+    ensures unbegun { IfOk result (λ made. made.level.begun ≡ false) }
+{
+    let mut made = Building::new(alloc);
+    for item in items {
+        made.add(alloc, item)?;
+    }
+    Ok(made)
+}
+
+/// The script of these items, whose order is a script's.
+pub fn build(alloc: Global, items: Vec<Item>) -> Result<Script, NoMemory>
+    requires order { (last : Context) × (context_after at_front (map item_view items.items) ≡ Some last) × IsEnd last }
+    requires fits { All Fits (map item_view items.items) }
+    ensures { IfOk result (λ script. script_items script ≡ map item_view items.items) }
+{
+    let Building { around: _, level } = built(alloc, items)?;
+    Ok(Script {
+        decls: Decls::from_vec(level.decls),
+        stmts: Stmts::from_vec(level.stmts),
+    })
+}
