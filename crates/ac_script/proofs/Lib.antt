@@ -20,3 +20,5 @@ mod Coming
 mod ReadsItems
 mod Buildings
 mod Lefts
+mod Fits
+mod Written

@@ -12,5 +12,5 @@ mod Cuts
 mod RoundTrip
 mod Tidied
 mod Rising
-mod CutTokens
+pub mod CutTokens
 mod WellFormed
