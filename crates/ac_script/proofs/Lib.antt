@@ -15,3 +15,6 @@ mod HeadsExact
 mod Arguments
 mod Turns
 mod CommandsExact
+mod ItemsExact
+mod Coming
+mod ReadsItems

@@ -12,6 +12,7 @@ mod declaration;
 mod head;
 mod item;
 mod item_reader;
+mod law;
 mod names;
 mod reader;
 mod reserved;
@@ -23,4 +24,5 @@ pub use ac_syntax::{
     TypeDef, ViewKind,
 };
 pub use fault::ScriptFault;
+pub use law::items_read;
 pub use printer::print;

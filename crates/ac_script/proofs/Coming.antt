@@ -1,0 +1,236 @@
+-- The items that may come are those that are read.
+use Rattle.std.proofs.Common.{◌≡◌, ℕ, Bool, true, false, List, [], ◌∷◌, ◌++◌, refl, sym, ap, subst, ◌∙◌, ◌⊎◌, inl, inr, Option, Some, None, codes, if◌then◌else◌}
+use Rattle.std.proofs.lemmas.Option.{none-some}
+use Rattle.ac_syntax.specs.Code.{Simple, call_at, set_at, sum_at, Head, loop_at, view_at, stable_at, declare_at}
+use Rattle.ac_syntax.specs.Items.{Item, declares, commands, opens, begins, closes}
+use Rattle.ac_syntax.specs.Order.{Stage, listing, heading, running, Context, entered, next_after}
+use Rattle.ac_syntax.specs.declared.decl.Decl.{Decl}
+use Rattle.ac_syntax.specs.declared.decl.Decl.TheVariants.{TypeDecl, Object, CursorVar, IntVar, TextVar}
+use Rattle.ac_syntax.specs.declared.view_kind.ViewKind.TheVariants as view
+use Rattle.ac_syntax.specs.declared.token.Placed.{Placed}
+use Rattle.ac_syntax.specs.declared.token.Mark.TheVariants.{Colon}
+use Rattle.ac_syntax.specs.Parts.{Part, says, marks, names, decl_parts, simple_parts, head_parts, item_parts}
+use Rattle.ac_script.specs.declared.head.Lead.{Lead}
+use Rattle.ac_script.specs.declared.head.Lead.TheVariants as lead
+use Rattle.ac_script.specs.ItemReader.{item_on, innermost_of}
+use Rattle.ac_script.specs.ExactItems.{MayCome}
+use Rattle.ac_script.proofs.Spelled.{Spelled}
+use Rattle.ac_script.proofs.Exact.{Exact, respelled}
+use Rattle.ac_script.proofs.DeclarationsExact.{Declared, an_integer, a_text, a_cursor, an_object, declared_decl, declared_parts}
+use Rattle.ac_script.proofs.HeadsExact.{lead_word, Told, told_head, told_parts}
+use Rattle.ac_script.proofs.CommandsExact.{a_value, a_result, a_sum, Commanded, a_call, an_assignment, commanded_simple, commanded_parts}
+use Rattle.ac_script.proofs.ItemsExact.{Typed, typed_item, typed_parts, Block, block_item, block_parts, Statement, statement_item, statement_parts, statement_exact, Listed, listed_item, listed_parts, in_listing_exact, Headed, headed_item, headed_parts, in_heading_exact}
+
+abbrev pub decl_on : ℕ → Decl → Decl
+decl_on line (TypeDecl _ name def) = TypeDecl line name def
+decl_on line (Object _ name of capacity) = Object line name of capacity
+decl_on line (CursorVar _ name of) = CursorVar line name of
+decl_on line (IntVar _ name) = IntVar line name
+decl_on line (TextVar _ name) = TextVar line name
+
+abbrev pub simple_on : ℕ → Simple → Simple
+simple_on line (call_at _ target object operation args) = call_at line target object operation args
+simple_on line (set_at _ target from) = set_at line target from
+simple_on line (sum_at _ target from minus number) = sum_at line target from minus number
+
+abbrev pub head_on : ℕ → Head → Head
+head_on line (loop_at _ name elements backward object) = loop_at line name elements backward object
+head_on line (view_at _ kind object at name) = view_at line kind object at name
+head_on line (stable_at _ object) = stable_at line object
+head_on line (declare_at _ decls) = declare_at line decls
+
+-- the same item on this line
+abbrev pub relined : ℕ → Item → Item
+relined line (declares decl) = declares (decl_on line decl)
+relined line (commands simple) = commands (simple_on line simple)
+relined line (opens head) = opens (head_on line head)
+relined line begins = begins
+relined line (closes is_loop) = closes is_loop
+
+-- an item that may come
+abbrev pub Coming : List Bool → Stage → Type 0
+Coming blocks stage = (item : Item) × MayCome blocks stage item
+
+-- what is read is an item that may come
+abbrev Into : List Bool → Stage → ℕ → Item → List Part → Type 0
+Into blocks stage line item parts = (j : Coming blocks stage) × (item ≡ relined line j.0) × (parts ≡ item_parts j.0)
+
+may_enter : (blocks : List Bool) (line : ℕ) (b : Block) → (next : Context) × (entered blocks (told_head line b.0 b.1) ≡ Some next)
+may_enter blocks line (lead.For, t) = (_, refl)
+may_enter blocks line (lead.Query, t) = (_, refl)
+may_enter blocks line (lead.Update, t) = (_, refl)
+may_enter blocks line (lead.UpdateKey, t) = (_, refl)
+may_enter blocks line (lead.Reference, t) = (_, refl)
+may_enter blocks line (lead.Stable, t) = (_, refl)
+may_enter blocks line (lead.Declare, t) = (_, refl)
+
+block_lined : (line : ℕ) (b : Block) → told_head line b.0 b.1 ≡ head_on line (told_head line b.0 b.1)
+block_lined line (lead.For, t) = refl
+block_lined line (lead.Query, t) = refl
+block_lined line (lead.Update, t) = refl
+block_lined line (lead.UpdateKey, t) = refl
+block_lined line (lead.Reference, t) = refl
+block_lined line (lead.Stable, t) = refl
+block_lined line (lead.Declare, t) = refl
+
+block_read : (line : ℕ) (b : Block) → block_parts b ≡ head_parts (told_head line b.0 b.1)
+block_read line (lead.For, t) = refl
+block_read line (lead.Query, (object, None, name)) = refl
+block_read line (lead.Query, (object, Some c, name)) = refl
+block_read line (lead.Update, (object, None, name)) = refl
+block_read line (lead.Update, (object, Some c, name)) = refl
+block_read line (lead.UpdateKey, t) = refl
+block_read line (lead.Reference, t) = refl
+block_read line (lead.Stable, t) = refl
+block_read line (lead.Declare, t) = refl
+
+declared_lined : (line : ℕ) (n : List ℕ) (d : Declared) → declared_decl line n d ≡ decl_on line (declared_decl line n d)
+declared_lined line n an_integer = refl
+declared_lined line n a_text = refl
+declared_lined line n (a_cursor _) = refl
+declared_lined line n (an_object _ _) = refl
+
+declared_read : (line : ℕ) (n : List ℕ) (d : Declared) → names n ∷ marks Colon ∷ declared_parts d ≡ decl_parts (declared_decl line n d)
+declared_read line n an_integer = refl
+declared_read line n a_text = refl
+declared_read line n (a_cursor _) = refl
+declared_read line n (an_object _ _) = refl
+
+commanded_lined : (line : ℕ) (n : List ℕ) (c : Commanded) → commanded_simple line n c ≡ simple_on line (commanded_simple line n c)
+commanded_lined line n (a_call _ _) = refl
+commanded_lined line n (an_assignment (a_value _)) = refl
+commanded_lined line n (an_assignment (a_result _ _ _)) = refl
+commanded_lined line n (an_assignment (a_sum _ _ _)) = refl
+
+commanded_read : (line : ℕ) (n : List ℕ) (c : Commanded) → names n ∷ commanded_parts c ≡ simple_parts (commanded_simple line n c)
+commanded_read line n (a_call _ _) = refl
+commanded_read line n (an_assignment (a_value _)) = refl
+commanded_read line n (an_assignment (a_result _ _ _)) = refl
+commanded_read line n (an_assignment (a_sum _ _ _)) = refl
+
+listed_into : (blocks : List Bool) (line : ℕ) (i : Listed (innermost_of blocks)) → Into blocks listing line (listed_item (innermost_of blocks) line i) (listed_parts (innermost_of blocks) i)
+unfolding item_parts
+listed_into blocks line (inl i) = ((typed_item line i, record { next = _; leads = refl }), refl, refl)
+listed_into blocks line (inr (inl b)) =
+    let may = may_enter blocks line b in
+    ((block_item line b, record { next = may.0; leads = may.1 }), ap opens (block_lined line b), block_read line b)
+listed_into [] line (inr (inr (inl e))) = absurd e
+listed_into (true ∷ blocks) line (inr (inr (inl e))) = ((closes true, record { next = _; leads = refl }), refl, refl)
+listed_into (false ∷ blocks) line (inr (inr (inl e))) = ((closes false, record { next = _; leads = refl }), refl, refl)
+listed_into blocks line (inr (inr (inr (n, inl d)))) =
+    ((declares (declared_decl line n d), record { next = _; leads = refl }), ap declares (declared_lined line n d), declared_read line n d)
+listed_into blocks line (inr (inr (inr (n, inr c)))) =
+    ((commands (commanded_simple line n c), record { next = _; leads = refl }), ap commands (commanded_lined line n c), commanded_read line n c)
+
+headed_into : (blocks : List Bool) (line : ℕ) (i : Headed) → Into blocks heading line (headed_item line i) (headed_parts i)
+unfolding item_parts
+headed_into blocks line (inl _) = ((begins, record { next = _; leads = refl }), refl, refl)
+headed_into blocks line (inr (inl i)) = ((typed_item line i, record { next = _; leads = refl }), refl, refl)
+headed_into blocks line (inr (inr (n, d))) =
+    ((declares (declared_decl line n d), record { next = _; leads = refl }), ap declares (declared_lined line n d), declared_read line n d)
+
+running_into : (blocks : List Bool) (line : ℕ) (i : Statement running (innermost_of blocks)) → Into blocks running line (statement_item running (innermost_of blocks) line i) (statement_parts running (innermost_of blocks) i)
+unfolding item_parts
+running_into blocks line (inl b) =
+    let may = may_enter blocks line b in
+    ((block_item line b, record { next = may.0; leads = may.1 }), ap opens (block_lined line b), block_read line b)
+running_into [] line (inr (inl e)) = absurd e
+running_into (true ∷ blocks) line (inr (inl e)) = ((closes true, record { next = _; leads = refl }), refl, refl)
+running_into (false ∷ blocks) line (inr (inl e)) = ((closes false, record { next = _; leads = refl }), refl, refl)
+running_into blocks line (inr (inr (n, c))) =
+    ((commands (commanded_simple line n c), record { next = _; leads = refl }), ap commands (commanded_lined line n c), commanded_read line n c)
+
+-- an item that may come is read: it is at an index whose parts are spelled so
+abbrev From : (I : Type 0) → (I → Item) → (I → List Part) → ℕ → Item → List Placed → Type 0
+From I val parts line item front = (i : I) × (val i ≡ relined line item) × Spelled (parts i) front
+
+-- a declaration of a type, or one with a name in front
+from_decl : {I : Type 0} (val : I → Item) (parts : I → List Part) (line : ℕ) (decl : Decl) (front : List Placed)
+    → ((i : Typed) → typed_item line i ≡ relined line (declares decl) → Spelled (says (codes "type") ∷ typed_parts i) front → From I val parts line (declares decl) front)
+    → ((n : List ℕ) (d : Declared) → declares (declared_decl line n d) ≡ relined line (declares decl) → Spelled (names n ∷ marks Colon ∷ declared_parts d) front → From I val parts line (declares decl) front)
+    → Spelled (decl_parts decl) front → From I val parts line (declares decl) front
+from_decl val parts line (TypeDecl _ name def) front f g h = f (name, def) refl h
+from_decl val parts line (Object _ name of capacity) front f g h = g name (an_object of capacity) refl h
+from_decl val parts line (CursorVar _ name of) front f g h = g name (a_cursor of) refl h
+from_decl val parts line (IntVar _ name) front f g h = g name an_integer refl h
+from_decl val parts line (TextVar _ name) front f g h = g name a_text refl h
+
+from_simple : {I : Type 0} (val : I → Item) (parts : I → List Part) (line : ℕ) (simple : Simple) (front : List Placed)
+    → ((n : List ℕ) (c : Commanded) → commands (commanded_simple line n c) ≡ relined line (commands simple) → Spelled (names n ∷ commanded_parts c) front → From I val parts line (commands simple) front)
+    → Spelled (simple_parts simple) front → From I val parts line (commands simple) front
+from_simple val parts line (call_at _ None object operation args) front f h = f object (a_call operation args) refl h
+from_simple val parts line (call_at _ (Some target) object operation args) front f h = f target (an_assignment (a_result object operation args)) refl h
+from_simple val parts line (set_at _ target from) front f h = f target (an_assignment (a_value from)) refl h
+from_simple val parts line (sum_at _ target from minus number) front f h = f target (an_assignment (a_sum from minus number)) refl h
+
+from_head : {I : Type 0} (val : I → Item) (parts : I → List Part) (line : ℕ) (head : Head) (blocks : List Bool) (next : Context) (front : List Placed)
+    → ((b : Block) → block_item line b ≡ relined line (opens head) → Spelled (block_parts b) front → From I val parts line (opens head) front)
+    → entered blocks head ≡ Some next → Spelled (head_parts head) front → From I val parts line (opens head) front
+from_head val parts line (loop_at _ name elements backward object) blocks next front f e h = f (lead.For, (name, elements, backward, object)) refl h
+from_head val parts line (view_at _ view.Query object None name) blocks next front f e h = f (lead.Query, (object, None, name)) refl h
+from_head val parts line (view_at _ view.Query object (Some c) name) blocks next front f e h = f (lead.Query, (object, Some c, name)) refl h
+from_head val parts line (view_at _ view.Update object None name) blocks next front f e h = f (lead.Update, (object, None, name)) refl h
+from_head val parts line (view_at _ view.Update object (Some c) name) blocks next front f e h = f (lead.Update, (object, Some c, name)) refl h
+from_head val parts line (view_at _ view.UpdateKey object None name) blocks next front f e h = absurd h.spelled.4.4.3
+from_head val parts line (view_at _ view.UpdateKey object (Some c) name) blocks next front f e h = f (lead.UpdateKey, (object, c, name)) refl h
+from_head val parts line (view_at _ view.Reference object at name) blocks next front f e h = f (lead.Reference, (name, object, at)) refl h
+from_head val parts line (stable_at _ object) blocks next front f e h = f (lead.Stable, object) refl h
+from_head val parts line (declare_at _ []) blocks next front f e h = f (lead.Declare, tt) refl h
+from_head val parts line (declare_at _ (_ ∷ _)) blocks next front f e h = absurd (none-some next e)
+
+listed_from : (blocks : List Bool) (line : ℕ) (item : Item) (next : Context) (front : List Placed) → next_after blocks listing item ≡ Some next → Spelled (item_parts item) front
+    → From (Listed (innermost_of blocks)) (listed_item (innermost_of blocks) line) (listed_parts (innermost_of blocks)) line item front
+unfolding item_parts
+listed_from blocks line (declares decl) next front e h =
+    from_decl (listed_item (innermost_of blocks) line) (listed_parts (innermost_of blocks)) line decl front (λ i is s. (inl i, is, s)) (λ n d is s. (inr (inr (inr (n, inl d))), is, s)) h
+listed_from blocks line (commands simple) next front e h =
+    from_simple (listed_item (innermost_of blocks) line) (listed_parts (innermost_of blocks)) line simple front (λ n c is s. (inr (inr (inr (n, inr c))), is, s)) h
+listed_from blocks line (opens head) next front e h =
+    from_head (listed_item (innermost_of blocks) line) (listed_parts (innermost_of blocks)) line head blocks next front (λ b is s. (inr (inl b), is, s)) e h
+listed_from blocks line begins next front e h = absurd (none-some next e)
+listed_from [] line (closes _) next front e h = absurd (none-some next e)
+listed_from (true ∷ blocks) line (closes true) next front e h = (inr (inr (inl tt)), refl, h)
+listed_from (true ∷ blocks) line (closes false) next front e h = absurd (none-some next e)
+listed_from (false ∷ blocks) line (closes true) next front e h = absurd (none-some next e)
+listed_from (false ∷ blocks) line (closes false) next front e h = (inr (inr (inl tt)), refl, h)
+
+headed_from : (blocks : List Bool) (line : ℕ) (item : Item) (next : Context) (front : List Placed) → next_after blocks heading item ≡ Some next → Spelled (item_parts item) front
+    → From Headed (headed_item line) headed_parts line item front
+unfolding item_parts
+headed_from blocks line (declares decl) next front e h =
+    from_decl (headed_item line) headed_parts line decl front (λ i is s. (inr (inl i), is, s)) (λ n d is s. (inr (inr (n, d)), is, s)) h
+headed_from blocks line (commands simple) next front e h = absurd (none-some next e)
+headed_from blocks line (opens head) next front e h = absurd (none-some next e)
+headed_from blocks line begins next front e h = (inl tt, refl, h)
+headed_from blocks line (closes _) next front e h = absurd (none-some next e)
+
+running_from : (blocks : List Bool) (line : ℕ) (item : Item) (next : Context) (front : List Placed) → next_after blocks running item ≡ Some next → Spelled (item_parts item) front
+    → From (Statement running (innermost_of blocks)) (statement_item running (innermost_of blocks) line) (statement_parts running (innermost_of blocks)) line item front
+unfolding item_parts
+running_from blocks line (declares decl) next front e h = absurd (none-some next e)
+running_from blocks line (commands simple) next front e h =
+    from_simple (statement_item running (innermost_of blocks) line) (statement_parts running (innermost_of blocks)) line simple front (λ n c is s. (inr (inr (n, c)), is, s)) h
+running_from blocks line (opens head) next front e h =
+    from_head (statement_item running (innermost_of blocks) line) (statement_parts running (innermost_of blocks)) line head blocks next front (λ b is s. (inl b, is, s)) e h
+running_from blocks line begins next front e h = absurd (none-some next e)
+running_from [] line (closes _) next front e h = absurd (none-some next e)
+running_from (true ∷ blocks) line (closes true) next front e h = (inr (inl tt), refl, h)
+running_from (true ∷ blocks) line (closes false) next front e h = absurd (none-some next e)
+running_from (false ∷ blocks) line (closes true) next front e h = absurd (none-some next e)
+running_from (false ∷ blocks) line (closes false) next front e h = (inr (inl tt), refl, h)
+
+spelled_into : (blocks : List Bool) (stage : Stage) (line : ℕ) (item : Item) (parts : List Part) (front : List Placed) → Into blocks stage line item parts → Spelled parts front
+    → (j : Coming blocks stage) × (item ≡ relined line j.0) × Spelled (item_parts j.0) front
+spelled_into blocks stage line item parts front is h = (is.0, is.1, subst (λ ps. Spelled ps front) is.2 h)
+
+-- on each line, the items that may come are read
+pub item_on_exact : (blocks : List Bool) (stage : Stage) (line : ℕ) → Exact (λ (j : Coming blocks stage). relined line j.0) (λ j. item_parts j.0) (item_on stage (innermost_of blocks) line)
+item_on_exact blocks listing line =
+    respelled (in_listing_exact (innermost_of blocks) line) (λ i front h. spelled_into blocks listing line _ _ front (listed_into blocks line i) h)
+    (λ j front h. listed_from blocks line j.0 j.1.next front j.1.leads h)
+item_on_exact blocks heading line =
+    respelled (in_heading_exact line) (λ i front h. spelled_into blocks heading line _ _ front (headed_into blocks line i) h)
+    (λ j front h. headed_from blocks line j.0 j.1.next front j.1.leads h)
+item_on_exact blocks running line =
+    respelled (statement_exact running (innermost_of blocks) line) (λ i front h. spelled_into blocks running line _ _ front (running_into blocks line i) h)
+    (λ j front h. running_from blocks line j.0 j.1.next front j.1.leads h)

@@ -1,0 +1,212 @@
+-- The reader of an item reads the items that may come.
+use Rattle.std.proofs.Common.{◌≡◌, ◌≤◌, ℕ, Bool, true, false, List, [], ◌∷◌, ◌++◌, length, refl, sym, ap, subst, ◌∙◌, Option, Some, None, arith}
+use Rattle.ac_syntax.specs.Code.{Simple, call_at, set_at, sum_at, Head, loop_at, view_at, stable_at, declare_at}
+use Rattle.ac_syntax.specs.Items.{Item, declares, commands, opens, begins, closes, item_line}
+use Rattle.ac_syntax.specs.Order.{Stage, listing, heading, running, entered, next_after}
+use Rattle.ac_syntax.specs.declared.decl.Decl.{Decl}
+use Rattle.ac_syntax.specs.declared.decl.Decl.TheVariants.{TypeDecl, Object, CursorVar, IntVar, TextVar}
+use Rattle.ac_syntax.specs.declared.view_kind.ViewKind.TheVariants as view
+use Rattle.ac_syntax.specs.declared.token.Placed.{Placed}
+use Rattle.ac_syntax.specs.Tokens.{tokens}
+use Rattle.ac_syntax.specs.Parts.{Part, item_parts}
+use Rattle.ac_syntax.specs.Grammar.{AreParts, BeginsOn, IsItem}
+use Rattle.ac_script.specs.Outcomes.{got, stopped}
+use Rattle.ac_script.specs.ItemReader.{item_on, item, innermost_of}
+use Rattle.ac_script.specs.ExactItems.{MayCome, IsFront, IsBegun, ReadsItems}
+use Rattle.ac_script.proofs.Spelled.{Spelled}
+use Rattle.ac_script.proofs.Exact.{Found, Begun, Inhabited, Exact}
+use Rattle.ac_script.proofs.Arguments.{spelled_some}
+use Rattle.ac_script.proofs.Coming.{decl_on, simple_on, head_on, relined, Coming, item_on_exact}
+
+-- on another line an item has the same parts
+decl_parts_on : (line : ℕ) (decl : Decl) → item_parts (declares (decl_on line decl)) ≡ item_parts (declares decl)
+unfolding item_parts
+decl_parts_on line (TypeDecl _ _ _) = refl
+decl_parts_on line (Object _ _ _ _) = refl
+decl_parts_on line (CursorVar _ _ _) = refl
+decl_parts_on line (IntVar _ _) = refl
+decl_parts_on line (TextVar _ _) = refl
+
+simple_parts_on : (line : ℕ) (simple : Simple) → item_parts (commands (simple_on line simple)) ≡ item_parts (commands simple)
+unfolding item_parts
+simple_parts_on line (call_at _ _ _ _ _) = refl
+simple_parts_on line (set_at _ _ _) = refl
+simple_parts_on line (sum_at _ _ _ _ _) = refl
+
+head_parts_on : (line : ℕ) (head : Head) → item_parts (opens (head_on line head)) ≡ item_parts (opens head)
+unfolding item_parts
+head_parts_on line (loop_at _ _ _ _ _) = refl
+head_parts_on line (view_at _ _ _ _ _) = refl
+head_parts_on line (stable_at _ _) = refl
+head_parts_on line (declare_at _ _) = refl
+
+parts_on : (line : ℕ) (item : Item) → item_parts (relined line item) ≡ item_parts item
+parts_on line (declares decl) = decl_parts_on line decl
+parts_on line (commands simple) = simple_parts_on line simple
+parts_on line (opens head) = head_parts_on line head
+parts_on line begins = refl
+parts_on line (closes _) = refl
+
+-- and may come where it may
+entered_on : (blocks : List Bool) (line : ℕ) (head : Head) → entered blocks (head_on line head) ≡ entered blocks head
+entered_on blocks line (loop_at _ _ _ _ _) = refl
+entered_on blocks line (view_at _ _ _ _ _) = refl
+entered_on blocks line (stable_at _ _) = refl
+entered_on blocks line (declare_at _ []) = refl
+entered_on blocks line (declare_at _ (_ ∷ _)) = refl
+
+next_on : (blocks : List Bool) (stage : Stage) (line : ℕ) (item : Item) → next_after blocks stage (relined line item) ≡ next_after blocks stage item
+next_on blocks listing line (declares _) = refl
+next_on blocks heading line (declares _) = refl
+next_on blocks running line (declares _) = refl
+next_on blocks listing line (commands _) = refl
+next_on blocks heading line (commands _) = refl
+next_on blocks running line (commands _) = refl
+next_on blocks listing line (opens head) = entered_on blocks line head
+next_on blocks heading line (opens _) = refl
+next_on blocks running line (opens head) = entered_on blocks line head
+next_on blocks stage line begins = refl
+next_on blocks stage line (closes _) = refl
+
+may_on : (blocks : List Bool) (stage : Stage) (line : ℕ) (item : Item) → MayCome blocks stage item → MayCome blocks stage (relined line item)
+may_on blocks stage line item may = record { next = may.next; leads = next_on blocks stage line item ∙ may.leads }
+
+-- it begins on that line
+begins_on : (first : Placed) (others : List Placed) (item : Item) → BeginsOn (item_line (relined first.line item)) (first ∷ others)
+begins_on first others (declares (TypeDecl _ _ _)) = refl
+begins_on first others (declares (Object _ _ _ _)) = refl
+begins_on first others (declares (CursorVar _ _ _)) = refl
+begins_on first others (declares (IntVar _ _)) = refl
+begins_on first others (declares (TextVar _ _)) = refl
+begins_on first others (commands (call_at _ _ _ _ _)) = refl
+begins_on first others (commands (set_at _ _ _)) = refl
+begins_on first others (commands (sum_at _ _ _ _ _)) = refl
+begins_on first others (opens (loop_at _ _ _ _ _)) = refl
+begins_on first others (opens (view_at _ _ _ _ _)) = refl
+begins_on first others (opens (stable_at _ _)) = refl
+begins_on first others (opens (declare_at _ _)) = refl
+begins_on first others begins = tt
+begins_on first others (closes _) = tt
+
+-- and is the same item where it began there
+lined : (first : Placed) (others : List Placed) (item : Item) → BeginsOn (item_line item) (first ∷ others) → relined first.line item ≡ item
+lined first others (declares (TypeDecl _ name def)) e = ap (λ line. declares (TypeDecl line name def)) e
+lined first others (declares (Object _ name of capacity)) e = ap (λ line. declares (Object line name of capacity)) e
+lined first others (declares (CursorVar _ name of)) e = ap (λ line. declares (CursorVar line name of)) e
+lined first others (declares (IntVar _ name)) e = ap (λ line. declares (IntVar line name)) e
+lined first others (declares (TextVar _ name)) e = ap (λ line. declares (TextVar line name)) e
+lined first others (commands (call_at _ target object operation args)) e = ap (λ line. commands (call_at line target object operation args)) e
+lined first others (commands (set_at _ target from)) e = ap (λ line. commands (set_at line target from)) e
+lined first others (commands (sum_at _ target from minus number)) e = ap (λ line. commands (sum_at line target from minus number)) e
+lined first others (opens (loop_at _ name elements backward object)) e = ap (λ line. opens (loop_at line name elements backward object)) e
+lined first others (opens (view_at _ kind object at name)) e = ap (λ line. opens (view_at line kind object at name)) e
+lined first others (opens (stable_at _ object)) e = ap (λ line. opens (stable_at line object)) e
+lined first others (opens (declare_at _ decls)) e = ap (λ line. opens (declare_at line decls)) e
+lined first others begins e = refl
+lined first others (closes _) e = refl
+
+-- an item has a part
+has_part : (item : Item) → 1 ≤ length (item_parts item)
+unfolding item_parts
+has_part (declares (TypeDecl _ _ _)) = omega arith
+has_part (declares (Object _ _ _ _)) = omega arith
+has_part (declares (CursorVar _ _ _)) = omega arith
+has_part (declares (IntVar _ _)) = omega arith
+has_part (declares (TextVar _ _)) = omega arith
+has_part (commands (call_at _ None _ _ _)) = omega arith
+has_part (commands (call_at _ (Some _) _ _ _)) = omega arith
+has_part (commands (set_at _ _ _)) = omega arith
+has_part (commands (sum_at _ _ _ _ _)) = omega arith
+has_part (opens (loop_at _ _ _ _ _)) = omega arith
+has_part (opens (view_at _ view.Query _ _ _)) = omega arith
+has_part (opens (view_at _ view.Update _ _ _)) = omega arith
+has_part (opens (view_at _ view.UpdateKey _ _ _)) = omega arith
+has_part (opens (view_at _ view.Reference _ _ _)) = omega arith
+has_part (opens (stable_at _ _)) = omega arith
+has_part (opens (declare_at _ _)) = omega arith
+has_part begins = omega arith
+has_part (closes true) = omega arith
+has_part (closes false) = omega arith
+
+-- some tokens
+record Nonempty (placed : List Placed) : Type 0 where
+  first : Placed
+  others : List Placed
+  whole : placed ≡ first ∷ others
+
+nonempty : (item : Item) (placed : List Placed) → Spelled (item_parts item) placed → Nonempty placed
+nonempty item [] h = absurd (omega (arith, has_part item, spelled_some (item_parts item) [] h))
+nonempty item (p ∷ placed) h = record { first = p; others = placed; whole = refl }
+
+-- what spells an item is that item on the line of the first token
+is_item : (first : Placed) (others : List Placed) (it : Item) → Spelled (item_parts it) (first ∷ others) → IsItem (relined first.line it) (first ∷ others)
+is_item first others it h = record {
+  spelled = subst (λ ps. AreParts ps (tokens (first ∷ others))) (sym (parts_on first.line it)) h.spelled;
+  begins = begins_on first others it;
+}
+
+module _ (blocks : List Bool) (stage : Stage) where
+  found_front : (p : Placed) (placed : List Placed) (it : Item) (rest : List Placed) → Found (λ (j : Coming blocks stage). relined p.line j.0) (λ j. item_parts j.0) (p ∷ placed) it rest
+      → IsFront blocks stage (p ∷ placed) it rest
+  found_front p placed it rest f =
+      let some = nonempty f.index.0 f.front f.spelled in
+      let all : p ∷ placed ≡ some.first ∷ (some.others ++ rest) = f.whole ∙ ap (λ list. list ++ rest) some.whole in
+      let same : some.first ≡ p = cc all in
+      let is : IsItem (relined some.first.line f.index.0) (some.first ∷ some.others) = is_item some.first some.others f.index.0 (subst (Spelled (item_parts f.index.0)) some.whole f.spelled) in
+      record {
+        first = some.first;
+        others = some.others;
+        whole = all;
+        is = subst (λ it. IsItem it (some.first ∷ some.others)) (ap (λ (p : Placed). relined p.line f.index.0) same ∙ sym f.value) is;
+        may = subst (MayCome blocks stage) (sym f.value) (may_on blocks stage p.line f.index.0 f.index.1);
+      }
+
+  item_found : (placed : List Placed) (it : Item) (rest : List Placed) → item stage (innermost_of blocks) placed ≡ got it rest → IsFront blocks stage placed it rest
+  item_found [] it rest e = absurd (cc e)
+  item_found (p ∷ placed) it rest e = found_front p placed it rest ((item_on_exact blocks stage p.line).found (p ∷ placed) it rest e)
+
+  only_front : (it : Item) (p : Placed) (others rest : List Placed) → MayCome blocks stage it → IsItem it (p ∷ others) → item stage (innermost_of blocks) ((p ∷ others) ++ rest) ≡ got it rest
+  only_front it p others rest may is =
+      (item_on_exact blocks stage p.line).only (it, may) (p ∷ others) rest (record { spelled = is.spelled }) ∙ ap (λ it. got it rest) (lined p others it is.begins)
+
+  item_only : (it : Item) (front rest : List Placed) → MayCome blocks stage it → IsItem it front → item stage (innermost_of blocks) (front ++ rest) ≡ got it rest
+  item_only it [] rest may is = absurd (empty_item (nonempty it [] (record { spelled = is.spelled }))) where
+    empty_item : Nonempty [] → ⊥
+    empty_item some = absurd (cc (some.whole))
+  item_only it (p ∷ front) rest may is = only_front it p front rest may is
+
+  begun_by : (placed at before more : List Placed) (j : Coming blocks stage) → placed ≡ before ++ at → Spelled (item_parts j.0) (before ++ more) → IsBegun blocks stage placed at
+  begun_by placed at before more j whole h =
+      let some = nonempty j.0 (before ++ more) h in
+      record {
+        before = before;
+        more = more;
+        item = relined some.first.line j.0;
+        whole = whole;
+        is = subst (IsItem (relined some.first.line j.0)) (sym some.whole) (is_item some.first some.others j.0 (subst (Spelled (item_parts j.0)) some.whole h));
+        may = may_on blocks stage some.first.line j.0 j.1;
+      }
+
+  item_begun : (placed at : List Placed) → item stage (innermost_of blocks) placed ≡ stopped at → IsBegun blocks stage placed at
+  item_begun [] at e =
+      let some = (item_on_exact blocks stage 0).some in
+      begun_by [] at [] some.front some.index (cc e) some.spelled
+  item_begun (p ∷ placed) at e =
+      let begun = (item_on_exact blocks stage p.line).begun (p ∷ placed) at e in
+      begun_by (p ∷ placed) at begun.before begun.more begun.index begun.whole begun.spelled
+
+  bad_by : (before : List Placed) (b : Placed) (after more : List Placed) (it : Item) (line : ℕ) → item_on stage (innermost_of blocks) line (before ++ b ∷ after) ≡ stopped (b ∷ after)
+      → MayCome blocks stage it → IsItem it (before ++ b ∷ more) → ⊥
+  bad_by before b after more it line e may is = (item_on_exact blocks stage line).bad before b after more (it, may) e (record { spelled = is.spelled })
+
+  bad_at : (before : List Placed) (b : Placed) (after more : List Placed) (it : Item) → item stage (innermost_of blocks) (before ++ b ∷ after) ≡ stopped (b ∷ after)
+      → MayCome blocks stage it → IsItem it (before ++ b ∷ more) → ⊥
+  bad_at [] b after more it e may is = bad_by [] b after more it b.line e may is
+  bad_at (p ∷ before) b after more it e may is = bad_by (p ∷ before) b after more it p.line e may is
+
+  item_bad : (placed before : List Placed) (b : Placed) (after more : List Placed) (it : Item) → item stage (innermost_of blocks) placed ≡ stopped (b ∷ after) → placed ≡ before ++ b ∷ after
+      → MayCome blocks stage it → IsItem it (before ++ b ∷ more) → ⊥
+  item_bad placed before b after more it e whole may is = bad_at before b after more it (ap (item stage (innermost_of blocks)) (sym whole) ∙ e) may is
+
+  pub items_read : ReadsItems blocks stage (item stage (innermost_of blocks))
+  items_read = record { found = item_found; only = item_only; begun = item_begun; bad = item_bad }

@@ -1,0 +1,10 @@
+//! What holds of the readers of this crate.
+ghost use Rattle.std.specs.Prelude.{Bool, List};
+ghost use Rattle.ac_syntax.specs.Order.{Stage};
+ghost use Rattle.ac_script.specs.ItemReader.{item, innermost_of};
+ghost use Rattle.ac_script.specs.ExactItems.{ReadsItems};
+
+/// In each context the items that may come are read, and reading stops at the first token with which none begins.
+pub fn items_read()
+    ensures { (blocks : List Bool) (stage : Stage) → ReadsItems blocks stage (item stage (innermost_of blocks)) }
+{}
