@@ -1,5 +1,5 @@
 -- The items that may come are those that are read.
-use Rattle.std.proofs.Common.{◌≡◌, ℕ, Bool, true, false, List, [], ◌∷◌, ◌++◌, refl, sym, ap, subst, ◌∙◌, ◌⊎◌, inl, inr, Option, Some, None, codes, if◌then◌else◌}
+use Rattle.std.proofs.Common.{◌≡◌, ℕ, Bool, true, false, List, [], ◌∷◌, refl, ap, subst, inl, inr, Some, None, codes}
 use Rattle.std.proofs.lemmas.Option.{none-some}
 use Rattle.ac_syntax.specs.Code.{Simple, call_at, set_at, sum_at, Head, loop_at, view_at, stable_at, declare_at}
 use Rattle.ac_syntax.specs.Items.{Item, declares, commands, opens, begins, closes}
@@ -10,14 +10,13 @@ use Rattle.ac_syntax.specs.declared.view_kind.ViewKind.TheVariants as view
 use Rattle.ac_syntax.specs.declared.token.Placed.{Placed}
 use Rattle.ac_syntax.specs.declared.token.Mark.TheVariants.{Colon}
 use Rattle.ac_syntax.specs.Parts.{Part, says, marks, names, decl_parts, simple_parts, head_parts, item_parts}
-use Rattle.ac_script.specs.declared.head.Lead.{Lead}
 use Rattle.ac_script.specs.declared.head.Lead.TheVariants as lead
 use Rattle.ac_script.specs.ItemReader.{item_on, innermost_of}
 use Rattle.ac_script.specs.ExactItems.{MayCome}
 use Rattle.ac_script.proofs.Spelled.{Spelled}
 use Rattle.ac_script.proofs.Exact.{Exact, respelled}
 use Rattle.ac_script.proofs.DeclarationsExact.{Declared, an_integer, a_text, a_cursor, an_object, declared_decl, declared_parts}
-use Rattle.ac_script.proofs.HeadsExact.{lead_word, Told, told_head, told_parts}
+use Rattle.ac_script.proofs.HeadsExact.{told_head}
 use Rattle.ac_script.proofs.CommandsExact.{a_value, a_result, a_sum, Commanded, a_call, an_assignment, commanded_simple, commanded_parts}
 use Rattle.ac_script.proofs.ItemsExact.{Typed, typed_item, typed_parts, Block, block_item, block_parts, Statement, statement_item, statement_parts, statement_exact, Listed, listed_item, listed_parts, in_listing_exact, Headed, headed_item, headed_parts, in_heading_exact}
 

@@ -1,23 +1,21 @@
 -- The readers of commands are exact.
-use Rattle.std.proofs.Common.{◌≡◌, ℕ, Bool, true, false, List, [], ◌∷◌, ◌++◌, refl, sym, ap, subst, ◌∙◌, ◌⊎◌, inl, inr, Option, Some, None, codes, if◌then◌else◌}
+use Rattle.std.proofs.Common.{◌≡◌, ℕ, Bool, true, false, List, [], ◌∷◌, ◌++◌, refl, sym, ap, ◌⊎◌, inl, inr, Option, Some, None, if◌then◌else◌}
 use Rattle.std.proofs.lemmas.Option.{none-some, same_Some}
 use Rattle.ac_syntax.specs.Code.{Simple, call_at, set_at, sum_at}
 use Rattle.ac_syntax.specs.declared.arg.Arg.{Arg}
-use Rattle.ac_syntax.specs.declared.arg.Arg.TheVariants.{Lit, NoElement, Var}
+use Rattle.ac_syntax.specs.declared.arg.Arg.TheVariants.{Var}
 use Rattle.ac_syntax.specs.declared.token.Token.{Token}
 use Rattle.ac_syntax.specs.declared.token.Token.TheVariants.{Word, Number, Text}
 use Rattle.ac_syntax.specs.declared.token.Token.TheVariants as token
 use Rattle.ac_syntax.specs.declared.token.Placed.{Placed}
 use Rattle.ac_syntax.specs.declared.token.Mark.{Mark}
 use Rattle.ac_syntax.specs.declared.token.Mark.TheVariants.{Colon, Semicolon, Comma, Open, Close, Dot, Assign, Plus, Minus}
-use Rattle.ac_syntax.specs.Parts.{Part, says, marks, names, counts, arg_part, args_parts}
-use Rattle.ac_syntax.specs.Grammar.{IsPart}
-use Rattle.ac_script.specs.Outcomes.{gives}
+use Rattle.ac_syntax.specs.Parts.{Part, marks, names, counts, arg_part, args_parts}
 use Rattle.ac_script.specs.Readers.{as_mark}
-use Rattle.ac_script.specs.Commands.{negative, call, set_end, as_sign, sum, sum_or_set, behind_source, from_name, from_negative, from_other, assigned, assignment, command}
+use Rattle.ac_script.specs.Commands.{as_constant, negative, call, set_end, as_sign, sum, sum_or_set, behind_source, from_name, from_negative, from_other, assigned, assignment, command}
 use Rattle.ac_script.proofs.Cases.{either_by}
 use Rattle.ac_script.proofs.Spelled.{Spelled}
-use Rattle.ac_script.proofs.Exact.{Exact, seq, give, mapped, recast, respelled}
+use Rattle.ac_script.proofs.Exact.{Exact, seq, mapped, recast, respelled}
 use Rattle.ac_script.proofs.Forks.{Looks, Starts, single, forked, either_value}
 use Rattle.ac_script.proofs.Looked.{mark_looks, name_looks, number_looks, mark_apart}
 use Rattle.ac_script.proofs.Arguments.{Constant, constant_arg, constant_part, constant_looks, a_constant, a_negative, a_variable, Written, written_arg, written_parts, written_into, written_from, not_minus, not_constant, arguments_end_exact}
@@ -117,8 +115,8 @@ from_other_exact line target =
     (either_by _ (λ i. (inl i.1, refl, refl)) (λ i. (inr i, refl, refl)))
     (either_by _ (λ n. (inl (tt, n), refl, refl)) (λ i. (inr i, refl, refl)))
 
-other_apart : (i : ℕ ⊎ (List ℕ × Behind)) (placed : List Placed) → Spelled (other_parts i) placed → Starts Rattle.ac_script.specs.Commands.as_constant None placed
-other_apart (inl n) placed h = mark_apart Rattle.ac_script.specs.Commands.as_constant Minus _ refl placed h
+other_apart : (i : ℕ ⊎ (List ℕ × Behind)) (placed : List Placed) → Spelled (other_parts i) placed → Starts as_constant None placed
+other_apart (inl n) placed h = mark_apart as_constant Minus _ refl placed h
 other_apart (inr i) placed h = not_constant i.0 (behind_parts i.1) placed h
 
 -- what is assigned

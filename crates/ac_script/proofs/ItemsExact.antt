@@ -1,11 +1,8 @@
 -- The reader of one item is exact, on each line.
-use Rattle.std.proofs.Common.{◌≡◌, ℕ, Bool, true, false, List, [], ◌∷◌, ◌++◌, refl, sym, ap, subst, ◌∙◌, ◌⊎◌, inl, inr, Option, Some, None, codes, if◌then◌else◌}
-use Rattle.std.proofs.lemmas.Option.{none-some}
-use Rattle.ac_syntax.specs.Code.{Simple, call_at, set_at, sum_at, Head, loop_at, view_at, stable_at, declare_at}
+use Rattle.std.proofs.Common.{◌≡◌, ℕ, Bool, true, false, List, [], ◌∷◌, ◌++◌, refl, ◌⊎◌, inl, inr, Option, Some, None, codes}
 use Rattle.ac_syntax.specs.Items.{Item, declares, commands, opens, begins, closes}
 use Rattle.ac_syntax.specs.Order.{Stage, listing, heading, running}
-use Rattle.ac_syntax.specs.declared.decl.Decl.{Decl}
-use Rattle.ac_syntax.specs.declared.decl.Decl.TheVariants.{TypeDecl, Object, CursorVar, IntVar, TextVar}
+use Rattle.ac_syntax.specs.declared.decl.Decl.TheVariants.{TypeDecl}
 use Rattle.ac_syntax.specs.declared.type_def.TypeDef.{TypeDef}
 use Rattle.ac_syntax.specs.declared.token.Token.TheVariants.{Word}
 use Rattle.ac_syntax.specs.declared.token.Placed.{Placed}
@@ -14,7 +11,6 @@ use Rattle.ac_syntax.specs.Parts.{Part, says, marks, names, type_parts}
 use Rattle.ac_syntax.specs.Grammar.{reserved, is_reserved}
 use Rattle.ac_script.specs.declared.head.Lead.{Lead}
 use Rattle.ac_script.specs.declared.head.Lead.TheVariants as lead
-use Rattle.ac_script.specs.Outcomes.{gives}
 use Rattle.ac_script.specs.Readers.{as_word, as_word_of, as_mark}
 use Rattle.ac_script.specs.Heads.{late_lead, lead_of}
 use Rattle.ac_script.specs.ItemReader.{closing, type_item, declared_item, command_item, head_item, behind_name, named, ended, statement, in_listing, type_or_named, in_heading}
@@ -166,8 +162,15 @@ statement_parts stage innermost = either_value block_parts (ended_parts stage in
 not_lead : (v : List ℕ) → is_reserved v ≡ false → lead_of v ≡ None
 unfolding lead_of late_lead reserved is_reserved
 not_lead v free =
-    rw (free_apart v (codes "for") refl free, free_apart v (codes "query") refl free, free_apart v (codes "update") refl free, free_apart v (codes "update_key") refl free,
-        free_apart v (codes "reference") refl free, free_apart v (codes "stable") refl free, free_apart v (codes "declare") refl free) refl
+    rw (
+      free_apart v (codes "for") refl free,
+      free_apart v (codes "query") refl free,
+      free_apart v (codes "update") refl free,
+      free_apart v (codes "update_key") refl free,
+      free_apart v (codes "reference") refl free,
+      free_apart v (codes "stable") refl free,
+      free_apart v (codes "declare") refl free,
+    ) refl
 
 end_leads : lead_of (codes "end") ≡ None
 unfolding lead_of late_lead

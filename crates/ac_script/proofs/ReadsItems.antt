@@ -1,5 +1,5 @@
 -- The reader of an item reads the items that may come.
-use Rattle.std.proofs.Common.{◌≡◌, ◌≤◌, ℕ, Bool, true, false, List, [], ◌∷◌, ◌++◌, length, refl, sym, ap, subst, ◌∙◌, Option, Some, None, arith}
+use Rattle.std.proofs.Common.{◌≡◌, ◌<◌, ◌≤◌, length-append, ℕ, Bool, true, false, List, [], ◌∷◌, ◌++◌, length, refl, sym, ap, subst, ◌∙◌, Some, None, arith}
 use Rattle.ac_syntax.specs.Code.{Simple, call_at, set_at, sum_at, Head, loop_at, view_at, stable_at, declare_at}
 use Rattle.ac_syntax.specs.Items.{Item, declares, commands, opens, begins, closes, item_line}
 use Rattle.ac_syntax.specs.Order.{Stage, listing, heading, running, entered, next_after}
@@ -8,13 +8,13 @@ use Rattle.ac_syntax.specs.declared.decl.Decl.TheVariants.{TypeDecl, Object, Cur
 use Rattle.ac_syntax.specs.declared.view_kind.ViewKind.TheVariants as view
 use Rattle.ac_syntax.specs.declared.token.Placed.{Placed}
 use Rattle.ac_syntax.specs.Tokens.{tokens}
-use Rattle.ac_syntax.specs.Parts.{Part, item_parts}
+use Rattle.ac_syntax.specs.Parts.{item_parts}
 use Rattle.ac_syntax.specs.Grammar.{AreParts, BeginsOn, IsItem}
 use Rattle.ac_script.specs.Outcomes.{got, stopped}
 use Rattle.ac_script.specs.ItemReader.{item_on, item, innermost_of}
 use Rattle.ac_script.specs.ExactItems.{MayCome, IsFront, IsBegun, ReadsItems}
 use Rattle.ac_script.proofs.Spelled.{Spelled}
-use Rattle.ac_script.proofs.Exact.{Found, Begun, Inhabited, Exact}
+use Rattle.ac_script.proofs.Exact.{Found}
 use Rattle.ac_script.proofs.Arguments.{spelled_some}
 use Rattle.ac_script.proofs.Coming.{decl_on, simple_on, head_on, relined, Coming, item_on_exact}
 
@@ -210,3 +210,9 @@ module _ (blocks : List Bool) (stage : Stage) where
 
   pub items_read : ReadsItems blocks stage (item stage (innermost_of blocks))
   items_read = record { found = item_found; only = item_only; begun = item_begun; bad = item_bad }
+
+-- what is read leaves fewer tokens
+pub item_leaves : (blocks : List Bool) (stage : Stage) (placed : List Placed) (it : Item) (rest : List Placed) → item stage (innermost_of blocks) placed ≡ got it rest → length rest < length placed
+item_leaves blocks stage placed it rest e =
+    let front = (items_read blocks stage).found placed it rest e in
+    omega (arith, ap length front.whole, length-append front.others rest)

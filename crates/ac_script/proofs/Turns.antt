@@ -37,8 +37,8 @@ pub continues : (args : List Arg) (placed after : List Placed) (a : Arg) (rest :
 continues args placed after a rest first all h e f = record { same = sym (follow_more args a (more_arguments rest)) ∙ ap (follow args) (sym turned) ∙ h.same } where
   turned : more_arguments placed ≡ onward (more_arguments rest) (λ others. gives (a ∷ others))
   turned = more_turn placed
-    ∙ ap (λ (o : Outcome (Unit {0})). either o (λ _. argument >>= λ a. more_arguments >>= λ others. gives (a ∷ others)) (mark Close >>= λ _. gives []) placed) e
-    ∙ ap (λ (o : Outcome Arg). onward o (λ a. more_arguments >>= λ others. gives (a ∷ others))) f
+      ∙ ap (λ (o : Outcome (Unit {0})). either o (λ _. argument >>= λ a. more_arguments >>= λ others. gives (a ∷ others)) (mark Close >>= λ _. gives []) placed) e
+      ∙ ap (λ (o : Outcome Arg). onward o (λ a. more_arguments >>= λ others. gives (a ∷ others))) f
 
 -- no argument behind a comma
 pub stops_behind_comma : (args : List Arg) (placed after at : List Placed) (first : Arg) (all : List Placed) → Continues args placed first all
@@ -46,8 +46,8 @@ pub stops_behind_comma : (args : List Arg) (placed after at : List Placed) (firs
 stops_behind_comma args placed after at first all h e f = sym h.same ∙ ap (follow args) turned where
   turned : more_arguments placed ≡ stopped at
   turned = more_turn placed
-    ∙ ap (λ (o : Outcome (Unit {0})). either o (λ _. argument >>= λ a. more_arguments >>= λ others. gives (a ∷ others)) (mark Close >>= λ _. gives []) placed) e
-    ∙ ap (λ (o : Outcome Arg). onward o (λ a. more_arguments >>= λ others. gives (a ∷ others))) f
+      ∙ ap (λ (o : Outcome (Unit {0})). either o (λ _. argument >>= λ a. more_arguments >>= λ others. gives (a ∷ others)) (mark Close >>= λ _. gives []) placed) e
+      ∙ ap (λ (o : Outcome Arg). onward o (λ a. more_arguments >>= λ others. gives (a ∷ others))) f
 
 -- no comma: the end
 ends_by : (args : List Arg) (placed : List Placed) (first : Arg) (all : List Placed) → Continues args placed first all → mark Comma placed ≡ stopped placed

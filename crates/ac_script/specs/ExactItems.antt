@@ -1,5 +1,5 @@
 -- What it is to read the items that may come, no more and no less.
-use Rattle.std.specs.Prelude.{◌≡◌, Bool, List, [], ◌∷◌, ◌++◌, Some}
+use Rattle.std.specs.Prelude.{◌≡◌, Bool, List, ◌∷◌, ◌++◌, Some}
 use Rattle.ac_syntax.specs.declared.token.Placed.{Placed}
 use Rattle.ac_syntax.specs.Items.{Item}
 use Rattle.ac_syntax.specs.Grammar.{IsItem}

@@ -6,7 +6,7 @@ ghost use Rattle.ac_script.specs.Arguments.{argument_view};
 ghost use Rattle.ac_script.specs.Views.{command_view};
 ghost use Rattle.ac_script.specs.Commands as commands;
 
-use crate::argument::{Argument, Arguments, constant, arguments_end};
+use crate::argument::{Argument, Arguments, arguments_end, constant};
 use crate::item::Command;
 use crate::names::{copy, copy_any};
 use crate::reader::{find_mark, mark, name, number};

@@ -1,4 +1,4 @@
-//! Items as they are read: the order in which they may come is looked at elsewhere.
+//! Items as they are read, their numbers of any size.
 
 use crate::argument::{Argument, Arguments};
 use ac_syntax::{Decl, Ident, ViewKind};

@@ -164,11 +164,7 @@ fn in_listing(
 }
 
 #[tactic(auto, unfolding(crate::specs::ItemReader::type_or_named))]
-fn type_or_named(
-    alloc: Global,
-    line: u64,
-    tokens: &[Placed],
-) -> Result<(Item, &[Placed]), Stop<'_>>
+fn type_or_named(alloc: Global, line: u64, tokens: &[Placed]) -> Result<(Item, &[Placed]), Stop<'_>>
     ensures { Sees (λ read. (item_view read.0, read.1.now)) result (readers.type_or_named line tokens.now) }
 {
     match find_word(tokens, b"type") {

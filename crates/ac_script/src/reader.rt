@@ -1,4 +1,4 @@
-//! Readers of one token. Those that only look answer None where it isn't the one that is wanted.
+//! Readers of one token: `find_` answers None where it isn't the one that is wanted, the others stop there.
 ghost use Rattle.std.specs.Prelude.{◌≡◌};
 ghost use Rattle.std.specs.Str.{bytes_eq};
 ghost use Rattle.ac_script.specs.Outcomes.{Sees, Finds};
@@ -8,6 +8,7 @@ use crate::reserved::is_reserved;
 use crate::stop::Stop;
 use ac_syntax::{Ident, Mark, Placed, Token};
 
+/// Whether a word is the wanted one.
 pub fn is(word: &[u8], wanted: &[u8]) -> bool
     ensures { result ≡ bytes_eq word.now wanted.now }
 {
