@@ -18,3 +18,4 @@ mod CommandsExact
 mod ItemsExact
 mod Coming
 mod ReadsItems
+mod Readings

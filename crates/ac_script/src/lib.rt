@@ -15,6 +15,7 @@ mod item_reader;
 mod law;
 mod names;
 mod reader;
+mod reading;
 mod reserved;
 mod stage;
 mod stop;
@@ -24,5 +25,5 @@ pub use ac_syntax::{
     TypeDef, ViewKind,
 };
 pub use fault::ScriptFault;
-pub use law::items_read;
+pub use law::{items_read, one_script};
 pub use printer::print;
