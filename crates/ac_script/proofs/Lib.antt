@@ -19,3 +19,4 @@ mod ItemsExact
 mod Coming
 mod ReadsItems
 mod Readings
+mod Refusals

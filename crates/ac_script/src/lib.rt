@@ -4,6 +4,7 @@
 mod cut;
 mod fault;
 mod limits;
+mod parser;
 mod piece;
 mod printer;
 mod argument;
@@ -26,4 +27,5 @@ pub use ac_syntax::{
 };
 pub use fault::ScriptFault;
 pub use law::{items_read, one_script};
+pub use parser::parse;
 pub use printer::print;

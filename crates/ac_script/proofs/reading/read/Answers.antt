@@ -1,7 +1,7 @@
-use Rattle.std.proofs.Common.{◌≡◌, reverse, sym, true, ap, subst, ◌∙◌, arith, length, refl}
+use Rattle.std.proofs.Common.{◌≡◌, reverse, sym, ◌∙◌, arith}
 use Rattle.std.proofs.Math.Bool.{true≢false}
 use Rattle.ac_syntax.specs.Order.{IsEnd}
-use Rattle.ac_script.specs.Outcomes.{Outcome, got, stopped}
+use Rattle.ac_script.specs.Outcomes.{got, stopped}
 use Rattle.ac_script.specs.ItemReader.{item, innermost_of}
 use Rattle.ac_script.specs.Readings.{context_of}
 use Rattle.ac_script.specs.Views.{item_view, stage_view}
