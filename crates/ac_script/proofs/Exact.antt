@@ -47,7 +47,7 @@ bound_stopped : {X A : Type 0} (P : Type 0) (o : Outcome X) (k : X → Reader A)
 bound_stopped P (got x r) k at e f g = g x r refl e
 bound_stopped P (stopped other) k at e f g = let same : other ≡ at = cc e in f (ap stopped same)
 
-got_not_stopped : {A : Type 0} (P : Type 0) (o : Outcome A) (a : A) (rest at : List Placed) → o ≡ got a rest → o ≡ stopped at → P
+pub got_not_stopped : {A : Type 0} (P : Type 0) (o : Outcome A) (a : A) (rest at : List Placed) → o ≡ got a rest → o ≡ stopped at → P
 got_not_stopped P o a rest at e f = absurd (cc (e, f))
 
 -- what is spelled by the parts that were read, and then by the parts behind them

@@ -22,3 +22,5 @@ mod Buildings
 mod Lefts
 mod Fits
 mod Written
+mod Readings
+mod Refusals

@@ -10,7 +10,7 @@ use Rattle.ac_syntax.specs.Limits.{is_past_limit, AreWithinLimits}
 use Rattle.ac_syntax.proofs.Withins.{not_ended}
 
 -- a list with one item more is cut at that item, or before it
-cut_at : {X : Type 0} (done before after : List X) (next x : X) → done ++ next ∷ [] ≡ before ++ x ∷ after
+pub cut_at : {X : Type 0} (done before after : List X) (next x : X) → done ++ next ∷ [] ≡ before ++ x ∷ after
     → ((done ≡ before) × (next ≡ x)) ⊎ ((more : List X) × (done ≡ before ++ x ∷ more))
 cut_at [] [] after next x e = inl (refl, cc e)
 cut_at [] (b ∷ before) after next x e = let others : [] ≡ before ++ x ∷ after = cc e in absurd (not_ended before after x others)

@@ -1,5 +1,8 @@
 //! What holds of the readers of this crate.
-ghost use Rattle.std.specs.Prelude.{Bool, List};
+ghost use Rattle.std.specs.Prelude.{◌≡◌, Bool, List};
+ghost use Rattle.ac_syntax.specs.declared.script.Script.{Script};
+ghost use Rattle.ac_syntax.specs.declared.token.Placed.{Placed};
+ghost use Rattle.ac_syntax.specs.Grammar.{Derives};
 ghost use Rattle.ac_syntax.specs.Order.{Stage};
 ghost use Rattle.ac_script.specs.ItemReader.{item, innermost_of};
 ghost use Rattle.ac_script.specs.ExactItems.{ReadsItems};
@@ -7,4 +10,9 @@ ghost use Rattle.ac_script.specs.ExactItems.{ReadsItems};
 /// In each context the items that may come are read, and reading stops at the first token with which none begins.
 pub fn items_read()
     ensures { (blocks : List Bool) (stage : Stage) → ReadsItems blocks stage (item stage (innermost_of blocks)) }
+{}
+
+/// No tokens derive two scripts.
+pub fn one_script()
+    ensures { (placed : List Placed) (script other : Script) → Derives placed script → Derives placed other → script ≡ other }
 {}

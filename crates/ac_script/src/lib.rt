@@ -13,9 +13,11 @@ mod item_reader;
 mod law;
 mod limits;
 mod names;
+mod parser;
 mod piece;
 mod printer;
 mod reader;
+mod reading;
 mod reserved;
 mod stage;
 mod stop;
@@ -25,5 +27,6 @@ pub use ac_syntax::{
     TypeDef, ViewKind,
 };
 pub use fault::ScriptFault;
+pub use law::{items_read, one_script};
+pub use parser::parse;
 pub use printer::print;
-pub use law::items_read;

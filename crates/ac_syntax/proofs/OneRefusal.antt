@@ -1,8 +1,7 @@
 -- A text is refused at one place for one kind, and not where it spells a script.
-use Rattle.std.proofs.Common.{◌≡◌, ℕ, List, [], ◌∷◌, ◌++◌, length, refl, sym, ap, subst, ◌∙◌, append_assoc, length-append, arith}
-use Rattle.std.proofs.lemmas.List.{map-append}
+use Rattle.std.proofs.Common.{◌≡◌, ℕ, List, [], ◌∷◌, ◌++◌, length, refl, sym, ap, subst, ◌∙◌, length-append, arith}
+use Rattle.std.proofs.lemmas.List.{append-nil}
 use Rattle.std.proofs.lemmas.Option.{none-some}
-use Rattle.std.proofs.Math.Bool.{true≢false}
 use Rattle.std.specs.Prelude.{Some, None}
 use Rattle.ac_syntax.specs.declared.token.Placed.{Placed}
 use Rattle.ac_syntax.specs.declared.script.Script.{Script}
@@ -11,6 +10,7 @@ use Rattle.ac_syntax.specs.Tokens.{Cut, cut_of, tokens}
 use Rattle.ac_syntax.specs.Grammar.{Derives}
 use Rattle.ac_syntax.specs.Limits.{AreWithinLimits}
 use Rattle.ac_syntax.specs.Refusals.{Spells, IsBadToken, begins_none, past_limit, HasNoBadToken, IsFirstBad, bad_token, malformed_piece, IsFirstRefusal, first_bad, ends_early}
+use Rattle.ac_syntax.proofs.Withins.{begun_none_bad}
 
 -- where the tokens x and y of one list stand, behind these tokens each
 data Places (xs ys : List Placed) (x y : Placed) : Type 0 where
@@ -81,10 +81,7 @@ one_refusal text line place kind other (ends_early xs x e whole none uneven) (en
 
 -- the tokens of a script have no bad one
 none_in : (placed : List Placed) (script : Script) → Derives placed script → AreWithinLimits (tokens placed) → HasNoBadToken placed
-none_in placed script d within before after bad kind e (begins_none n) =
-    n (after, script, subst (λ all. Derives all script) (e ∙ sym (append_assoc before (bad ∷ []) after)) d)
-none_in placed script d within before after bad kind e (past_limit b past) =
-    true≢false (sym past ∙ within (tokens before) (tokens after) bad.token (ap tokens e ∙ map-append (λ (t : Placed). t.token) before (bad ∷ after)))
+none_in placed script d within = begun_none_bad placed [] script (subst (λ all. Derives all script) (sym (append-nil placed)) d) within
 
 pub spelled_or_refused : (script : Script) (text : List ℕ) (line : ℕ) (kind : RefusalKind) → Spells script text → IsFirstRefusal text line kind → ⊥
 spelled_or_refused script text line kind s (first_bad l k h) =

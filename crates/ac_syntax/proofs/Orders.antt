@@ -162,7 +162,7 @@ script_found xs last e end =
 -- ---- a front that may come can be completed
 
 -- what closes all that is open
-abbrev completion : List Bool → Stage → List Item
+abbrev pub completion : List Bool → Stage → List Item
 completion blocks listing = map closes blocks
 completion blocks heading = begins ∷ map closes blocks
 completion blocks running = map closes blocks
@@ -172,7 +172,7 @@ closing_runs [] = refl
 closing_runs (true ∷ blocks) = closing_runs blocks
 closing_runs (false ∷ blocks) = closing_runs blocks
 
-completes : (blocks : List Bool) (stage : Stage) → (last : Context) × (context_after (at blocks stage) (completion blocks stage) ≡ Some last) × IsEnd last
+pub completes : (blocks : List Bool) (stage : Stage) → (last : Context) × (context_after (at blocks stage) (completion blocks stage) ≡ Some last) × IsEnd last
 completes [] listing = (at_front, refl, record { closed = refl; begun = refl })
 completes (true ∷ blocks) listing = (at [] running, closing_runs blocks, record { closed = refl; begun = refl })
 completes (false ∷ blocks) listing = (at [] running, closing_runs blocks, record { closed = refl; begun = refl })
@@ -184,7 +184,7 @@ further : (o : Option Context) (xs ys : List Item) (c : Context) → ((n : Conte
 further None xs ys c h e = absurd (none-some c e)
 further (Some n) xs ys c h e = h n e
 
-behind : (xs ys : List Item) (from to : Context) → context_after from xs ≡ Some to → context_after from (xs ++ ys) ≡ context_after to ys
+pub behind : (xs ys : List Item) (from to : Context) → context_after from xs ≡ Some to → context_after from (xs ++ ys) ≡ context_after to ys
 behind [] ys from to e = ap (λ (c : Context). context_after c ys) (some_context e)
 behind (x ∷ xs) ys from to e = further (next_after from.blocks from.stage x) xs ys to (λ n p. behind xs ys n to p) e
 

@@ -41,14 +41,14 @@ pub within : (all : List Token) → within_from [] all ≡ true → AreWithinLim
 within all p before after token e = within_at [] all before after token p e
 
 -- tokens that begin a derivation and keep the limits have no bad one
-pub none_bad : (placed more : List Placed) (script : Script)
-    → Derives (placed ++ more) script → within_from [] (tokens placed) ≡ true → HasNoBadToken placed
-none_bad placed more script d p before after bad kind e (begins_none none) = none (after ++ more, script, subst (λ all. Derives all script) (ap (λ all. all ++ more) e ∙ regrouped) d) where
+pub begun_none_bad : (placed more : List Placed) (script : Script) → Derives (placed ++ more) script → AreWithinLimits (tokens placed) → HasNoBadToken placed
+begun_none_bad placed more script d kept before after bad kind e (begins_none none) = none (after ++ more, script, subst (λ all. Derives all script) (ap (λ all. all ++ more) e ∙ regrouped) d) where
   regrouped : (before ++ bad ∷ after) ++ more ≡ (before ++ bad ∷ []) ++ (after ++ more)
   regrouped = append_assoc before (bad ∷ after) more ∙ sym (append_assoc before (bad ∷ []) (after ++ more))
-none_bad placed more script d p before after bad kind e (past_limit _ past) = absurd (true≢false (sym past ∙ kept)) where
+begun_none_bad placed more script d kept before after bad kind e (past_limit _ past) = absurd (true≢false (sym past ∙ kept (tokens before) (tokens after) bad.token split)) where
   split : tokens placed ≡ tokens before ++ bad.token ∷ tokens after
   split = ap tokens e ∙ map-append (λ (t : Placed). t.token) before (bad ∷ after)
 
-  kept : is_past_limit (tokens before) bad.token ≡ false
-  kept = within (tokens placed) p (tokens before) (tokens after) bad.token split
+-- the same by a test that computes
+pub none_bad : (placed more : List Placed) (script : Script) → Derives (placed ++ more) script → within_from [] (tokens placed) ≡ true → HasNoBadToken placed
+none_bad placed more script d p = begun_none_bad placed more script d (within (tokens placed) p)

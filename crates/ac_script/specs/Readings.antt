@@ -1,0 +1,54 @@
+-- What it is to read tokens to their end, or up to the first bad one.
+use Rattle.std.specs.Prelude.{◌≡◌, ℕ, Bool, List, [], ◌∷◌, ◌++◌, map, reverse, Some}
+use Rattle.ac_syntax.specs.declared.token.Placed.{Placed}
+use Rattle.ac_syntax.specs.declared.script.Script.{Script}
+use Rattle.ac_syntax.specs.Items.{Item}
+use Rattle.ac_syntax.specs.Grammar.{AreItems, Derives, BeginsScript}
+use Rattle.ac_syntax.specs.Order.{Context, context_after, at_front, IsEnd}
+use Rattle.ac_script.specs.declared.stage.Stage.{Stage}
+use Rattle.ac_script.specs.declared.reading.Reading.{Reading}
+use Rattle.ac_script.specs.declared.reading.Reading.TheVariants.{Whole, Early, Bad}
+use Rattle.ac_script.specs.Views.{item_view, stage_view}
+
+-- the tokens are these items, with which a script may end
+pub record AreWhole (items : List Item) (placed : List Placed) : Type 0 where
+  pub are : AreItems items placed
+  pub last : Context
+  pub leads : context_after at_front items ≡ Some last
+  pub ends : IsEnd last
+
+-- a script begins with the tokens, and none is all of them
+pub record EndEarly (placed : List Placed) : Type 0 where
+  pub begins : BeginsScript placed
+  pub none : (script : Script) → Derives placed script → ⊥
+
+-- on this line stands the first token with which no script begins
+pub record HasBad (placed : List Placed) (line : ℕ) : Type 0 where
+  pub before : List Placed
+  pub bad : Placed
+  pub after : List Placed
+  pub whole : placed ≡ before ++ bad ∷ after
+  pub on : bad.line ≡ line
+  pub begins : BeginsScript before
+  pub none : BeginsScript (before ++ bad ∷ []) → ⊥
+
+abbrev pub IsReading : Reading → List Placed → Type 0
+IsReading (Whole items) placed = AreWhole (map item_view items.items) placed
+IsReading Early placed = EndEarly placed
+IsReading (Bad line) placed = HasBad placed line
+
+-- what reading comes to where it stopped at these tokens
+abbrev pub reading_at : List Placed → Reading
+reading_at [] = Early
+reading_at (bad ∷ _) = Bad bad.line
+
+-- the context where these blocks are open, the outermost first
+abbrev pub context_of : List Bool → Stage → Context
+context_of open_blocks stage = record { blocks = reverse open_blocks; stage = stage_view stage }
+
+-- behind these items, which lead to the context, the rest of the tokens is left
+pub record AreRead (items : List Item) (context : Context) (placed rest : List Placed) : Type 0 where
+  pub done : List Placed
+  pub whole : placed ≡ done ++ rest
+  pub are : AreItems items done
+  pub leads : context_after at_front items ≡ Some context

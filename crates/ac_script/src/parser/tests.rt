@@ -1,0 +1,53 @@
+use super::*;
+use crate::printer::print;
+use std::test::Fail;
+
+/// Every declaration, command and head, as they are printed.
+const EVERY_FORM: &[u8] = b"type m is hashed_map (integer, string);
+type s is bounded ordered_set (string) keyed;
+a : m; b : s (8);
+c : m.cursor; n : integer; t : string;
+n := n + 1; n := n - 2; c := no_element;
+t := a.element (c); a.insert (-1, \"a\"\"\", c);
+update a at c as x do end; reference y of a at c do
+stable a do end; end;
+update_key b at d as z do end; for e of a loop end loop;
+query h as q do end;
+";
+
+/// Blocks in blocks, one of them with declarations.
+const NESTED: &[u8] = b"type l is list (integer); a : l;
+for c in reverse a loop
+query a at c as x do
+a.append (x, 2); end; end loop;
+
+declare b : l; begin x := b.length; end;
+";
+
+#[test]
+fn takes_scripts(rt: HostRuntime) -> Result<(), Fail> {
+    let alloc = rt.alloc();
+    for text in [EVERY_FORM, NESTED] {
+        let script = parse(alloc, text)?;
+        let printed = print(alloc, &script)?;
+        assert_eq!(rt; printed.as_slice(), text);
+    }
+    Ok(())
+}
+
+#[test]
+fn refuses_a_block_left_open(rt: HostRuntime) {
+    let refused = parse(
+        rt.alloc(),
+        b"type L is list (integer);\nA : L;\nfor C in A loop",
+    );
+    assert!(rt;
+        matches!(
+            refused,
+            Err(ScriptFault::Refused {
+                line: 3,
+                kind: RefusalKind::Syntax
+            })
+        )
+    );
+}

@@ -1,0 +1,109 @@
+//! The items of a script, read one after another.
+ghost use Rattle.std.specs.Prelude.{◌≡◌, Bool, true, reverse, IfOk, Some};
+ghost use Rattle.ac_syntax.specs.Order.{Context, entered, left_behind, next_after, IsEnd};
+ghost use Rattle.ac_script.specs.ItemReader.{innermost_of};
+ghost use Rattle.ac_script.specs.Views.{item_view, head_view, stage_view};
+ghost use Rattle.ac_script.specs.Readings.{IsReading, context_of, reading_at};
+
+use crate::item::{Head, Item};
+use crate::item_reader::read_item;
+use crate::stage::Stage;
+use crate::stop::Stop;
+use ac_base::NoMemory;
+use ac_syntax::Placed;
+use std::alloc::Global;
+
+/// What the tokens of a text come to.
+#[derive(Drop)]
+pub enum Reading {
+    /// The items of a script.
+    Whole(Vec<Item>),
+    /// They end too early.
+    Early,
+    /// On this line stands the first one with which no script begins.
+    Bad { line: u64 },
+}
+
+/// Whether the innermost open block is a loop, where one is open.
+fn innermost(open_blocks: &[bool]) -> Option<bool>
+    ensures { result ≡ innermost_of (reverse open_blocks.now) }
+{
+    match open_blocks {
+        [.., last] => Some(*last),
+        [] => None,
+    }
+}
+
+/// Opens a block.
+fn enter(open_blocks: &mut Vec<bool>, head: &Head) -> Result<Stage, NoMemory>
+    ensures { IfOk result (λ reached. entered (reverse open_blocks.old.items) (head_view head.now) ≡ Some (context_of open_blocks.new.items reached)) }
+{
+    open_blocks.push(matches!(head, Head::Loop { .. }))?;
+    Ok(match head {
+        Head::Declare { .. } => Stage::Heading,
+        _ => Stage::Running,
+    })
+}
+
+/// Closes the innermost block.
+fn leave(open_blocks: &mut Vec<bool>) -> Stage
+    ensures { (is_loop : Bool) (next : Context) → left_behind is_loop (reverse open_blocks.old.items) ≡ Some next → context_of open_blocks.new.items result ≡ next }
+{
+    open_blocks.pop();
+    Stage::Running
+}
+
+/// How far the script has come behind an item that may come.
+fn after(open_blocks: &mut Vec<bool>, stage: Stage, item: &Item) -> Result<Stage, NoMemory>
+    ensures { IfOk result (λ reached. (next : Context) → next_after (reverse open_blocks.old.items) (stage_view stage) (item_view item.now) ≡ Some next → context_of open_blocks.new.items reached ≡ next) }
+{
+    match item {
+        Item::Declares(_) => Ok(stage),
+        Item::Commands(_) | Item::Begins => Ok(Stage::Running),
+        Item::Opens(head) => enter(open_blocks, head),
+        Item::Closes { .. } => Ok(leave(open_blocks)),
+    }
+}
+
+/// Why reading stopped at these tokens.
+fn stopped(at: &[Placed]) -> Reading
+    ensures { result ≡ reading_at at.now }
+{
+    match at {
+        [bad, ..] => Reading::Bad { line: bad.line },
+        [] => Reading::Early,
+    }
+}
+
+/// A script may end where these blocks are open.
+fn may_end(open_blocks: &[bool], stage: Stage) -> bool
+    ensures ends { result ≡ true → IsEnd (context_of open_blocks.now stage) }
+    ensures only { IsEnd (context_of open_blocks.now stage) → result ≡ true }
+{
+    open_blocks.is_empty() && !matches!(stage, Stage::Heading)
+}
+
+/// Reads the items that the tokens are, up to the first bad token.
+pub fn read(alloc: Global, tokens: &[Placed]) -> Result<Reading, NoMemory>
+    ensures { IfOk result (λ reading. IsReading reading tokens.now) }
+{
+    let mut items = Vec::new(alloc);
+    let mut open_blocks = Vec::new(alloc);
+    let mut stage = Stage::Listing;
+    let mut rest = tokens;
+    while !rest.is_empty() {
+        match read_item(alloc, stage, innermost(&open_blocks), rest) {
+            Ok((item, behind)) => {
+                stage = after(&mut open_blocks, stage, &item)?;
+                items.push(item)?;
+                rest = behind;
+            }
+            Err(Stop::At(at)) => return Ok(stopped(at)),
+            Err(Stop::NoMemory) => return Err(NoMemory),
+        }
+    }
+    if !may_end(&open_blocks, stage) {
+        return Ok(Reading::Early);
+    }
+    Ok(Reading::Whole(items))
+}
