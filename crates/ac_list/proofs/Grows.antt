@@ -50,13 +50,16 @@ done_changes Answers memory reason after answer old new (Err fault.NoMemory) h =
 done_grows : {V A : Type 0} (r : Result A Fault) (old new : Listed V) → Grows r old new → Grows (done r) old new
 done_grows (Ok x) old new h = h
 done_grows (Err e) old new h = h
+
 pub done_slots : {V A : Type 0} (r : Result A Fault) (d : Result Done Fault) (old new : Listed V) → d ≡ done r → Grows r old new → Grows d old new
 done_slots r d old new e h = subst (λ q. Grows q old new) (sym e) (done_grows r old new h)
+
 -- of a call that answers by a variable, without the variable
 pub unanswered : {V A : Type 0} (Answers : Done → A → Type 0) (c : Call (Object ℕ V) A) (old new : Object Name V) (r : Result Done Fault) → Changing Answers c old new r → Changing Same (call c.memory c.reason c.after tt) old new r
 unanswered Answers c old new (Ok x) h = (h.0, h.1, refl)
 unanswered Answers c old new (Err (fault.Raised q)) h = h
 unanswered Answers c old new (Err fault.NoMemory) h = h
+
 pub no_capacity : (l : Limit) (n : ℕ) → capacity_after l None n ≡ None
 no_capacity Unbounded n = refl
 no_capacity (Bounded most) n = refl

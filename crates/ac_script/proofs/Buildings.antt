@@ -1,5 +1,5 @@
 -- A script that is built from its items: what each item adds.
-use Rattle.std.proofs.Common.{◌≡◌, ℕ, Bool, true, false, List, [], ◌∷◌, ◌++◌, map, reverse, Option, Some, None, refl, sym, ap, ◌∙◌, subst, append_assoc, Vec, Global}
+use Rattle.std.proofs.Common.{◌≡◌, Bool, true, false, List, [], ◌∷◌, ◌++◌, map, reverse, Option, Some, None, refl, sym, ap, ◌∙◌, subst, append_assoc, Vec, Global}
 use Rattle.std.specs.Prelude.{flat_map, option_and_then}
 use Rattle.std.proofs.lemmas.List.{append-nil, map-append}
 use Rattle.std.proofs.lemmas.List.{reverse-append, reverse-reverse}
@@ -18,7 +18,7 @@ use Rattle.ac_script.specs.declared.build.Level.{Level}
 use Rattle.ac_script.specs.declared.build.Enclosing.{Enclosing}
 use Rattle.ac_script.specs.declared.build.Building.{Building}
 use Rattle.ac_script.specs.Views.{head_view}
-use Rattle.ac_script.specs.Building.{begun_items, level_items, enclosing_items, items_so_far, is_declare, Suits, Nests, IsHeading, IsStaged, IsBuilding, Adds, full_head}
+use Rattle.ac_script.specs.Building.{begun_items, level_items, enclosing_items, items_so_far, is_declare, Suits, Nests, IsStaged, IsBuilding, Adds, full_head}
 
 -- a block's items, and then those of what follows it
 items_block : (h : SpecHead) (body rest : Code) → items (block h body rest) ≡ items (block h body stop) ++ items rest
@@ -101,30 +101,32 @@ module _ (old new : Building) (context next : Context) (built : IsBuilding old c
       → (stage : Stage) → IsStaged stage (reverse old.around.items) old.level → next_after context.blocks stage (declares d) ≡ Some next → Step (declares d) old new next
   declared_step d decls begun stmts listing staged e =
       let no_stmts : new.level.stmts.items ≡ [] = ap (λ (v : Vec Stmt Global). v.items) stmts ∙ staged.1 in
-      let unbegun : new.level.begun ≡ false = begun ∙ staged.2 in
-      (all_items (declares d ∷ []) (rw (decls, no_stmts, unbegun, staged.1, staged.2) (of_decls old.level.decls.items d)),
-      reached listing e (turned ∙ staged.0, no_stmts, unbegun))
+      let unbegun : new.level.begun ≡ false = begun ∙ staged.2 in (
+        all_items (declares d ∷ []) (rw (decls, no_stmts, unbegun, staged.1, staged.2) (of_decls old.level.decls.items d)),
+        reached listing e (turned ∙ staged.0, no_stmts, unbegun),
+      )
   declared_step d decls begun stmts heading staged e =
       let no_stmts : new.level.stmts.items ≡ [] = ap (λ (v : Vec Stmt Global). v.items) stmts ∙ staged.empty in
-      let unbegun : new.level.begun ≡ false = begun ∙ staged.unbegun in
-      (all_items (declares d ∷ []) (rw (decls, no_stmts, unbegun, staged.empty, staged.unbegun) (of_decls old.level.decls.items d)),
-      reached heading e (record {
-        block = staged.block;
-        outer = staged.outer;
-        is = turned ∙ staged.is;
-        declares = staged.declares;
-        unbegun = unbegun;
-        empty = no_stmts;
-        nests = staged.nests;
-      }))
+      let unbegun : new.level.begun ≡ false = begun ∙ staged.unbegun in (
+        all_items (declares d ∷ []) (rw (decls, no_stmts, unbegun, staged.empty, staged.unbegun) (of_decls old.level.decls.items d)),
+        reached heading e (record {
+          block = staged.block;
+          outer = staged.outer;
+          is = turned ∙ staged.is;
+          declares = staged.declares;
+          unbegun = unbegun;
+          empty = no_stmts;
+          nests = staged.nests;
+        }),
+      )
   declared_step d decls begun stmts running staged e = absurd (none-some next e)
 
   ran_step : (simple : Simple) (s : Stmt) → before s stop ≡ one simple stop → new.level.decls ≡ old.level.decls → new.level.begun ≡ old.level.begun → new.level.stmts.items ≡ old.level.stmts.items ++ s ∷ []
       → (stage : Stage) → IsStaged stage (reverse old.around.items) old.level → next_after context.blocks stage (commands simple) ≡ Some next → Step (commands simple) old new next
   ran_step simple s is decls begun stmts stage staged e =
       let ran : level_items new.level ≡ level_items old.level ++ commands simple ∷ [] =
-          ap (λ (v : Vec Decl Global). of_level v.items new.level.begun new.level.stmts.items) decls ∙ ap (λ b. of_level old.level.decls.items b new.level.stmts.items) begun
-          ∙ ap (of_level old.level.decls.items old.level.begun) stmts ∙ of_stmts old.level.decls.items old.level.begun old.level.stmts.items s (one simple stop) is in
+      ap (λ (v : Vec Decl Global). of_level v.items new.level.begun new.level.stmts.items) decls ∙ ap (λ b. of_level old.level.decls.items b new.level.stmts.items) begun
+      ∙ ap (of_level old.level.decls.items old.level.begun) stmts ∙ of_stmts old.level.decls.items old.level.begun old.level.stmts.items s (one simple stop) is in
       (all_items (commands simple ∷ []) ran, at stage staged e)
     where
       at : (stage : Stage) → IsStaged stage (reverse old.around.items) old.level → next_after context.blocks stage (commands simple) ≡ Some next → IsBuilding new next
@@ -136,9 +138,10 @@ module _ (old new : Building) (context next : Context) (built : IsBuilding old c
       → (stage : Stage) → IsStaged stage (reverse old.around.items) old.level → next_after context.blocks stage begins ≡ Some next → Step begins old new next
   begun_step decls begun stmts listing staged e = absurd (none-some next e)
   begun_step decls begun stmts heading staged e =
-      let no_stmts : new.level.stmts.items ≡ [] = ap (λ (v : Vec Stmt Global). v.items) stmts ∙ staged.empty in
-      (all_items (begins ∷ []) (ap (λ (v : Vec Decl Global). of_level v.items new.level.begun new.level.stmts.items) decls ∙ rw (begun, no_stmts, staged.empty, staged.unbegun) (of_begun old.level.decls.items)),
-      reached running e (subst (λ around. Nests around new.level) (sym (turned ∙ staged.is)) (subst (λ b. Suits b new.level) (sym staged.declares) begun, staged.nests)))
+      let no_stmts : new.level.stmts.items ≡ [] = ap (λ (v : Vec Stmt Global). v.items) stmts ∙ staged.empty in (
+        all_items (begins ∷ []) (ap (λ (v : Vec Decl Global). of_level v.items new.level.begun new.level.stmts.items) decls ∙ rw (begun, no_stmts, staged.empty, staged.unbegun) (of_begun old.level.decls.items)),
+        reached running e (subst (λ around. Nests around new.level) (sym (turned ∙ staged.is)) (subst (λ b. Suits b new.level) (sym staged.declares) begun, staged.nests)),
+      )
   begun_step decls begun stmts running staged e = absurd (none-some next e)
 
 pub declared_adds : (old new : Building) (d : Decl) → new.around ≡ old.around → new.level.decls.items ≡ old.level.decls.items ++ d ∷ [] → new.level.begun ≡ old.level.begun → new.level.stmts ≡ old.level.stmts
@@ -210,9 +213,10 @@ module _ (old new : Building) (context next : Context) (built : IsBuilding old c
   entered_after running q = q
 
   entered_step : next_after context.blocks context.stage (opens (head_view e.head)) ≡ Some next → Step (opens (head_view e.head)) old new next
-  entered_step q =
-      (entered_items,
-      entered_as e.head refl (nests_now context next old (opens (head_view e.head)) (λ q. none-some next q) context.stage built.staged q) (entered_after context.stage q))
+  entered_step q = (
+    entered_items,
+    entered_as e.head refl (nests_now context next old (opens (head_view e.head)) (λ q. none-some next q) context.stage built.staged q) (entered_after context.stage q),
+  )
 
 pub entered_adds : (old new : Building) (e : Enclosing) → new.around.items ≡ old.around.items ++ e ∷ [] → e.level ≡ old.level → new.level.decls.items ≡ [] → new.level.begun ≡ false → new.level.stmts.items ≡ []
     → Adds (opens (head_view e.head)) old new
@@ -250,18 +254,18 @@ module _ (old new : Building) (context next : Context) (built : IsBuilding old c
       let flat = flat_map enclosing_items new.around.items in
       let body = items (code_of old.level.stmts.items) in
       let block_items : items (block (full_head e.head old.level.decls.items) (code_of old.level.stmts.items) stop) ≡ opens (head_view e.head) ∷ (level_items old.level ++ closes l ∷ []) =
-          head_kept e.head old.level (body ++ closes (is_loop (full_head e.head old.level.decls.items)) ∷ []) suits
-          ∙ ap (λ b. opens (head_view e.head) ∷ (map declares old.level.decls.items ++ (begun_items old.level.begun ++ (body ++ closes b ∷ [])))) (loop_kept e.head old.level.decls.items ∙ sym loop)
-          ∙ ap (λ is. opens (head_view e.head) ∷ (map declares old.level.decls.items ++ is)) (sym (append_assoc (begun_items old.level.begun) body (closes l ∷ [])))
-          ∙ ap (λ is. opens (head_view e.head) ∷ is) (sym (append_assoc (map declares old.level.decls.items) (begun_items old.level.begun ++ body) (closes l ∷ []))) in
+      head_kept e.head old.level (body ++ closes (is_loop (full_head e.head old.level.decls.items)) ∷ []) suits
+      ∙ ap (λ b. opens (head_view e.head) ∷ (map declares old.level.decls.items ++ (begun_items old.level.begun ++ (body ++ closes b ∷ [])))) (loop_kept e.head old.level.decls.items ∙ sym loop)
+      ∙ ap (λ is. opens (head_view e.head) ∷ (map declares old.level.decls.items ++ is)) (sym (append_assoc (begun_items old.level.begun) body (closes l ∷ [])))
+      ∙ ap (λ is. opens (head_view e.head) ∷ is) (sym (append_assoc (map declares old.level.decls.items) (begun_items old.level.begun ++ body) (closes l ∷ []))) in
       let level : level_items new.level ≡ level_items e.level ++ (opens (head_view e.head) ∷ (level_items old.level ++ closes l ∷ [])) =
-          ap (λ (v : Vec Decl Global). of_level v.items new.level.begun new.level.stmts.items) decls ∙ ap (λ b. of_level e.level.decls.items b new.level.stmts.items) begun
-          ∙ ap (of_level e.level.decls.items e.level.begun) stmts ∙ of_stmts e.level.decls.items e.level.begun e.level.stmts.items s _ is
-          ∙ ap (λ is. level_items e.level ++ is) block_items in
+      ap (λ (v : Vec Decl Global). of_level v.items new.level.begun new.level.stmts.items) decls ∙ ap (λ b. of_level e.level.decls.items b new.level.stmts.items) begun
+      ∙ ap (of_level e.level.decls.items e.level.begun) stmts ∙ of_stmts e.level.decls.items e.level.begun e.level.stmts.items s _ is
+      ∙ ap (λ is. level_items e.level ++ is) block_items in
       let before_all : items_so_far old ≡ flat ++ (enclosing_items e ++ level_items old.level) =
-          ap (λ around. flat_map enclosing_items around ++ level_items old.level) around
-          ∙ ap (λ is. is ++ level_items old.level) (flat_map-append enclosing_items new.around.items (e ∷ []) ∙ ap (λ is. flat ++ is) (append-nil (enclosing_items e)))
-          ∙ append_assoc flat (enclosing_items e) (level_items old.level) in
+      ap (λ around. flat_map enclosing_items around ++ level_items old.level) around
+      ∙ ap (λ is. is ++ level_items old.level) (flat_map-append enclosing_items new.around.items (e ∷ []) ∙ ap (λ is. flat ++ is) (append-nil (enclosing_items e)))
+      ∙ append_assoc flat (enclosing_items e) (level_items old.level) in
       ap (λ is. flat ++ is) level
       ∙ ap (λ is. flat ++ is) (sym (append_assoc (level_items e.level) (opens (head_view e.head) ∷ []) (level_items old.level ++ closes l ∷ [])))
       ∙ ap (λ is. flat ++ is) (sym (append_assoc (enclosing_items e) (level_items old.level) (closes l ∷ [])))
@@ -269,9 +273,10 @@ module _ (old new : Building) (context next : Context) (built : IsBuilding old c
 
   left_running : Nests (e ∷ reverse new.around.items) old.level → left_behind l (is_loop (head_view e.head) ∷ loops (reverse new.around.items)) ≡ Some next → Step (closes l) old new next
   left_running nests q =
-      let left = left_as l (is_loop (head_view e.head)) (loops (reverse new.around.items)) next q in
-      (left_items nests.0 left.0,
-      subst (λ (c : Context). IsBuilding new c) left.1 (record { blocks = refl; staged = nests_same (reverse new.around.items) e.level new.level decls begun nests.1 }))
+      let left = left_as l (is_loop (head_view e.head)) (loops (reverse new.around.items)) next q in (
+        left_items nests.0 left.0,
+        subst (λ (c : Context). IsBuilding new c) left.1 (record { blocks = refl; staged = nests_same (reverse new.around.items) e.level new.level decls begun nests.1 }),
+      )
 
   left_step : (stage : Stage) → IsStaged stage (reverse old.around.items) old.level → next_after context.blocks stage (closes l) ≡ Some next → Step (closes l) old new next
   left_step listing staged q = let none : e ∷ reverse new.around.items ≡ [] = sym turned_out ∙ staged.0 in absurd (cc none)
@@ -289,6 +294,7 @@ none_to_leave old new l none context next built q = absurd (at context.stage q)
   where
     no_blocks : context.blocks ≡ []
     no_blocks = built.blocks ∙ ap (λ around. loops (reverse around)) none
+
     at : (stage : Stage) → next_after context.blocks stage (closes l) ≡ Some next → ⊥
     at listing q = none-some next (ap (left_behind l) (sym no_blocks) ∙ q)
     at heading q = none-some next q
@@ -314,6 +320,7 @@ closed b context built end =
     none_around : (around : List Enclosing) → loops around ≡ [] → around ≡ []
     none_around [] e = refl
     none_around (e ∷ around) q = absurd (cc q)
+
     at : (stage : Stage) → is_heading stage ≡ false → IsStaged stage [] b.level → b.level.begun ≡ false
     at listing q staged = staged.2
     at heading q staged = absurd (cc q)

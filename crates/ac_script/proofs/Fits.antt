@@ -1,13 +1,13 @@
 -- Items whose tokens keep the limits and can be written have literals that are values.
-use Rattle.std.proofs.Common.{◌≡◌, ◌+◌, ◌-◌, ◌^◌, ◌≤◌, ◌<◌, ℕ, ℤ, zero, suc, pos, negsuc, neg_ℤ, ◌≤ℤ◌, ◌<ℤ◌, Bool, true, false, List, [], ◌∷◌, ◌++◌, length, reverse, Option, Some, None, refl, sym, ap, ◌∙◌, subst, inl, inr, arith, append_assoc, lt-ltb, true≢false, cond, ◌&&◌, ◌||◌}
-use Rattle.std.specs.Prelude.{nat_lt, if◌then◌else◌, All, IsTrue, map}
+use Rattle.std.proofs.Common.{◌≡◌, ◌-◌, ◌^◌, ◌≤◌, ◌<◌, ℕ, zero, suc, pos, neg_ℤ, Bool, true, false, List, [], ◌∷◌, ◌++◌, length, reverse, Option, Some, None, refl, sym, ap, ◌∙◌, subst, inl, inr, arith, append_assoc, lt-ltb, true≢false, cond}
+use Rattle.std.specs.Prelude.{nat_lt, All, IsTrue}
 use Rattle.std.specs.List.{list_all}
 use Rattle.std.proofs.lemmas.Int.{ints}
-use Rattle.std.proofs.lemmas.Bool.{cases_lt, cond-true, cond-false, and_parts}
-use Rattle.std.proofs.lemmas.List.{append-nil, map-append, reverse-append}
+use Rattle.std.proofs.lemmas.Bool.{cases_lt, and_parts}
+use Rattle.std.proofs.lemmas.List.{map-append, reverse-append}
 use Rattle.std.proofs.lemmas.List.Elements.{All-cons, All-nil}
 use Rattle.std.proofs.lemmas.List.Folds.{list_all-append}
-use Rattle.ac_base.specs.Text.{IsText, IsPrintable}
+use Rattle.ac_base.specs.Text.{IsPrintable}
 use Rattle.ac_base.specs.declared.value.Value.{Value}
 use Rattle.ac_syntax.specs.Characters.{is_printable}
 use Rattle.ac_base.specs.declared.value.Value.TheVariants as value
@@ -20,7 +20,7 @@ use Rattle.ac_syntax.specs.Tokens.{tokens}
 use Rattle.ac_syntax.specs.Code.{Simple, call_at, set_at, sum_at}
 use Rattle.ac_syntax.specs.Items.{Item, declares, commands, opens, begins, closes}
 use Rattle.ac_syntax.specs.Parts.{Part, says, marks, names, counts, writes, lacks, arg_part, more_args, args_parts, target_parts, simple_parts, item_parts}
-use Rattle.ac_syntax.specs.Grammar.{IsInteger as IsSpelledInteger, IsPart, AreParts, IsItem, AreItems}
+use Rattle.ac_syntax.specs.Grammar.{IsPart, AreParts, AreItems}
 use Rattle.ac_syntax.specs.Limits.{is_before_literal, has_minus, most, is_past_limit, AreWithinLimits}
 use Rattle.ac_syntax.specs.Canonical.{is_written}
 use Rattle.ac_syntax.specs.declared.arg.Arg.{Arg}
@@ -136,17 +136,20 @@ parts_fit : (parts : List Part) (opened : Bool) (before spelled after : List Tok
 parts_fit [] opened before spelled after last within written o p = tt
 parts_fit (says word ∷ parts) opened before spelled after last within written o p =
     (tt, parts_fit parts false (before ++ p.0) p.1 after not_opened (kept_rest before spelled after p.0 p.1 p.2 within) (both_written spelled p.0 p.1 p.2 written).1 o p.4)
-parts_fit (marks mark ∷ parts) opened before spelled after last within written o p =
-    (tt, parts_fit parts (opens_literal mark) (before ++ p.0) p.1 after
-    (λ e. ap (λ ts. is_opened (reverse (before ++ ts))) p.3 ∙ last_opens before (token.Mark mark) ∙ e)
-    (kept_rest before spelled after p.0 p.1 p.2 within) (both_written spelled p.0 p.1 p.2 written).1 o p.4)
+parts_fit (marks mark ∷ parts) opened before spelled after last within written o p = (
+  tt,
+  parts_fit parts (opens_literal mark) (before ++ p.0) p.1 after
+      (λ e. ap (λ ts. is_opened (reverse (before ++ ts))) p.3 ∙ last_opens before (token.Mark mark) ∙ e)
+      (kept_rest before spelled after p.0 p.1 p.2 within) (both_written spelled p.0 p.1 p.2 written).1 o p.4,
+)
 parts_fit (names word ∷ parts) opened before spelled after last within written o p =
     (tt, parts_fit parts false (before ++ p.0) p.1 after not_opened (kept_rest before spelled after p.0 p.1 p.2 within) (both_written spelled p.0 p.1 p.2 written).1 o p.4)
 parts_fit (counts n ∷ parts) opened before spelled after last within written o p =
     (tt, parts_fit parts false (before ++ p.0) p.1 after not_opened (kept_rest before spelled after p.0 p.1 p.2 within) (both_written spelled p.0 p.1 p.2 written).1 o p.4)
-parts_fit (writes v ∷ parts) opened before spelled after last within written o p =
-    (literal_fits v before p.0 (p.1 ++ after) (last o.0) (kept_front before spelled after p.0 p.1 p.2 within) (both_written spelled p.0 p.1 p.2 written).0 p.3,
-    parts_fit parts false (before ++ p.0) p.1 after not_opened (kept_rest before spelled after p.0 p.1 p.2 within) (both_written spelled p.0 p.1 p.2 written).1 o.1 p.4)
+parts_fit (writes v ∷ parts) opened before spelled after last within written o p = (
+  literal_fits v before p.0 (p.1 ++ after) (last o.0) (kept_front before spelled after p.0 p.1 p.2 within) (both_written spelled p.0 p.1 p.2 written).0 p.3,
+  parts_fit parts false (before ++ p.0) p.1 after not_opened (kept_rest before spelled after p.0 p.1 p.2 within) (both_written spelled p.0 p.1 p.2 written).1 o.1 p.4,
+)
 parts_fit (lacks ∷ parts) opened before spelled after last within written o p = absurd p.3
 
 -- a part that is an argument, and then parts that don't begin with a literal

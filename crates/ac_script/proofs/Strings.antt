@@ -39,6 +39,7 @@ behind_byte value bytes len (Some e) = λ i. Some (ending (same_value i) (same_l
   where
     same_value : value ++ (bytes ++ e.value) ≡ (value ++ bytes) ++ e.value
     same_value = sym (append_assoc value bytes e.value)
+
     same_len : len + (1 + e.len) ≡ (len + 1) + e.len
     same_len = omega arith
 
@@ -56,9 +57,11 @@ more : (text value bytes : List ℕ) (len : ℕ) (after_quote : Bool) (step : St
     → IsRead text (value ++ bytes) (len + 1) (not after_quote && is_quote (get_or text len 0))
 more text value bytes len after_quote step h read is does =
     let rest = string_from (not after_quote && is_quote (get_or text len 0)) (drop (suc len) text) in
-    record { told =
-        ap (λ t. behind (value ++ bytes) (len + 1) (string_from (not after_quote && is_quote (get_or text len 0)) t)) (sym (next text len))
-        ∙ sym (behind_byte value bytes len rest) ∙ ap (behind value len) (sym (does rest) ∙ sym (is rest)) ∙ here text value len after_quote h read }
+    record {
+      told =
+          ap (λ t. behind (value ++ bytes) (len + 1) (string_from (not after_quote && is_quote (get_or text len 0)) t)) (sym (next text len))
+          ∙ sym (behind_byte value bytes len rest) ∙ ap (behind value len) (sym (does rest) ∙ sym (is rest)) ∙ here text value len after_quote h read;
+    }
 
 pub kept : (text value items : List ℕ) (len : ℕ) (after_quote again : Bool) (step : StringByte) → len < length text → IsRead text value len after_quote
     → ((e : Option Ending) → string_step after_quote (get_or text len 0) e ≡ by_byte step (get_or text len 0) e) → step ≡ Keeps
@@ -80,6 +83,7 @@ whole value len = λ i. Some (record { len = 1 + same_len i; token = Some (token
   where
     same_value : value ++ [] ≡ value
     same_value = append-nil value
+
     same_len : len + 0 ≡ len
     same_len = omega arith
 

@@ -1,5 +1,5 @@
 -- A script that is built from its items, as far as they came.
-use Rattle.std.specs.Prelude.{◌≡◌, ℕ, Bool, true, false, List, [], ◌∷◌, ◌++◌, map, flat_map, reverse, Some, if◌then◌else◌}
+use Rattle.std.specs.Prelude.{◌≡◌, Bool, true, false, List, [], ◌∷◌, ◌++◌, map, flat_map, reverse, Some, if◌then◌else◌}
 use Rattle.ac_syntax.specs.Code as code
 use Rattle.ac_syntax.specs.declared.decl.Decl.{Decl}
 use Rattle.ac_syntax.specs.Items.{Item, declares, opens, begins, items, is_loop}

@@ -1,7 +1,6 @@
 -- Items whose literals are values.
-use Rattle.std.specs.Prelude.{◌≤ℤ◌, ◌<ℤ◌, ℕ, ℤ, pos, neg_ℤ, ◌^◌, List, [], ◌∷◌}
+use Rattle.std.specs.Prelude.{◌≤ℤ◌, ◌<ℤ◌, ℤ, pos, neg_ℤ, ◌^◌, List, [], ◌∷◌}
 use Rattle.ac_base.specs.Text.{IsText}
-use Rattle.ac_base.specs.declared.value.Value.{Value}
 use Rattle.ac_base.specs.declared.value.Value.TheVariants as value
 use Rattle.ac_syntax.specs.Code.{Simple, call_at, set_at, sum_at}
 use Rattle.ac_syntax.specs.Items.{Item, declares, commands, opens, begins, closes}

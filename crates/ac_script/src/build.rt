@@ -62,7 +62,9 @@ fn arg(alloc: Global, argument: Argument) -> Result<Arg, NoMemory>
     ensures { IfOk result (λ made. made ≡ argument_view argument) }
 {
     match argument {
-        Argument::Integer { minus, magnitude } => Ok(Arg::Lit(Value::Int(integer(minus, magnitude)))),
+        Argument::Integer { minus, magnitude } => Ok(Arg::Lit(Value::Int(integer(
+            minus, magnitude,
+        )))),
         Argument::Text(bytes) => match Text::new(alloc, bytes.bytes()) {
             Ok(text) => Ok(Arg::Lit(Value::Text(text))),
             Err(_) => Err(NoMemory),

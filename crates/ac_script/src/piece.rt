@@ -158,7 +158,11 @@ fn string_piece(alloc: Global, text: &[u8]) -> Result<Option<Piece>, NoMemory>
         }
         after_quote = may_end(after_quote, *b);
     }
-    Ok(if after_quote { string_of(value, text.len()) } else { None })
+    Ok(if after_quote {
+        string_of(value, text.len())
+    } else {
+        None
+    })
 }
 
 fn colon_piece(after: &[u8]) -> Option<Piece>

@@ -46,15 +46,16 @@ grown_by old new value g after =
     let count = length-map new.rows plain_row in
     let before = length-map old.rows plain_row in
     let longer : length (plain new).rows ≡ length (plain old).rows + 1 = ap length rows ∙ length-append (plain old).rows (row old.next value ∷ []) in
-    let next : new.next ≡ old.next + 1 = ap (λ (o : Object ℕ ℤ). o.next) after.plainly in
-    (sym (values_plain new.rows) ∙ ap values rows ∙ map-append (λ (r : Row ℕ ℤ). r.value) (plain old).rows (row old.next value ∷ []) ∙ ap (λ vs. vs ++ value ∷ []) (values_plain old.rows),
-    record {
-      unbounded = ap (λ (o : Object ℕ ℤ). o.limit) after.plainly ∙ g.unbounded;
-      without_capacity = ap (λ (o : Object ℕ ℤ). o.capacity) after.plainly ∙ rw (g.unbounded, g.without_capacity) refl;
-      no_cursor_guards = ap (λ (o : Object ℕ ℤ). o.cursor_guards) after.plainly ∙ g.no_cursor_guards;
-      no_element_guards = ap (λ (o : Object ℕ ℤ). o.element_guards) after.plainly ∙ g.no_element_guards;
-      all_there = omega (arith, g.all_there);
-    })
+    let next : new.next ≡ old.next + 1 = ap (λ (o : Object ℕ ℤ). o.next) after.plainly in (
+      sym (values_plain new.rows) ∙ ap values rows ∙ map-append (λ (r : Row ℕ ℤ). r.value) (plain old).rows (row old.next value ∷ []) ∙ ap (λ vs. vs ++ value ∷ []) (values_plain old.rows),
+      record {
+        unbounded = ap (λ (o : Object ℕ ℤ). o.limit) after.plainly ∙ g.unbounded;
+        without_capacity = ap (λ (o : Object ℕ ℤ). o.capacity) after.plainly ∙ rw (g.unbounded, g.without_capacity) refl;
+        no_cursor_guards = ap (λ (o : Object ℕ ℤ). o.cursor_guards) after.plainly ∙ g.no_cursor_guards;
+        no_element_guards = ap (λ (o : Object ℕ ℤ). o.element_guards) after.plainly ∙ g.no_element_guards;
+        all_there = omega (arith, g.all_there);
+      },
+    )
 
 length_contents : (o : Object Name ℤ) → length (contents o) ≡ length_of o
 length_contents o = length-map o.rows (λ r. r.value)
@@ -81,10 +82,13 @@ module _ (old new : Object Name ℤ) (value : ℤ) (g : IsGrowing old) (v : IsVa
       let few = none_by (nat_lt greatest_length (length_of (plain old) + 1)) (sym is ∙ h.0) in
       let after = grown_by old new value g h.1 in
       record {
-        appended = (elim (cases_lt greatest_length (length_of (plain old) + 1)) [
-          | inl more ↦ absurd (true≢false (sym (lt-ltb greatest_length (length_of (plain old) + 1) more) ∙ few))
-          | inr less ↦ omega (arith, length-map old.rows plain_row, length_contents old)
-        ], after.0);
+        appended = (
+          elim (cases_lt greatest_length (length_of (plain old) + 1)) [
+            | inl more ↦ absurd (true≢false (sym (lt-ltb greatest_length (length_of (plain old) + 1) more) ∙ few))
+            | inr less ↦ omega (arith, length-map old.rows plain_row, length_contents old)
+          ],
+          after.0,
+        );
         growing = after.1;
       }
 
@@ -92,10 +96,14 @@ module _ (old new : Object Name ℤ) (value : ℤ) (g : IsGrowing old) (v : IsVa
   refused reason h =
       let by = reason_by (nat_lt greatest_length (length_of (plain old) + 1)) reason (sym is ∙ h.0) in
       record {
-        appended = (elim (cases_lt greatest_length (length_of (plain old) + 1)) [
-          | inl more ↦ omega (arith, length-map old.rows plain_row, length_contents old)
-          | inr less ↦ absurd (true≢false (sym by.0 ∙ le-ltb greatest_length (length_of (plain old) + 1) less))
-        ], by.1, ap contents h.1);
+        appended = (
+          elim (cases_lt greatest_length (length_of (plain old) + 1)) [
+            | inl more ↦ omega (arith, length-map old.rows plain_row, length_contents old)
+            | inr less ↦ absurd (true≢false (sym by.0 ∙ le-ltb greatest_length (length_of (plain old) + 1) less))
+          ],
+          by.1,
+          ap contents h.1,
+        );
         growing = subst IsGrowing (sym h.1) g;
       }
 

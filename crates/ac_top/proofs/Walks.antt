@@ -56,6 +56,7 @@ stands (r ∷ rows) (suc i) h =
     either : (b c : Bool) → c ≡ true → (b || c) ≡ true
     either true c e = refl
     either false c e = e
+
     more : (b : Bool) (n : ℕ) → 1 ≤ n → 1 ≤ (if b then 1 else 0) + n
     more true n e = omega arith
     more false n e = omega arith

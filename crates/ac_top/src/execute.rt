@@ -6,8 +6,8 @@ ghost use Rattle.ac_top.specs.declared.execute.HostEnd.TheVariants as host_end;
 
 use crate::line::{append_done, append_listing, append_raised, begin_line, end_line};
 use crate::numbers::Numbers;
-use ac_io::{Sink, WriteFault, write_all};
 use ac_first_path::{Action, Command};
+use ac_io::{Sink, WriteFault, write_all};
 use std::alloc::{AllocError, Global};
 use thiserror::Error;
 

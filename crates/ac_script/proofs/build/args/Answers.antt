@@ -1,4 +1,4 @@
-use Rattle.std.proofs.Common.{◌≡◌, ◌∷◌, [], ◌++◌, ◌+◌, List, map, length, sym, ap, ◌∙◌, subst, arith}
+use Rattle.std.proofs.Common.{List, map, sym, ap, ◌∙◌, subst}
 use Rattle.ac_script.specs.declared.argument.Argument.{Argument}
 use Rattle.ac_script.specs.Arguments.{argument_view}
 use Rattle.ac_script.specs.Fits.{FitArgs}

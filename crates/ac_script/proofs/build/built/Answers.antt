@@ -1,15 +1,13 @@
-use Rattle.std.proofs.Common.{refl, ◌≡◌, ◌∷◌, [], ◌++◌, List, map, length, Some, sym, ap, ◌∙◌, subst}
+use Rattle.std.proofs.Common.{refl, List, map, sym, ap, ◌∙◌, subst}
 use Rattle.std.specs.Prelude.{All}
-use Rattle.std.proofs.lemmas.List.{nil_from_length}
 use Rattle.std.proofs.lemmas.List.Elements.{All-head, All-tail}
-use Rattle.ac_syntax.specs.Items.{Item}
 use Rattle.ac_syntax.specs.Order.{context_after}
 use Rattle.ac_script.specs.declared.item.Item.{Item as Kept}
 use Rattle.ac_script.specs.Views.{item_view}
 use Rattle.ac_script.specs.Fits.{Fits}
 use Rattle.ac_script.specs.Building.{items_so_far}
-use Rattle.ac_script.proofs.Lefts.{next_left, none_left}
-use Rattle.ac_script.proofs.Buildings.{goes_on, closed}
+use Rattle.ac_script.proofs.Lefts.{next_left}
+use Rattle.ac_script.proofs.Buildings.{goes_on}
 use Rattle.ac_script.proofs.build.built.Goals as goal
 
 pub add-requires : goal.add-requires

@@ -1,5 +1,4 @@
-use Rattle.std.proofs.Common.{ap, ◌∙◌, List}
-use Rattle.ac_syntax.specs.declared.decl.Decl.{Decl}
+use Rattle.std.proofs.Common.{ap, ◌∙◌}
 use Rattle.ac_script.specs.declared.build.Level.{Level}
 use Rattle.ac_script.proofs.Buildings.{entered_adds}
 use Rattle.ac_script.proofs.build.Building.enter.Goals as goal

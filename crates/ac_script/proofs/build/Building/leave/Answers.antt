@@ -1,8 +1,7 @@
-use Rattle.std.proofs.Common.{ap, ◌∙◌, ◌++◌, ◌∷◌, [], sym, List}
+use Rattle.std.proofs.Common.{ap, ◌∙◌, ◌++◌, ◌∷◌, []}
 use Rattle.ac_syntax.specs.Code.{stop, block}
 use Rattle.ac_syntax.specs.Statements.{code_of}
 use Rattle.ac_script.specs.Building.{full_head}
-use Rattle.ac_syntax.specs.declared.stmt.Stmt.{Stmt}
 use Rattle.ac_script.specs.declared.build.Level.{Level}
 use Rattle.ac_script.proofs.Buildings.{left_adds}
 use Rattle.ac_script.proofs.build.Building.leave.Goals as goal
