@@ -1,4 +1,5 @@
 pub mod Table
 pub mod Scopes
+pub mod Meanings
 pub mod Rules
 pub mod Faults
