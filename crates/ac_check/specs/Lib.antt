@@ -1,5 +1,7 @@
 pub mod Table
 pub mod Scopes
 pub mod Meanings
+pub mod Rows
 pub mod Rules
+pub mod Views
 pub mod Faults
