@@ -1,5 +1,5 @@
 -- What the checks look up, as contracts see it.
-use Rattle.std.specs.Prelude.{ℕ, List, Option}
+use Rattle.std.specs.Prelude.{Option}
 use Rattle.std.specs.Borrow.{Bor}
 use Rattle.std.specs.Option.{option_map}
 use Rattle.ac_check.specs.declared.meaning.Meaning.{Meaning as KeptMeaning}
@@ -22,6 +22,3 @@ typed_view typed = record { type = typed.of.now; def = typed.def }
 -- what was looked up
 abbrev pub found : Option (Bor KeptMeaning) → Option Meaning
 found = option_map (λ m. meaning_view m.now)
-
-abbrev pub found_name : Option (Bor (List ℕ)) → Option (List ℕ)
-found_name = option_map (λ name. name.now)
