@@ -4,6 +4,7 @@ ghost use Rattle.std.specs.List.{list_any};
 ghost use Rattle.std.specs.Option.{option_map};
 ghost use Rattle.ac_check.specs.Rules as rules;
 ghost use Rattle.ac_check.specs.Scopes as scopes;
+ghost use Rattle.ac_check.specs.Table as table;
 ghost use Rattle.ac_check.specs.Meanings.{meaning_view};
 ghost use Rattle.ac_check.specs.Rows.{row_view};
 ghost use Rattle.ac_check.specs.Views.{given_view, typed_view, found};
@@ -223,6 +224,25 @@ fn fits_optional(scope: &Scope, typed: Typed<'_>, optional: Option<Letter>, args
     }
 }
 
+/// Whether the arguments are what the letters ask, with one more at most.
+fn all_fit(
+    scope: &Scope,
+    typed: Typed<'_>,
+    letters: &[Letter],
+    optional: Option<Letter>,
+    args: &[Arg],
+) -> bool
+    ensures { result ≡ rules.all_fit scope.now (typed_view typed.entry) letters.now optional args.now }
+{
+    let [letter, letters @ ..] = letters else {
+        return fits_optional(scope, typed, optional, args);
+    };
+    let [arg, args @ ..] = args else {
+        return false;
+    };
+    fits(scope, typed, *letter, arg) && all_fit(scope, typed, letters, optional, args)
+}
+
 fn answered(typed: Typed<'_>, answer: Answer) -> Given<'_>
     ensures { given_view result ≡ rules.answered (typed_view typed.entry) answer }
 {
@@ -284,6 +304,69 @@ fn is_view(scope: &Scope, view: ViewKind, typed: Option<Typed<'_>>, at: &Option<
 {
     match typed {
         Some(typed) => is_viewed(view, typed.def) && is_place(scope, typed, at),
+        None => false,
+    }
+}
+
+/// Whether a call is a row's.
+fn is_row(
+    scope: &Scope,
+    typed: Typed<'_>,
+    target: &Option<Ident>,
+    operation: &[u8],
+    args: &[Arg],
+    row: &Row,
+) -> bool
+    ensures { result ≡ rules.is_row scope.now (typed_view typed.entry) target.now operation.now args.now (row_view row.now) }
+{
+    row.operation == operation
+        && all_fit(scope, typed, row.letters, row.optional, args)
+        && takes_answer(scope, target, answered(typed, row.answer))
+}
+
+fn has_row(
+    scope: &Scope,
+    typed: Typed<'_>,
+    target: &Option<Ident>,
+    operation: &[u8],
+    args: &[Arg],
+    rows: &[Row],
+) -> bool
+    ensures { result ≡ list_any (λ row. rules.is_row scope.now (typed_view typed.entry) target.now operation.now args.now (row_view row)) rows.now }
+{
+    rows.iter()
+        .any(|row| is_row(scope, typed, target, operation, args, row))
+}
+
+/// Whether a call is a row's of some group.
+#[tactic(auto, using(crate::proofs::Groups::any_joined))]
+fn is_among(
+    scope: &Scope,
+    typed: Typed<'_>,
+    target: &Option<Ident>,
+    operation: &[u8],
+    args: &[Arg],
+    groups: &[&[Row]],
+) -> bool
+    ensures { result ≡ list_any (λ rows. list_any (λ row. rules.is_row scope.now (typed_view typed.entry) target.now operation.now args.now (row_view row)) rows.now) groups.now }
+{
+    groups
+        .iter()
+        .any(|rows| has_row(scope, typed, target, operation, args, rows))
+}
+
+#[tactic(auto, using(crate::proofs::Groups::any_joined))]
+fn is_call(
+    scope: &Scope,
+    typed: Option<Typed<'_>>,
+    target: &Option<Ident>,
+    operation: &[u8],
+    args: &[Arg],
+) -> bool
+    ensures { result ≡ rules.is_call scope.now (option_map typed_view typed.entry) target.now operation.now args.now }
+{
+    match typed {
+        Some(typed) => is_among(scope, typed, target, operation, args, rows_of(&typed.def)),
         None => false,
     }
 }
