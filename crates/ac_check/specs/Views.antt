@@ -3,9 +3,9 @@ use Rattle.std.specs.Prelude.{Option}
 use Rattle.std.specs.Borrow.{Bor}
 use Rattle.std.specs.Option.{option_map}
 use Rattle.ac_check.specs.declared.meaning.Meaning.{Meaning as KeptMeaning}
-use Rattle.ac_check.specs.declared.rules.Given.{Given as KeptGiven}
-use Rattle.ac_check.specs.declared.rules.Given.TheVariants as kept
-use Rattle.ac_check.specs.declared.rules.Typed.{Typed as KeptTyped}
+use Rattle.ac_check.specs.declared.given.Given.{Given as KeptGiven}
+use Rattle.ac_check.specs.declared.given.Given.TheVariants as kept
+use Rattle.ac_check.specs.declared.given.Typed.{Typed as KeptTyped}
 use Rattle.ac_check.specs.Meanings.{meaning_view}
 use Rattle.ac_check.specs.Rules.{Given, gives_value, gives_cursor, gives_no_element, gives_nothing}
 use Rattle.ac_check.specs.Scopes.{Meaning, Typed}

@@ -1,6 +1,9 @@
 //! The checks that a script passes before it runs: its names and its types.
 #![tactic(auto)]
 
+mod block;
+mod call;
+mod given;
 mod kinds;
 mod meaning;
 mod rows;
@@ -9,3 +12,5 @@ mod scope;
 mod table;
 
 pub use rows::{Answer, Letter};
+pub use rules::{is_well_typed_decl, is_well_typed_stmt};
+pub use table::{Row, rows_of};

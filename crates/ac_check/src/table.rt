@@ -50,9 +50,7 @@ const COMMON: [Row; 9] = [
 ];
 
 /// Of these, all but trees.
-const COUNTED: [Row; 1] = [
-    row!(b"length", [], Integer),
-];
+const COUNTED: [Row; 1] = [row!(b"length", [], Integer)];
 
 /// Vectors (A.18.2) and lists (A.18.3).
 const SEQUENCE: [Row; 21] = [
@@ -226,7 +224,11 @@ const TREE_CHANGE: [Row; 13] = [
     row!(b"delete_children", [Cursor], Done),
     row!(b"swap", [Cursor, Cursor], Done),
     row!(b"copy_subtree", [Cursor, Cursor, Object, Cursor], Done),
-    row!(b"splice_subtree", [Cursor, Cursor, Object, CursorVariable], Done),
+    row!(
+        b"splice_subtree",
+        [Cursor, Cursor, Object, CursorVariable],
+        Done
+    ),
     row!(b"splice_subtree", [Cursor, Cursor, Cursor], Done),
     row!(b"splice_children", [Cursor, Cursor, Object, Cursor], Done),
     row!(b"splice_children", [Cursor, Cursor, Cursor], Done),
@@ -255,9 +257,7 @@ const QUEUE: [Row; 5] = [
 ];
 
 /// Priority queues alone (A.18.30, A.18.31).
-const PRIORITY_QUEUE: [Row; 1] = [
-    row!(b"dequeue_only_high_priority", [Integer], Integer),
-];
+const PRIORITY_QUEUE: [Row; 1] = [row!(b"dequeue_only_high_priority", [Integer], Integer)];
 
 static VECTORS: [&[Row]; 5] = [&COMMON, &COUNTED, &SEQUENCE, &CAPACITY, &VECTOR];
 
@@ -273,7 +273,16 @@ static KEYED_HASHED_SETS: [&[Row]; 6] = [&COMMON, &COUNTED, &KEYED_WALK, &SET, &
 
 static ORDERED_SETS: [&[Row]; 6] = [&COMMON, &COUNTED, &KEYED_WALK, &SET, &ORDERED, &ORDERED_SET];
 
-static KEYED_ORDERED_SETS: [&[Row]; 8] = [&COMMON, &COUNTED, &KEYED_WALK, &SET, &ORDERED, &ORDERED_SET, &KEYED, &ORDERED_KEYED];
+static KEYED_ORDERED_SETS: [&[Row]; 8] = [
+    &COMMON,
+    &COUNTED,
+    &KEYED_WALK,
+    &SET,
+    &ORDERED,
+    &ORDERED_SET,
+    &KEYED,
+    &ORDERED_KEYED,
+];
 
 static TREES: [&[Row]; 3] = [&COMMON, &TREE, &TREE_CHANGE];
 
