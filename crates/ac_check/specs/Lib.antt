@@ -4,4 +4,5 @@ pub mod Meanings
 pub mod Rows
 pub mod Rules
 pub mod Views
+pub mod Examples
 pub mod Faults

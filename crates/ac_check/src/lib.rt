@@ -3,6 +3,7 @@
 
 mod block;
 mod call;
+mod examples;
 mod given;
 mod kinds;
 mod meaning;
@@ -11,6 +12,7 @@ mod rules;
 mod scope;
 mod table;
 
+pub use examples::{blocks, commands, declarations};
 pub use rows::{Answer, Letter};
 pub use rules::{is_well_typed_decl, is_well_typed_stmt};
 pub use table::{Row, rows_of};
