@@ -1,1 +1,4 @@
 pub mod Names
+pub mod Outcomes
+pub mod Blocks
+pub mod FirstFaults

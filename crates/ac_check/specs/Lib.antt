@@ -3,3 +3,4 @@ pub mod Scopes
 pub mod Meanings
 pub mod Rules
 pub mod Faults
+pub mod Walks
