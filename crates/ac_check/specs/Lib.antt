@@ -6,3 +6,4 @@ pub mod Rules
 pub mod Views
 pub mod Examples
 pub mod Faults
+pub mod Walks

@@ -3,16 +3,23 @@
 
 mod block;
 mod call;
+mod checked;
+mod entry;
 mod examples;
+mod faults;
 mod given;
 mod kinds;
+mod law;
 mod meaning;
 mod rows;
 mod rules;
 mod scope;
 mod table;
+mod walk;
 
+pub use checked::{Checked, check};
 pub use examples::{blocks, commands, declarations};
+pub use law::one_fault;
 pub use rows::{Answer, Letter};
 pub use rules::{is_well_typed_decl, is_well_typed_stmt};
 pub use table::{Row, rows_of};

@@ -1,35 +1,30 @@
 //! The names in scope.
-ghost use Rattle.std.specs.Prelude.{◌≡◌, ◌++◌, ◌∷◌, [], length, take, OnOk};
+ghost use Rattle.std.specs.Prelude.{◌≡◌, ◌++◌, ◌∷◌, [], false, length, take, OnOk};
 ghost use Rattle.std.specs.Option.{option_map};
 ghost use Rattle.ac_check.specs.Scopes.{entry, meaning_in};
 ghost use Rattle.ac_check.specs.Meanings.{meaning_view};
+ghost use Rattle.ac_check.specs.Faults.{is_in_scope};
 
 use crate::meaning::Meaning;
 use ac_base::NoMemory;
-use ac_syntax::Ident;
+use indexmap::IndexMap;
 use std::alloc::Global;
 use std::marker::Model;
-
-#[derive(Drop)]
-struct Named {
-    name: Ident,
-    meaning: Meaning,
-}
 
 /// The names in scope in the order of their declarations, each with what it stands for.
 #[derive(Drop)]
 pub struct Scope {
-    names: Vec<Named>,
+    names: IndexMap<Vec<u8>, Meaning>,
 }
 
 impl Model for Scope {
-    ghost use Rattle.std.specs.Prelude.{List, map};
-    ghost use Rattle.ac_check.specs.Scopes.{Entry, entry};
-    ghost use Rattle.ac_check.specs.Meanings.{meaning_view};
+    ghost use Rattle.std.specs.Prelude.{List};
+    ghost use Rattle.ac_check.specs.Scopes.{Entry};
+    ghost use Rattle.ac_check.specs.Meanings.{entries_view};
 
     ghost Value = { List Entry };
 
-    ghost view = { λ scope. map (λ n. entry n.name (meaning_view n.meaning)) scope.names.items };
+    ghost view = { λ scope. entries_view scope.names.entries };
 }
 
 impl Scope {
@@ -37,18 +32,19 @@ impl Scope {
         ensures { result ≡ [] }
     {
         Scope {
-            names: Vec::new(alloc),
+            names: IndexMap::new(alloc),
         }
+    }
+
+    pub fn alloc(&self) -> Global {
+        *self.names.allocator()
     }
 
     /// What the name stands for, if it is in scope.
     pub fn meaning(&self, name: &[u8]) -> Option<&Meaning>
         ensures { option_map (λ m. meaning_view m.now) result ≡ meaning_in self.now name.now }
     {
-        self.names
-            .iter()
-            .find(|named| named.name.bytes() == name)
-            .map(|named| &named.meaning)
+        self.names.get(name)
     }
 
     pub fn len(&self) -> usize
@@ -58,10 +54,12 @@ impl Scope {
     }
 
     /// Takes in one name more.
-    pub fn declare(&mut self, name: Ident, meaning: Meaning) -> Result<(), NoMemory>
-        ensures { OnOk result (self.new ≡ self.old ++ entry name (meaning_view meaning) ∷ []) }
+    pub fn declare(&mut self, name: &[u8], meaning: Meaning) -> Result<(), NoMemory>
+        requires { is_in_scope self.old name.now ≡ false }
+        ensures { OnOk result (self.new ≡ self.old ++ entry name.now (meaning_view meaning) ∷ []) }
     {
-        self.names.push(Named { name, meaning })?;
+        let name = name.to_vec(*self.names.allocator())?;
+        self.names.insert(name, meaning)?;
         Ok(())
     }
 

@@ -1,3 +1,7 @@
+ghost use Rattle.std.specs.Prelude.{◌≡◌};
+ghost use Rattle.ac_script.specs.declared.fault.ScriptFault.TheVariants as fault;
+
+use ac_base::NoMemory;
 use ac_syntax::RefusalKind;
 
 /// Why no script was made of a text, or a script isn't taken.
@@ -6,4 +10,12 @@ pub enum ScriptFault {
     /// The first refused line, from 1, and why.
     Refused { line: u64, kind: RefusalKind },
     NoMemory,
+}
+
+impl From<NoMemory> for ScriptFault {
+    ghost from_gives = { λ _ e. e ≡ fault.NoMemory };
+
+    fn from(_error: NoMemory) -> ScriptFault {
+        ScriptFault::NoMemory
+    }
 }
