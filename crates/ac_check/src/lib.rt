@@ -12,7 +12,7 @@ mod rules;
 mod scope;
 mod table;
 
-pub use examples::{blocks, commands, declarations};
+pub use examples::{block_examples, command_examples, declaration_examples};
 pub use rows::{Answer, Letter};
 pub use rules::{is_well_typed_decl, is_well_typed_stmt};
 pub use table::{Row, rows_of};
