@@ -2,7 +2,7 @@
 ghost use Rattle.ac_check.specs.Examples.{TakesElements, CountsArguments, SplicesOfOneType, TakesCursors, KeepsLoopCursor, TakesAnswers, SumsIntegers, WritesNothingQueried, WritesUpdated, WritesLooped, LoopsOverCursors, ViewsElements, ViewsSets, UpdatesNoKey, ViewsHolders, CallsByKind, WritesNoSet, FitsCapacity, NeedsCursors, MakesLists};
 
 /// Commands that keep the rules, and beside them some that break them.
-pub fn commands()
+pub fn command_examples()
     ensures takes_elements { TakesElements }
     ensures counts_arguments { CountsArguments }
     ensures splices_of_one_type { SplicesOfOneType }
@@ -13,7 +13,7 @@ pub fn commands()
 {}
 
 /// The same of heads of blocks and of what stands in them.
-pub fn blocks()
+pub fn block_examples()
     ensures keeps_loop_cursor { KeepsLoopCursor }
     ensures writes_nothing_queried { WritesNothingQueried }
     ensures writes_updated { WritesUpdated }
@@ -27,7 +27,7 @@ pub fn blocks()
 {}
 
 /// The same of declarations.
-pub fn declarations()
+pub fn declaration_examples()
     ensures fits_capacity { FitsCapacity }
     ensures needs_cursors { NeedsCursors }
     ensures makes_lists { MakesLists }

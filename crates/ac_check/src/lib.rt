@@ -18,7 +18,7 @@ mod table;
 mod walk;
 
 pub use checked::{Checked, check};
-pub use examples::{blocks, commands, declarations};
+pub use examples::{block_examples, command_examples, declaration_examples};
 pub use law::one_fault;
 pub use rows::{Answer, Letter};
 pub use rules::{is_well_typed_decl, is_well_typed_stmt};

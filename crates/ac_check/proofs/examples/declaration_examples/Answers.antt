@@ -1,5 +1,5 @@
 use Rattle.std.proofs.Common.{refl}
-use Rattle.ac_check.proofs.examples.declarations.Goals as goal
+use Rattle.ac_check.proofs.examples.declaration_examples.Goals as goal
 
 pub returns-clause-fits_capacity : goal.returns-clause-fits_capacity
 returns-clause-fits_capacity c = refl

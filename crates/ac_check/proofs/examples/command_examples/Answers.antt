@@ -1,6 +1,6 @@
 use Rattle.std.proofs.Common.{refl}
 use Rattle.ac_check.specs.Table.{rows_of, common_rows, counted_rows, sequence_rows, capacity_rows, vector_rows, list_rows, keyed_walk_rows, map_rows, set_rows, keyed_rows, ordered_keyed_rows, ordered_rows, ordered_map_rows, ordered_set_rows, tree_rows, tree_change_rows, queue_rows}
-use Rattle.ac_check.proofs.examples.commands.Goals as goal
+use Rattle.ac_check.proofs.examples.command_examples.Goals as goal
 
 pub returns-clause-takes_elements : goal.returns-clause-takes_elements
 unfolding rows_of common_rows counted_rows sequence_rows list_rows

@@ -1,6 +1,6 @@
 use Rattle.std.proofs.Common.{refl}
 use Rattle.ac_check.specs.Table.{rows_of, common_rows, counted_rows, sequence_rows, list_rows}
-use Rattle.ac_check.proofs.examples.blocks.Goals as goal
+use Rattle.ac_check.proofs.examples.block_examples.Goals as goal
 
 pub returns-clause-keeps_loop_cursor : goal.returns-clause-keeps_loop_cursor
 unfolding rows_of common_rows counted_rows sequence_rows list_rows
