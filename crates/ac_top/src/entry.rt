@@ -1,11 +1,17 @@
-ghost use Rattle.std.specs.Prelude.{◌≡◌, ◌≢◌, ◌<◌, ◌≤◌, ◌↔◌, ◌⊎◌, true, Some, None, [], length, IfSome};
+ghost use Rattle.std.specs.Prelude.{◌≡◌, ◌≢◌, ◌≤◌, ◌↔◌, ◌⊎◌, ℕ, true, Some, None, [], length, IfSome};
 ghost use Rattle.ac_io.specs.Outside.{Rose, GrewBy, GrewByFront};
 ghost use Rattle.ac_top.specs.Meaning.{meaning_of, meaning_of_script, refusal_line};
+ghost use Rattle.ac_top.specs.Meaning.{Meaning};
+ghost use Rattle.ac_top.specs.Checking.{IsCheckMeaning};
+ghost use Rattle.ac_top.specs.Modes.{mode_of, Means};
+ghost use Rattle.ac_top.specs.declared.mode.Mode.TheVariants.{Run, Check};
 ghost use Rattle.ac_top.specs.Status.{number_of, IsAnswer, Writes};
 
+use crate::checking::check_input;
 use crate::execute::{HostEnd, execute};
 use crate::gate::Gate;
 use crate::limits::INPUT_LIMIT;
+use crate::mode::{Mode, asked_for};
 use crate::status::Status;
 use ac_first_path::{Script, ScriptFault, parse};
 use ac_io::{ReadEnd, Sink, Source, read_all, write_all};
@@ -14,7 +20,7 @@ use std::sync::Wait;
 use std::thread::Threads;
 
 /// Writes the one line of a refusal.
-fn refuse<K: Sink>(sink: &mut K, line: &[u8]) -> Status
+pub fn refuse<K: Sink>(sink: &mut K, line: &[u8]) -> Status
     ensures writes { Writes (refusal_line line.now) (K.held sink.old) (K.held sink.new) (K.room sink.old) result }
     ensures write_fault { result ≡ Status.WriteFault → Rose (K.faults sink.old) (K.faults sink.new) }
     ensures kind { (result ≢ Status.Usage) × (result ≢ Status.ReadFault) }
@@ -39,7 +45,7 @@ fn answer_script<K: Sink>(alloc: Global, script: &Script, sink: &mut K) -> Statu
 }
 
 /// Runs the script that an input spells, or refuses it.
-fn answer_input<K: Sink>(alloc: Global, input: &[u8], sink: &mut K) -> Status
+fn run_input<K: Sink>(alloc: Global, input: &[u8], sink: &mut K) -> Status
     requires { length input.now ≤ INPUT_LIMIT }
     ensures writes { Writes (meaning_of input.now) (K.held sink.old) (K.held sink.new) (K.room sink.old) result }
     ensures write_fault { result ≡ Status.WriteFault → Rose (K.faults sink.old) (K.faults sink.new) }
@@ -52,10 +58,30 @@ fn answer_input<K: Sink>(alloc: Global, input: &[u8], sink: &mut K) -> Status
     }
 }
 
+/// Answers an input.
+fn answer_input<K: Sink>(alloc: Global, mode: Mode, input: &[u8], sink: &mut K) -> Status
+    requires { length input.now ≤ INPUT_LIMIT }
+    ensures writes { (m : Meaning) → Means mode input.now m → Writes m (K.held sink.old) (K.held sink.new) (K.room sink.old) result }
+    ensures meant { IsAnswer result → (m : Meaning) × Means mode input.now m }
+    ensures write_fault { result ≡ Status.WriteFault → Rose (K.faults sink.old) (K.faults sink.new) }
+    ensures kind { (result ≢ Status.Usage) × (result ≢ Status.ReadFault) }
+{
+    match mode {
+        Mode::Run => run_input(alloc, input, sink),
+        Mode::Check => check_input(alloc, input, sink),
+    }
+}
+
 /// Reads the source to its end, and answers what it held.
-fn answer_source<S: Source, K: Sink>(alloc: Global, source: &mut S, sink: &mut K) -> Status
-    ensures writes { IfSome (S.left source.old) (λ input.
-        Writes (meaning_of input) (K.held sink.old) (K.held sink.new) (K.room sink.old) result) }
+fn answer_source<S: Source, K: Sink>(
+    alloc: Global,
+    mode: Mode,
+    source: &mut S,
+    sink: &mut K,
+) -> Status
+    ensures writes { IfSome (S.left source.old) (λ input. (m : Meaning) → Means mode input m →
+        Writes m (K.held sink.old) (K.held sink.new) (K.room sink.old) result) }
+    ensures meant { IsAnswer result → IfSome (S.left source.old) (λ input. (m : Meaning) × Means mode input m) }
     ensures drained { IsAnswer result → IfSome (S.left source.old) (λ input.
         length input ≤ INPUT_LIMIT → S.left source.new ≡ Some []) }
     ensures read_fault { result ≡ Status.ReadFault → Rose (S.faults source.old) (S.faults source.new) }
@@ -65,7 +91,7 @@ fn answer_source<S: Source, K: Sink>(alloc: Global, source: &mut S, sink: &mut K
     ensures kind { result ≢ Status.Usage }
 {
     match read_all(alloc, source, INPUT_LIMIT) {
-        Ok(input) => answer_input(alloc, &input, sink),
+        Ok(input) => answer_input(alloc, mode, &input, sink),
         Err(ReadEnd::TooLong) => refuse(sink, b"input: limit\n"),
         Err(ReadEnd::ReadFault) => Status::ReadFault,
         Err(ReadEnd::NoMemory) => Status::NoMemory,
@@ -73,8 +99,10 @@ fn answer_source<S: Source, K: Sink>(alloc: Global, source: &mut S, sink: &mut K
 }
 
 /// Runs the script that the source holds, and writes the line of each command to the sink. `words` are
-/// the words after the program's name. An input that isn't a script of at most 1,048,576 bytes gets one
-/// line, `input: syntax` or `input: limit`.
+/// the words after the program's name. Without words, an input that isn't a script of at most 1,048,576
+/// bytes gets one line, `input: syntax` or `input: limit`. With the word `--check` nothing is run: the
+/// whole language is read, and the script's canonical text is written, or the one line on which it is
+/// refused, as `line 3: wrong type`.
 pub fn run<R: Threads + Wait + Sync, S: Source, K: Sink, G: Gate + Sync>(
     _rt: &R,
     alloc: Global,
@@ -84,34 +112,41 @@ pub fn run<R: Threads + Wait + Sync, S: Source, K: Sink, G: Gate + Sync>(
     _gate: &G,
 ) -> Status
     // Words that aren't the command's: nothing is read or written.
-    ensures usage { result ≡ Status.Usage ↔ (0 < length words.now) }
+    ensures usage { result ≡ Status.Usage ↔ (mode_of words.now ≡ None) }
     ensures untouched { result ≡ Status.Usage → (source.new ≡ source.old) × (sink.new ≡ sink.old) }
 
-    // An answer is the whole meaning of all the bytes.
-    ensures written { IsAnswer result → IfSome (S.left source.old) (λ input.
+    // Without words an answer is the whole meaning of all the bytes.
+    ensures written { mode_of words.now ≡ Some Run → IsAnswer result → IfSome (S.left source.old) (λ input.
         GrewBy (K.held sink.old) (K.held sink.new) (meaning_of input).text) }
-    ensures status { IsAnswer result → IfSome (S.left source.old) (λ input.
+    ensures status { mode_of words.now ≡ Some Run → IsAnswer result → IfSome (S.left source.old) (λ input.
         number_of result ≡ (meaning_of input).status) }
+
+    // With `--check` it is the canonical text of the script, or its refusal.
+    ensures checked { mode_of words.now ≡ Some Check → IsAnswer result → IfSome (S.left source.old) (λ input.
+        (m : Meaning) × IsCheckMeaning input m × GrewBy (K.held sink.old) (K.held sink.new) m.text × (number_of result ≡ m.status)) }
     ensures drained { IsAnswer result → IfSome (S.left source.old) (λ input.
         length input ≤ INPUT_LIMIT → S.left source.new ≡ Some []) }
 
     // Any other end comes after a front of it, a fault only where a count rose.
-    ensures front { IfSome (S.left source.old) (λ input.
+    ensures front { mode_of words.now ≡ Some Run → IfSome (S.left source.old) (λ input.
         GrewByFront (K.held sink.old) (K.held sink.new) (meaning_of input).text) }
+    ensures checked_front { mode_of words.now ≡ Some Check → IfSome (S.left source.old) (λ input. (m : Meaning) → IsCheckMeaning input m →
+        GrewByFront (K.held sink.old) (K.held sink.new) m.text) }
     ensures read_fault { result ≡ Status.ReadFault → Rose (S.faults source.old) (S.faults source.new) }
     ensures unwritten { result ≡ Status.ReadFault → sink.new ≡ sink.old }
     ensures write_fault { result ≡ Status.WriteFault → Rose (K.faults sink.old) (K.faults sink.new) }
 
     // Where no count rises, the input is answered, unless memory runs out.
-    ensures complete { length words.now ≡ 0
+    ensures complete { mode_of words.now ≢ None
         → (Rose (S.faults source.old) (S.faults source.new) → ⊥) → (Rose (K.faults sink.old) (K.faults sink.new) → ⊥)
         → IsAnswer result ⊎ (result ≡ Status.NoMemory) }
-    ensures complete_with_room { length words.now ≡ 0 → S.is_steady source.old ≡ true → IfSome (S.left source.old) (λ input.
+    ensures complete_with_room { mode_of words.now ≡ Some Run → S.is_steady source.old ≡ true → IfSome (S.left source.old) (λ input.
         IfSome (K.room sink.old) (λ room. length (meaning_of input).text ≤ room → IsAnswer result ⊎ (result ≡ Status.NoMemory))) }
+    ensures checked_with_room { mode_of words.now ≡ Some Check → S.is_steady source.old ≡ true → IfSome (S.left source.old) (λ input. (m : Meaning) → IsCheckMeaning input m →
+        IfSome (K.room sink.old) (λ room. length m.text ≤ room → IsAnswer result ⊎ (result ≡ Status.NoMemory))) }
 {
-    if words.is_empty() {
-        answer_source(alloc, source, sink)
-    } else {
-        Status::Usage
+    match asked_for(words) {
+        Some(mode) => answer_source(alloc, mode, source, sink),
+        None => Status::Usage,
     }
 }

@@ -1,11 +1,13 @@
 //! The top call: a script comes in as bytes, and its lines go out as bytes.
 #![tactic(auto)]
 
+mod checking;
 mod entry;
 mod examples;
 mod execute;
 mod gate;
 mod limits;
+mod mode;
 mod line;
 mod numbers;
 mod status;

@@ -1,11 +1,13 @@
-ghost use Rattle.std.specs.Prelude.{◌≡◌, ◌∷◌, ◌++◌, [], codes, decimal, OnOk};
+ghost use Rattle.std.specs.Prelude.{◌≡◌, ◌∷◌, ◌++◌, [], codes, decimal, OnOk, IfOk};
 ghost use Rattle.std.specs.Fmt.{signed_decimal};
+ghost use Rattle.ac_top.specs.Checking.{kind_text, refused_at};
 ghost use Rattle.ac_top.specs.Output.{raised, item, listing};
 
 use crate::numbers::Numbers;
 use ac_base::Reason;
+use ac_syntax::RefusalKind;
 use itoa::{Buffer, Integer};
-use std::alloc::AllocError;
+use std::alloc::{AllocError, Global};
 
 fn append(text: &mut Vec<u8>, words: &str) -> Result<(), AllocError>
     ensures { OnOk result (text.new.items ≡ text.old.items ++ words.now) }
@@ -65,4 +67,28 @@ pub fn end_line(text: &mut Vec<u8>) -> Result<(), AllocError>
     ensures { OnOk result (text.new.items ≡ text.old.items ++ 10 ∷ []) }
 {
     append(text, "\n")
+}
+
+fn kind_text(kind: RefusalKind) -> &'static str
+    ensures { result.now ≡ kind_text kind }
+{
+    match kind {
+        RefusalKind::Syntax => "syntax",
+        RefusalKind::Limit => "limit",
+        RefusalKind::UnknownName => "unknown name",
+        RefusalKind::WrongType => "wrong type",
+        RefusalKind::Twice => "twice",
+    }
+}
+
+/// The line that says where and why a text is refused.
+pub fn refusal_line(alloc: Global, line: u64, kind: RefusalKind) -> Result<Vec<u8>, AllocError>
+    ensures { IfOk result (λ text. text.items ≡ (refused_at line kind).text) }
+{
+    let mut text = Vec::new(alloc);
+    append(&mut text, "line ")?;
+    begin_line(&mut text, line)?;
+    append(&mut text, kind_text(kind))?;
+    end_line(&mut text)?;
+    Ok(text)
 }

@@ -1,5 +1,5 @@
 use Rattle.ac_top.proofs.Meant.{meaning_short}
-use Rattle.ac_top.proofs.entry.answer_input.Goals as goal
+use Rattle.ac_top.proofs.entry.run_input.Goals as goal
 
 pub returns-in-Ok-clause-writes : goal.returns-in-Ok-clause-writes
 returns-in-Ok-clause-writes g c = rw (meaning_short c.args.input.now _ c.requires c.in-Ok.ensures.exact) c.answer_script.ensures.writes

@@ -1,0 +1,17 @@
+-- What the words after the program's name ask for, and what a text means then.
+use Rattle.std.specs.Prelude.{◌≡◌, ℕ, codes, List, [], ◌∷◌, Option, Some, None, if◌then◌else◌}
+use Rattle.std.specs.Str.{bytes_eq}
+use Rattle.ac_top.specs.declared.mode.Mode.{Mode}
+use Rattle.ac_top.specs.declared.mode.Mode.TheVariants.{Run, Check}
+use Rattle.ac_top.specs.Meaning.{Meaning, meaning_of}
+use Rattle.ac_top.specs.Checking.{IsCheckMeaning}
+
+-- no word, or `--check` alone
+abbrev pub mode_of : List (List ℕ) → Option Mode
+mode_of [] = Some Run
+mode_of (word ∷ []) = if bytes_eq word (codes "--check") then Some Check else None
+mode_of (word ∷ next ∷ words) = None
+
+abbrev pub Means : Mode → List ℕ → Meaning → Type 0
+Means Run input m = m ≡ meaning_of input
+Means Check input m = IsCheckMeaning input m
