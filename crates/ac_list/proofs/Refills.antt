@@ -1,6 +1,6 @@
 -- Rows that give way to copies, and what a list is after that.
-use Rattle.std.proofs.Common.{◌≡◌, ℕ, zero, suc, ◌+◌, ◌-◌, ◌<◌, ◌≤◌, List, [], ◌∷◌, ◌++◌, length, take, reverse, map, Option, Some, None, Result, Ok, Err, false, true≢false, lt-ltb, refl, sym, ap, ◌∙◌, subst, inl, inr, arith, append_assoc, append-nil, length-append}
-use Rattle.std.specs.Prelude.{max, IfOk, IfErr, IsTrue}
+use Rattle.std.proofs.Common.{◌≡◌, ℕ, zero, suc, ◌+◌, ◌-◌, ◌<◌, ◌≤◌, List, [], ◌∷◌, ◌++◌, length, take, reverse, Option, Some, None, Result, Ok, Err, false, true≢false, lt-ltb, refl, sym, ap, ◌∙◌, subst, inl, inr, arith, append_assoc, append-nil, length-append}
+use Rattle.std.specs.Prelude.{max, IfOk, IfErr}
 use Rattle.std.specs.List.{slice_get}
 use Rattle.std.specs.Option.{option_map}
 use Rattle.std.proofs.lemmas.Bool.{cases_lt}
@@ -19,15 +19,15 @@ use Rattle.ac_chain.proofs.Chains.{index_at}
 use Rattle.ac_chain.proofs.Moves.{once_from}
 use Rattle.ac_cursor.specs.Guards.{GuardCounts}
 use Rattle.ac_cursor.specs.Steps.{first_reason}
-use Rattle.ac_model.specs.Rows.{names, values, fresh}
+use Rattle.ac_model.specs.Rows.{values, fresh}
 use Rattle.ac_model.specs.Objects.{Object, plain, contents, length_of, grown, is_past, greatest_length}
-use Rattle.ac_model.specs.Letters.{is_among, tampers_cursors, room}
+use Rattle.ac_model.specs.Letters.{tampers_cursors, room}
 use Rattle.ac_model.specs.Calls.{Changing, IsAfter, Same, Done}
 use Rattle.ac_model.specs.Common.{assign_call}
 use Rattle.ac_model.proofs.Lengths.{length-fresh}
 use Rattle.ac_model.proofs.Reasons.{none_others, room_none}
-use Rattle.ac_list.specs.State.{row_of, object_of, IsList}
-use Rattle.ac_list.proofs.Grows.{no_capacity, all_from, more_serials}
+use Rattle.ac_list.specs.State.{object_of, IsList}
+use Rattle.ac_list.proofs.Grows.{grown_after, more_serials}
 use Rattle.ac_list.specs.Put.{plains, IsPut}
 use Rattle.ac_list.specs.Copy.{values_of, IsRefilled, as_fault}
 use Rattle.ac_list.proofs.Puts.{length-plains, put_none, put_length, reserved_enough, reserved_slots, reserved_kept}
@@ -195,20 +195,10 @@ module _ {X : Type 0} where
   pub source_is : (g : GuardCounts) (l : Limit) (k : Chained X) (o : Object Name X) → object_of g l k ≡ o → (contents (plain o) ≡ values_of k.rows) × (length_of (plain o) ≡ length k.rows)
   source_is g l k o view = subst (λ (p : Object Name X). (contents (plain p) ≡ values_of k.rows) × (length_of (plain p) ≡ length k.rows)) view (values-plains k.rows, length-plains k.rows)
 
-  refill_after : (g : GuardCounts) (l : Limit) (k now : Chained X) (o : Object Name X) (vs : List X) (n : ℕ) → object_of g l k ≡ o → length vs ≡ n → IsRefilled k vs now → IsAfter o (object_of g l now) (grown (plain o) (fresh (plain o).next vs) n)
+  pub refill_after : (g : GuardCounts) (l : Limit) (k now : Chained X) (o : Object Name X) (vs : List X) (n : ℕ) → object_of g l k ≡ o → length vs ≡ n → IsRefilled k vs now → IsAfter o (object_of g l now) (grown (plain o) (fresh (plain o).next vs) n)
   refill_after g l k now o vs n view count f =
-      subst (λ (p : Object Name X). IsAfter p (object_of g l now) (grown (plain p) (fresh (plain p).next vs) n)) view (record {
-        plainly = λ i. record {
-          number = g.number;
-          limit = l;
-          capacity = sym (no_capacity l (length (fresh k.next_serial vs))) i;
-          next = (f.next ∙ ap (λ m. k.next_serial + m) count) i;
-          rows = f.rows i;
-          cursor_guards = g.cursor_guards;
-          element_guards = g.element_guards;
-        };
-        slots = all_from (λ name. name.serial < k.next_serial → IsTrue (is_among (names (map row_of k.rows)) name)) now.rows (λ a t lt. absurd (let high = more_serials a k.next_serial vs now.rows f.rows t in omega arith));
-      })
+      subst (λ (p : Object Name X). IsAfter p (object_of g l now) (grown (plain p) (fresh (plain p).next vs) n)) view
+      (grown_after g l k now (fresh k.next_serial vs) n f.rows (f.next ∙ ap (λ m. k.next_serial + m) count) (λ a t lt. absurd (let high = more_serials a k.next_serial vs now.rows f.rows t in omega arith)))
 
   pub refill_changes : (g : GuardCounts) (l : Limit) (k now : Chained X) (o : Object Name X) → object_of g l k ≡ o → (h : GuardCounts) (m : Limit) (j : Chained X) (from : Object Name X) → object_of h m j ≡ from
       → (r : Result Done NoMemory) → (assign_call (plain o) (plain from)).reason ≡ None → IfOk r (λ _. IsRefilled k (values_of j.rows) now) → IfErr r (λ _. now ≡ k)

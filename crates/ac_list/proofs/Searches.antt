@@ -1,6 +1,6 @@
 -- What a search over a chain's rows has found so far, and how a test of equality answers.
 use Rattle.std.proofs.Common.{◌≡◌, ◌-◌, ◌<◌, ◌&&◌, Bool, true, false, List, [], ◌∷◌, length, Option, Some, None, IsTrue, refl, sym, ap, ◌∙◌, subst, arith, eqb-true, eq-eqb}
-use Rattle.std.specs.Prelude.{◌↔◌, ◌==◌}
+use Rattle.std.specs.Prelude.{◌↔◌}
 use Rattle.std.specs.Coded.{Coded}
 use Rattle.std.proofs.lemmas.Bool.{and_parts}
 use base.Stored.{Gv, gnil, gnum, gcons}
@@ -50,10 +50,10 @@ module _ {T : Type 0} where
   pub search_start : (same : T → T → Bool) (e : T) (whole : List (chain.Row T)) → Searching same e whole whole
   search_start same e whole = record { found = refl }
 
-  first_found : (same : T → T → Bool) (e : T) (r : chain.Row T) (rest : List (chain.Row T)) → same r.value e ≡ true → found_in same e (r ∷ rest) ≡ Some r.name
+  pub first_found : (same : T → T → Bool) (e : T) (r : chain.Row T) (rest : List (chain.Row T)) → same r.value e ≡ true → found_in same e (r ∷ rest) ≡ Some r.name
   first_found same e r rest h = rw h refl
 
-  first_passed : (same : T → T → Bool) (e : T) (r : chain.Row T) (rest : List (chain.Row T)) → same r.value e ≡ false → found_in same e (r ∷ rest) ≡ found_in same e rest
+  pub first_passed : (same : T → T → Bool) (e : T) (r : chain.Row T) (rest : List (chain.Row T)) → same r.value e ≡ false → found_in same e (r ∷ rest) ≡ found_in same e rest
   first_passed same e r rest h = rw h refl
 
   pub search_hit : (same : T → T → Bool) (e v : T) (whole left rest : List (chain.Row T)) (r : chain.Row T) (a : Name) → Searching same e whole left → left ≡ r ∷ rest → a ≡ r.name → Some v ≡ Some r.value → same v e ≡ true → Some a ≡ found_in same e whole

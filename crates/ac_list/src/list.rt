@@ -15,11 +15,12 @@ ghost use Rattle.ac_model.specs.Lists as lists;
 
 mod copies;
 mod deletions;
-mod values;
 mod links;
+mod merging;
 mod order;
 mod searches;
 mod transfers;
+mod values;
 
 use crate::put::put_copies;
 use crate::reasons::{count_of, in_range, names_spent, too_long, too_many};
