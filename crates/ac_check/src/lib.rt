@@ -9,6 +9,8 @@ mod meaning;
 mod rows;
 mod rules;
 mod scope;
+#[cfg(test)]
+mod tests;
 mod walk;
 
 pub use checked::{Checked, check};
