@@ -1,3 +1,4 @@
+pub mod Groups
 pub mod Names
 pub mod Outcomes
 pub mod Blocks

@@ -6,10 +6,11 @@ ghost use Rattle.ac_check.specs.Scopes.{an_object, a_value, entry, decl_entry};
 ghost use Rattle.ac_check.specs.Faults.{decl_name};
 ghost use Rattle.ac_check.specs.Meanings.{meaning_view};
 
+use crate::kinds::{element_of, is_set};
 use crate::meaning::Meaning;
 use crate::scope::Scope;
 use ac_base::NoMemory;
-use ac_syntax::{Decl, ElemKind, Ident, Kind, TypeDef, ViewKind};
+use ac_syntax::{Decl, ElemKind, Ident, TypeDef, ViewKind};
 use std::alloc::Global;
 
 fn copy(alloc: Global, name: &Ident) -> Result<Ident, NoMemory>
@@ -18,26 +19,10 @@ fn copy(alloc: Global, name: &Ident) -> Result<Ident, NoMemory>
     Ok(Ident::new(name.bytes().to_vec(alloc)?))
 }
 
-fn is_set(kind: Kind) -> bool
-    ensures { result ≡ scopes.is_set kind }
-{
-    matches!(kind, Kind::HashedSet | Kind::OrderedSet)
-}
-
 fn is_written_in(view: ViewKind) -> bool
     ensures { result ≡ scopes.is_written_in view }
 {
     !matches!(view, ViewKind::Query)
-}
-
-/// What the elements are: a map's are its second.
-fn element_of(def: TypeDef) -> ElemKind
-    ensures { result ≡ scopes.element_of def }
-{
-    match def.second {
-        None => def.first,
-        Some(second) => second,
-    }
 }
 
 fn object_meaning(scope: &Scope, of: &Ident) -> Result<Option<Meaning>, NoMemory>
