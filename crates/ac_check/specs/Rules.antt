@@ -16,6 +16,8 @@ use Rattle.ac_syntax.specs.declared.kind.Kind.{Kind}
 use Rattle.ac_syntax.specs.declared.kind.Kind.TheVariants as kind
 use Rattle.ac_syntax.specs.declared.kind.ElemKind.{ElemKind}
 use Rattle.ac_syntax.specs.declared.kind.ElemKind.TheVariants.{Integer, Str}
+use Rattle.ac_syntax.specs.declared.stmt.Stmt.{Stmt}
+use Rattle.ac_syntax.specs.declared.stmt.Stmt.TheVariants.{Call, Set, Sum, Loop, View, Stable, Declare}
 use Rattle.ac_syntax.specs.declared.view_kind.ViewKind.{ViewKind}
 use Rattle.ac_syntax.specs.declared.view_kind.ViewKind.TheVariants.{Query, Update, Reference, UpdateKey}
 use Rattle.ac_syntax.specs.declared.type_def.TypeDef.{TypeDef}
@@ -261,3 +263,13 @@ is_well_typed s = elim s.item [
   | begins ↦ true
   | closes _ ↦ true
 ]
+
+-- a statement keeps the rules: a command, or a block by its head
+abbrev pub is_stmt : Scope → Stmt → Bool
+is_stmt scope (Call line target object op args) = is_simple scope (call_at line target object op args)
+is_stmt scope (Set line target from) = is_simple scope (set_at line target from)
+is_stmt scope (Sum line target from minus number) = is_simple scope (sum_at line target from minus number)
+is_stmt scope (Loop line name elements backward object body) = is_head scope (loop_at line name elements backward object)
+is_stmt scope (View line view object at name body) = is_head scope (view_at line view object at name)
+is_stmt scope (Stable line object body) = is_head scope (stable_at line object)
+is_stmt scope (Declare line decls body) = true

@@ -1,6 +1,27 @@
 //! The checks that a script passes before it runs: its names and its types.
 #![tactic(auto)]
 
+mod block;
+mod call;
+mod checked;
+mod entry;
+mod examples;
+mod faults;
+mod given;
+mod kinds;
+mod law;
+mod meaning;
 mod rows;
+mod rules;
+mod scope;
+mod table;
+#[cfg(test)]
+mod tests;
+mod walk;
 
+pub use checked::{Checked, check};
+pub use examples::{block_examples, command_examples, declaration_examples};
+pub use law::one_fault;
 pub use rows::{Answer, Letter};
+pub use rules::{is_well_typed_decl, is_well_typed_stmt};
+pub use table::{Row, rows_of};

@@ -1,0 +1,109 @@
+-- The items of statements among others, and of a block.
+use Rattle.std.proofs.Common.{◌≡◌, ◌+◌, ◌<◌, ℕ, List, [], ◌∷◌, ◌++◌, length, take, drop, get_or, Option, Some, None, refl, sym, ap, ◌∙◌, arith}
+use Rattle.std.proofs.lemmas.List.{append_assoc, append-nil}
+use Rattle.ac_syntax.specs.Code.{Code, Head, loop_at, view_at, stable_at, declare_at, stop, block}
+use Rattle.ac_syntax.specs.Items.{opens, bare}
+use Rattle.ac_syntax.specs.Statements.{before, code_of}
+use Rattle.ac_syntax.specs.declared.decl.Decl.{Decl}
+use Rattle.ac_syntax.specs.declared.refusal.RefusalKind.{RefusalKind}
+use Rattle.ac_syntax.specs.declared.stmt.Stmt.{Stmt}
+use Rattle.ac_syntax.specs.declared.stmt.Stmt.TheVariants.{Call, Set, Sum, Loop, View, Stable, Declare}
+use Rattle.ac_check.specs.Scopes.{Scope, Entry, Standing, standing, with_entry, with_decls, decl_entry, decls_in, inside, standing_decls, standings_from}
+use Rattle.ac_check.specs.Walks.{Outcome, goes_on, refused, outcome, fault_with, stmt_item}
+use Rattle.ac_check.proofs.Outcomes.{gone_on, stopped, head_on, next_item}
+
+-- a block's items, with none behind it
+block_end : (scope : Scope) (head : Head) (body rest : Code)
+    → standings_from scope (block head body rest) ≡ standings_from scope (block head body stop) ++ standings_from scope rest
+block_end scope head body rest =
+    let first = standing (opens (bare head)) scope in
+    let decls = standing_decls scope (decls_in head) in
+    let within = standings_from (inside scope head) body in
+    let later = standings_from scope rest in
+    ap (λ (l : List Standing). first ∷ (decls ++ (l ++ later))) (sym (append-nil within))
+    ∙ ap (λ (l : List Standing). first ∷ l) (sym (append_assoc decls (within ++ []) later))
+
+-- a statement's items, and those behind it
+pub standings_before : (scope : Scope) (stmt : Stmt) (rest : Code)
+    → standings_from scope (before stmt rest) ≡ standings_from scope (before stmt stop) ++ standings_from scope rest
+standings_before scope (Call _ _ _ _ _) rest = refl
+standings_before scope (Set _ _ _) rest = refl
+standings_before scope (Sum _ _ _ _ _) rest = refl
+standings_before scope (Loop line name elements backward object body) rest = block_end scope (loop_at line name elements backward object) body rest
+standings_before scope (View line kind object at name body) rest = block_end scope (view_at line kind object at name) body rest
+standings_before scope (Stable line object body) rest = block_end scope (stable_at line object) body rest
+standings_before scope (Declare line decls body) rest = block_end scope (declare_at line decls) body rest
+
+-- a statement's first item
+pub begins_with : (scope : Scope) (stmt : Stmt) → (later : List Standing) × (standings_from scope (before stmt stop) ≡ standing (stmt_item stmt) scope ∷ later)
+begins_with scope (Call _ _ _ _ _) = ([], refl)
+begins_with scope (Set _ _ _) = ([], refl)
+begins_with scope (Sum _ _ _ _ _) = ([], refl)
+begins_with scope (Loop _ _ _ _ _ _) = (_, refl)
+begins_with scope (View _ _ _ _ _ _) = (_, refl)
+begins_with scope (Stable _ _ _) = (_, refl)
+begins_with scope (Declare _ _ _) = (_, refl)
+
+module _ (room : ℕ) (scope : Scope) (stmt : Stmt) (line : ℕ) (decls : List Decl) (body : Code) (is : stmt ≡ Declare line decls body)
+    (judged : fault_with room (standing (stmt_item stmt) scope) ≡ None) where
+  head_judged : fault_with room (standing (opens (declare_at line [])) scope) ≡ None
+  head_judged = ap (λ s. fault_with room (standing (stmt_item s) scope)) (sym is) ∙ judged
+
+  whole : outcome room (standings_from scope (before stmt stop)) ≡ outcome room (standing_decls scope decls ++ (standings_from (with_decls scope decls) body ++ []))
+  whole =
+      ap (λ s. outcome room (standings_from scope (before s stop))) is
+      ∙ head_on room (declare_at line []) scope (standing_decls scope decls ++ (standings_from (with_decls scope decls) body ++ [])) head_judged
+
+  -- behind the declarations of a block
+  pub declare_on : (after : ℕ) (within : Scope) → outcome room (standing_decls scope decls) ≡ goes_on after → within ≡ with_decls scope decls
+      → outcome room (standings_from scope (before stmt stop)) ≡ outcome after (standings_from within body)
+  declare_on after within known now =
+      whole
+      ∙ gone_on room after (standing_decls scope decls) (standings_from (with_decls scope decls) body ++ []) known
+      ∙ ap (outcome after) (append-nil (standings_from (with_decls scope decls) body))
+      ∙ ap (λ s. outcome after (standings_from s body)) (sym now)
+
+  -- one of them is refused
+  pub declare_stopped : (at : Option ℕ) (kind : RefusalKind) → outcome room (standing_decls scope decls) ≡ refused at kind
+      → outcome room (standings_from scope (before stmt stop)) ≡ refused at kind
+  declare_stopped at kind bad = whole ∙ stopped room at kind (standing_decls scope decls) (standings_from (with_decls scope decls) body ++ []) bad
+
+-- declarations leave the names before them in scope
+longer : (scope : Scope) (o : Option Entry) → (more : List Entry) × (with_entry scope o ≡ scope ++ more)
+longer scope None = ([], sym (append-nil scope))
+longer scope (Some e) = (e ∷ [], refl)
+
+decls_longer : (scope : Scope) (decls : List Decl) → (more : List Entry) × (with_decls scope decls ≡ scope ++ more)
+decls_longer scope [] = ([], sym (append-nil scope))
+decls_longer scope (decl ∷ decls) =
+    let one = longer scope (decl_entry scope decl) in
+    let all = decls_longer (with_entry scope (decl_entry scope decl)) decls in
+    (one.0 ++ all.0, all.1 ∙ ap (λ (l : List Entry). l ++ all.0) one.1 ∙ append_assoc scope one.0 all.0)
+
+take_front : (front more : Scope) → take (length front) (front ++ more) ≡ front
+take_front [] more = refl
+take_front (e ∷ front) more = ap (λ (l : Scope). e ∷ l) (take_front front more)
+
+pub outside_decls : (scope : Scope) (decls : List Decl) → take (length scope) (with_decls scope decls) ≡ scope
+outside_decls scope decls =
+    let p = decls_longer scope decls in
+    ap (λ (l : Scope). take (length scope) l) p.1 ∙ take_front scope p.0
+
+module _ (room : ℕ) (scope : Scope) (stmts : List Stmt) (i : ℕ) (stmt : Stmt) (within : i < length stmts) (is : stmt ≡ get_or stmts i stmt) where
+  front : outcome room (standings_from scope (code_of (drop i stmts)))
+      ≡ outcome room (standings_from scope (before stmt stop) ++ standings_from scope (code_of (drop (i + 1) stmts)))
+  front =
+      ap (λ (l : List Stmt). outcome room (standings_from scope (code_of l))) (next_item stmts i stmt within is)
+      ∙ ap (outcome room) (standings_before scope stmt (code_of (drop (i + 1) stmts)))
+
+  -- behind the next of some statements
+  pub statement_on : (after : ℕ) (now : Scope) → outcome room (standings_from scope (before stmt stop)) ≡ goes_on after → now ≡ scope
+      → outcome after (standings_from now (code_of (drop (i + 1) stmts))) ≡ outcome room (standings_from scope (code_of (drop i stmts)))
+  statement_on after now known same =
+      ap (λ s. outcome after (standings_from s (code_of (drop (i + 1) stmts)))) same
+      ∙ sym (front ∙ gone_on room after (standings_from scope (before stmt stop)) (standings_from scope (code_of (drop (i + 1) stmts))) known)
+
+  -- it is refused
+  pub statement_stopped : (at : Option ℕ) (kind : RefusalKind) → outcome room (standings_from scope (before stmt stop)) ≡ refused at kind
+      → outcome room (standings_from scope (code_of (drop i stmts))) ≡ refused at kind
+  statement_stopped at kind bad = front ∙ stopped room at kind (standings_from scope (before stmt stop)) (standings_from scope (code_of (drop (i + 1) stmts))) bad

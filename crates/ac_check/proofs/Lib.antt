@@ -1,0 +1,5 @@
+pub mod Groups
+pub mod Names
+pub mod Outcomes
+pub mod Blocks
+pub mod FirstFaults

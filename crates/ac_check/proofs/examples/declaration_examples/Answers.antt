@@ -1,0 +1,11 @@
+use Rattle.std.proofs.Common.{refl}
+use Rattle.ac_check.proofs.examples.declaration_examples.Goals as goal
+
+pub returns-clause-fits_capacity : goal.returns-clause-fits_capacity
+returns-clause-fits_capacity c = refl
+
+pub returns-clause-needs_cursors : goal.returns-clause-needs_cursors
+returns-clause-needs_cursors c = refl
+
+pub returns-clause-makes_lists : goal.returns-clause-makes_lists
+returns-clause-makes_lists c = refl

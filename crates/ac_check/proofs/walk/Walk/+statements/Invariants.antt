@@ -1,0 +1,20 @@
+use Rattle.std.proofs.Common.{◌≡◌, ◌+◌, ◌*◌, drop}
+use Rattle.ac_syntax.specs.Code.{code_size, stop}
+use Rattle.ac_syntax.specs.Statements.{before, code_of}
+use Rattle.ac_check.specs.Scopes.{standings_from}
+use Rattle.ac_check.specs.Walks.{outcome}
+use Rattle.ac_check.proofs.walk.Walk.+statements.Given as goal
+
+abbrev pub decreases-walk_body : goal.decreases-walk_body
+decreases-walk_body l = 3 * code_size l.body.now + 2
+
+abbrev pub decreases-walk_statement : goal.decreases-walk_statement
+decreases-walk_statement l = 3 * code_size (before l.stmt.now stop)
+
+abbrev pub decreases-walk_statements : goal.decreases-walk_statements
+decreases-walk_statements l = 3 * code_size l.stmts.now + 1
+
+abbrev pub invariant-walk_statements-loop-stmt : goal.invariant-walk_statements-loop-stmt
+invariant-walk_statements-loop-stmt l =
+    (outcome l.self.room (standings_from l.self.scope (code_of (drop l.stmt-index l.stmt-items))) ≡ outcome l.initial.self.room (standings_from l.initial.self.scope l.stmts))
+    × (l.self.scope ≡ l.initial.self.scope)

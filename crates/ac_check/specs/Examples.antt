@@ -1,0 +1,238 @@
+-- Declarations and statements that keep the rules and that break them, worked out by hand.
+use Rattle.std.specs.Prelude.{ℕ, ◌&&◌, pos, codes, Bool, true, false, not, List, [], ◌∷◌, ◌++◌, map, Option, Some, None, IsTrue}
+use Rattle.std.specs.List.{list_all, list_any}
+use Rattle.ac_base.specs.declared.value.Value.TheVariants as value
+use Rattle.ac_syntax.specs.Code.{stop, loop_at, view_at}
+use Rattle.ac_syntax.specs.declared.arg.Arg.{Arg}
+use Rattle.ac_syntax.specs.declared.arg.Arg.TheVariants.{Lit, NoElement, Var}
+use Rattle.ac_syntax.specs.declared.decl.Decl.{Decl}
+use Rattle.ac_syntax.specs.declared.decl.Decl.TheVariants.{TypeDecl, Object, CursorVar, IntVar, TextVar}
+use Rattle.ac_syntax.specs.declared.kind.Kind.{Kind}
+use Rattle.ac_syntax.specs.declared.kind.Kind.TheVariants as kind
+use Rattle.ac_syntax.specs.declared.kind.ElemKind.{ElemKind}
+use Rattle.ac_syntax.specs.declared.kind.ElemKind.TheVariants.{Integer, Str}
+use Rattle.ac_syntax.specs.declared.stmt.Stmt.{Stmt}
+use Rattle.ac_syntax.specs.declared.stmt.Stmt.TheVariants.{Call, Set, Sum, Loop, View, Stable}
+use Rattle.ac_syntax.specs.declared.type_def.TypeDef.{TypeDef}
+use Rattle.ac_syntax.specs.declared.view_kind.ViewKind.{ViewKind}
+use Rattle.ac_syntax.specs.declared.view_kind.ViewKind.TheVariants.{Query, Update, Reference, UpdateKey}
+use Rattle.ac_check.specs.Rules.{is_decl, is_stmt}
+use Rattle.ac_check.specs.Scopes.{Scope, entry, an_object, a_type, a_cursor, a_value, with_decls, inside}
+
+-- the first keep the rules, and none of the others does
+
+abbrev pub Tells : Scope → (kept broken : List Stmt) → Type 0
+Tells scope kept broken = IsTrue (list_all (is_stmt scope) kept && not (list_any (is_stmt scope) broken))
+
+abbrev pub TellsDecls : Scope → (kept broken : List Decl) → Type 0
+TellsDecls scope kept broken = IsTrue (list_all (is_decl scope) kept && not (list_any (is_decl scope) broken))
+
+-- statements on line 1
+
+abbrev call : (target : Option (List ℕ)) → (object operation : List ℕ) → List Arg → Stmt
+call target object operation args = Call 1 target object operation args
+
+abbrev done : (object operation : List ℕ) → List Arg → Stmt
+done object operation args = call None object operation args
+
+abbrev number : ℕ → Arg
+number n = Lit (value.Int (pos n))
+
+abbrev text : List ℕ → Arg
+text bytes = Lit (value.Text bytes)
+
+-- the names of the examples
+
+abbrev A : List ℕ
+A = codes "a"
+
+abbrev B : List ℕ
+B = codes "b"
+
+abbrev C : List ℕ
+C = codes "c"
+
+abbrev D : List ℕ
+D = codes "d"
+
+abbrev E : List ℕ
+E = codes "e"
+
+abbrev N : List ℕ
+N = codes "n"
+
+abbrev O : List ℕ
+O = codes "o"
+
+abbrev S : List ℕ
+S = codes "s"
+
+abbrev V : List ℕ
+V = codes "v"
+
+abbrev X : List ℕ
+X = codes "x"
+
+abbrev Y : List ℕ
+Y = codes "y"
+
+abbrev def : (bounded : Bool) → Kind → ElemKind → Option ElemKind → (keyed : Bool) → TypeDef
+def bounded k first second keyed = record { bounded = bounded; kind = k; first = first; second = second; keyed = keyed }
+
+abbrev list_of : ElemKind → TypeDef
+list_of elem = def false kind.List elem None false
+
+-- A and B are lists of integers of one type, O of another, and S is of strings; D and E are cursors of A's and of S's; X is an integer, Y a string
+abbrev scope : Scope
+scope = with_decls [] (
+    TypeDecl 1 (codes "l") (list_of Integer) ∷ TypeDecl 1 (codes "m") (list_of Integer) ∷ TypeDecl 1 (codes "t") (list_of Str)
+    ∷ Object 1 A (codes "l") None ∷ Object 1 B (codes "l") None ∷ Object 1 O (codes "m") None ∷ Object 1 S (codes "t") None
+    ∷ CursorVar 1 D (codes "l") ∷ CursorVar 1 E (codes "t") ∷ IntVar 1 X ∷ TextVar 1 Y ∷ [])
+
+-- an element is of the object's type
+abbrev pub TakesElements : Type 0
+TakesElements = Tells scope
+    (done A (codes "append") (number 5 ∷ []) ∷ done S (codes "append") (text Y ∷ []) ∷ done A (codes "append") (Var X ∷ []) ∷ [])
+    (done S (codes "append") (number 5 ∷ []) ∷ done A (codes "append") (text Y ∷ []) ∷ done A (codes "append") (Var Y ∷ [])
+    ∷ done A (codes "append") (Var D ∷ []) ∷ done A (codes "append") (NoElement ∷ []) ∷ [])
+
+-- a call has a row's arguments, with the last left out where it may be, and no more
+abbrev pub CountsArguments : Type 0
+CountsArguments = Tells scope
+    (done A (codes "append") (number 5 ∷ number 2 ∷ []) ∷ done A (codes "delete_first") [] ∷ done A (codes "delete_first") (number 2 ∷ []) ∷ [])
+    (done A (codes "append") [] ∷ done A (codes "append") (number 5 ∷ number 2 ∷ number 1 ∷ []) ∷ done A (codes "delete_first") (number 2 ∷ number 1 ∷ [])
+    ∷ done A (codes "clear") (number 2 ∷ []) ∷ [])
+
+-- another object is of the same type by name
+abbrev pub SplicesOfOneType : Type 0
+SplicesOfOneType = Tells scope
+    (done A (codes "splice") (Var D ∷ Var B ∷ Var D ∷ []) ∷ done A (codes "splice") (Var D ∷ Var B ∷ []) ∷ done A (codes "splice") (Var D ∷ Var D ∷ []) ∷ [])
+    (done A (codes "splice") (Var D ∷ Var O ∷ Var D ∷ []) ∷ done A (codes "splice") (Var D ∷ Var S ∷ Var D ∷ []) ∷ done A (codes "merge") (Var O ∷ []) ∷ [])
+
+-- a cursor is of the object's type
+abbrev pub TakesCursors : Type 0
+TakesCursors = Tells scope
+    (Set 1 D NoElement ∷ Set 1 D (Var D) ∷ call (Some D) A (codes "first") [] ∷ call (Some X) A (codes "element") (Var D ∷ [])
+    ∷ done A (codes "insert") (NoElement ∷ number 5 ∷ []) ∷ [])
+    (Set 1 D (Var E) ∷ Set 1 X NoElement ∷ call (Some E) A (codes "first") [] ∷ call (Some X) A (codes "element") (Var E ∷ [])
+    ∷ done A (codes "delete") (NoElement ∷ []) ∷ done A (codes "delete") (Var E ∷ []) ∷ [])
+
+-- in a loop over A its cursor C is read, and isn't set
+abbrev pub KeepsLoopCursor : Type 0
+KeepsLoopCursor = Tells (inside scope (loop_at 1 C false false A))
+    (call (Some X) A (codes "element") (Var C ∷ []) ∷ Set 1 D (Var C) ∷ done A (codes "delete") (Var D ∷ []) ∷ [])
+    (done A (codes "delete") (Var C ∷ []) ∷ Set 1 C (Var D) ∷ Set 1 C NoElement ∷ [])
+
+-- an answer is taken by a variable of its type, and what is only printed by none
+abbrev pub TakesAnswers : Type 0
+TakesAnswers = Tells scope
+    (call (Some X) A (codes "first_element") [] ∷ call (Some Y) S (codes "first_element") [] ∷ call (Some X) S (codes "length") [] ∷ done A (codes "is_empty") [] ∷ [])
+    (call (Some Y) A (codes "first_element") [] ∷ call (Some X) A (codes "is_empty") [] ∷ call (Some X) A (codes "print") []
+    ∷ call (Some X) A (codes "clear") [] ∷ call (Some X) A (codes "first") [] ∷ [])
+
+-- a sum is of integers
+abbrev pub SumsIntegers : Type 0
+SumsIntegers = Tells scope (Sum 1 X X false 1 ∷ Set 1 X (number 1) ∷ []) (Sum 1 Y X false 1 ∷ Sum 1 X Y true 1 ∷ Sum 1 D D false 1 ∷ Set 1 X (Var Y) ∷ [])
+
+-- what a query shows isn't written
+abbrev pub WritesNothingQueried : Type 0
+WritesNothingQueried = Tells (inside scope (view_at 1 Query A (Some D) V)) (Set 1 X (Var V) ∷ []) (Set 1 V (number 5) ∷ Sum 1 V X false 1 ∷ [])
+
+abbrev pub WritesUpdated : Type 0
+WritesUpdated = Tells (inside scope (view_at 1 Update A (Some D) V)) (Set 1 V (number 5) ∷ Set 1 X (Var V) ∷ []) (Set 1 V (Var Y) ∷ [])
+
+-- the elements of a list are written in a loop over them
+abbrev pub WritesLooped : Type 0
+WritesLooped = Tells (inside scope (loop_at 1 V true false A)) (Set 1 V (number 5) ∷ []) (Set 1 V (Var Y) ∷ done A (codes "delete") (Var V ∷ []) ∷ [])
+
+-- objects of kinds that no declaration makes yet
+
+abbrev made : List ℕ → TypeDef → Scope
+made name def = entry name (an_object name def) ∷ []
+
+-- a vector, a hashed map of strings to integers, an ordered one, a keyed set of strings, one without keys, a tree, a holder and a queue
+abbrev kinds : Scope
+kinds =
+    made (codes "list") (list_of Integer) ++ made (codes "vector") (def false kind.Vector Integer None false)
+    ++ made (codes "map") (def false kind.HashedMap Str (Some Integer) false) ++ made (codes "ordered") (def false kind.OrderedMap Str (Some Integer) false)
+    ++ made (codes "keyed") (def false kind.OrderedSet Str None true) ++ made (codes "set") (def false kind.HashedSet Str None false)
+    ++ made (codes "tree") (def false kind.Tree Integer None false) ++ made (codes "holder") (def false kind.Holder Integer None false)
+    ++ made (codes "queue") (def false kind.Queue Integer None false)
+    ++ entry X (a_value Integer true) ∷ entry Y (a_value Str true) ∷ []
+
+abbrev loop_over : (backward : Bool) → (object : List ℕ) → Stmt
+loop_over backward object = Loop 1 C false backward object stop
+
+-- what has cursors is looped over, and backward where its kind lets it
+abbrev pub LoopsOverCursors : Type 0
+LoopsOverCursors = Tells kinds
+    (loop_over true (codes "list") ∷ loop_over true (codes "vector") ∷ loop_over true (codes "ordered") ∷ loop_over false (codes "map")
+    ∷ loop_over false (codes "tree") ∷ Stable 1 (codes "set") stop ∷ [])
+    (loop_over true (codes "map") ∷ loop_over true (codes "set") ∷ loop_over true (codes "tree") ∷ loop_over false (codes "holder")
+    ∷ loop_over false (codes "queue") ∷ loop_over false X ∷ Stable 1 (codes "holder") stop ∷ [])
+
+-- a view of an object with this name, at the cursor of its type
+abbrev seen : ViewKind → (object : List ℕ) → Stmt
+seen k object = View 1 k object (Some C) V stop
+
+abbrev with_cursor : (type : List ℕ) → Scope
+with_cursor type = kinds ++ entry C (a_cursor type false) ∷ []
+
+-- an element is viewed at a cursor of the object's type, and a set's isn't written but for its key's sake
+abbrev pub ViewsElements : Type 0
+ViewsElements = Tells (with_cursor (codes "list"))
+    (seen Query (codes "list") ∷ seen Update (codes "list") ∷ seen Reference (codes "list") ∷ [])
+    (seen UpdateKey (codes "list") ∷ seen Query (codes "vector") ∷ View 1 Query (codes "list") None V stop ∷ View 1 Query (codes "list") (Some X) V stop ∷ [])
+
+abbrev pub ViewsSets : Type 0
+ViewsSets = Tells (with_cursor (codes "keyed"))
+    (seen Query (codes "keyed") ∷ seen UpdateKey (codes "keyed") ∷ []) (seen Update (codes "keyed") ∷ seen Reference (codes "keyed") ∷ [])
+
+-- without keys no key is updated
+abbrev pub UpdatesNoKey : Type 0
+UpdatesNoKey = Tells (with_cursor (codes "set")) (seen Query (codes "set") ∷ []) (seen UpdateKey (codes "set") ∷ [])
+
+-- a holder's element has no cursor, and a queue's can't be viewed
+abbrev pub ViewsHolders : Type 0
+ViewsHolders = Tells (with_cursor (codes "holder"))
+    (View 1 Query (codes "holder") None V stop ∷ View 1 Update (codes "holder") None V stop ∷ [])
+    (seen Query (codes "holder") ∷ View 1 Query (codes "queue") None V stop ∷ [])
+
+-- each kind has its own calls
+abbrev pub CallsByKind : Type 0
+CallsByKind = Tells kinds
+    (call (Some X) (codes "vector") (codes "element") (number 3 ∷ []) ∷ done (codes "map") (codes "insert") (text Y ∷ number 3 ∷ [])
+    ∷ call (Some X) (codes "map") (codes "element") (text Y ∷ []) ∷ call (Some Y) (codes "ordered") (codes "last_key") []
+    ∷ done (codes "keyed") (codes "key_exclude") (text Y ∷ []) ∷ call (Some X) (codes "queue") (codes "dequeue") [] ∷ [])
+    (call (Some X) (codes "list") (codes "element") (number 3 ∷ []) ∷ done (codes "map") (codes "insert") (number 3 ∷ text Y ∷ [])
+    ∷ call (Some Y) (codes "map") (codes "last_key") [] ∷ done (codes "set") (codes "key_exclude") (text Y ∷ [])
+    ∷ done (codes "tree") (codes "length") [] ∷ done (codes "queue") (codes "clear") [] ∷ [])
+
+-- the elements of a set aren't written in a loop over them
+abbrev pub WritesNoSet : Type 0
+WritesNoSet = Tells (inside kinds (loop_at 1 V true false (codes "set"))) (Set 1 Y (Var V) ∷ []) (Set 1 V (Var Y) ∷ [])
+
+-- an object has a capacity just where its type is bounded
+abbrev pub FitsCapacity : Type 0
+FitsCapacity = TellsDecls (with_decls [] (TypeDecl 1 (codes "l") (list_of Integer) ∷ TypeDecl 1 (codes "b") (def true kind.List Integer None false) ∷ []))
+    (Object 1 A (codes "l") None ∷ Object 1 A (codes "b") (Some 5) ∷ CursorVar 1 D (codes "b") ∷ [])
+    (Object 1 A (codes "l") (Some 5) ∷ Object 1 A (codes "b") None ∷ Object 1 A X None ∷ CursorVar 1 D X ∷ [])
+
+-- of holders and queues there are no cursors
+abbrev pub NeedsCursors : Type 0
+NeedsCursors = TellsDecls (entry S (a_type (def false kind.HashedSet Str None false)) ∷ entry A (a_type (def false kind.Holder Integer None false)) ∷ [])
+    (CursorVar 1 D S ∷ []) (CursorVar 1 D A ∷ [])
+
+abbrev declares : TypeDef → Decl
+declares def = TypeDecl 1 A def
+
+abbrev refused : List Kind
+refused =
+    kind.Vector ∷ kind.HashedMap ∷ kind.OrderedMap ∷ kind.HashedSet ∷ kind.OrderedSet ∷ kind.Tree ∷ kind.Holder ∷ kind.Queue ∷ kind.PriorityQueue ∷ []
+
+-- only lists are made yet, of one sort of element, and none has keys
+abbrev pub MakesLists : Type 0
+MakesLists = TellsDecls []
+    (declares (list_of Integer) ∷ declares (list_of Str) ∷ declares (def true kind.List Str None false) ∷ [])
+    (declares (def false kind.List Integer (Some Integer) false) ∷ declares (def false kind.List Str None true)
+    ∷ (map (λ k. declares (def false k Integer None false)) refused ++ map (λ k. declares (def false k Str (Some Integer) false)) refused))

@@ -1,0 +1,110 @@
+//! What a declared name stands for.
+ghost use Rattle.std.specs.Prelude.{◌≡◌, IfOk};
+ghost use Rattle.std.specs.Option.{option_map};
+ghost use Rattle.ac_check.specs.Scopes as scopes;
+ghost use Rattle.ac_check.specs.Scopes.{an_object, a_value, entry, decl_entry};
+ghost use Rattle.ac_check.specs.Faults.{decl_name};
+ghost use Rattle.ac_check.specs.Meanings.{meaning_view};
+
+use crate::kinds::{element_of, is_set};
+use crate::meaning::Meaning;
+use crate::scope::Scope;
+use ac_base::NoMemory;
+use ac_syntax::{Decl, ElemKind, Ident, TypeDef, ViewKind};
+use std::alloc::Global;
+
+fn copy(alloc: Global, name: &Ident) -> Result<Ident, NoMemory>
+    ensures { IfOk result (λ copy. copy ≡ name.now) }
+{
+    Ok(Ident::new(name.bytes().to_vec(alloc)?))
+}
+
+fn is_written_in(view: ViewKind) -> bool
+    ensures { result ≡ scopes.is_written_in view }
+{
+    !matches!(view, ViewKind::Query)
+}
+
+fn object_meaning(scope: &Scope, of: &Ident) -> Result<Option<Meaning>, NoMemory>
+    ensures { IfOk result (λ m. option_map meaning_view m ≡ option_map (an_object of.now) (scopes.type_of scope.now of.now)) }
+{
+    match scope.meaning(of.bytes()) {
+        Some(Meaning::Type(def)) => Ok(Some(Meaning::Object {
+            of: copy(scope.alloc(), of)?,
+            def: *def,
+        })),
+        _ => Ok(None),
+    }
+}
+
+/// What a declaration's name stands for, unless it is of a type that isn't in scope.
+pub fn decl_meaning(scope: &Scope, decl: &Decl) -> Result<Option<Meaning>, NoMemory>
+    ensures { IfOk result (λ m. option_map (λ kept. entry (decl_name decl.now) (meaning_view kept)) m ≡ decl_entry scope.now decl.now) }
+{
+    match decl {
+        Decl::TypeDecl { def, .. } => Ok(Some(Meaning::Type(*def))),
+        Decl::Object { of, .. } => object_meaning(scope, of),
+        Decl::CursorVar { of, .. } => Ok(Some(Meaning::Cursor {
+            of: copy(scope.alloc(), of)?,
+            is_variable: true,
+        })),
+        Decl::IntVar { .. } => Ok(Some(Meaning::Value {
+            elem: ElemKind::Integer,
+            is_written: true,
+        })),
+        Decl::TextVar { .. } => Ok(Some(Meaning::Value {
+            elem: ElemKind::Str,
+            is_written: true,
+        })),
+    }
+}
+
+fn turn_meaning(
+    alloc: Global,
+    elements: bool,
+    of: &Ident,
+    def: TypeDef,
+) -> Result<Meaning, NoMemory>
+    ensures { IfOk result (λ m. meaning_view m ≡ scopes.loop_meaning elements (record { type = of.now; def = def })) }
+{
+    if elements {
+        Ok(Meaning::Value {
+            elem: element_of(def),
+            is_written: !is_set(def.kind),
+        })
+    } else {
+        Ok(Meaning::Cursor {
+            of: copy(alloc, of)?,
+            is_variable: false,
+        })
+    }
+}
+
+/// What the name of a loop over an object stands for, if there is such an object.
+pub fn loop_meaning(
+    scope: &Scope,
+    elements: bool,
+    object: &Ident,
+) -> Result<Option<Meaning>, NoMemory>
+    ensures { IfOk result (λ m. option_map meaning_view m ≡ option_map (scopes.loop_meaning elements) (scopes.object_of scope.now object.now)) }
+{
+    match scope.meaning(object.bytes()) {
+        Some(Meaning::Object { of, def }) => {
+            Ok(Some(turn_meaning(scope.alloc(), elements, of, *def)?))
+        }
+        _ => Ok(None),
+    }
+}
+
+/// What the name of a view of an object's element stands for, if there is such an object.
+pub fn view_meaning(scope: &Scope, view: ViewKind, object: &Ident) -> Option<Meaning>
+    ensures { option_map meaning_view result ≡ option_map (λ typed. a_value (scopes.element_of typed.def) (scopes.is_written_in view)) (scopes.object_of scope.now object.now) }
+{
+    match scope.meaning(object.bytes()) {
+        Some(Meaning::Object { def, .. }) => Some(Meaning::Value {
+            elem: element_of(*def),
+            is_written: is_written_in(view),
+        }),
+        _ => None,
+    }
+}

@@ -1,0 +1,34 @@
+//! Declarations and statements, judged by hand.
+ghost use Rattle.ac_check.specs.Examples.{TakesElements, CountsArguments, SplicesOfOneType, TakesCursors, KeepsLoopCursor, TakesAnswers, SumsIntegers, WritesNothingQueried, WritesUpdated, WritesLooped, LoopsOverCursors, ViewsElements, ViewsSets, UpdatesNoKey, ViewsHolders, CallsByKind, WritesNoSet, FitsCapacity, NeedsCursors, MakesLists};
+
+/// Commands that keep the rules, and beside them some that break them.
+pub fn command_examples()
+    ensures takes_elements { TakesElements }
+    ensures counts_arguments { CountsArguments }
+    ensures splices_of_one_type { SplicesOfOneType }
+    ensures takes_cursors { TakesCursors }
+    ensures takes_answers { TakesAnswers }
+    ensures sums_integers { SumsIntegers }
+    ensures calls_by_kind { CallsByKind }
+{}
+
+/// The same of heads of blocks and of what stands in them.
+pub fn block_examples()
+    ensures keeps_loop_cursor { KeepsLoopCursor }
+    ensures writes_nothing_queried { WritesNothingQueried }
+    ensures writes_updated { WritesUpdated }
+    ensures writes_looped { WritesLooped }
+    ensures loops_over_cursors { LoopsOverCursors }
+    ensures views_elements { ViewsElements }
+    ensures views_sets { ViewsSets }
+    ensures updates_no_key { UpdatesNoKey }
+    ensures views_holders { ViewsHolders }
+    ensures writes_no_set { WritesNoSet }
+{}
+
+/// The same of declarations.
+pub fn declaration_examples()
+    ensures fits_capacity { FitsCapacity }
+    ensures needs_cursors { NeedsCursors }
+    ensures makes_lists { MakesLists }
+{}

@@ -1,0 +1,12 @@
+//! What holds of faults, whatever looks for them.
+ghost use Rattle.std.specs.Prelude.{◌≡◌, ℕ};
+ghost use Rattle.ac_syntax.specs.declared.refusal.RefusalKind.{RefusalKind};
+ghost use Rattle.ac_syntax.specs.declared.script.Script.{Script};
+ghost use Rattle.ac_check.specs.Faults.{IsChecked, IsFirstFault};
+
+/// A script has at most one first fault, and none where it is checked.
+pub fn one_fault()
+    ensures one { (script : Script) (line place : ℕ) (kind other : RefusalKind) →
+        IsFirstFault script line kind → IsFirstFault script place other → (line ≡ place) × (kind ≡ other) }
+    ensures not_checked { (script : Script) (line : ℕ) (kind : RefusalKind) → IsChecked script → IsFirstFault script line kind → ⊥ }
+{}
