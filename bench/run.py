@@ -1,7 +1,7 @@
 #!/usr/bin/env python3
 """Times the built programs beside plain Rust programs on the same machine in the same run.
 
-Prints the program's time for each generated script, the ratio to the baseline's, and the growth from half the script to the whole: 2 is linear. Then the time of a put and a take of the pool, and the ratio; and of an insertion and a removal in the middle of a chain, which stays flat where the chain grows. Needs rustc; isn't part of the gate.
+Prints the program's time for each generated script, the ratio to the baseline's, and the growth from half the script to the whole: 2 is linear. Then the time of a put and a take of the pool, and the ratio; and of an insertion and a removal in the middle of a chain, which stays flat where the chain grows. Then the times of a list's calls, and their growth from 10,000 elements to 1,000,000. Needs rustc; isn't part of the gate.
 """
 import os
 import subprocess
@@ -91,6 +91,20 @@ def middle(program):
         print(f"{f'an insertion and a removal, {rows:,} rows':<40}{took * 1e9:>12.1f}")
 
 
+def lists(program):
+    """Of each element, and of a deletion and an insertion at each end: what is appended for a sort or a merge is taken off."""
+    print(f"{'list, ns for each element':<40}{'10,000':>12}{'100,000':>12}{'1,000,000':>12}{'growth':>8}")
+    sizes = (10_000, 100_000, 1_000_000)
+    append = [workload(program, "append", str(rows), rounds=3_000_000 // rows) / rows for rows in sizes]
+    kinds = [("append", append)]
+    for name in ("walk", "sort", "merge"):
+        took = [workload(program, name, str(rows), rounds=3_000_000 // rows) / rows for rows in sizes]
+        kinds.append((name, took if name == "walk" else [all_of_it - a for all_of_it, a in zip(took, append)]))
+    kinds.append(("deletions and insertions at both ends", [workload(program, "ends", str(rows), rounds=1_000_000) for rows in sizes]))
+    for name, took in kinds:
+        print(f"{name:<40}" + "".join(f"{each * 1e9:>12.1f}" for each in took) + f"{took[-1] / took[0]:>8.2f}")
+
+
 def main():
     subprocess.run([os.path.join(TOP, "adacont")], stdin=subprocess.DEVNULL, check=True)
     folder = os.path.join(TOP, "crates/ac_bench")
@@ -99,6 +113,7 @@ def main():
         scripts(place)
         churn(os.path.join(folder, "out/ac_bench"), place)
     middle(os.path.join(folder, "out/ac_bench"))
+    lists(os.path.join(folder, "out/ac_bench"))
     return 0
 
 

@@ -1,8 +1,10 @@
 //! Workloads that `bench/` times. The words are a workload and a number of rounds, as `pool 1000000`, or a
-//! workload with a number of rows and one of rounds, as `chain 1000 1000000`.
+//! workload with a number of rows and one of rounds, as `chain 1000 1000000`. Those of lists are `append`, `walk`,
+//! `ends`, `sort` and `merge`.
 #![tactic(auto)]
 
 mod chain;
+mod list;
 mod pool;
 
 use ac_base::NoMemory;
@@ -30,6 +32,11 @@ fn run<R: AllocGlobal>(rt: &R, words: &[String]) -> io::Result<Option<u64>> {
             Ok(len) => Ok(Some(len)),
             Err(NoMemory) => Ok(None),
         },
+        ("append", Some(rounds)) => Ok(list::append(rt.alloc(), first, rounds).ok()),
+        ("walk", Some(rounds)) => Ok(list::walk(rt.alloc(), first, rounds).ok()),
+        ("ends", Some(rounds)) => Ok(list::ends(rt.alloc(), first, rounds).ok()),
+        ("sort", Some(rounds)) => Ok(list::sort(rt.alloc(), first, rounds).ok()),
+        ("merge", Some(rounds)) => Ok(list::merge(rt.alloc(), first, rounds).ok()),
         _ => Ok(None),
     }
 }
@@ -42,7 +49,9 @@ fn main(rt: HostRuntime) -> io::Result<ExitCode> {
             Ok(ExitCode::SUCCESS)
         }
         None => {
-            eprintln!(rt; "usage: ac_bench pool ROUNDS, or ac_bench chain ROWS ROUNDS")?;
+            eprintln!(rt;
+                "usage: ac_bench pool ROUNDS, or ac_bench chain|append|walk|ends|sort|merge ROWS ROUNDS"
+            )?;
             Ok(ExitCode::from(2))
         }
     }

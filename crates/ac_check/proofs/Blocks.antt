@@ -89,11 +89,6 @@ outside_decls scope decls =
     let p = decls_longer scope decls in
     ap (λ (l : Scope). take (length scope) l) p.1 ∙ take_front scope p.0
 
-pub outside_entry : (scope : Scope) (o : Option Entry) → take (length scope) (with_entry scope o) ≡ scope
-outside_entry scope o =
-    let p = longer scope o in
-    ap (λ (l : Scope). take (length scope) l) p.1 ∙ take_front scope p.0
-
 module _ (room : ℕ) (scope : Scope) (stmts : List Stmt) (i : ℕ) (stmt : Stmt) (within : i < length stmts) (is : stmt ≡ get_or stmts i stmt) where
   front : outcome room (standings_from scope (code_of (drop i stmts)))
       ≡ outcome room (standings_from scope (before stmt stop) ++ standings_from scope (code_of (drop (i + 1) stmts)))

@@ -42,7 +42,7 @@ gone_room : (room after : ℕ) (part : List Standing) → outcome room part ≡ 
 gone_room room after [] h = sym (ap room_in h)
 gone_room room after (s ∷ part) h =
     gone_room (room + capacity s.item) after part
-        (step_goes (fault_with room s) (item_line s.item) (outcome (room + capacity s.item) part) after h).1
+    (step_goes (fault_with room s) (item_line s.item) (outcome (room + capacity s.item) part) after h).1
 
 -- a walk that goes past all items finds none faulty
 pub faultless : (all : List Standing) (after : ℕ) → outcome 0 all ≡ goes_on after → AreFaultless all
@@ -80,7 +80,7 @@ stop_here room s all line kind further None e w =
       split = ap (λ (l : List Standing). s ∷ l) rest.split;
       on = ap (λ f. step f (item_line s.item) (outcome (room + capacity s.item) rest.earlier)) e ∙ rest.on;
       is = rest.is;
-      stands = rest.stands
+      stands = rest.stands;
     }
 stop_here room s all line kind further (Some found) e w =
     let same = same_refusal (item_line s.item) line found kind w in
@@ -101,7 +101,7 @@ first_fault script line kind h =
       split = s.split;
       first = faultless s.earlier s.after s.on;
       is = ap (λ r. fault_with r s.faulty) (sym (gone_room 0 s.after s.earlier s.on)) ∙ s.is;
-      stands = s.stands
+      stands = s.stands;
     }
 
 -- a walk over the declarations of a script, and then over its statements
@@ -116,7 +116,7 @@ module _ (script : Script) (room : ℕ) (scope : Scope) (decls : List Decl) (emp
   unfolding standings
   decls_stopped line kind h =
       first_fault script line kind
-          (stopped 0 (Some line) kind (standing_decls [] script.decls) (standings_from (with_decls [] script.decls) script.stmts) (sym from_decls ∙ h))
+      (stopped 0 (Some line) kind (standing_decls [] script.decls) (standings_from (with_decls [] script.decls) script.stmts) (sym from_decls ∙ h))
 
   pub behind_decls : (after : ℕ) (now : Scope) → outcome room (standing_decls scope decls) ≡ goes_on after → now ≡ with_decls scope decls
       → outcome 0 (standings script) ≡ outcome after (standings_from now script.stmts)
@@ -124,7 +124,7 @@ module _ (script : Script) (room : ℕ) (scope : Scope) (decls : List Decl) (emp
   behind_decls after now h same =
       gone_on 0 after (standing_decls [] script.decls) (standings_from (with_decls [] script.decls) script.stmts) (sym from_decls ∙ h)
       ∙ ap (λ (s : Scope). outcome after (standings_from s script.stmts))
-          (ap (λ (l : List Decl). with_decls [] l) (sym are) ∙ ap (λ (s : Scope). with_decls s decls) (sym none) ∙ sym same)
+      (ap (λ (l : List Decl). with_decls [] l) (sym are) ∙ ap (λ (s : Scope). with_decls s decls) (sym none) ∙ sym same)
 
 -- no item of the part is faulty behind the items before
 abbrev AreFaultlessBehind : List Standing → List Standing → Type 0
@@ -138,7 +138,7 @@ goes_past before (s ∷ part) h =
     ap (λ f. step f (item_line s.item) (outcome (room_of before + capacity s.item) part)) first
     ∙ ap (λ r. outcome r part) more
     ∙ goes_past (before ++ s ∷ []) part (λ earlier later x split.
-        ap (λ (l : List Standing). fault l x) (append_assoc before (s ∷ []) earlier) ∙ h (s ∷ earlier) later x (ap (λ (l : List Standing). s ∷ l) split))
+    ap (λ (l : List Standing). fault l x) (append_assoc before (s ∷ []) earlier) ∙ h (s ∷ earlier) later x (ap (λ (l : List Standing). s ∷ l) split))
     ∙ ap (λ (l : List Standing). goes_on (room_of l)) (append_assoc before (s ∷ []) part)
 
 -- the walk stops at the first fault

@@ -12,7 +12,7 @@ use Rattle.ac_check.specs.Meanings.{meaning_view, entries_view}
 found : (key : List ℕ) (meaning : Kept) (rest : Option Kept) (others : Option Entry)
     → option_map meaning_view rest ≡ option_map (λ (e : Entry). e.meaning) others → (b : Bool)
     → option_map meaning_view (cond b (Some meaning) rest)
-      ≡ option_map (λ (e : Entry). e.meaning) (cond b (Some (entry key (meaning_view meaning))) others)
+    ≡ option_map (λ (e : Entry). e.meaning) (cond b (Some (entry key (meaning_view meaning))) others)
 found key meaning rest others h true = refl
 found key meaning rest others h false = h
 

@@ -31,7 +31,7 @@ pub outcome-append : (room : ℕ) (part later : List Standing) → outcome room 
 outcome-append room [] later = refl
 outcome-append room (s ∷ part) later =
     step_behind (fault_with room s) (item_line s.item) (outcome (room + capacity s.item) part) (outcome (room + capacity s.item) (part ++ later))
-        (λ r. outcome r later) (outcome-append (room + capacity s.item) part later)
+    (λ r. outcome r later) (outcome-append (room + capacity s.item) part later)
 
 -- behind a part without faults
 pub gone_on : (room after : ℕ) (part later : List Standing) → outcome room part ≡ goes_on after → outcome room (part ++ later) ≡ outcome after later

@@ -20,7 +20,6 @@ pub struct Checked {
 impl Model for Checked {
     ghost use Rattle.ac_syntax.specs.declared.script.Script.{Script};
     ghost use Rattle.ac_check.specs.Faults.{IsChecked};
-
     ghost use Rattle.std.specs.Coded.{codes};
     ghost use Rattle.ac_syntax.specs.Coded.{coded_code};
 

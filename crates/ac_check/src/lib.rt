@@ -15,6 +15,8 @@ mod rows;
 mod rules;
 mod scope;
 mod table;
+#[cfg(test)]
+mod tests;
 mod walk;
 
 pub use checked::{Checked, check};

@@ -1,6 +1,7 @@
 -- What a comparison of a list's elements has found so far: of two lists one by one, and of each element with the one before it.
 use Rattle.std.proofs.Common.{◌≡◌, suc, ◌-◌, ◌<◌, Bool, true, false, not, List, [], ◌∷◌, length, Option, Some, None, is_none, is_some, IsTrue, refl, sym, ap, ◌∙◌, subst, arith}
 use Rattle.std.specs.Prelude.{◌↔◌}
+use Rattle.std.specs.Coded.{Coded}
 use Rattle.std.proofs.lemmas.Bool.{and_parts}
 use Rattle.std.proofs.lemmas.Option.{none-some}
 use Rattle.ac_base.specs.declared.limit.Limit.{Limit}
@@ -16,7 +17,7 @@ use Rattle.ac_model.specs.Sequences as sequences
 use Rattle.ac_model.specs.Sequences.{are_equal}
 use Rattle.ac_list.specs.Put.{plains}
 use Rattle.ac_list.specs.State.{object_of}
-use Rattle.ac_list.specs.Searches.{IsEquality, ByEquality, values_in}
+use Rattle.ac_list.specs.Searches.{same_by, values_in}
 use Rattle.ac_list.proofs.Walks.{Forward, Ahead, ahead, forward_first, forward_end, forward_left}
 use Rattle.ac_list.proofs.Searches.{some_value, same_is}
 
@@ -30,20 +31,20 @@ module _ {T : Type 0} where
   values-plains (r ∷ rows) = ap (λ vs. r.value ∷ vs) (values-plains rows)
 
   -- two walks side by side: what is left of them decides
-  pub record Comparing (c d : Chained T) (here there : Option Name) : Type 0 where
+  pub record Comparing (coded : Coded T) (c d : Chained T) (here there : Option Name) : Type 0 where
     pub lefts : List (chain.Row T)
     pub rights : List (chain.Row T)
     pub walk_left : Forward c here lefts
     pub walk_right : Forward d there rights
-    pub answer : ByEquality (λ same. are_equal same (values_in lefts) (values_in rights) ≡ are_equal same (values_in c.rows) (values_in d.rows))
+    pub answer : are_equal (same_by coded) (values_in lefts) (values_in rights) ≡ are_equal (same_by coded) (values_in c.rows) (values_in d.rows)
 
-  pub comparing_start : (c d : Chained T) (here there : Option Name) → here ≡ name_at c.rows 0 → there ≡ name_at d.rows 0 → Comparing c d here there
-  comparing_start c d here there e f = record {
+  pub comparing_start : (coded : Coded T) (c d : Chained T) (here there : Option Name) → here ≡ name_at c.rows 0 → there ≡ name_at d.rows 0 → Comparing coded c d here there
+  comparing_start coded c d here there e f = record {
     lefts = c.rows;
     rights = d.rows;
     walk_left = forward_first c here e;
     walk_right = forward_first d there f;
-    answer = λ same eq. refl;
+    answer = refl;
   }
 
   heads_differ : (same : T → T → Bool) (v w : T) (vs ws : List T) → same v w ≡ false → are_equal same (v ∷ vs) (w ∷ ws) ≡ false
@@ -52,7 +53,7 @@ module _ {T : Type 0} where
   heads_same : (same : T → T → Bool) (v w : T) (vs ws : List T) → same v w ≡ true → are_equal same (v ∷ vs) (w ∷ ws) ≡ are_equal same vs ws
   heads_same same v w vs ws h = rw h refl
 
-  module _ (c d : Chained T) (left_sound : IsSound c) (right_sound : IsSound d) (a b : Name) (t : Comparing c d (Some a) (Some b)) where
+  module _ (coded : Coded T) (c d : Chained T) (left_sound : IsSound c) (right_sound : IsSound d) (a b : Name) (t : Comparing coded c d (Some a) (Some b)) where
     ahead_left : Ahead c a t.lefts
     ahead_left = ahead c (once_from c.rows left_sound.once) a t.lefts t.walk_left
 
@@ -65,26 +66,26 @@ module _ {T : Type 0} where
     pub right_live : IsLive d b
     right_live = ahead_right.live
 
-    row_test : (v w : T) (r : Bool) → Some v ≡ value_of c a → Some w ≡ value_of d b → (IsTrue r ↔ (v ≡ w)) → (same : T → T → Bool) → IsEquality same → same ahead_left.row.value ahead_right.row.value ≡ r
-    row_test v w r ev ew test same eq =
+    row_test : (v w : T) (r : Bool) → Some v ≡ value_of c a → Some w ≡ value_of d b → (IsTrue r ↔ (v ≡ w)) → same_by coded ahead_left.row.value ahead_right.row.value ≡ r
+    row_test v w r ev ew test =
         let p = some_value v ahead_left.row.value (ev ∙ ahead_left.value) in
         let q = some_value w ahead_right.row.value (ew ∙ ahead_right.value) in
-        (λ i. same (sym p i) (sym q i)) ∙ same_is same eq v w r test
+        (λ i. same_by coded (sym p i) (sym q i)) ∙ same_is coded v w r test
 
-    pub compare_differs : (v w : T) (r : Bool) → Some v ≡ value_of c a → Some w ≡ value_of d b → (IsTrue r ↔ (v ≡ w)) → r ≡ false → ByEquality (λ same. false ≡ are_equal same (values_in c.rows) (values_in d.rows))
-    compare_differs v w r ev ew test miss = λ same eq.
-        sym (heads_differ same ahead_left.row.value ahead_right.row.value (values_in ahead_left.rest) (values_in ahead_right.rest) (row_test v w r ev ew test same eq ∙ miss))
-        ∙ (λ i. are_equal same (values_in (sym ahead_left.is i)) (values_in (sym ahead_right.is i))) ∙ t.answer same eq
+    pub compare_differs : (v w : T) (r : Bool) → Some v ≡ value_of c a → Some w ≡ value_of d b → (IsTrue r ↔ (v ≡ w)) → r ≡ false → false ≡ are_equal (same_by coded) (values_in c.rows) (values_in d.rows)
+    compare_differs v w r ev ew test miss =
+        sym (heads_differ (same_by coded) ahead_left.row.value ahead_right.row.value (values_in ahead_left.rest) (values_in ahead_right.rest) (row_test v w r ev ew test ∙ miss))
+        ∙ (λ i. are_equal (same_by coded) (values_in (sym ahead_left.is i)) (values_in (sym ahead_right.is i))) ∙ t.answer
 
-    pub compare_more : (v w : T) (r : Bool) → Some v ≡ value_of c a → Some w ≡ value_of d b → (IsTrue r ↔ (v ≡ w)) → r ≡ true → (here there : Option Name) → here ≡ next_name c a → there ≡ next_name d b → Comparing c d here there
+    pub compare_more : (v w : T) (r : Bool) → Some v ≡ value_of c a → Some w ≡ value_of d b → (IsTrue r ↔ (v ≡ w)) → r ≡ true → (here there : Option Name) → here ≡ next_name c a → there ≡ next_name d b → Comparing coded c d here there
     compare_more v w r ev ew test hit here there eh et = record {
       lefts = ahead_left.rest;
       rights = ahead_right.rest;
       walk_left = subst (λ p. Forward c p ahead_left.rest) (sym eh) ahead_left.next;
       walk_right = subst (λ p. Forward d p ahead_right.rest) (sym et) ahead_right.next;
-      answer = λ same eq.
-          sym (heads_same same ahead_left.row.value ahead_right.row.value (values_in ahead_left.rest) (values_in ahead_right.rest) (row_test v w r ev ew test same eq ∙ hit))
-          ∙ (λ i. are_equal same (values_in (sym ahead_left.is i)) (values_in (sym ahead_right.is i))) ∙ t.answer same eq;
+      answer =
+          sym (heads_same (same_by coded) ahead_left.row.value ahead_right.row.value (values_in ahead_left.rest) (values_in ahead_right.rest) (row_test v w r ev ew test ∙ hit))
+          ∙ (λ i. are_equal (same_by coded) (values_in (sym ahead_left.is i)) (values_in (sym ahead_right.is i))) ∙ t.answer;
     }
 
     pub compare_less : (here : Option Name) → here ≡ next_name c a → length c.rows - place_of here c.rows < length c.rows - place_of (Some a) c.rows
@@ -95,16 +96,16 @@ module _ {T : Type 0} where
         let len : length t.lefts ≡ length (ahead_left.row ∷ ahead_left.rest) = ap length ahead_left.is in
         omega arith
 
-  pub compare_short : (c d : Chained T) → IsSound c → (a : Name) → Comparing c d (Some a) None → ByEquality (λ same. false ≡ are_equal same (values_in c.rows) (values_in d.rows))
-  compare_short c d s a t = λ same eq.
+  pub compare_short : (coded : Coded T) (c d : Chained T) → IsSound c → (a : Name) → Comparing coded c d (Some a) None → false ≡ are_equal (same_by coded) (values_in c.rows) (values_in d.rows)
+  compare_short coded c d s a t =
       let k = ahead c (once_from c.rows s.once) a t.lefts t.walk_left in
       let none = forward_end d t.rights t.walk_right in
-      (λ i. are_equal same (values_in (sym k.is i)) (values_in (sym none i))) ∙ t.answer same eq
+      (λ i. are_equal (same_by coded) (values_in (sym k.is i)) (values_in (sym none i))) ∙ t.answer
 
-  pub compare_end : (c d : Chained T) (there : Option Name) (r : Bool) → Comparing c d None there → is_some there ≡ not r → ByEquality (λ same. r ≡ are_equal same (values_in c.rows) (values_in d.rows))
-  compare_end c d there r t e = λ same eq.
+  pub compare_end : (coded : Coded T) (c d : Chained T) (there : Option Name) (r : Bool) → Comparing coded c d None there → is_some there ≡ not r → r ≡ are_equal (same_by coded) (values_in c.rows) (values_in d.rows)
+  compare_end coded c d there r t e =
       let none = forward_end c t.lefts t.walk_left in
-      turned r (is_some there) e ∙ ap is_none t.walk_right.at ∙ rest same t.rights ∙ ap (λ ls. are_equal same (values_in ls) (values_in t.rights)) (sym none) ∙ t.answer same eq
+      turned r (is_some there) e ∙ ap is_none t.walk_right.at ∙ rest (same_by coded) t.rights ∙ ap (λ ls. are_equal (same_by coded) (values_in ls) (values_in t.rights)) (sym none) ∙ t.answer
     where
       rest : (same : T → T → Bool) (rights : List (chain.Row T)) → is_none (first_or rights None) ≡ are_equal same [] (values_in rights)
       rest same [] = refl

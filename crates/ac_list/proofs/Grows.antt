@@ -24,7 +24,7 @@ use Rattle.ac_chain.specs.ChainFields.{HasName}
 use Rattle.ac_chain.proofs.Cuts.{HasName-left, HasName-right, HasName-either, has_live, live_has, index_here}
 use Rattle.ac_model.specs.Rows as model
 use Rattle.ac_model.specs.Rows.{Row, row, names, fresh, put}
-use Rattle.ac_model.specs.Objects.{Object, plain, plain_row, length_of, is_past, greatest_length, numbers_end, capacity_after, with_rows}
+use Rattle.ac_model.specs.Objects.{Object, plain, plain_row, length_of, is_past, greatest_length, numbers_end, capacity_after, with_rows, grown}
 use Rattle.ac_model.specs.Letters.{no_mark, mark_at, mark_of, is_among, has_room, tampers_cursors, room, in_range, count_of, reason_if, place_at}
 use Rattle.ac_model.specs.Calls.{Call, call, Changing, IsAfter, Same, Marks, Done}
 use Rattle.ac_model.specs.Sequences.{with_new, first_new, room_for_copies, copies_take_memory, with_copies}
@@ -79,18 +79,22 @@ module _ {X : Type 0} where
   has_slots : (most : ℕ) (k : Chained X) (n : ℕ) → IsList (Bounded most) k → is_past (Bounded most) (length k.rows + n) ≡ false → n ≤ k.spare
   has_slots most k n s h = let sum = s.limit_fits.1 in let le : length k.rows + n ≤ most = elim (cases_lt most (length k.rows + n)) [ inl lt ↦ absurd (let t = lt-ltb most (length k.rows + n) lt in true≢false (sym t ∙ h)) | inr le ↦ le ] in omega arith
 
+  -- a list that takes so many more stays one, whatever the rows are
+  pub list_grown : {A : Type 0} (l : Limit) (k now : Chained X) (n : ℕ) (r : Result A NoMemory) → IsList l k → length k.rows + n ≤ 1000000 → is_past l (length k.rows + n) ≡ false
+      → IfOk r (λ _. length now.rows ≡ length k.rows + n) → IfErr r (λ _. now ≡ k) → (n ≤ k.spare → length now.rows + now.spare ≡ length k.rows + k.spare) → IsSound now → IsList l now
+  list_grown l k now n (Err x) s few within ok err slots sound = subst (λ c. IsList l c) (sym err) s
+  list_grown Unbounded k now n (Ok x) s few within ok err slots sound = record { sound = sound; within_greatest = omega (arith, ok); limit_fits = tt }
+  list_grown (Bounded most) k now n (Ok x) s few within ok err slots sound =
+      let sum = s.limit_fits.1 in let all = slots (has_slots most k n s within) in
+      let total : length now.rows + now.spare ≡ most = all ∙ sum in
+      record { sound = sound; within_greatest = omega (arith, ok); limit_fits = (s.limit_fits.0, total) }
+
   pub list_after : (l : Limit) (k now : Chained X) (n : ℕ) (place : Option Name) (e : X) (r : Result (Option Name) NoMemory) → IsList l k → length k.rows + n ≤ 1000000 → is_past l (length k.rows + n) ≡ false
       → IfOk r (λ _. IsPut k.rows k.next_serial place (replicate n e) now) → IfErr r (λ _. now ≡ k)
       → (n ≤ k.spare → length now.rows + now.spare ≡ length k.rows + k.spare) → IsSound now → IsList l now
-  list_after l k now n place e (Err x) s few within ok err slots sound = subst (λ c. IsList l c) (sym err) s
-  list_after Unbounded k now n place e (Ok x) s few within ok err slots sound =
-      let a = put_length k.rows k.next_serial place (replicate n e) now ok in let b = length-replicate n e in
-      record { sound = sound; within_greatest = omega arith; limit_fits = tt }
-  list_after (Bounded most) k now n place e (Ok x) s few within ok err slots sound =
-      let a = put_length k.rows k.next_serial place (replicate n e) now ok in let b = length-replicate n e in
-      let sum = s.limit_fits.1 in let all = slots (has_slots most k n s within) in
-      let total : length now.rows + now.spare ≡ most = all ∙ sum in
-      record { sound = sound; within_greatest = omega arith; limit_fits = (s.limit_fits.0, total) }
+  list_after l k now n place e (Err x) s few within ok err slots sound = list_grown {A = Option Name} l k now n (Err x) s few within ok err slots sound
+  list_after l k now n place e (Ok x) s few within ok err slots sound =
+      list_grown {A = Option Name} l k now n (Ok x) s few within (put_length k.rows k.next_serial place (replicate n e) now ok ∙ ap (λ m. length k.rows + m) (length-replicate n e)) err slots sound
 
   pub all_from : (P : Name → Type 0) (rows : List (chain.Row X)) → ((a : Name) → HasName a rows → P a) → All P (names (map row_of rows))
   all_from P [] h i d lt = absurd (omega arith)
@@ -127,23 +131,35 @@ module _ {X : Type 0} where
       let were : plains k.rows ≡ plains p.before ++ plains p.after = ap plains p.were ∙ plains-append p.before p.after in
       there ∙ sym (put_cut (plains p.before) (plains p.after) fr) ∙ (λ i. put (sym were i) (sym at i) fr)
 
-  put_after : (g : GuardCounts) (l : Limit) (k now : Chained X) (n : ℕ) (place : Option Name) (e : X) → IsSound k → ForSome place (IsLive k) → IsPut k.rows k.next_serial place (replicate n e) now
-      → IsAfter (object_of g l k) (object_of g l now) (with_new (plain (object_of g l k)) (spot (object_of g l k) place) (replicate n e) n)
-  put_after g l k now n place e s h p =
-      let rows = rows_put g l k now place (replicate n e) s h p in
-      let next : now.next_serial ≡ k.next_serial + n = p.risen ∙ ap (λ m. k.next_serial + m) (length-replicate n e) in
-      let capacity = no_capacity l (length (put (plains k.rows) (spot (object_of g l k) place) (fresh k.next_serial (replicate n e)))) in
-      record {
-        plainly = λ i. record { number = g.number; limit = l; capacity = sym capacity i; next = next i; rows = rows i; cursor_guards = g.cursor_guards; element_guards = g.element_guards };
-        slots = all_from (λ name. name.serial < k.next_serial → IsTrue (is_among (names (map row_of k.rows)) name)) now.rows (λ a t lt.
-            elim (HasName-either a (p.before ++ p.more) p.after (subst (λ zs. HasName a zs) p.are t)) [
-              | inl left ↦ elim (HasName-either a p.before p.more left) [
-                | inl b ↦ has_among a k.rows (subst (λ zs. HasName a zs) (sym p.were) (HasName-left a p.before p.after b))
-                | inr m ↦ absurd (let high = more_serials a k.next_serial (replicate n e) p.more p.fresh_names m in omega arith)
-              ]
-              | inr right ↦ has_among a k.rows (subst (λ zs. HasName a zs) (sym p.were) (HasName-right a p.before p.after right))
-            ]);
-      }
+  -- a list whose chain has these rows, so many of them new
+  pub grown_after : (g : GuardCounts) (l : Limit) (k now : Chained X) (rows : List (Row ℕ X)) (n : ℕ) → plains now.rows ≡ rows → now.next_serial ≡ k.next_serial + n → ((a : Name) → HasName a now.rows → a.serial < k.next_serial → HasName a k.rows)
+      → IsAfter (object_of g l k) (object_of g l now) (grown (plain (object_of g l k)) rows n)
+  grown_after g l k now rows n is next kept = record {
+    plainly = λ i. record {
+      number = g.number;
+      limit = l;
+      capacity = sym (no_capacity l (length rows)) i;
+      next = next i;
+      rows = is i;
+      cursor_guards = g.cursor_guards;
+      element_guards = g.element_guards;
+    };
+    slots = all_from (λ name. name.serial < k.next_serial → IsTrue (is_among (names (map row_of k.rows)) name)) now.rows (λ a t lt. has_among a k.rows (kept a t lt));
+  }
+
+  put_kept : (rows : List (chain.Row X)) (next : ℕ) (place : Option Name) (vs : List X) (now : Chained X) → IsPut rows next place vs now → (a : Name) → HasName a now.rows → a.serial < next → HasName a rows
+  put_kept rows next place vs now p a t lt = elim (HasName-either a (p.before ++ p.more) p.after (subst (λ zs. HasName a zs) p.are t)) [
+    | inl left ↦ elim (HasName-either a p.before p.more left) [
+      | inl b ↦ subst (λ zs. HasName a zs) (sym p.were) (HasName-left a p.before p.after b)
+      | inr m ↦ absurd (let high = more_serials a next vs p.more p.fresh_names m in omega arith)
+    ]
+    | inr right ↦ subst (λ zs. HasName a zs) (sym p.were) (HasName-right a p.before p.after right)
+  ]
+
+  pub put_after : (g : GuardCounts) (l : Limit) (k now : Chained X) (n : ℕ) (place : Option Name) (vs : List X) → length vs ≡ n → IsSound k → ForSome place (IsLive k) → IsPut k.rows k.next_serial place vs now
+      → IsAfter (object_of g l k) (object_of g l now) (with_new (plain (object_of g l k)) (spot (object_of g l k) place) vs n)
+  put_after g l k now n place vs count s h p =
+      grown_after g l k now (put (plains k.rows) (spot (object_of g l k) place) (fresh k.next_serial vs)) n (rows_put g l k now place vs s h p) (p.risen ∙ ap (λ m. k.next_serial + m) count) (put_kept k.rows k.next_serial place vs now p)
 
   wants : (g : GuardCounts) (l : Limit) (k : Chained X) (n : ℕ) → IsList l k → is_past l (length k.rows + n) ≡ false → (n ≤ 1 → n ≤ k.spare → ⊥) → IsTrue (not ((n == 1) && has_room (plain (object_of g l k))))
   wants g Unbounded k n s within room = elim (cases_Bool (n == 1)) [ inl t ↦ ap (λ b. not (b && false)) t | inr f ↦ ap (λ b. not (b && false)) f ]
@@ -157,7 +173,7 @@ module _ {X : Type 0} where
       → IsPut k.rows k.next_serial place (replicate n e) now → HasFirst k.next_serial n now first → c ≡ cursor_at g.number first
       → Changing (Marks (object_of g l now)) (put_call (object_of g l k) place e n) (object_of g l k) (object_of g l now) (Ok c)
   put_done g l k now n place e first c s h ok has is =
-      (refl, put_after g l k now n place e s.sound h ok, ap (mark_of g.number (names (map row_of now.rows))) is ∙ marked n first has)
+      (refl, put_after g l k now n place (replicate n e) (length-replicate n e) s.sound h ok, ap (mark_of g.number (names (map row_of now.rows))) is ∙ marked n first has)
     where
       marked : (n : ℕ) (first : Option Name) → HasFirst k.next_serial n now first → mark_of g.number (names (map row_of now.rows)) (cursor_at g.number first) ≡ first_new (plain (object_of g l k)) no_mark n
       marked zero first has = ap (λ f. mark_of g.number (names (map row_of now.rows)) (cursor_at g.number f)) has

@@ -15,3 +15,5 @@ pub mod Compares
 pub mod StableSorts
 pub mod Sorts
 pub mod Transfers
+pub mod Moved
+pub mod Merges

@@ -14,7 +14,7 @@ use Rattle.ac_model.specs.Rows.{row, fresh}
 use Rattle.ac_pool.specs.Growth.{pow8}
 use Rattle.ac_pool.proofs.Powers.{pow8-enough}
 use Rattle.std.proofs.lemmas.Bool.{cond-true, cond-false, cases_lt, cases_eq, lt-leb}
-use Rattle.ac_list.specs.Put.{plains, IsPut, IsFirst, HasFirst}
+use Rattle.ac_list.specs.Put.{plains, IsPut, IsFirst, HasFirst, HasGrown}
 
 module _ {X : Type 0} where
   pub plains-append : (xs ys : List (chain.Row X)) → plains (xs ++ ys) ≡ plains xs ++ plains ys
@@ -47,7 +47,7 @@ module _ {X : Type 0} where
         risen = e;
       }
 
-  place_cut : (place : Option Name) (xs ys : List (chain.Row X)) → IsOnce (xs ++ ys) → place ≡ first_or ys None → place_of place (xs ++ ys) ≡ length xs
+  pub place_cut : (place : Option Name) (xs ys : List (chain.Row X)) → IsOnce (xs ++ ys) → place ≡ first_or ys None → place_of place (xs ++ ys) ≡ length xs
   place_cut place xs [] once e = ap (λ p. place_of p (xs ++ [])) e ∙ ap length (append-nil xs)
   place_cut place xs (y ∷ ys) once e = ap (λ p. place_of p (xs ++ y ∷ ys)) e ∙ index_of-cut xs y ys (λ t. apart xs (y ∷ ys) once y.name t (inl refl))
 
@@ -183,13 +183,20 @@ module _ {X : Type 0} where
     | inr le ↦ subst (λ (x : Chained X). Reserved c x n) (sym (reserved_kept c n le)) (record { rows = refl; next = refl; enough = le })
   ])
 
+  pub reserved_live : (c d : Chained X) (n : ℕ) (place : Option Name) → d ≡ reserved c n → ((a : Name) → place ≡ Some a → IsLive c a) → (a : Name) → place ≡ Some a → IsLive d a
+  reserved_live c d n place e h = λ a q. subst (λ rows. index_of a rows < length rows) (sym (reserved_enough c d n e).rows) (h a q)
+
+  -- what was put after so many slots were reserved
+  pub reserved_put : (c d now : Chained X) (n : ℕ) (place : Option Name) (vs : List X) → d ≡ reserved c n → IsPut d.rows d.next_serial place vs now → IsPut c.rows c.next_serial place vs now
+  reserved_put c d now n place vs is p =
+      let r = reserved_enough c d n is in
+      subst (λ rows. IsPut rows c.next_serial place vs now) r.rows (subst (λ next. IsPut d.rows next place vs now) r.next p)
+
   -- so many copies were put, after so many slots were reserved
   pub copies_put : (c d now : Chained X) (n : ℕ) (place : Option Name) (e : X) (others : List X) → (n ≡ 0 → ⊥) → d ≡ reserved c n → others ≡ replicate (n - 1) e
       → IsPut d.rows d.next_serial place (e ∷ reverse others) now → IsPut c.rows c.next_serial place (replicate n e) now
   copies_put c d now n place e others some is copies p =
-      let r = reserved_enough c d n is in
-      subst (λ vs. IsPut c.rows c.next_serial place vs now) (all_copies n e others some copies)
-      (subst (λ rows. IsPut rows c.next_serial place (e ∷ reverse others) now) r.rows (subst (λ next. IsPut d.rows next place (e ∷ reverse others) now) r.next p))
+      subst (λ vs. IsPut c.rows c.next_serial place vs now) (all_copies n e others some copies) (reserved_put c d now n place (e ∷ reverse others) is p)
 
   pub copies_fit : (c d : Chained X) (n : ℕ) (e : X) (others : List X) → (n ≡ 0 → ⊥) → d ≡ reserved c n → others ≡ replicate (n - 1) e → length others < d.spare
   copies_fit c d n e others some is copies =
@@ -238,6 +245,13 @@ module _ {X : Type 0} where
     | inr le ↦ subst (λ (x : Chained X). length x.rows + x.spare ≤ max (length c.rows + c.spare) (pow8 (length c.rows + n))) (sym (reserved_kept c n le)) (le-max_left (length c.rows + c.spare) (pow8 (length c.rows + n)))
   ])
 
+  -- the slots after so many rows more, for which slots were reserved
+  pub reserved_grown : (c d now : Chained X) (n : ℕ) → d ≡ reserved c n → length now.rows ≡ length c.rows + n → length now.rows + now.spare ≡ length d.rows + d.spare → HasGrown c n now
+  reserved_grown c d now n is more sum = record {
+    kept = λ fits. sum ∙ ap (λ (x : Chained X). length x.rows + x.spare) (is ∙ reserved_kept c n fits);
+    most = subst (λ m. length now.rows + now.spare ≤ max (length c.rows + c.spare) (pow8 m)) (sym more) (subst (λ m. m ≤ max (length c.rows + c.spare) (pow8 (length c.rows + n))) (sym sum) (reserved_slots c d n is));
+  }
+
   pub copies_grown : (c d now : Chained X) (n : ℕ) (place : Option Name) (e : X) (others : List X) → (n ≡ 0 → ⊥) → d ≡ reserved c n → others ≡ replicate (n - 1) e
       → IsPut d.rows d.next_serial place (e ∷ reverse others) now → now.spare + length others + 1 ≡ d.spare → length now.rows + now.spare ≤ max (length c.rows + c.spare) (pow8 (length now.rows))
   copies_grown c d now n place e others some is copies p spare =
@@ -245,8 +259,7 @@ module _ {X : Type 0} where
       let all = length-reverse others in
       let same : now.spare + length now.rows ≡ d.spare + length d.rows = omega arith in
       let more : length now.rows ≡ length c.rows + n = put_length c.rows c.next_serial place (replicate n e) now (copies_put c d now n place e others some is copies p) ∙ ap (λ m. length c.rows + m) (length-replicate n e) in
-      let slots = reserved_slots c d n is in
-      subst (λ m. length now.rows + now.spare ≤ max (length c.rows + c.spare) (pow8 m)) (sym more) (let sum : length now.rows + now.spare ≡ length d.rows + d.spare = omega arith in subst (λ m. m ≤ max (length c.rows + c.spare) (pow8 (length c.rows + n))) (sym sum) slots)
+      (reserved_grown c d now n is more (let sum : length now.rows + now.spare ≡ length d.rows + d.spare = omega arith in sum)).most
 
   pub first_put : (c d now : Chained X) (n : ℕ) (a : Name) → (n ≡ 0 → ⊥) → d ≡ reserved c n → IsFirst d.next_serial now a → HasFirst c.next_serial n now (Some a)
   first_put c d now n a some is f = has_first n c.next_serial now a some (subst (λ next. IsFirst next now a) (reserved_enough c d n is).next f)

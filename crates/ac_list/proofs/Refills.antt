@@ -1,6 +1,6 @@
 -- Rows that give way to copies, and what a list is after that.
-use Rattle.std.proofs.Common.{◌≡◌, ℕ, zero, suc, ◌+◌, ◌-◌, ◌<◌, ◌≤◌, List, [], ◌∷◌, ◌++◌, length, take, reverse, map, Option, Some, None, Result, Ok, Err, false, true≢false, lt-ltb, refl, sym, ap, ◌∙◌, subst, inl, inr, arith, append_assoc, append-nil, length-append}
-use Rattle.std.specs.Prelude.{max, IfOk, IfErr, IsTrue}
+use Rattle.std.proofs.Common.{◌≡◌, ℕ, zero, suc, ◌+◌, ◌-◌, ◌<◌, ◌≤◌, List, [], ◌∷◌, ◌++◌, length, take, reverse, Option, Some, None, Result, Ok, Err, false, true≢false, lt-ltb, refl, sym, ap, ◌∙◌, subst, inl, inr, arith, append_assoc, append-nil, length-append}
+use Rattle.std.specs.Prelude.{max, IfOk, IfErr}
 use Rattle.std.specs.List.{slice_get}
 use Rattle.std.specs.Option.{option_map}
 use Rattle.std.proofs.lemmas.Bool.{cases_lt}
@@ -19,17 +19,18 @@ use Rattle.ac_chain.proofs.Chains.{index_at}
 use Rattle.ac_chain.proofs.Moves.{once_from}
 use Rattle.ac_cursor.specs.Guards.{GuardCounts}
 use Rattle.ac_cursor.specs.Steps.{first_reason}
-use Rattle.ac_model.specs.Rows.{names, values, fresh}
+use Rattle.ac_model.specs.Rows.{values, fresh}
 use Rattle.ac_model.specs.Objects.{Object, plain, contents, length_of, grown, is_past, greatest_length}
-use Rattle.ac_model.specs.Letters.{is_among, tampers_cursors, room}
+use Rattle.ac_model.specs.Letters.{tampers_cursors, room}
 use Rattle.ac_model.specs.Calls.{Changing, IsAfter, Same, Done}
 use Rattle.ac_model.specs.Common.{assign_call}
 use Rattle.ac_model.proofs.Lengths.{length-fresh}
 use Rattle.ac_model.proofs.Reasons.{none_others, room_none}
-use Rattle.ac_list.specs.State.{row_of, object_of, IsList}
-use Rattle.ac_list.proofs.Grows.{no_capacity, all_from, more_serials}
+use Rattle.ac_list.specs.State.{object_of, IsList}
+use Rattle.ac_list.proofs.Grows.{grown_after, more_serials}
 use Rattle.ac_list.specs.Put.{plains, IsPut}
-use Rattle.ac_list.specs.Copy.{values_of, IsRefilled, as_fault}
+use Rattle.ac_list.specs.Copy.{IsRefilled, as_fault}
+use Rattle.ac_list.specs.Searches.{values_in}
 use Rattle.ac_list.proofs.Puts.{length-plains, put_none, put_length, reserved_enough, reserved_slots, reserved_kept}
 use Rattle.ac_list.proofs.Deletes.{last_split, none_last}
 
@@ -45,7 +46,7 @@ module _ {X : Type 0} where
     pub done : List (chain.Row X)
     pub is : rows ≡ rest ++ done
     pub named : place ≡ name_before rest (length rest)
-    pub copies : made ≡ reverse (values_of done)
+    pub copies : made ≡ reverse (values_in done)
 
   pub copying_start : (rows : List (chain.Row X)) (place : Option Name) → place ≡ name_before rows (length rows) → Copying rows place []
   copying_start rows place e = record { rest = rows; done = []; is = sym (append-nil rows); named = e; copies = refl }
@@ -57,7 +58,7 @@ module _ {X : Type 0} where
     done : List (chain.Row X)
     is : rows ≡ before ++ at ∷ done
     named : a ≡ at.name
-    copies : made ≡ reverse (values_of done)
+    copies : made ≡ reverse (values_in done)
 
   at_row : (rows : List (chain.Row X)) (place : Option Name) (made : List X) (a : Name) → Copying rows place made → place ≡ Some a → AtRow rows a made
   at_row rows place made a c e =
@@ -81,13 +82,13 @@ module _ {X : Type 0} where
         done = r.at ∷ r.done;
         is = r.is;
         named = n ∙ (λ i. name_before (r.is i) (index i)) ∙ name_before-cut r.before (r.at ∷ r.done) ∙ sym whole;
-        copies = (λ i. r.copies i ++ same i ∷ []) ∙ sym (reverse-append (r.at.value ∷ []) (values_of r.done));
+        copies = (λ i. r.copies i ++ same i ∷ []) ∙ sym (reverse-append (r.at.value ∷ []) (values_in r.done));
       }
 
-  pub copying_end : (rows : List (chain.Row X)) (place : Option Name) (made : List X) → Copying rows place made → place ≡ None → made ≡ reverse (values_of rows)
+  pub copying_end : (rows : List (chain.Row X)) (place : Option Name) (made : List X) → Copying rows place made → place ≡ None → made ≡ reverse (values_in rows)
   copying_end rows place made c e =
       let none = none_last c.rest (sym e ∙ c.named) in
-      c.copies ∙ ap (λ xs. reverse (values_of xs)) (ap (λ xs. xs ++ c.done) (sym none) ∙ sym c.is)
+      c.copies ∙ ap (λ xs. reverse (values_in xs)) (ap (λ xs. xs ++ c.done) (sym none) ∙ sym c.is)
 
   left_before : (rows : List (chain.Row X)) → IsOnce rows → (n : ℕ) (o : Option Name) → o ≡ name_before rows n → left rows o ≤ n
   left_before rows once zero o e = let none : left rows o ≡ 0 = ap (left rows) e in omega arith
@@ -100,8 +101,8 @@ module _ {X : Type 0} where
       let more : left k.rows place ≡ suc (index_of a k.rows) = ap (left k.rows) e in omega arith
 
   -- so many values as the source has rows
-  count_copies : (values : List X) (rows : List (chain.Row X)) → values ≡ reverse (values_of rows) → length values ≡ length rows
-  count_copies values rows e = ap length e ∙ length-reverse (values_of rows) ∙ length-map rows (λ (r : chain.Row X). r.value)
+  count_copies : (values : List X) (rows : List (chain.Row X)) → values ≡ reverse (values_in rows) → length values ≡ length rows
+  count_copies values rows e = ap length e ∙ length-reverse (values_in rows) ∙ length-map rows (λ (r : chain.Row X). r.value)
 
   -- the slots that were reserved for the copies, and the chain once it was cleared
   pub record Ready (c e : Chained X) (count : ℕ) : Type 0 where
@@ -133,22 +134,22 @@ module _ {X : Type 0} where
 
   -- the copies in place of the rows
   pub record Refilled (c : Chained X) (source : List (chain.Row X)) (now : Chained X) : Type 0 where
-    pub refilled : IsRefilled c (values_of source) now
+    pub refilled : IsRefilled c (values_in source) now
     pub slots : length source ≤ length c.rows + c.spare → length now.rows + now.spare ≡ length c.rows + c.spare
     pub grown : length now.rows + now.spare ≤ max (length c.rows + c.spare) (pow8 (length now.rows))
 
-  pub refilled : (c d e now : Chained X) (n : ℕ) (values : List X) (source : List (chain.Row X)) → d ≡ reserved c n → n ≡ length source - length c.rows → e ≡ cleared d → values ≡ reverse (values_of source)
+  pub refilled : (c d e now : Chained X) (n : ℕ) (values : List X) (source : List (chain.Row X)) → d ≡ reserved c n → n ≡ length source - length c.rows → e ≡ cleared d → values ≡ reverse (values_in source)
       → IsPut e.rows e.next_serial None (reverse values) now → now.spare + length values ≡ e.spare → Refilled c source now
   refilled c d e now n values source is need clear copies p spare =
       let t = ready c d e n (length source) is need clear in
       let count = count_copies values source copies in
-      let all : reverse values ≡ values_of source = ap reverse copies ∙ reverse-reverse (values_of source) in
+      let all : reverse values ≡ values_in source = ap reverse copies ∙ reverse-reverse (values_in source) in
       let more = put_length e.rows e.next_serial None (reverse values) now p in
       let none : length e.rows ≡ 0 = ap length t.rows in
       let same = length-reverse values in
       let total : length now.rows ≡ length source = omega arith in
       let sum : length now.rows + now.spare ≡ e.spare = omega arith in
-      let q = subst (λ next. IsPut [] next None (values_of source) now) t.next (subst (λ rows. IsPut rows e.next_serial None (values_of source) now) t.rows (subst (λ vs. IsPut e.rows e.next_serial None vs now) all p)) in
+      let q = subst (λ next. IsPut [] next None (values_in source) now) t.next (subst (λ rows. IsPut rows e.next_serial None (values_in source) now) t.rows (subst (λ vs. IsPut e.rows e.next_serial None vs now) all p)) in
       record {
         refilled = record { rows = alone q; next = q.risen };
         slots = λ few. sum ∙ t.kept few;
@@ -163,7 +164,7 @@ module _ {X : Type 0} where
           let after : q.after ≡ [] = nil_from_length q.after (omega arith) in
           ap plains (q.are ∙ (λ i. before i ++ q.more ++ after i) ∙ append-nil q.more) ∙ q.fresh_names
 
-  pub refill_fits : (c d e : Chained X) (n : ℕ) (values : List X) (source : List (chain.Row X)) → d ≡ reserved c n → n ≡ length source - length c.rows → e ≡ cleared d → values ≡ reverse (values_of source) → length values ≤ e.spare
+  pub refill_fits : (c d e : Chained X) (n : ℕ) (values : List X) (source : List (chain.Row X)) → d ≡ reserved c n → n ≡ length source - length c.rows → e ≡ cleared d → values ≡ reverse (values_in source) → length values ≤ e.spare
   refill_fits c d e n values source is need clear copies = let enough = (ready c d e n (length source) is need clear).enough in let count = count_copies values source copies in omega arith
 
   -- where nothing was left to be taken out
@@ -173,16 +174,16 @@ module _ {X : Type 0} where
       let empty : values ≡ [] = e ∙ ap (λ vs. vs ++ []) (r ∙ ap (λ n. take n values) zero) in
       subst (λ vs. IsPut c.rows c.next_serial None (reverse vs) c) (sym empty) (put_none c None (λ a t. absurd (let k : None ≡ Some a = t in cc)))
 
-  values-plains : (rows : List (chain.Row X)) → values (plains rows) ≡ values_of rows
+  values-plains : (rows : List (chain.Row X)) → values (plains rows) ≡ values_in rows
   values-plains [] = refl
   values-plains (r ∷ rows) = ap (λ vs. r.value ∷ vs) (values-plains rows)
 
-  refilled_length : (k now : Chained X) (source : List (chain.Row X)) → IsRefilled k (values_of source) now → length now.rows ≡ length source
+  refilled_length : (k now : Chained X) (source : List (chain.Row X)) → IsRefilled k (values_in source) now → length now.rows ≡ length source
   refilled_length k now source f =
-      sym (length-plains now.rows) ∙ ap length f.rows ∙ length-fresh k.next_serial (values_of source) ∙ length-map source (λ (r : chain.Row X). r.value)
+      sym (length-plains now.rows) ∙ ap length f.rows ∙ length-fresh k.next_serial (values_in source) ∙ length-map source (λ (r : chain.Row X). r.value)
 
   pub refill_list : (l : Limit) (k now : Chained X) (source : List (chain.Row X)) (r : Result Done NoMemory) → IsList l k → length source ≤ greatest_length → is_past l (length source) ≡ false
-      → IfOk r (λ _. IsRefilled k (values_of source) now) → IfErr r (λ _. now ≡ k) → (length source ≤ length k.rows + k.spare → length now.rows + now.spare ≡ length k.rows + k.spare) → IsSound now → IsList l now
+      → IfOk r (λ _. IsRefilled k (values_in source) now) → IfErr r (λ _. now ≡ k) → (length source ≤ length k.rows + k.spare → length now.rows + now.spare ≡ length k.rows + k.spare) → IsSound now → IsList l now
   refill_list l k now source (Err e) s few within ok err slots sound = subst (λ c. IsList l c) (sym err) s
   refill_list Unbounded k now source (Ok x) s few within ok err slots sound = let count = refilled_length k now source ok in record { sound = sound; within_greatest = omega arith; limit_fits = tt }
   refill_list (Bounded most) k now source (Ok x) s few within ok err slots sound =
@@ -192,26 +193,16 @@ module _ {X : Type 0} where
       record { sound = sound; within_greatest = omega arith; limit_fits = (s.limit_fits.0, slots (omega arith) ∙ sum) }
 
   -- what the rows of the source are to the definitions
-  pub source_is : (g : GuardCounts) (l : Limit) (k : Chained X) (o : Object Name X) → object_of g l k ≡ o → (contents (plain o) ≡ values_of k.rows) × (length_of (plain o) ≡ length k.rows)
-  source_is g l k o view = subst (λ (p : Object Name X). (contents (plain p) ≡ values_of k.rows) × (length_of (plain p) ≡ length k.rows)) view (values-plains k.rows, length-plains k.rows)
+  pub source_is : (g : GuardCounts) (l : Limit) (k : Chained X) (o : Object Name X) → object_of g l k ≡ o → (contents (plain o) ≡ values_in k.rows) × (length_of (plain o) ≡ length k.rows)
+  source_is g l k o view = subst (λ (p : Object Name X). (contents (plain p) ≡ values_in k.rows) × (length_of (plain p) ≡ length k.rows)) view (values-plains k.rows, length-plains k.rows)
 
-  refill_after : (g : GuardCounts) (l : Limit) (k now : Chained X) (o : Object Name X) (vs : List X) (n : ℕ) → object_of g l k ≡ o → length vs ≡ n → IsRefilled k vs now → IsAfter o (object_of g l now) (grown (plain o) (fresh (plain o).next vs) n)
+  pub refill_after : (g : GuardCounts) (l : Limit) (k now : Chained X) (o : Object Name X) (vs : List X) (n : ℕ) → object_of g l k ≡ o → length vs ≡ n → IsRefilled k vs now → IsAfter o (object_of g l now) (grown (plain o) (fresh (plain o).next vs) n)
   refill_after g l k now o vs n view count f =
-      subst (λ (p : Object Name X). IsAfter p (object_of g l now) (grown (plain p) (fresh (plain p).next vs) n)) view (record {
-        plainly = λ i. record {
-          number = g.number;
-          limit = l;
-          capacity = sym (no_capacity l (length (fresh k.next_serial vs))) i;
-          next = (f.next ∙ ap (λ m. k.next_serial + m) count) i;
-          rows = f.rows i;
-          cursor_guards = g.cursor_guards;
-          element_guards = g.element_guards;
-        };
-        slots = all_from (λ name. name.serial < k.next_serial → IsTrue (is_among (names (map row_of k.rows)) name)) now.rows (λ a t lt. absurd (let high = more_serials a k.next_serial vs now.rows f.rows t in omega arith));
-      })
+      subst (λ (p : Object Name X). IsAfter p (object_of g l now) (grown (plain p) (fresh (plain p).next vs) n)) view
+      (grown_after g l k now (fresh k.next_serial vs) n f.rows (f.next ∙ ap (λ m. k.next_serial + m) count) (λ a t lt. absurd (let high = more_serials a k.next_serial vs now.rows f.rows t in omega arith)))
 
   pub refill_changes : (g : GuardCounts) (l : Limit) (k now : Chained X) (o : Object Name X) → object_of g l k ≡ o → (h : GuardCounts) (m : Limit) (j : Chained X) (from : Object Name X) → object_of h m j ≡ from
-      → (r : Result Done NoMemory) → (assign_call (plain o) (plain from)).reason ≡ None → IfOk r (λ _. IsRefilled k (values_of j.rows) now) → IfErr r (λ _. now ≡ k)
+      → (r : Result Done NoMemory) → (assign_call (plain o) (plain from)).reason ≡ None → IfOk r (λ _. IsRefilled k (values_in j.rows) now) → IfErr r (λ _. now ≡ k)
       → Changing Same (assign_call (plain o) (plain from)) o (object_of g l now) (as_fault r)
   refill_changes g l k now o view h m j from seen (Ok x) none ok err =
       let s = source_is h m j from seen in

@@ -1,9 +1,11 @@
--- What a chain is after its rows gave way to copies, and what a call means that makes an object.
-use Rattle.std.specs.Prelude.{◌≡◌, ℕ, ◌+◌, List, length, map, Some, None, IsTrue, Result, Ok, Err}
+-- What a chain is after its rows gave way to copies, what a call means that makes an object, and how want of memory is told.
+use Rattle.std.specs.Prelude.{◌≡◌, ℕ, ◌+◌, List, length, Some, None, IsTrue, Result, Ok, Err}
 use Rattle.ac_base.specs.declared.fault.Fault.{Fault}
 use Rattle.ac_base.specs.declared.fault.Fault.TheVariants as fault
 use Rattle.ac_base.specs.declared.fault.NoMemory.{NoMemory}
-use Rattle.ac_chain.specs.Rows as chain
+use Rattle.ac_base.specs.declared.name.Name.{Name}
+use Rattle.ac_cursor.specs.declared.cursor.Cursor.{Cursor}
+use Rattle.ac_cursor.specs.declared.cursor.Cursor.TheVariants.{At}
 use Rattle.ac_chain.specs.Rows.{Chained}
 use Rattle.ac_model.specs.Rows.{fresh}
 use Rattle.ac_model.specs.Objects.{Object, plain}
@@ -16,10 +18,12 @@ abbrev pub as_fault : Result Done NoMemory → Result Done Fault
 as_fault (Ok x) = Ok x
 as_fault (Err e) = Err fault.NoMemory
 
-module _ {X : Type 0} where
-  abbrev pub values_of : List (chain.Row X) → List X
-  values_of rows = map (λ (r : chain.Row X). r.value) rows
+-- a new name as the object's cursor at it
+abbrev pub cursor_of : ℕ → Result Name NoMemory → Result Cursor Fault
+cursor_of number (Ok name) = Ok (At number name)
+cursor_of number (Err e) = Err fault.NoMemory
 
+module _ {X : Type 0} where
   -- the chain with these values under new names, and nothing else
   pub record IsRefilled (c : Chained X) (vs : List X) (now : Chained X) : Type 0 where
     pub rows : plains now.rows ≡ fresh c.next_serial vs

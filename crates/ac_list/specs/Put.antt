@@ -42,6 +42,11 @@ module _ {X : Type 0} where
     pub fresh_names : plains more ≡ fresh next vs
     pub risen : now.next_serial ≡ next + length vs
 
+  -- the slots after so many rows more: no more than there were where these have room for all, or else than the least 8 * 2 ^ k with room for all rows
+  pub record HasGrown (c : Chained X) (n : ℕ) (now : Chained X) : Type 0 where
+    pub kept : n ≤ c.spare → length now.rows + now.spare ≡ length c.rows + c.spare
+    pub most : length now.rows + now.spare ≤ max (length c.rows + c.spare) (pow8 (length now.rows))
+
   -- the name of the first new row
   pub record IsFirst (next : ℕ) (now : Chained X) (a : Name) : Type 0 where
     pub serial : a.serial ≡ next

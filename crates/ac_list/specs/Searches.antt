@@ -1,20 +1,34 @@
 -- What is found among a chain's rows, and equality of elements as a test.
-use Rattle.std.specs.Prelude.{◌≡◌, ◌↔◌, ℕ, ◌+◌, List, length, map, Bool, IsTrue, Option, None, Some, find}
+use Rattle.std.specs.Prelude.{◌≡◌, ◌↔◌, ℕ, ◌+◌, ◌==◌, ◌&&◌, List, length, map, Bool, true, false, IsTrue, Option, None, Some, find}
 use Rattle.std.specs.Option.{option_map}
+use Rattle.std.specs.Coded.{Coded}
+use base.Stored.{Gv, gnil, gnum, gcons}
 use Rattle.ac_base.specs.declared.name.Name.{Name}
 use Rattle.ac_cursor.specs.declared.cursor.Cursor.{Cursor}
 use Rattle.ac_cursor.specs.declared.cursor.Cursor.TheVariants.{NoElement, At}
 use Rattle.ac_chain.specs.Rows as chain
 use Rattle.ac_chain.specs.Rows.{index_of, name_at, name_before}
 
+-- two trees of numbers are equal
+unfoldable pub same_code : Gv → Gv → Bool
+same_code gnil gnil = true
+same_code gnil (gnum n) = false
+same_code gnil (gcons a b) = false
+same_code (gnum m) gnil = false
+same_code (gnum m) (gnum n) = m == n
+same_code (gnum m) (gcons a b) = false
+same_code (gcons a b) gnil = false
+same_code (gcons a b) (gnum n) = false
+same_code (gcons a b) (gcons c d) = same_code a c && same_code b d
+
 module _ {T : Type 0} where
+  -- two elements are equal: every type has a code, a tree of numbers that tells its values apart
+  unfoldable pub same_by : Coded T → T → T → Bool
+  same_by coded x y = same_code (coded.code x) (coded.code y)
+
   -- the test says whether two elements are equal
   abbrev pub IsEquality : (T → T → Bool) → Type 0
   IsEquality same = (x y : T) → IsTrue (same x y) ↔ (x ≡ y)
-
-  -- what holds by a test of equality, whichever is taken
-  abbrev pub ByEquality : ((T → T → Bool) → Type 0) → Type 0
-  ByEquality P = (same : T → T → Bool) → IsEquality same → P same
 
   -- the name of the first of these rows whose value equals the element
   abbrev pub found_in : (T → T → Bool) → T → List (chain.Row T) → Option Name

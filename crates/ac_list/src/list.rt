@@ -1,6 +1,7 @@
 //! The list. A contract sees its object, with the slots of its names, and how many elements more it takes without memory.
 ghost use Rattle.std.specs.Prelude.{◌≡◌, ◌∷◌, [], ℕ, ◌+◌, ◌≤◌, None, pos, IfOk, IfErr, OnErr, IsOk, length, false, refl};
 ghost use Rattle.ac_list.specs.State.{IsLimit, HasSlots, first_spare, with_guards, guards_of, mark, needs_cursor, may_cursor, cursor_at, name_in, place_in};
+ghost use Rattle.ac_list.specs.Searches.{IsEquality, same_by};
 ghost use Rattle.std.specs.Option.{ForSome};
 ghost use Rattle.ac_list.specs.Put.{IsNamed, Takes, Grows, put_call, done, cursor_of_first, spot};
 ghost use Rattle.ac_model.specs.Letters.{tampers_cursors, tampers_elements, place_at};
@@ -15,6 +16,7 @@ ghost use Rattle.ac_model.specs.Lists as lists;
 mod copies;
 mod deletions;
 mod links;
+mod merging;
 mod order;
 mod searches;
 mod transfers;
@@ -80,6 +82,7 @@ impl<T> List<T> {
         ensures valid { IsValid (plain self.now.object) }
         ensures limit { IsLimit self.now.object.limit }
         ensures slots { HasSlots self.now.object.limit (length_of self.now.object) self.now.spare }
+        ensures equality { IsEquality (same_by T.row.coded) }
     {
         let _chain = &self.chain;
     }

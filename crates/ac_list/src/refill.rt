@@ -3,7 +3,8 @@ ghost use Rattle.std.specs.Prelude.{◌≡◌, ◌+◌, ◌^◌, ◌<◌, ◌≤
 ghost use Rattle.ac_pool.specs.Growth.{pow8};
 ghost use Rattle.ac_chain.specs.Rows.{IsSound};
 ghost use Rattle.ac_list.specs.Put.{IsPut};
-ghost use Rattle.ac_list.specs.Copy.{values_of, IsRefilled};
+ghost use Rattle.ac_list.specs.Copy.{IsRefilled};
+ghost use Rattle.ac_list.specs.Searches.{values_in};
 
 use crate::put::put_each;
 use ac_base::{Elem, NoMemory};
@@ -13,7 +14,7 @@ use std::alloc::Global;
 /// Copies of the values, the last one first.
 fn copies_back<T: Elem>(chain: &Chain<T>, alloc: Global) -> Result<Vec<T>, NoMemory>
     requires sound { IsSound chain.now }
-    ensures same { IfOk result (λ made. made.items ≡ reverse (values_of chain.now.rows)) }
+    ensures same { IfOk result (λ made. made.items ≡ reverse (values_in chain.now.rows)) }
 {
     let mut made = Vec::new(alloc);
     let mut place = chain.last();
@@ -51,7 +52,7 @@ pub fn refill<T: Elem>(
     requires unspent { chain.old.next_serial + length source.now.rows < 2 ^ 64 }
     requires sound { IsSound chain.old }
     requires source { IsSound source.now }
-    ensures put { IfOk result (λ _. IsRefilled chain.old (values_of source.now.rows) chain.new) }
+    ensures put { IfOk result (λ _. IsRefilled chain.old (values_in source.now.rows) chain.new) }
     ensures refused { IfErr result (λ _. chain.new ≡ chain.old) }
     ensures slots { length source.now.rows ≤ length chain.old.rows + chain.old.spare → length chain.new.rows + chain.new.spare ≡ length chain.old.rows + chain.old.spare }
     ensures grown { IfOk result (λ _. length chain.new.rows + chain.new.spare ≤ max (length chain.old.rows + chain.old.spare) (pow8 (length chain.new.rows))) }

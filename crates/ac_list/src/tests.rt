@@ -1,5 +1,5 @@
 use super::*;
-use ac_base::{Fault, Limit, Reason};
+use ac_base::{Fault, Limit, Reason, Text};
 use ac_cursor::{Cursor, GuardKind, Guarded, Tag, TagMint};
 use std::alloc::Global;
 use std::process::Abort;
@@ -18,6 +18,18 @@ fn list(rt: &impl Abort, alloc: Global, number: u64, limit: Limit) -> List<i64> 
         Ok(made) => made,
         Err(_) => panic!(rt; "no memory"),
     }
+}
+
+/// The elements are these, in this order.
+fn holds(list: &List<i64>, wanted: &[i64]) -> bool {
+    let mut c = list.first();
+    for value in wanted {
+        if element(list, c) != Some(*value) {
+            return false;
+        }
+        c = list.next(c).unwrap_or(Cursor::NoElement);
+    }
+    c == Cursor::NoElement
 }
 
 fn element(list: &List<i64>, c: Cursor) -> Option<i64> {
@@ -210,4 +222,79 @@ fn a_move_empties_its_source(rt: HostRuntime) {
         c = target.next(c).unwrap_or(Cursor::NoElement);
     }
     assert!(rt; c == Cursor::NoElement);
+}
+
+#[test]
+fn a_splice_goes_before_the_cursor(rt: HostRuntime) {
+    let mut target = list(&rt, rt.alloc(), 1, Limit::Unbounded);
+    let mut source = list(&rt, rt.alloc(), 2, Limit::Bounded(2));
+    assert!(rt; target.append(10, 1).is_ok());
+    assert!(rt; target.append(40, 1).is_ok());
+    assert!(rt; source.append(20, 1).is_ok());
+    assert!(rt; source.append(30, 1).is_ok());
+    let foreign = source.first();
+    assert!(rt; target.splice(foreign, &mut source) == Err(Fault::Raised(Reason::ForeignCursor)));
+    let last = target.last();
+    assert!(rt; target.splice(last, &mut source).is_ok());
+    assert!(rt; holds(&target, &[10, 20, 30, 40]));
+    assert!(rt; source.is_empty());
+    assert_eq!(rt; source.slots(), 2);
+}
+
+#[test]
+fn a_splice_of_one_sets_the_variable(rt: HostRuntime) {
+    let mut target = list(&rt, rt.alloc(), 1, Limit::Unbounded);
+    let mut source = list(&rt, rt.alloc(), 2, Limit::Unbounded);
+    assert!(rt; target.append(10, 1).is_ok());
+    assert!(rt; source.append(20, 1).is_ok());
+    assert!(rt; source.append(30, 1).is_ok());
+    let mut q = source.last();
+    assert!(rt;
+        target
+            .splice_one(Cursor::NoElement, &mut source, &mut q)
+            .is_ok()
+    );
+    assert!(rt; q == target.last());
+    assert!(rt; holds(&target, &[10, 30]));
+    assert!(rt; holds(&source, &[20]));
+}
+
+#[test]
+fn a_merge_takes_a_tie_from_the_target(rt: HostRuntime) {
+    let mut target = list(&rt, rt.alloc(), 1, Limit::Unbounded);
+    let mut source = list(&rt, rt.alloc(), 2, Limit::Unbounded);
+    for e in [20, 10, 40] {
+        assert!(rt; target.append(e, 1).is_ok());
+    }
+    for e in [20, 30] {
+        assert!(rt; source.append(e, 1).is_ok());
+    }
+    let first = target.first();
+    assert!(rt; target.merge(&mut source).is_ok());
+    assert!(rt; holds(&target, &[20, 10, 20, 30, 40]));
+    assert!(rt; target.first() == first);
+    assert!(rt; source.is_empty());
+    assert!(rt; target.merge(&mut source).is_ok());
+    assert_eq!(rt; target.length(), 5);
+}
+
+fn text(rt: &impl Abort, alloc: Global, bytes: &[u8]) -> Text {
+    match Text::new(alloc, bytes) {
+        Ok(text) => text,
+        Err(_) => panic!(rt; "no memory"),
+    }
+}
+
+#[test]
+fn a_search_compares_texts(rt: HostRuntime) {
+    let mut list = match List::new(rt.alloc(), tag(&rt, 1), Limit::Unbounded) {
+        Ok(made) => made,
+        Err(_) => panic!(rt; "no memory"),
+    };
+    for bytes in [&b"ash"[..], &b"oak"[..], &b"ash"[..]] {
+        assert!(rt; list.append(text(&rt, rt.alloc(), bytes), 1).is_ok());
+    }
+    let wanted = text(&rt, rt.alloc(), b"ash");
+    assert!(rt; list.reverse_find(&wanted, Cursor::NoElement) == Ok(list.last()));
+    assert!(rt; list.find(&wanted, Cursor::NoElement) == Ok(list.first()));
 }

@@ -1,38 +1,65 @@
 //! Elements that move into another list, under new names.
-ghost use Rattle.std.specs.Prelude.{◌≡◌, ◌∷◌, [], ◌+◌, ◌^◌, ◌<◌, ◌≤◌, None, IfOk, IfErr, length};
-ghost use Rattle.ac_chain.specs.Rows.{IsSound, cleared};
-ghost use Rattle.ac_cursor.specs.Steps.{first_reason};
-ghost use Rattle.ac_list.specs.Put.{IsPut};
+ghost use Rattle.std.specs.Prelude.{◌≡◌, ◌+◌, ◌^◌, ◌<◌, ◌≤◌, IfOk, IfErr, OnErr, length, max};
+ghost use Rattle.std.specs.Option.{ForSome};
+ghost use Rattle.ac_chain.specs.Rows.{IsLive, IsSound, cleared, removed, value_of};
+ghost use Rattle.ac_pool.specs.Growth.{pow8};
+ghost use Rattle.ac_list.specs.Copy.{IsRefilled, cursor_of};
+ghost use Rattle.ac_list.specs.Put.{IsPut, IsFirst, HasGrown, Grows, slots_of};
 ghost use Rattle.ac_list.specs.Searches.{values_in};
-ghost use Rattle.ac_model.specs.Letters.{tampers_cursors, room};
-ghost use Rattle.ac_model.specs.Objects.{plain, length_of};
-ghost use Rattle.ac_model.specs.Calls.{ChangingBoth, Same, both};
+ghost use Rattle.ac_list.specs.State.{mark};
+ghost use Rattle.ac_model.specs.Objects.{plain};
+ghost use Rattle.ac_model.specs.Calls.{ChangingBoth, Same, Marks, both};
 ghost use Rattle.ac_model.specs.Common as common;
+ghost use Rattle.ac_model.specs.Lists as lists;
 
-use super::List;
 use super::copies::as_fault;
+use super::{List, name_in, place_in};
 use crate::reasons::{names_spent, too_long, too_many};
-use ac_base::{Fault, NoMemory, Reason};
+use ac_base::{Fault, Name, NoMemory, Reason};
 use ac_chain::Chain;
-use ac_cursor::{Class, first_reason};
+use ac_cursor::{Class, Cursor, first_reason};
 
-/// Moves the values, the first one first.
-fn move_each<T>(target: &mut Chain<T>, source: &mut Chain<T>)
-    requires empty { target.old.rows ≡ [] }
+/// Moves the values before the place, the first one first.
+fn move_each<T>(target: &mut Chain<T>, place: Option<Name>, source: &mut Chain<T>)
+    requires place { ForSome place (IsLive target.old) }
     requires spare { length source.old.rows ≤ target.old.spare }
     requires unspent { target.old.next_serial + length source.old.rows < 2 ^ 64 }
     requires target { IsSound target.old }
     requires source { IsSound source.old }
-    ensures put { IsPut [] target.old.next_serial None (values_in source.old.rows) target.new }
-    ensures slots { length target.new.rows + target.new.spare ≡ target.old.spare }
+    ensures put { IsPut target.old.rows target.old.next_serial place (values_in source.old.rows) target.new }
+    ensures slots { length target.new.rows + target.new.spare ≡ length target.old.rows + target.old.spare }
     ensures cleared { source.new ≡ cleared source.old }
     ensures target { IsSound target.new }
     ensures source { IsSound source.new }
 {
     while let Some(first) = source.first() {
         let value = source.remove(first);
-        target.insert_before(None, value);
+        target.insert_before(place, value);
     }
+}
+
+/// Moves the values before the place, with all memory taken before any change.
+fn move_before<T>(
+    target: &mut Chain<T>,
+    place: Option<Name>,
+    source: &mut Chain<T>,
+) -> Result<(), NoMemory>
+    requires place { ForSome place (IsLive target.old) }
+    requires few { length target.old.rows + length source.old.rows ≤ 1000000 }
+    requires unspent { target.old.next_serial + length source.old.rows < 2 ^ 64 }
+    requires target { IsSound target.old }
+    requires source { IsSound source.old }
+    ensures put { IfOk result (λ _. IsPut target.old.rows target.old.next_serial place (values_in source.old.rows) target.new) }
+    ensures cleared { IfOk result (λ _. source.new ≡ cleared source.old) }
+    ensures slots { IfOk result (λ _. HasGrown target.old (length source.old.rows) target.new) }
+    ensures refused_target { IfErr result (λ _. target.new ≡ target.old) }
+    ensures refused_source { IfErr result (λ _. source.new ≡ source.old) }
+    ensures target { IsSound target.new }
+    ensures source { IsSound source.new }
+{
+    target.reserve(source.len())?;
+    move_each(target, place, source);
+    Ok(())
 }
 
 /// Moves the values in place of those that were there.
@@ -41,9 +68,10 @@ fn move_all<T: Drop>(target: &mut Chain<T>, source: &mut Chain<T>) -> Result<(),
     requires unspent { target.old.next_serial + length source.old.rows < 2 ^ 64 }
     requires target { IsSound target.old }
     requires source { IsSound source.old }
-    ensures put { IfOk result (λ _. IsPut [] target.old.next_serial None (values_in source.old.rows) target.new) }
+    ensures put { IfOk result (λ _. IsRefilled target.old (values_in source.old.rows) target.new) }
     ensures cleared { IfOk result (λ _. source.new ≡ cleared source.old) }
     ensures slots { length source.old.rows ≤ length target.old.rows + target.old.spare → length target.new.rows + target.new.spare ≡ length target.old.rows + target.old.spare }
+    ensures grown { IfOk result (λ _. length target.new.rows + target.new.spare ≤ max (length target.old.rows + target.old.spare) (pow8 (length target.new.rows))) }
     ensures refused_target { IfErr result (λ _. target.new ≡ target.old) }
     ensures refused_source { IfErr result (λ _. source.new ≡ source.old) }
     ensures target { IsSound target.new }
@@ -51,14 +79,53 @@ fn move_all<T: Drop>(target: &mut Chain<T>, source: &mut Chain<T>) -> Result<(),
 {
     target.reserve(source.len().saturating_sub(target.len()))?;
     target.clear();
-    move_each(target, source);
+    move_each(target, None, source);
     Ok(())
+}
+
+/// Moves the value under the name before the place. The answer is its new name.
+fn move_one<T>(
+    target: &mut Chain<T>,
+    place: Option<Name>,
+    source: &mut Chain<T>,
+    name: Name,
+) -> Result<Name, NoMemory>
+    requires place { ForSome place (IsLive target.old) }
+    requires name { IsLive source.old name }
+    requires few { length target.old.rows + 1 ≤ 1000000 }
+    requires unspent { target.old.next_serial + 1 < 2 ^ 64 }
+    requires target { IsSound target.old }
+    requires source { IsSound source.old }
+    ensures put { IfOk result (λ _. IsPut target.old.rows target.old.next_serial place (lists.one_value (value_of source.old name)) target.new) }
+    ensures first { IfOk result (λ a. IsFirst target.old.next_serial target.new a) }
+    ensures removed { IfOk result (λ _. source.new ≡ removed source.old name) }
+    ensures slots { IfOk result (λ _. HasGrown target.old 1 target.new) }
+    ensures refused_target { IfErr result (λ _. target.new ≡ target.old) }
+    ensures refused_source { IfErr result (λ _. source.new ≡ source.old) }
+    ensures target { IsSound target.new }
+    ensures source { IsSound source.new }
+{
+    target.reserve(1)?;
+    let value = source.remove(name);
+    Ok(target.insert_before(place, value))
+}
+
+/// The cursor at a new name.
+fn cursor_of(object: u64, name: Result<Name, NoMemory>) -> Result<Cursor, Fault>
+    ensures { result ≡ cursor_of object name }
+{
+    match name {
+        Ok(name) => Ok(Cursor::At { object, name }),
+        Err(_) => Err(Fault::NoMemory),
+    }
 }
 
 impl<T: Drop> List<T> {
     /// Move (A.18.3): the source's elements, under new names, in place of those that were here.
     pub fn move_from(&mut self, source: &mut List<T>) -> Result<(), Fault>
-        ensures { ChangingBoth Same (common.move_from_call (plain self.old.object) (plain source.old.object)) (both self.old.object source.old.object) (both self.new.object source.new.object) result }
+        ensures changed { ChangingBoth Same (common.move_from_call (plain self.old.object) (plain source.old.object)) (both self.old.object source.old.object) (both self.new.object source.new.object) result }
+        ensures slots { Grows result self.old self.new }
+        ensures source { slots_of source.new ≡ slots_of source.old }
     {
         match self.refuses_move(source) {
             Some(reason) => Err(Fault::Raised(reason)),
@@ -68,7 +135,7 @@ impl<T: Drop> List<T> {
 
     /// Why a move is refused.
     fn refuses_move(&self, source: &List<T>) -> Option<Reason>
-        ensures { result ≡ first_reason (tampers_cursors (plain self.now.object) ∷ tampers_cursors (plain source.now.object) ∷ room (plain self.now.object) (length_of (plain source.now.object)) (length_of (plain source.now.object))) }
+        ensures { result ≡ (common.move_from_call (plain self.now.object) (plain source.now.object)).reason }
     {
         let length = source.chain.len();
         first_reason(&[
@@ -77,6 +144,83 @@ impl<T: Drop> List<T> {
             too_long(length),
             too_many(self.limit, length),
             names_spent(self.chain.next_serial(), length),
+        ])
+    }
+}
+
+impl<T> List<T> {
+    /// Splice (A.18.3) of another list: its elements go before the cursor, where No_Element is the end.
+    pub fn splice(&mut self, b: Cursor, source: &mut List<T>) -> Result<(), Fault>
+        ensures changed { ChangingBoth Same (lists.splice_call (plain self.old.object) (mark self.old.object b) (plain source.old.object)) (both self.old.object source.old.object) (both self.new.object source.new.object) result }
+        ensures slots { Grows result self.old self.new }
+        ensures source { slots_of source.new ≡ slots_of source.old }
+    {
+        match self.refuses_splice_of_all(b, source) {
+            Some(reason) => Err(Fault::Raised(reason)),
+            None => as_fault(move_before(&mut self.chain, place_in(b), &mut source.chain)),
+        }
+    }
+
+    /// Why a splice of another list is refused.
+    fn refuses_splice_of_all(&self, b: Cursor, source: &List<T>) -> Option<Reason>
+        ensures { result ≡ (lists.splice_call (plain self.now.object) (mark self.now.object b) (plain source.now.object)).reason }
+    {
+        let more = source.chain.len();
+        let length = self.chain.len() + more;
+        first_reason(&[
+            self.guards.forbids(Class::Cursors),
+            source.guards.forbids(Class::Cursors),
+            self.may(b),
+            too_long(length),
+            too_many(self.limit, length),
+            names_spent(self.chain.next_serial(), more),
+        ])
+    }
+
+    /// Splice (A.18.3) of one element of another list: it goes before the cursor, and the variable is set to it.
+    pub fn splice_one(
+        &mut self,
+        b: Cursor,
+        source: &mut List<T>,
+        q: &mut Cursor,
+    ) -> Result<(), Fault>
+        ensures changed { ChangingBoth (λ _ m. Marks self.new.object q.new m) (lists.splice_one_call (plain self.old.object) (mark self.old.object b) (plain source.old.object) (mark source.old.object q.old)) (both self.old.object source.old.object) (both self.new.object source.new.object) result }
+        ensures kept { OnErr result (q.new ≡ q.old) }
+        ensures slots { Grows result self.old self.new }
+        ensures source { slots_of source.new ≡ slots_of source.old }
+    {
+        *q = self.take_one(b, source, *q)?;
+        Ok(())
+    }
+
+    /// As `splice_one`, with the element's new cursor as the answer.
+    fn take_one(&mut self, b: Cursor, source: &mut List<T>, q: Cursor) -> Result<Cursor, Fault>
+        ensures changed { ChangingBoth (Marks self.new.object) (lists.splice_one_call (plain self.old.object) (mark self.old.object b) (plain source.old.object) (mark source.old.object q)) (both self.old.object source.old.object) (both self.new.object source.new.object) result }
+        ensures slots { Grows result self.old self.new }
+        ensures source { slots_of source.new ≡ slots_of source.old }
+    {
+        match self.refuses_splice_of_one(b, source, q) {
+            Some(reason) => Err(Fault::Raised(reason)),
+            None => {
+                let name = move_one(&mut self.chain, place_in(b), &mut source.chain, name_in(q));
+                cursor_of(self.guards.number(), name)
+            }
+        }
+    }
+
+    /// Why a splice of one element of another list is refused.
+    fn refuses_splice_of_one(&self, b: Cursor, source: &List<T>, q: Cursor) -> Option<Reason>
+        ensures { result ≡ (lists.splice_one_call (plain self.now.object) (mark self.now.object b) (plain source.now.object) (mark source.now.object q)).reason }
+    {
+        let length = self.chain.len() + 1;
+        first_reason(&[
+            self.guards.forbids(Class::Cursors),
+            source.guards.forbids(Class::Cursors),
+            self.may(b),
+            source.needs(q),
+            too_long(length),
+            too_many(self.limit, length),
+            names_spent(self.chain.next_serial(), 1),
         ])
     }
 }

@@ -14,7 +14,7 @@ returns c =
     let meaning = c.args.meaning in
     let same : name.items ≡ c.args.name.now = search rules in
     let absent : is_in_scope (entries_view names.entries) name.items ≡ false =
-        ap (λ (scope : Scope). is_in_scope scope name.items) c.self.view_is ∙ ap (is_in_scope c.args.self.now) same ∙ c.requires in
+    ap (λ (scope : Scope). is_in_scope scope name.items) c.self.view_is ∙ ap (is_in_scope c.args.self.now) same ∙ c.requires in
     ap entries_view (c.in_ok-insert.ensures.entries ∙ insert_entry-new _ names name meaning (not_among name.items names.entries absent))
     ∙ map-append _ names.entries ((name, meaning) ∷ [])
     ∙ ap (λ (scope : Scope). scope ++ entry name.items (meaning_view meaning) ∷ []) c.self.view_is

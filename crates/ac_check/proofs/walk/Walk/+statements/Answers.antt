@@ -17,7 +17,7 @@ walk_statement-returns-in_err-judge-clause-refused t c =
     let at = c.args.self.now in
     let first = begins_with at.scope c.args.stmt.now in
     passed_on c.from_residual.result c.judge.result c.in_err-judge.field-0.0 _ c.from_residual.ensures.1 c.in_err-judge.was
-        (λ line kind e. ap (λ (l : List Standing). outcome at.room l) first.1 ∙ c.judge.ensures.refused first.0 line kind e)
+    (λ line kind e. ap (λ (l : List Standing). outcome at.room l) first.1 ∙ c.judge.ensures.refused first.0 line kind e)
 
 pub walk_statement-returns-in_err-walk_decls-in-Declare-clause-refused :
     goal.walk_statement-returns-in_err-walk_decls-in-Declare-clause-refused
@@ -27,8 +27,8 @@ walk_statement-returns-in_err-walk_decls-in-Declare-clause-refused t c =
     let exit = c.from_residual-in_err-walk_decls-in-Declare in
     let is : c.args.stmt.now ≡ Declare here.line c.items.result.now here.body = here.is ∙ ap (λ decls. Declare here.line decls here.body) (sym c.items.ensures) in
     passed_on exit.result c.walk_decls.result c.in_err-walk_decls-in-Declare.field-0.0 _ exit.ensures.1 c.in_err-walk_decls-in-Declare.was
-        (λ line kind e. declare_stopped at.room at.scope c.args.stmt.now here.line c.items.result.now here.body is c.in_ok-judge.ensures.ok _ kind
-            (c.walk_decls.ensures.refused line kind e))
+    (λ line kind e. declare_stopped at.room at.scope c.args.stmt.now here.line c.items.result.now here.body is c.in_ok-judge.ensures.ok _ kind
+    (c.walk_decls.ensures.refused line kind e))
 
 pub walk_statement-returns-in_ok-walk_decls-in-Declare-clause-ok :
     goal.walk_statement-returns-in_ok-walk_decls-in-Declare-clause-ok
@@ -38,8 +38,8 @@ walk_statement-returns-in_ok-walk_decls-in-Declare-clause-ok t c =
     let behind = c.in_ok-walk_decls-in-Declare.ensures in
     let is : c.args.stmt.now ≡ Declare here.line c.items.result.now here.body = here.is ∙ ap (λ decls. Declare here.line decls here.body) (sym c.items.ensures) in
     on_ok_weaker c.walk_body-in-Declare.result
-        (λ ok. declare_on at.room at.scope c.args.stmt.now here.line c.items.result.now here.body is c.in_ok-judge.ensures.ok _ _ behind.ok behind.scope ∙ ok)
-        c.walk_body-in-Declare.ensures.ok
+    (λ ok. declare_on at.room at.scope c.args.stmt.now here.line c.items.result.now here.body is c.in_ok-judge.ensures.ok _ _ behind.ok behind.scope ∙ ok)
+    c.walk_body-in-Declare.ensures.ok
 
 pub walk_statement-returns-in_ok-walk_decls-in-Declare-clause-refused :
     goal.walk_statement-returns-in_ok-walk_decls-in-Declare-clause-refused
@@ -57,8 +57,8 @@ walk_statement-returns-in_ok-walk_decls-in-Declare-clause-scope t c =
     let at = c.args.self.now in
     let behind = c.in_ok-walk_decls-in-Declare.ensures in
     on_ok_weaker c.walk_body-in-Declare.result
-        (λ ok. ok ∙ ap (λ (s : Scope). take c.len-outside.result s) behind.scope ∙ ap (λ n. take n (with_decls at.scope c.items.result.now)) c.len-outside.ensures ∙ outside_decls at.scope c.items.result.now)
-        c.walk_body-in-Declare.ensures.scope
+    (λ ok. ok ∙ ap (λ (s : Scope). take c.len-outside.result s) behind.scope ∙ ap (λ n. take n (with_decls at.scope c.items.result.now)) c.len-outside.ensures ∙ outside_decls at.scope c.items.result.now)
+    c.walk_body-in-Declare.ensures.scope
 
 pub walk_statements-walk_statement-requires : goal.walk_statements-walk_statement-requires
 walk_statements-walk_statement-requires t c =
@@ -73,15 +73,16 @@ walk_statements-returns-in_err-walk_statement-clause-refused t c =
     let at = c.loop-stmt.self in
     let stmts = c.items-stmt-items.result.now in
     passed_on c.from_residual.result c.walk_statement.result c.in_err-walk_statement.field-0.0 _ c.from_residual.ensures.1 c.in_err-walk_statement.was
-        (λ line kind e.
-            sym c.loop-stmt.invariant.0
-            ∙ statement_stopped at.room at.scope stmts c.loop-stmt.stmt-index c.stmt-item.result c.loop-stmt-test.true c.stmt-item.is _ kind
-                (c.walk_statement.ensures.refused line kind e))
+    (λ line kind e.
+    sym c.loop-stmt.invariant.0
+    ∙ statement_stopped at.room at.scope stmts c.loop-stmt.stmt-index c.stmt-item.result c.loop-stmt-test.true c.stmt-item.is _ kind
+    (c.walk_statement.ensures.refused line kind e))
 
 pub walk_statements-loop-stmt-preserved : goal.walk_statements-loop-stmt-preserved
 walk_statements-loop-stmt-preserved t c =
     let at = c.loop-stmt.self in
     let stmts = c.items-stmt-items.result.now in
-    let behind = c.in_ok-walk_statement.ensures in
-    (statement_on at.room at.scope stmts c.loop-stmt.stmt-index c.stmt-item.result c.loop-stmt-test.true c.stmt-item.is _ _ behind.ok behind.scope ∙ c.loop-stmt.invariant.0,
-     behind.scope ∙ c.loop-stmt.invariant.1)
+    let behind = c.in_ok-walk_statement.ensures in (
+      statement_on at.room at.scope stmts c.loop-stmt.stmt-index c.stmt-item.result c.loop-stmt-test.true c.stmt-item.is _ _ behind.ok behind.scope ∙ c.loop-stmt.invariant.0,
+      behind.scope ∙ c.loop-stmt.invariant.1,
+    )

@@ -13,7 +13,7 @@ returns-in_err-walk_decl-clause-refused c =
     let rest = drop (c.loop-decl.decl-index + 1) decls in
     let scope = with_entry at.scope (decl_entry at.scope c.decl-item.result) in
     passed_on c.from_residual.result c.walk_decl.result c.in_err-walk_decl.field-0.0 _ c.from_residual.ensures.1 c.in_err-walk_decl.was
-        (λ line kind e.
-            sym c.loop-decl.invariant.0
-            ∙ ap (λ (l : List Decl). outcome at.room (standing_decls at.scope l)) (next_item decls c.loop-decl.decl-index c.decl-item.result c.loop-decl-test.true c.decl-item.is)
-            ∙ c.walk_decl.ensures.refused (standing_decls scope rest) line kind e)
+    (λ line kind e.
+    sym c.loop-decl.invariant.0
+    ∙ ap (λ (l : List Decl). outcome at.room (standing_decls at.scope l)) (next_item decls c.loop-decl.decl-index c.decl-item.result c.loop-decl-test.true c.decl-item.is)
+    ∙ c.walk_decl.ensures.refused (standing_decls scope rest) line kind e)

@@ -2,6 +2,7 @@ use Rattle.std.proofs.Common.{ap, subst}
 use Rattle.ac_model.specs.Objects.{length_of}
 use Rattle.ac_list.specs.State.{Listed, IsLimit, HasSlots}
 use Rattle.ac_list.proofs.Valid.{valid, limited, has_slots}
+use Rattle.ac_list.proofs.Searches.{same_is_equal}
 use Rattle.ac_list.proofs.list.List.law.Goals as goal
 
 pub returns-clause-valid : goal.returns-clause-valid
@@ -12,3 +13,6 @@ returns-clause-limit g c = let i = c.self.inside in subst (λ (x : Listed _). Is
 
 pub returns-clause-slots : goal.returns-clause-slots
 returns-clause-slots g c = let i = c.self.inside in subst (λ (x : Listed _). HasSlots x.object.limit (length_of x.object) x.spare) c.self.view_is (has_slots i.limit i.chain c.self.invariant)
+
+pub returns-clause-equality : goal.returns-clause-equality
+returns-clause-equality g c = same_is_equal g.row.T.coded

@@ -11,5 +11,5 @@ pub returns : goal.returns
 returns c =
     subst (λ (values : List ℤ). IfOk c.refusal.result (λ refusal. IsAppended c.args.value values (contents c.append.new.self.object) refusal)) c.self.view_is
     (told c.self.inside.list.object c.append.new.self.object c.args.value c.self.invariant c.law.ensures.valid c.append.result c.refusal.result
-    (subst (λ (z : ℤ). Changing Same (append_call (plain c.self.inside.list.object) z (pos 1)) c.self.inside.list.object c.append.new.self.object c.append.result) (to_z-of_z {w = w64} {z = c.args.value} c.ranges.value) c.append.ensures)
+    (subst (λ (z : ℤ). Changing Same (append_call (plain c.self.inside.list.object) z (pos 1)) c.self.inside.list.object c.append.new.self.object c.append.result) (to_z-of_z {w = w64} {z = c.args.value} c.ranges.value) c.append.ensures.changed)
     c.refusal.ensures)
