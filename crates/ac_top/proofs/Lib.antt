@@ -3,3 +3,5 @@ pub mod Lines
 pub mod Meant
 mod Walks
 mod Growing
+mod Checked
+mod Answered

@@ -5,9 +5,9 @@ ghost use Rattle.ac_syntax.specs.declared.refusal.RefusalKind.{RefusalKind};
 ghost use Rattle.ac_syntax.specs.declared.script.Script.{Script};
 ghost use Rattle.ac_syntax.specs.Refusals.{Spells, IsFirstRefusal};
 ghost use Rattle.ac_script.specs.declared.fault.ScriptFault.TheVariants.{Refused as RefusedAt};
-ghost use Rattle.ac_check.specs.Faults.{IsFirstFault, IsChecked};
+ghost use Rattle.ac_check.specs.Faults.{IsChecked};
 ghost use Rattle.ac_top.specs.Meaning.{Meaning};
-ghost use Rattle.ac_top.specs.Checking.{IsCheckMeaning, canonical, refused_at};
+ghost use Rattle.ac_top.specs.Checking.{IsCheckMeaning, IsFaulty, canonical, refused_at};
 ghost use Rattle.ac_top.specs.Status.{IsAnswer, Writes};
 
 use crate::entry::refuse;
@@ -21,9 +21,11 @@ use std::alloc::Global;
 
 /// The script that an input spells, where it can run.
 fn checked(alloc: Global, input: &[u8]) -> Result<Checked, ScriptFault>
-    ensures ok { IfOk result (λ script. Spells script input.now × IsChecked script) }
+    ensures spelled { IfOk result (λ script. Spells script input.now) }
+    ensures only { IfOk result (λ script. (other : Script) → Spells other input.now → other ≡ script) }
+    ensures checked { IfOk result (λ script. IsChecked script) }
     ensures refused { (line : ℕ) (kind : RefusalKind) → result ≡ Err (RefusedAt line kind) →
-        IsFirstRefusal input.now line kind ⊎ ((script : Script) × Spells script input.now × IsFirstFault script line kind) }
+        IsFirstRefusal input.now line kind ⊎ IsFaulty input.now line kind }
 {
     let script = parse(alloc, input)?;
     check(alloc, script)

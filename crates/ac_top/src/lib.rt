@@ -7,8 +7,8 @@ mod examples;
 mod execute;
 mod gate;
 mod limits;
-mod mode;
 mod line;
+mod mode;
 mod numbers;
 mod status;
 

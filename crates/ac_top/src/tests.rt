@@ -92,9 +92,9 @@ fn ends_where_a_device_fails(rt: HostRuntime) -> Result<(), Fail> {
 }
 
 #[test]
-fn refuses_every_word(rt: HostRuntime) -> Result<(), Fail> {
+fn refuses_words_that_it_does_not_know(rt: HostRuntime) -> Result<(), Fail> {
     let alloc = rt.alloc();
-    let words = vec![in alloc; String::from_str(alloc, "--check")?]?;
+    let words = vec![in alloc; String::from_str(alloc, "--bad")?]?;
     let mut source = MemorySource::new(ONE_LIST.to_vec(alloc)?, WHOLE, Vec::new(alloc));
     let mut sink = MemorySink::with_room(alloc, 100, WHOLE, Vec::new(alloc))?;
     let status = run(&rt, alloc, &words, &mut source, &mut sink, &FreeGate);
@@ -102,5 +102,36 @@ fn refuses_every_word(rt: HostRuntime) -> Result<(), Fail> {
     assert_eq!(rt; source.rest(), ONE_LIST);
     assert_eq!(rt; sink.bytes(), b"".as_slice());
     FreeGate.before(1);
+    Ok(())
+}
+
+#[test]
+fn checks_in_place_of_no_memory(rt: HostRuntime) -> Result<(), Fail> {
+    let rows = [
+        (
+            b"TYPE L is list(Integer);A:L; -- x\nA.Append( - 007 );".as_slice(),
+            Status::Done,
+            b"type l is list (integer); a : l;\na.append (-7);\n".as_slice(),
+        ),
+        (
+            b"type L is list (integer);\nA : L;\nfor C in A loop\n",
+            Status::Refused,
+            b"line 3: syntax\n",
+        ),
+        (
+            b"A.Append (1);\n",
+            Status::Refused,
+            b"line 1: unknown name\n",
+        ),
+    ];
+    for (input, status, text) in rows {
+        let alloc = rt.alloc();
+        let words = vec![in alloc; String::from_str(alloc, "--check")?]?;
+        let mut source = MemorySource::new(input.to_vec(alloc)?, WHOLE, Vec::new(alloc));
+        let mut sink = MemorySink::with_room(alloc, 100, WHOLE, Vec::new(alloc))?;
+        let ended = run(&rt, alloc, &words, &mut source, &mut sink, &FreeGate);
+        assert_eq!(rt; ended, status);
+        assert_eq!(rt; sink.bytes(), text);
+    }
     Ok(())
 }

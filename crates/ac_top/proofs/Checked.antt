@@ -1,0 +1,40 @@
+-- A text has at most one meaning where it is checked alone.
+use Rattle.std.proofs.Common.{◌≡◌, ◌<◌, ◌≤◌, ℕ, List, length, sym, ap, ◌∙◌, subst, arith}
+use Rattle.ac_syntax.specs.declared.refusal.RefusalKind.{RefusalKind}
+use Rattle.ac_syntax.specs.declared.script.Script.{Script}
+use Rattle.ac_syntax.specs.Refusals.{Spells, IsFirstRefusal}
+use Rattle.ac_syntax.proofs.OneRefusal.{one_refusal, spelled_or_refused}
+use Rattle.ac_check.specs.Faults.{IsFirstFault, IsChecked}
+use Rattle.ac_check.proofs.FirstFaults.{one_fault, no_fault}
+use Rattle.ac_top.specs.declared.limits.TheConstants.{INPUT_LIMIT}
+use Rattle.ac_top.specs.Meaning.{Meaning}
+use Rattle.ac_top.specs.Checking.{IsCheckMeaning, too_long, refused, faulty, sound, refused_at, canonical}
+
+pub not_long : {A : Type 0} (input : List ℕ) → length input ≤ INPUT_LIMIT → INPUT_LIMIT < length input → A
+not_long input short long = absurd (omega (arith, short, long))
+
+same_place : (line place : ℕ) (kind other : RefusalKind) (m : Meaning) → (line ≡ place) × (kind ≡ other) → m ≡ refused_at place other → m ≡ refused_at line kind
+same_place line place kind other m same e = e ∙ sym (λ i. refused_at (same.0 i) (same.1 i))
+
+pub sound_means : (input : List ℕ) (script : Script) (m : Meaning) → length input ≤ INPUT_LIMIT → Spells script input → ((other : Script) → Spells other input → other ≡ script) → IsChecked script
+    → IsCheckMeaning input m → m ≡ canonical script
+sound_means input script m short spells only checked (too_long long e) = not_long input short long
+sound_means input script m short spells only checked (refused line kind _ h e) = absurd (spelled_or_refused script input line kind spells h)
+sound_means input script m short spells only checked (faulty other line kind _ s h e) =
+    absurd (no_fault script line kind checked (subst (λ (t : Script). IsFirstFault t line kind) (only other s) h))
+sound_means input script m short spells only checked (sound other _ s h e) = e ∙ ap canonical (only other s)
+
+pub refused_means : (input : List ℕ) (line : ℕ) (kind : RefusalKind) (m : Meaning) → length input ≤ INPUT_LIMIT → IsFirstRefusal input line kind → IsCheckMeaning input m → m ≡ refused_at line kind
+refused_means input line kind m short h (too_long long e) = not_long input short long
+refused_means input line kind m short h (refused place other _ k e) = same_place line place kind other m (one_refusal input line place kind other h k) e
+refused_means input line kind m short h (faulty script place other _ s k e) = absurd (spelled_or_refused script input line kind s h)
+refused_means input line kind m short h (sound script _ s k e) = absurd (spelled_or_refused script input line kind s h)
+
+pub faulty_means : (input : List ℕ) (script : Script) (line : ℕ) (kind : RefusalKind) (m : Meaning) → length input ≤ INPUT_LIMIT → Spells script input → ((other : Script) → Spells other input → other ≡ script)
+    → IsFirstFault script line kind → IsCheckMeaning input m → m ≡ refused_at line kind
+faulty_means input script line kind m short spells only h (too_long long e) = not_long input short long
+faulty_means input script line kind m short spells only h (refused place other _ k e) = absurd (spelled_or_refused script input place other spells k)
+faulty_means input script line kind m short spells only h (faulty t place other _ s k e) =
+    same_place line place kind other m (one_fault script line place kind other h (subst (λ (t : Script). IsFirstFault t place other) (only t s) k)) e
+faulty_means input script line kind m short spells only h (sound t _ s k e) =
+    absurd (no_fault script line kind (subst IsChecked (only t s) k) h)
