@@ -1,7 +1,7 @@
 #!/usr/bin/env python3
 """Times the built programs beside plain Rust programs on the same machine in the same run.
 
-Prints the program's time for each generated script, the ratio to the baseline's, and the growth from half the script to the whole: 2 is linear. Then the time of a put and a take of the pool, and the ratio; and of an insertion and a removal in the middle of a chain, which stays flat where the chain grows. Then the times of a list's calls, and their growth from 10,000 elements to 1,000,000. Needs rustc; isn't part of the gate.
+Prints the program's time for each generated script, the ratio to the baseline's, and the growth from half the script to the whole: 2 is linear. Then the time of `--check` on inputs of 1 MiB that are the worst of their sorts, and the growth. Then the time of a put and a take of the pool, and the ratio; and of an insertion and a removal in the middle of a chain, which stays flat where the chain grows. Then the times of a list's calls, and their growth from 10,000 elements to 1,000,000. Needs rustc; isn't part of the gate.
 """
 import os
 import subprocess
@@ -32,13 +32,39 @@ def prints(count):
     return HEAD + "".join(f"A.Append ({n});\n" + ("A.Print;\n" if n % 20 == 19 else "") for n in range(count))
 
 
-def seconds(command, script=os.devnull):
+def filled(size, head, piece, end=""):
+    """A text of at most so many bytes: a piece as often as it has room."""
+    return head + piece * ((size - len(head) - len(end)) // len(piece)) + end
+
+
+def nested(size):
+    """Sixteen blocks inside each other, as often as there is room."""
+    return filled(size, HEAD, "stable A do\n" * 16 + "A.Length;\n" + "end;\n" * 16)
+
+
+def named(size):
+    """A thousand names, and commands that use the last of them."""
+    return filled(size, "".join(f"n{i} : integer;\n" for i in range(1000)), "n999 := n998 + 1;\n")
+
+
+WORST = [
+    ("one long comment", lambda size: "-- " + "x" * (size - 4) + "\n"),
+    ("one open string", lambda size: 'X := "' + "x" * (size - 6)),
+    ("words", lambda size: filled(size, "", "ab ")),
+    ("commands with words", lambda size: filled(size, HEAD, "A.B;\n")),
+    ("16 blocks deep all along", nested),
+    ("1,000 names in scope", named),
+    ("calls", lambda size: filled(size, HEAD, "A.Insert (A.First, 1);\n".replace("A.First", "no_element"))),
+]
+
+
+def seconds(command, script=os.devnull, status=True):
     """The least time of some runs."""
     best = None
     for _ in range(RUNS):
         with open(script) as text, open(os.devnull, "w") as nowhere:
             start = time.perf_counter()
-            subprocess.run(command, stdin=text, stdout=nowhere, check=True)
+            subprocess.run(command, stdin=text, stdout=nowhere, check=status)
             took = time.perf_counter() - start
         best = took if best is None else min(best, took)
     return best
@@ -77,6 +103,20 @@ def scripts(place):
         print(f"{name:<40}{ours:>12.4f}{ours / theirs:>8.2f}{growth:>8}")
 
 
+def checks(place):
+    """Checks of the longest inputs of some sorts: 2 is linear."""
+    program = os.path.join(TOP, "crates/adacont/out/adacont")
+    print(f"{'1 MiB, --check':<40}{'adacont s':>12}{'':>8}{'growth':>8}")
+    for name, text in WORST:
+        took = []
+        for size in (1048576, 524288):
+            path = os.path.join(place, "checked.ada")
+            with open(path, "w") as file:
+                file.write(text(size))
+            took.append(seconds([program, "--check"], path, status=False))
+        print(f"{name:<40}{took[0]:>12.4f}{'':>8}{took[0] / took[1]:>8.2f}")
+
+
 def churn(program, place):
     rounds = 10_000_000
     ours = workload(program, "pool", rounds=rounds)
@@ -111,6 +151,7 @@ def main():
     subprocess.run(["rt", "run"], cwd=folder, stdin=subprocess.DEVNULL, stdout=subprocess.DEVNULL, stderr=subprocess.DEVNULL)
     with tempfile.TemporaryDirectory() as place:
         scripts(place)
+        checks(place)
         churn(os.path.join(folder, "out/ac_bench"), place)
     middle(os.path.join(folder, "out/ac_bench"))
     lists(os.path.join(folder, "out/ac_bench"))
