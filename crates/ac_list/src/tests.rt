@@ -81,6 +81,15 @@ fn a_bounded_list_is_full(rt: HostRuntime) {
 }
 
 #[test]
+fn a_third_append_finds_no_room(rt: HostRuntime) {
+    let mut list = list(&rt, rt.alloc(), 1, Limit::Bounded(2));
+    assert!(rt; list.append(10, 1).is_ok());
+    assert!(rt; list.append(20, 1).is_ok());
+    assert!(rt; list.append(30, 1) == Err(Fault::Raised(Reason::CapacityFull)));
+    assert!(rt; holds(&list, &[10, 20]));
+}
+
+#[test]
 fn a_guard_refuses_what_adds(rt: HostRuntime) {
     let mut list = list(&rt, rt.alloc(), 1, Limit::Unbounded);
     assert!(rt; list.held(GuardKind::Cursors) < 9);
