@@ -8,3 +8,4 @@ pub mod Hash
 pub mod HashLaws
 pub mod Examples
 pub mod WeakOrders
+pub mod Growth

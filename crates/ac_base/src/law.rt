@@ -1,4 +1,5 @@
 ghost use Rattle.std.specs.Prelude.{◌≡◌, ◌≤◌, ◌↔◌, ℕ, List, None, length};
+ghost use Rattle.ac_base.specs.Growth.{pow8, IsLeastPow8};
 ghost use Rattle.ac_base.specs.Text.{IsText, first_bad_place};
 ghost use Rattle.ac_base.specs.Examples.{HashOfEmpty, HashOfLetter, HashOfZero, KeyBeforeSign, KeyWithoutSign, FrontIsLess, FirstDifferenceDecides, NegativeIsLess};
 
@@ -19,4 +20,9 @@ pub fn examples()
 #[tactic(auto, using(crate::specs::TextLaws::text_exactly))]
 pub fn texts()
     ensures { (bytes : List ℕ) → IsText bytes ↔ ((first_bad_place bytes ≡ None) × (length bytes ≤ 1000)) }
+{}
+
+/// What a growth makes is the least `8 * 2^k` that is enough.
+pub fn growths()
+    ensures least { (n : ℕ) → IsLeastPow8 n (pow8 n) }
 {}

@@ -19,7 +19,7 @@ mod value;
 pub use element::{Elem, Hashed, KeyOf, Rank, precedes};
 pub use fault::{Fault, NoMemory};
 pub use keyed_text::KeyedText;
-pub use law::examples;
+pub use law::{examples, growths, texts};
 pub use limit::Limit;
 pub use name::Name;
 pub use reason::{Exception, Reason};

@@ -6,7 +6,7 @@ use Rattle.std.specs.Coded.{Coded, code_by, coded×, coded_ℕ, coded_list}
 use Rattle.std.specs.Ordering.{eq_by_cmp}
 use Rattle.ac_base.specs.declared.name.Name.{Name}
 use Rattle.ac_pool.specs.Names.{name_cmp, name_code}
-use Rattle.ac_pool.specs.Growth.{pow8}
+use Rattle.ac_base.specs.Growth.{pow8}
 
 pub record Row (X : Type 0) : Type 0 where
   pub name : Name

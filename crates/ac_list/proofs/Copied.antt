@@ -11,8 +11,8 @@ use Rattle.ac_base.specs.declared.reason.Reason.TheVariants.{LengthRange, Capaci
 use Rattle.ac_base.specs.declared.fault.Fault.{Fault}
 use Rattle.ac_base.specs.declared.fault.Fault.TheVariants as fault
 use Rattle.ac_cursor.specs.Steps.{first_reason}
-use Rattle.ac_pool.specs.Growth.{pow8}
-use Rattle.ac_pool.proofs.Powers.{pow8-rises}
+use Rattle.ac_base.specs.Growth.{pow8}
+use Rattle.ac_base.proofs.Powers.{pow8-rises}
 use Rattle.ac_model.specs.Rows.{Row}
 use Rattle.ac_model.specs.Objects.{Object, plain, plain_row, contents, length_of, is_past, greatest_length, numbers_end, empty_object}
 use Rattle.ac_model.specs.Letters.{reason_if}

@@ -17,7 +17,7 @@ use Rattle.ac_cursor.specs.declared.guard.Class.TheVariants as class
 use Rattle.ac_cursor.specs.declared.cursor.Cursor.{Cursor}
 use Rattle.ac_cursor.specs.declared.cursor.Cursor.TheVariants.{NoElement, At}
 use Rattle.ac_cursor.specs.Steps.{first_reason}
-use Rattle.ac_pool.specs.Growth.{pow8}
+use Rattle.ac_base.specs.Growth.{pow8}
 use Rattle.ac_chain.specs.Rows as chain
 use Rattle.ac_chain.specs.Rows.{Chained, IsLive, IsSound, place_of, index_of, name_at, reversed}
 use Rattle.ac_chain.specs.ChainFields.{HasName}

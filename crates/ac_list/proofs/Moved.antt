@@ -12,7 +12,7 @@ use Rattle.ac_base.specs.declared.fault.NoMemory.{NoMemory}
 use Rattle.ac_cursor.specs.Guards.{GuardCounts}
 use Rattle.ac_cursor.specs.Steps.{first_reason}
 use Rattle.ac_cursor.specs.declared.cursor.Cursor.{Cursor}
-use Rattle.ac_pool.specs.Growth.{pow8}
+use Rattle.ac_base.specs.Growth.{pow8}
 use Rattle.ac_chain.specs.Rows as chain
 use Rattle.ac_chain.specs.Rows.{Chained, IsLive, IsSound, value_of, index_of, removed, cleared, next_name}
 use Rattle.ac_chain.proofs.Cuts.{cut, cut-row, live_has}

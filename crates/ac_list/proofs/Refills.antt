@@ -10,7 +10,7 @@ use Rattle.ac_base.specs.declared.name.Name.{Name}
 use Rattle.ac_base.specs.declared.fault.NoMemory.{NoMemory}
 use Rattle.ac_base.specs.declared.limit.Limit.{Limit}
 use Rattle.ac_base.specs.declared.limit.Limit.TheVariants.{Unbounded, Bounded}
-use Rattle.ac_pool.specs.Growth.{pow8}
+use Rattle.ac_base.specs.Growth.{pow8}
 use Rattle.ac_chain.specs.Rows as chain
 use Rattle.ac_chain.specs.Rows.{Chained, IsLive, IsSound, index_of, name_before, prev_name, reserved, cleared}
 use Rattle.ac_chain.specs.ChainFields.{HasName, IsOnce, last_or}

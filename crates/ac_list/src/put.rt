@@ -2,7 +2,7 @@
 ghost use Rattle.std.specs.Prelude.{◌≡◌, ◌∷◌, ◌+◌, ◌^◌, ◌<◌, ◌≤◌, IfOk, IfErr, IsOk, length, max, reverse, replicate};
 ghost use Rattle.std.specs.Option.{ForSome};
 ghost use Rattle.ac_chain.specs.Rows.{IsLive, IsSound};
-ghost use Rattle.ac_pool.specs.Growth.{pow8};
+ghost use Rattle.ac_base.specs.Growth.{pow8};
 ghost use Rattle.ac_list.specs.Put.{IsPut, IsFirst, HasFirst};
 
 use ac_base::{Elem, Name, NoMemory};

@@ -1,6 +1,6 @@
 //! A chain whose rows give way to copies of another's, with all memory taken before any change.
 ghost use Rattle.std.specs.Prelude.{◌≡◌, ◌+◌, ◌^◌, ◌<◌, ◌≤◌, IfOk, IfErr, None, length, max, reverse};
-ghost use Rattle.ac_pool.specs.Growth.{pow8};
+ghost use Rattle.ac_base.specs.Growth.{pow8};
 ghost use Rattle.ac_chain.specs.Rows.{IsSound};
 ghost use Rattle.ac_list.specs.Put.{IsPut};
 ghost use Rattle.ac_list.specs.Copy.{IsRefilled};

@@ -1,12 +1,14 @@
 -- A change of rows keeps an object valid where no name stands more often than before, or than it does among the fresh rows besides.
-use Rattle.std.proofs.Common.{◌≡◌, ◌+◌, ◌*◌, ◌^◌, ◌≤◌, ℕ, zero, suc, false, List, length, refl, arith, Option, Some, None, IfSome, inl, inr, pow-suc, mul_assoc, if◌then◌else◌}
+use Rattle.std.proofs.Common.{◌≡◌, ◌+◌, ◌≤◌, ℕ, false, List, length, refl, arith, Option, Some, None, IfSome, inl, inr, if◌then◌else◌}
 use Rattle.std.specs.Prelude.{nat_le}
 use Rattle.std.proofs.lemmas.Bool.Decides.{nat_tests}
 use Rattle.std.proofs.lemmas.Bool.{cases_lt}
 use Rattle.ac_base.specs.declared.limit.Limit.{Limit}
 use Rattle.ac_base.specs.declared.limit.Limit.TheVariants.{Unbounded, Bounded}
+use Rattle.ac_base.specs.Growth.{pow8}
+use Rattle.ac_base.proofs.Powers.{pow8-enough}
 use Rattle.ac_model.specs.Rows.{Row, fresh}
-use Rattle.ac_model.specs.Objects.{Object, IsValid, CapacityFits, times, is_past, with_rows, grown, capacity_after, room_for, doubled, greatest_length}
+use Rattle.ac_model.specs.Objects.{Object, IsValid, CapacityFits, times, is_past, with_rows, grown, capacity_after, greatest_length}
 use Rattle.ac_model.proofs.Times.{times-fresh_below, times-fresh_above, times-fresh_once}
 use Rattle.ac_cursor.specs.Steps.{first_reason}
 use Rattle.ac_model.specs.Rows.{put}
@@ -29,21 +31,11 @@ capacity-less (Bounded most) (Some c) m n le h = h
 doubled-step : (capacity need rest : ℕ) → need ≤ rest → need ≤ (if nat_le need capacity then capacity else rest)
 doubled-step capacity need rest h = grind (arith, nat_tests)
 
-doubled-enough : (doublings capacity need : ℕ) → need ≤ 2 ^ doublings * capacity → need ≤ doubled doublings capacity need
-doubled-enough zero capacity need h = omega arith
-doubled-enough (suc doublings) capacity need h =
-    let later : need ≤ 2 ^ doublings * (2 * capacity) = rw (← mul_assoc (2 ^ doublings) 2 capacity) (rw (← pow-suc 2 doublings) h) in
-    doubled-step capacity need (doubled doublings (2 * capacity) need) (doubled-enough doublings (2 * capacity) need later)
-
-pub room_for-enough : (need : ℕ) → need ≤ greatest_length → need ≤ room_for need
-unfolding room_for
-room_for-enough need h = doubled-enough 61 8 need (omega arith)
-
 capacity-grown : (limit : Limit) (capacity : Option ℕ) (m n : ℕ) → n ≤ greatest_length → IfSome capacity (λ c. CapacityFits limit m c) → IfSome (capacity_after limit capacity n) (λ c. CapacityFits limit n c)
 capacity-grown (Bounded most) None m n le h = tt
 capacity-grown (Bounded most) (Some c) m n le h = h
 capacity-grown Unbounded None m n le h = tt
-capacity-grown Unbounded (Some c) m n le h = doubled-step c n (room_for n) (room_for-enough n le)
+capacity-grown Unbounded (Some c) m n le h = doubled-step c n (pow8 n) (pow8-enough n)
 
 -- a capacity that is asked for isn't below what was there
 asked-step : (capacity length need rest : ℕ) → length ≤ capacity → need ≤ rest → length ≤ (if nat_le need capacity then capacity else rest)
@@ -52,7 +44,7 @@ asked-step capacity length need rest h k = grind (arith, nat_tests)
 pub capacity-asked : (limit : Limit) (capacity : Option ℕ) (length need : ℕ) → need ≤ greatest_length → IfSome capacity (λ c. CapacityFits limit length c) → IfSome (capacity_after limit capacity need) (λ c. CapacityFits limit length c)
 capacity-asked (Bounded most) capacity length need le h = h
 capacity-asked Unbounded None length need le h = tt
-capacity-asked Unbounded (Some c) length need le h = asked-step c length need (room_for need) h (room_for-enough need le)
+capacity-asked Unbounded (Some c) length need le h = asked-step c length need (pow8 need) h (pow8-enough need)
 
 pub kept : {V : Type 0} (o : Object ℕ V) (rows : List (Row ℕ V)) → IsValid o → ((name : ℕ) → times name rows ≤ times name o.rows) → length rows ≤ length o.rows → IsValid (with_rows o rows)
 kept o rows v fewer shorter = record {

@@ -1,8 +1,9 @@
 -- An object of a kind with names: its rows and its numbers, what a valid one is, and the Capacity.
-use Rattle.std.specs.Prelude.{◌≡◌, ◌==◌, ◌+◌, ◌*◌, ◌-◌, ◌^◌, ◌≤◌, ℕ, zero, suc, Bool, true, false, nat_lt, nat_le, List, [], ◌∷◌, length, map, Option, Some, None, IfSome, if◌then◌else◌}
+use Rattle.std.specs.Prelude.{◌≡◌, ◌==◌, ◌+◌, ◌-◌, ◌^◌, ◌≤◌, ℕ, Bool, true, false, nat_lt, nat_le, List, [], ◌∷◌, length, map, Option, Some, None, IfSome, if◌then◌else◌}
 use Rattle.ac_base.specs.declared.limit.Limit.{Limit}
 use Rattle.ac_base.specs.declared.limit.Limit.TheVariants.{Unbounded, Bounded}
 use Rattle.ac_base.specs.declared.name.Name.{Name}
+use Rattle.ac_base.specs.Growth.{pow8}
 use Rattle.ac_model.specs.Rows.{Row, row, values}
 
 -- N: the names, plain or with slots; V: what a row holds
@@ -52,20 +53,11 @@ abbrev pub is_past : Limit → ℕ → Bool
 is_past Unbounded length = false
 is_past (Bounded most) length = nat_lt most length
 
--- the first of capacity, 2 * capacity, 4 * capacity .. that isn't below the need, after so many doublings at most
-abbrev pub doubled : ℕ → ℕ → ℕ → ℕ
-doubled zero capacity need = capacity
-doubled (suc doublings) capacity need = if nat_le need capacity then capacity else doubled doublings (2 * capacity) need
-
--- the least 8 * 2 ^ k that isn't below the need
-unfoldable pub room_for : ℕ → ℕ
-room_for need = doubled 61 8 need
-
 -- the Capacity after a need (A.18.2, A.18.5, A.18.8): a bounded object's stays
 abbrev pub capacity_after : Limit → Option ℕ → ℕ → Option ℕ
 capacity_after (Bounded most) capacity need = capacity
 capacity_after Unbounded None need = None
-capacity_after Unbounded (Some capacity) need = Some (if nat_le need capacity then capacity else room_for need)
+capacity_after Unbounded (Some capacity) need = Some (if nat_le need capacity then capacity else pow8 need)
 
 -- the object with other rows, none of them new
 abbrev pub with_rows : {V : Type 0} → Object ℕ V → List (Row ℕ V) → Object ℕ V
@@ -112,10 +104,3 @@ empty_object has_capacity number limit = record {
   cursor_guards = 0;
   element_guards = 0;
 }
-
--- the least 8 * 2 ^ k that isn't below the need
-pub record IsRoomFor (need room : ℕ) : Type 0 where
-  pub doublings : ℕ
-  pub is : room ≡ 8 * 2 ^ doublings
-  pub enough : need ≤ room
-  pub least : (k : ℕ) → need ≤ 8 * 2 ^ k → room ≤ 8 * 2 ^ k

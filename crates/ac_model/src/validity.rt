@@ -2,7 +2,7 @@
 ghost use Rattle.std.specs.Prelude.{◌≡◌, ◌≤◌, ℕ, ℤ, Bool, None, length};
 ghost use Rattle.ac_base.specs.declared.limit.Limit.{Limit};
 ghost use Rattle.ac_cursor.specs.Steps.{first_reason};
-ghost use Rattle.ac_model.specs.Objects.{Object, IsValid, IsRoomFor, empty_object, grown, greatest_length, room_for};
+ghost use Rattle.ac_model.specs.Objects.{Object, IsValid, empty_object, grown};
 ghost use Rattle.ac_model.specs.Letters.{Mark, room};
 ghost use Rattle.ac_model.specs.Calls.{Keeps, KeepsBoth};
 ghost use Rattle.ac_model.specs.Common as common;
@@ -10,13 +10,11 @@ ghost use Rattle.ac_model.specs.Sequences as sequence;
 ghost use Rattle.ac_model.specs.Lists as list;
 ghost use Rattle.ac_model.specs.Vectors as vector;
 
-/// An empty object is valid. A need of nothing more is never refused, and changes nothing. The Capacity that a need
-/// brings is the least of its kind.
+/// An empty object is valid. A need of nothing more is never refused, and changes nothing.
 pub fn first_objects<V>()
     ensures empty { (has_capacity : Bool) (number : ℕ) (limit : Limit) → IsValid {V = V} (empty_object has_capacity number limit) }
     ensures nothing_refused { (o : Object ℕ V) → IsValid o → first_reason (room o (length o.rows) 0) ≡ None }
     ensures nothing_grown { (o : Object ℕ V) → IsValid o → grown o o.rows 0 ≡ o }
-    ensures capacity { (need : ℕ) → need ≤ greatest_length → IsRoomFor need (room_for need) }
 {}
 
 /// The calls that all kinds with names have in common.

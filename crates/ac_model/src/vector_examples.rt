@@ -20,7 +20,7 @@ pub fn replaced_in_loops()
 {}
 
 /// A deletion by an index goes at most one past the last, and takes no more than what is there.
-#[tactic(auto, unfolding(crate::specs::Objects::room_for))]
+#[tactic(auto, unfolding(ac_base::specs::Growth::pow8))]
 pub fn deleted_by_index()
     ensures past_the_last { let c = vector.delete_index_call (vector_of 1 (1 ∷ 2 ∷ 2 ∷ [])) (pos 4) (pos 5) in
         (c.reason ≡ None) × (contents c.after ≡ 1 ∷ 2 ∷ 2 ∷ []) }
@@ -61,7 +61,7 @@ pub fn counts()
 {}
 
 /// The Capacity is the least 8 * 2 ^ k that isn't below what was needed so far, and nothing lowers it.
-#[tactic(auto, unfolding(crate::specs::Objects::room_for))]
+#[tactic(auto, unfolding(ac_base::specs::Growth::pow8))]
 pub fn capacities()
     ensures first { common.capacity_call (vector_of 1 []) ≡ pos 0 }
     ensures of_one { common.capacity_call (vector_of 1 (4 ∷ [])) ≡ pos 8 }

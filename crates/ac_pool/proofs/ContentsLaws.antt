@@ -4,9 +4,9 @@ use Rattle.std.proofs.lemmas.Bool.{cond-true, cond-false, cases_lt, le-leb, lt-l
 use Rattle.std.specs.FinMap as map
 use Rattle.ac_base.specs.declared.name.Name.{Name}
 use Rattle.ac_pool.specs.Names.{name_cmp}
-use Rattle.ac_pool.specs.Growth.{pow8}
+use Rattle.ac_base.specs.Growth.{pow8}
 use Rattle.ac_pool.specs.Contents.{Contents, contents, value_of, IsLive, live_count, slot_count, no_values, with_value, added, taken, exchanged, swapped, reserved, cleared, IsFresh, IsSound, Vacates}
-use Rattle.ac_pool.proofs.Powers.{IsLeastPow8-pow8}
+use Rattle.ac_base.proofs.Powers.{IsLeastPow8-pow8}
 use Rattle.ac_pool.proofs.NameLaws.{cases_name, name_cmp_total, get-insert_same, get-insert_other, get-remove_same, get-remove_other, same_names}
 
 -- the value of a live name

@@ -6,5 +6,4 @@ pub mod Laid
 pub mod Memory
 pub mod NameLaws
 pub mod Pooled
-pub mod Powers
 pub mod Sharing

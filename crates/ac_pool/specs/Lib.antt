@@ -2,7 +2,6 @@ pub mod Chunk
 pub mod ChunkFields
 pub mod ChunkLends
 pub mod Contents
-pub mod Growth
 pub mod Lends
 pub mod Names
 pub mod Ownership

@@ -1,6 +1,6 @@
 //! How many slots a growth makes, and the free slots that it brings.
 ghost use Rattle.std.specs.Prelude.{◌≡◌, ℕ, ◌+◌, ◌^◌, ◌<◌, ◌≤◌, length, slice_index};
-ghost use Rattle.ac_pool.specs.Growth.{pow8};
+ghost use Rattle.ac_base.specs.Growth.{pow8};
 
 /// The least `8 * 2^k` that is not below `wanted`.
 pub(crate) fn least_slots(wanted: usize) -> usize

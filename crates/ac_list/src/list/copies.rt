@@ -1,6 +1,6 @@
 //! Copies of a list, and the calls of a list with itself.
 ghost use Rattle.std.specs.Prelude.{◌≡◌, ◌∷◌, [], ◌≤◌, ◌&&◌, not, max, nat_lt, IfOk};
-ghost use Rattle.ac_pool.specs.Growth.{pow8};
+ghost use Rattle.ac_base.specs.Growth.{pow8};
 ghost use Rattle.ac_list.specs.Put.{Grows, slots_of};
 ghost use Rattle.ac_list.specs.Copy.{Making, as_fault};
 ghost use Rattle.ac_cursor.specs.Steps.{first_reason};

@@ -2,7 +2,7 @@
 ghost use Rattle.std.specs.Prelude.{◌≡◌, ◌+◌, ◌^◌, ◌<◌, ◌≤◌, IfOk, IfErr, OnErr, length, max};
 ghost use Rattle.std.specs.Option.{ForSome};
 ghost use Rattle.ac_chain.specs.Rows.{IsLive, IsSound, cleared, removed, value_of};
-ghost use Rattle.ac_pool.specs.Growth.{pow8};
+ghost use Rattle.ac_base.specs.Growth.{pow8};
 ghost use Rattle.ac_list.specs.Copy.{IsRefilled, cursor_of};
 ghost use Rattle.ac_list.specs.Put.{IsPut, IsFirst, HasGrown, Grows, slots_of};
 ghost use Rattle.ac_list.specs.Searches.{values_in};

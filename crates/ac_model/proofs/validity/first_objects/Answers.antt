@@ -1,5 +1,5 @@
 use Rattle.ac_model.proofs.FirstValid.{empty_is_valid}
-use Rattle.ac_model.proofs.Capacity.{nothing_refused, nothing_grown, room_for_is}
+use Rattle.ac_model.proofs.Capacity.{nothing_refused, nothing_grown}
 use Rattle.ac_model.proofs.validity.first_objects.Goals as goal
 
 pub returns-clause-empty : goal.returns-clause-empty
@@ -10,6 +10,3 @@ returns-clause-nothing_refused g c = nothing_refused
 
 pub returns-clause-nothing_grown : goal.returns-clause-nothing_grown
 returns-clause-nothing_grown g c = nothing_grown
-
-pub returns-clause-capacity : goal.returns-clause-capacity
-returns-clause-capacity g c = room_for_is

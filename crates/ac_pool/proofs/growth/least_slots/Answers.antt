@@ -1,5 +1,5 @@
 use Rattle.std.proofs.Common.{◌*◌, ◌^◌, ◌≤◌, arith}
-use Rattle.ac_pool.proofs.Powers.{IsLow, IsLow-first, IsLow-more, IsLeastPow8-low, pow8-unique}
+use Rattle.ac_base.proofs.Powers.{IsLow, IsLow-first, IsLow-more, IsLeastPow8-low, pow8-unique}
 use Rattle.ac_pool.proofs.growth.least_slots.Goals as goal
 
 pub loop-slots-init : goal.loop-slots-init

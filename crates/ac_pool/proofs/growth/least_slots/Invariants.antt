@@ -1,5 +1,5 @@
 use Rattle.std.proofs.Common.{◌-◌, ◌^◌, ◌≤◌}
-use Rattle.ac_pool.proofs.Powers.{IsLow}
+use Rattle.ac_base.proofs.Powers.{IsLow}
 use Rattle.ac_pool.proofs.growth.least_slots.Given as goal
 
 abbrev pub invariant-loop-slots : goal.invariant-loop-slots

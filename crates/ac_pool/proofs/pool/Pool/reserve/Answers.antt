@@ -1,6 +1,6 @@
 use Rattle.std.proofs.Common.{◌≡◌, ◌≤◌, ◌^◌, ◌+◌, ◌-◌, length, sym, ap, ◌∙◌, subst, arith}
 use Rattle.std.specs.Result.{OnOk}
-use Rattle.ac_pool.specs.Growth.{pow8}
+use Rattle.ac_base.specs.Growth.{pow8}
 use Rattle.ac_pool.specs.Contents.{contents, live_count, slot_count, reserved, IsSound}
 use Rattle.ac_pool.specs.PoolFields.{entries_in}
 use Rattle.ac_pool.proofs.ContentsLaws.{reserved_grown}

@@ -2,7 +2,7 @@
 use Rattle.std.proofs.Common.{◌≡◌, ℕ, zero, suc, ◌+◌, ◌-◌, ◌*◌, ◌^◌, ◌<◌, ◌≤◌, true, false, refl, sym, ap, subst, inl, inr, cond, leb, arith}
 use Rattle.std.proofs.lemmas.Bool.{cases_lt, leb-true, leb-false}
 use Rattle.std.proofs.Math.Nat.{pow-succ'}
-use Rattle.ac_pool.specs.Growth.{doubled, pow8, IsLeastPow8}
+use Rattle.ac_base.specs.Growth.{doubled, pow8, IsLeastPow8}
 
 pub power_more : (k : ℕ) → 2 ^ suc k ≡ 2 * 2 ^ k
 power_more k = pow-succ' 2 k

@@ -1,4 +1,4 @@
--- How many slots a growth makes.
+-- How far memory grows: the slots of a pool, and the Capacity that Ada's containers tell (A.18.2, A.18.5, A.18.8).
 use Rattle.std.specs.Prelude.{◌≡◌, ℕ, zero, suc, ◌*◌, ◌^◌, ◌≤◌, nat_le, if◌then◌else◌}
 
 -- s doubled until it is not below n, at most fuel times
