@@ -3,3 +3,4 @@ pub mod Names
 pub mod Outcomes
 pub mod Blocks
 pub mod FirstFaults
+pub mod EachScript

@@ -1,5 +1,5 @@
 //! What holds of faults, whatever looks for them.
-ghost use Rattle.std.specs.Prelude.{◌≡◌, ℕ};
+ghost use Rattle.std.specs.Prelude.{◌≡◌, ◌⊎◌, ℕ};
 ghost use Rattle.ac_syntax.specs.declared.refusal.RefusalKind.{RefusalKind};
 ghost use Rattle.ac_syntax.specs.declared.script.Script.{Script};
 ghost use Rattle.ac_check.specs.Faults.{IsChecked, IsFirstFault};
@@ -9,4 +9,9 @@ pub fn one_fault()
     ensures one { (script : Script) (line place : ℕ) (kind other : RefusalKind) →
         IsFirstFault script line kind → IsFirstFault script place other → (line ≡ place) × (kind ≡ other) }
     ensures not_checked { (script : Script) (line : ℕ) (kind : RefusalKind) → IsChecked script → IsFirstFault script line kind → ⊥ }
+{}
+
+/// Each script can run, or has a first fault.
+pub fn each_script()
+    ensures { (script : Script) → IsChecked script ⊎ ((line : ℕ) × (kind : RefusalKind) × IsFirstFault script line kind) }
 {}

@@ -23,4 +23,5 @@ mod Lefts
 mod Fits
 mod Written
 mod Readings
-mod Refusals
+pub mod Refusals
+pub mod EachText

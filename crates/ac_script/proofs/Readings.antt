@@ -134,6 +134,17 @@ leads_on items context next it leads e = behind items (it ∷ []) at_front conte
 pub none_read : (placed : List Placed) → AreRead [] at_front placed placed
 none_read placed = record { done = []; whole = refl; are = refl; leads = refl }
 
+pub item_read : (items : List Item) (context next : Context) (placed rest left : List Placed) (it : Item) → AreRead items context placed rest
+    → item context.stage (innermost_of context.blocks) rest ≡ got it left → next_after context.blocks context.stage it ≡ Some next → AreRead (items ++ it ∷ []) next placed left
+item_read items context next placed rest left it read e leads =
+    let front = (items_read context.blocks context.stage).found rest it left e in
+    record {
+      done = read.done ++ front.first ∷ front.others;
+      whole = read.whole ∙ ap (λ list. read.done ++ list) front.whole ∙ sym (append_assoc read.done (front.first ∷ front.others) left);
+      are = items_behind items (it ∷ []) read.done (front.first ∷ front.others) read.are (one_item it (front.first ∷ front.others) front.is);
+      leads = leads_on items context next it read.leads leads;
+    }
+
 pub one_read : (new read_items : List code.Item) (context next : Context) (placed rest left : List Placed) (it : code.Item)
     → AreRead (map item_view read_items) context placed rest → new ≡ read_items ++ it ∷ []
     → item context.stage (innermost_of context.blocks) rest ≡ got (item_view it) left → ((to : Context) → next_after context.blocks context.stage (item_view it) ≡ Some to → next ≡ to)
@@ -141,12 +152,8 @@ pub one_read : (new read_items : List code.Item) (context next : Context) (place
 one_read new read_items context next placed rest left it read pushed e reached =
     let front = (items_read context.blocks context.stage).found rest (item_view it) left e in
     let items : map item_view read_items ++ item_view it ∷ [] ≡ map item_view new = sym (ap (map item_view) pushed ∙ map-append item_view read_items (it ∷ [])) in
-    subst (λ items. AreRead items next placed left) items (record {
-      done = read.done ++ front.first ∷ front.others;
-      whole = read.whole ∙ ap (λ list. read.done ++ list) front.whole ∙ sym (append_assoc read.done (front.first ∷ front.others) left);
-      are = items_behind (map item_view read_items) (item_view it ∷ []) read.done (front.first ∷ front.others) read.are (one_item (item_view it) (front.first ∷ front.others) front.is);
-      leads = leads_on (map item_view read_items) context next (item_view it) read.leads (front.may.leads ∙ ap Some (sym (reached front.may.next front.may.leads)));
-    })
+    subst (λ items. AreRead items next placed left) items
+    (item_read (map item_view read_items) context next placed rest left (item_view it) read e (front.may.leads ∙ ap Some (sym (reached front.may.next front.may.leads))))
 
 -- ---- where reading stops
 

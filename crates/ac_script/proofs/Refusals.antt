@@ -115,15 +115,24 @@ some_last : (placed : List Placed) → EndEarly placed → Last placed
 some_last [] early = absurd (early.none (record { decls = []; stmts = stop }) refl)
 some_last (p ∷ placed) early = last_of p placed
 
+ended : (text : List ℕ) (placed : List Placed) → IsCut text placed None → AreWithinLimits (tokens placed) → EndEarly placed → (last : Last placed)
+    → IsFirstRefusal text last.last.line Syntax
+ended text placed cut within early last =
+    ends_early last.before last.last (cut.placed_is ∙ last.whole) cut.malformed_is
+    (subst HasNoBadToken (sym cut.placed_is) (no_bad placed early.begins within))
+    (λ script derived. early.none script (subst (λ all. Derives all script) cut.placed_is derived))
+
+pub early_somewhere : (text : List ℕ) (placed : List Placed) → IsCut text placed None → AreWithinLimits (tokens placed) → EndEarly placed → (line : ℕ) × IsFirstRefusal text line Syntax
+early_somewhere text placed cut within early =
+    let last = some_last placed early in
+    (last.last.line, ended text placed cut within early last)
+
 pub early_first : (text : List ℕ) (placed : List Placed) (malformed : Option ℕ) (line : ℕ) → IsCut text placed malformed → AreWithinLimits (tokens placed) → EndEarly placed
     → ((before : List Placed) (last : Placed) → placed ≡ before ++ last ∷ [] → line ≡ last.line) → IsFirstRefusal text (unwrap_or malformed line) Syntax
 early_first text placed (Some there) line cut within early on = malformed_first text placed there cut within early.begins
 early_first text placed None line cut within early on =
     let last = some_last placed early in
-    subst (λ line. IsFirstRefusal text line Syntax) (sym (on last.before last.last last.whole))
-    (ends_early last.before last.last (cut.placed_is ∙ last.whole) cut.malformed_is
-    (subst HasNoBadToken (sym cut.placed_is) (no_bad placed early.begins within))
-    (λ script derived. early.none script (subst (λ all. Derives all script) cut.placed_is derived)))
+    subst (λ line. IsFirstRefusal text line Syntax) (sym (on last.before last.last last.whole)) (ended text placed cut within early last)
 
 pub is_spelled : (text : List ℕ) (placed : List Placed) (items : List Item) (script : Script) → IsCut text placed None → AreWithinLimits (tokens placed) → AreWhole items placed
     → script_items script ≡ items → Spells script text
@@ -135,7 +144,7 @@ is_spelled text placed items script cut within whole same = record {
 
 -- ---- what an answer says
 
-spelled_once : (text : List ℕ) (script other : Script) → Spells script text → Spells other text → other ≡ script
+pub spelled_once : (text : List ℕ) (script other : Script) → Spells script text → Spells other text → other ≡ script
 spelled_once text script other spells spells_2 = derived_once (cut_of text).placed other script spells_2.derives spells.derives
 
 pub answers_found : (result : Result Script ScriptFault) (text : List ℕ) → IsAnswer text result → IfOk result (λ script. Spells script text)

@@ -1,9 +1,11 @@
 //! What holds of the readers of this crate.
-ghost use Rattle.std.specs.Prelude.{◌≡◌, Bool, List};
+ghost use Rattle.std.specs.Prelude.{◌≡◌, ◌⊎◌, ℕ, Bool, List};
+ghost use Rattle.ac_syntax.specs.declared.refusal.RefusalKind.{RefusalKind};
 ghost use Rattle.ac_syntax.specs.declared.script.Script.{Script};
 ghost use Rattle.ac_syntax.specs.declared.token.Placed.{Placed};
 ghost use Rattle.ac_syntax.specs.Grammar.{Derives};
 ghost use Rattle.ac_syntax.specs.Order.{Stage};
+ghost use Rattle.ac_syntax.specs.Refusals.{Spells, IsFirstRefusal};
 ghost use Rattle.ac_script.specs.ItemReader.{item, innermost_of};
 ghost use Rattle.ac_script.specs.ExactItems.{ReadsItems};
 
@@ -15,4 +17,9 @@ pub fn items_read()
 /// No tokens derive two scripts.
 pub fn one_script()
     ensures { (placed : List Placed) (script other : Script) → Derives placed script → Derives placed other → script ≡ other }
+{}
+
+/// Each text spells a script, or has a first refusal.
+pub fn each_text()
+    ensures { (text : List ℕ) → ((script : Script) × Spells script text) ⊎ ((line : ℕ) × (kind : RefusalKind) × IsFirstRefusal text line kind) }
 {}

@@ -27,6 +27,6 @@ pub use ac_syntax::{
     TypeDef, ViewKind,
 };
 pub use fault::ScriptFault;
-pub use law::{items_read, one_script};
+pub use law::{each_text, items_read, one_script};
 pub use parser::parse;
 pub use printer::print;

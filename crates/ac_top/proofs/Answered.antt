@@ -8,41 +8,36 @@ use Rattle.ac_top.specs.declared.status.Status.TheVariants.{Done, Refused, Usage
 use Rattle.ac_top.specs.declared.mode.Mode.{Mode}
 use Rattle.ac_top.specs.declared.mode.Mode.TheVariants.{Run, Check}
 use Rattle.ac_top.specs.Meaning.{Meaning, meaning_of, refusal}
-use Rattle.ac_top.specs.Checking.{IsCheckMeaning, too_long, refused, faulty, sound}
+use Rattle.ac_top.specs.Checking.{IsCheckMeaning}
 use Rattle.ac_top.specs.Modes.{Means}
 use Rattle.ac_top.specs.Status.{number_of, IsAnswer, Writes}
 use Rattle.ac_top.proofs.Meant.{meaning_long}
-use Rattle.ac_top.proofs.Checked.{not_long}
-
--- an input past the limit
-check_long : (input : List ℕ) (m : Meaning) → INPUT_LIMIT < length input → IsCheckMeaning input m → m ≡ refusal (codes "input: limit")
-check_long input m long (too_long _ e) = e
-check_long input m long (refused line kind short h e) = not_long input short long
-check_long input m long (faulty script line kind short s h e) = not_long input short long
-check_long input m long (sound script short s h e) = not_long input short long
+use Rattle.ac_top.proofs.Checked.{long_check, each_input}
 
 pub long_means : (mode : Mode) (input : List ℕ) (m : Meaning) → INPUT_LIMIT < length input → Means mode input m → m ≡ refusal (codes "input: limit")
 long_means Run input m long e = e ∙ meaning_long input long
-long_means Check input m long h = check_long input m long h
-
-pub long_meant : (mode : Mode) (input : List ℕ) → INPUT_LIMIT < length input → (m : Meaning) × Means mode input m
-long_meant Run input long = (meaning_of input, refl)
-long_meant Check input long = (refusal (codes "input: limit"), too_long long refl)
+long_means Check input m long h = long_check input m long h
 
 module _ (held held' : Option (List ℕ)) (room : Option ℕ) (s : Status) where
   abbrev Written : Mode → Option (List ℕ) → Type 0
   Written mode left = IfSome left (λ input. (m : Meaning) → Means mode input m → Writes m held held' room s)
 
-  pub checked_whole : (left : Option (List ℕ)) (mode : Mode) → Some mode ≡ Some Check → IsAnswer s → Written mode left → IfSome left (λ input. (m : Meaning) × Means mode input m)
+  pub run_number : (left : Option (List ℕ)) (mode : Mode) → Some mode ≡ Some Run → IsAnswer s → Written mode left
+      → IfSome left (λ input. number_of s ≡ (meaning_of input).status)
+  run_number None mode e answer writes = tt
+  run_number (Some input) Check e answer writes = absurd (cc e)
+  run_number (Some input) Run e answer writes = (writes (meaning_of input) refl).number answer
+
+  pub checked_whole : (left : Option (List ℕ)) (mode : Mode) → Some mode ≡ Some Check → IsAnswer s → Written mode left
       → IfSome left (λ input. (m : Meaning) × IsCheckMeaning input m × GrewBy held held' m.text × (number_of s ≡ m.status))
-  unfolding Written
-  checked_whole None mode e answer writes meant = tt
-  checked_whole (Some input) Run e answer writes meant = absurd (cc e)
-  checked_whole (Some input) Check e answer writes meant = let w = writes meant.0 meant.1 in (meant.0, meant.1, w.whole answer, w.number answer)
+  checked_whole None mode e answer writes = tt
+  checked_whole (Some input) Run e answer writes = absurd (cc e)
+  checked_whole (Some input) Check e answer writes =
+      let meant = each_input input in
+      let w = writes meant.0 meant.1 in (meant.0, meant.1, w.whole answer, w.number answer)
 
   pub checked_front : (left : Option (List ℕ)) (mode : Mode) → Some mode ≡ Some Check → Written mode left
       → IfSome left (λ input. (m : Meaning) → IsCheckMeaning input m → GrewByFront held held' m.text)
-  unfolding Written
   checked_front None mode e writes = tt
   checked_front (Some input) Run e writes = absurd (cc e)
   checked_front (Some input) Check e writes = λ m h. (writes m h).front
@@ -61,14 +56,12 @@ module _ (held held' : Option (List ℕ)) (room : Option ℕ) (s : Status) where
 
   pub run_with_room : (left : Option (List ℕ)) (mode : Mode) → Some mode ≡ Some Run → s ≢ Usage → s ≢ ReadFault → Written mode left
       → IfSome left (λ input. IfSome room (λ n. length (meaning_of input).text ≤ n → IsAnswer s ⊎ (s ≡ NoMemory)))
-  unfolding Written
   run_with_room None mode e u r writes = tt
   run_with_room (Some input) Check e u r writes = absurd (cc e)
   run_with_room (Some input) Run e u r writes = roomy (meaning_of input) u r room (writes (meaning_of input) refl).within
 
   pub checked_with_room : (left : Option (List ℕ)) (mode : Mode) → Some mode ≡ Some Check → s ≢ Usage → s ≢ ReadFault → Written mode left
       → IfSome left (λ input. (m : Meaning) → IsCheckMeaning input m → IfSome room (λ n. length m.text ≤ n → IsAnswer s ⊎ (s ≡ NoMemory)))
-  unfolding Written
   checked_with_room None mode e u r writes = tt
   checked_with_room (Some input) Run e u r writes = absurd (cc e)
   checked_with_room (Some input) Check e u r writes = λ m h. roomy m u r room (writes m h).within

@@ -1,17 +1,29 @@
--- A text has at most one meaning where it is checked alone.
-use Rattle.std.proofs.Common.{◌≡◌, ◌<◌, ◌≤◌, ℕ, List, length, sym, ap, ◌∙◌, subst, arith}
+-- A text has one meaning where it is checked alone.
+use Rattle.std.proofs.Common.{◌≡◌, ◌<◌, ◌≤◌, ℕ, List, length, codes, refl, sym, ap, ◌∙◌, subst, inl, inr, arith}
+use Rattle.std.specs.Prelude.{◌⊎◌}
+use Rattle.std.proofs.lemmas.Bool.{cases_lt}
 use Rattle.ac_syntax.specs.declared.refusal.RefusalKind.{RefusalKind}
 use Rattle.ac_syntax.specs.declared.script.Script.{Script}
 use Rattle.ac_syntax.specs.Refusals.{Spells, IsFirstRefusal}
 use Rattle.ac_syntax.proofs.OneRefusal.{one_refusal, spelled_or_refused}
+use Rattle.ac_script.proofs.EachText.{each_text}
+use Rattle.ac_script.proofs.Refusals.{spelled_once}
 use Rattle.ac_check.specs.Faults.{IsFirstFault, IsChecked}
 use Rattle.ac_check.proofs.FirstFaults.{one_fault, no_fault}
+use Rattle.ac_check.proofs.EachScript.{each_script}
 use Rattle.ac_top.specs.declared.limits.TheConstants.{INPUT_LIMIT}
-use Rattle.ac_top.specs.Meaning.{Meaning}
+use Rattle.ac_top.specs.Meaning.{Meaning, refusal}
 use Rattle.ac_top.specs.Checking.{IsCheckMeaning, too_long, refused, faulty, sound, refused_at, canonical}
 
-pub not_long : {A : Type 0} (input : List ℕ) → length input ≤ INPUT_LIMIT → INPUT_LIMIT < length input → A
+not_long : {A : Type 0} (input : List ℕ) → length input ≤ INPUT_LIMIT → INPUT_LIMIT < length input → A
 not_long input short long = absurd (omega (arith, short, long))
+
+-- an input past the limit
+pub long_check : (input : List ℕ) (m : Meaning) → INPUT_LIMIT < length input → IsCheckMeaning input m → m ≡ refusal (codes "input: limit")
+long_check input m long (too_long _ e) = e
+long_check input m long (refused line kind short h e) = not_long input short long
+long_check input m long (faulty script line kind short s h e) = not_long input short long
+long_check input m long (sound script short s h e) = not_long input short long
 
 same_place : (line place : ℕ) (kind other : RefusalKind) (m : Meaning) → (line ≡ place) × (kind ≡ other) → m ≡ refused_at place other → m ≡ refused_at line kind
 same_place line place kind other m same e = e ∙ sym (λ i. refused_at (same.0 i) (same.1 i))
@@ -38,3 +50,28 @@ faulty_means input script line kind m short spells only h (faulty t place other 
     same_place line place kind other m (one_fault script line place kind other h (subst (λ (t : Script). IsFirstFault t place other) (only t s) k)) e
 faulty_means input script line kind m short spells only h (sound t _ s k e) =
     absurd (no_fault script line kind (subst IsChecked (only t s) k) h)
+
+-- what each input means
+script_meant : (input : List ℕ) (script : Script) → length input ≤ INPUT_LIMIT → Spells script input
+    → IsChecked script ⊎ ((line : ℕ) × (kind : RefusalKind) × IsFirstFault script line kind) → (m : Meaning) × IsCheckMeaning input m
+script_meant input script short spells (inl checked) = (canonical script, sound script short spells checked refl)
+script_meant input script short spells (inr (line, kind, h)) = (refused_at line kind, faulty script line kind short spells h refl)
+
+text_meant : (input : List ℕ) → length input ≤ INPUT_LIMIT → ((script : Script) × Spells script input) ⊎ ((line : ℕ) × (kind : RefusalKind) × IsFirstRefusal input line kind)
+    → (m : Meaning) × IsCheckMeaning input m
+text_meant input short (inl (script, spells)) = script_meant input script short spells (each_script script)
+text_meant input short (inr (line, kind, h)) = (refused_at line kind, refused line kind short h refl)
+
+input_meant : (input : List ℕ) → (INPUT_LIMIT < length input) ⊎ (length input ≤ INPUT_LIMIT) → (m : Meaning) × IsCheckMeaning input m
+input_meant input (inl long) = (refusal (codes "input: limit"), too_long long refl)
+input_meant input (inr short) = text_meant input short (each_text input)
+
+pub each_input : (input : List ℕ) → (m : Meaning) × IsCheckMeaning input m
+each_input input = input_meant input (cases_lt INPUT_LIMIT (length input))
+
+-- it means no more than one thing
+pub one_meaning : (input : List ℕ) (m other : Meaning) → IsCheckMeaning input m → IsCheckMeaning input other → m ≡ other
+one_meaning input m other (too_long long e) h = e ∙ sym (long_check input other long h)
+one_meaning input m other (refused line kind short k e) h = e ∙ sym (refused_means input line kind other short k h)
+one_meaning input m other (faulty script line kind short s k e) h = e ∙ sym (faulty_means input script line kind other short s (λ t spells. spelled_once input script t s spells) k h)
+one_meaning input m other (sound script short s k e) h = e ∙ sym (sound_means input script other short s (λ t spells. spelled_once input script t s spells) k h)

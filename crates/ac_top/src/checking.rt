@@ -8,7 +8,7 @@ ghost use Rattle.ac_script.specs.declared.fault.ScriptFault.TheVariants.{Refused
 ghost use Rattle.ac_check.specs.Faults.{IsChecked};
 ghost use Rattle.ac_top.specs.Meaning.{Meaning};
 ghost use Rattle.ac_top.specs.Checking.{IsCheckMeaning, IsFaulty, canonical, refused_at};
-ghost use Rattle.ac_top.specs.Status.{IsAnswer, Writes};
+ghost use Rattle.ac_top.specs.Status.{Writes};
 
 use crate::entry::refuse;
 use crate::limits::INPUT_LIMIT;
@@ -62,7 +62,6 @@ fn refuse_at<K: Sink>(alloc: Global, line: u64, kind: RefusalKind, sink: &mut K)
 pub fn check_input<K: Sink>(alloc: Global, input: &[u8], sink: &mut K) -> Status
     requires { length input.now ≤ INPUT_LIMIT }
     ensures writes { (m : Meaning) → IsCheckMeaning input.now m → Writes m (K.held sink.old) (K.held sink.new) (K.room sink.old) result }
-    ensures meant { IsAnswer result → (m : Meaning) × IsCheckMeaning input.now m }
     ensures write_fault { result ≡ Status.WriteFault → Rose (K.faults sink.old) (K.faults sink.new) }
     ensures kind { (result ≢ Status.Usage) × (result ≢ Status.ReadFault) }
 {

@@ -62,7 +62,6 @@ fn run_input<K: Sink>(alloc: Global, input: &[u8], sink: &mut K) -> Status
 fn answer_input<K: Sink>(alloc: Global, mode: Mode, input: &[u8], sink: &mut K) -> Status
     requires { length input.now ≤ INPUT_LIMIT }
     ensures writes { (m : Meaning) → Means mode input.now m → Writes m (K.held sink.old) (K.held sink.new) (K.room sink.old) result }
-    ensures meant { IsAnswer result → (m : Meaning) × Means mode input.now m }
     ensures write_fault { result ≡ Status.WriteFault → Rose (K.faults sink.old) (K.faults sink.new) }
     ensures kind { (result ≢ Status.Usage) × (result ≢ Status.ReadFault) }
 {
@@ -81,7 +80,6 @@ fn answer_source<S: Source, K: Sink>(
 ) -> Status
     ensures writes { IfSome (S.left source.old) (λ input. (m : Meaning) → Means mode input m →
         Writes m (K.held sink.old) (K.held sink.new) (K.room sink.old) result) }
-    ensures meant { IsAnswer result → IfSome (S.left source.old) (λ input. (m : Meaning) × Means mode input m) }
     ensures drained { IsAnswer result → IfSome (S.left source.old) (λ input.
         length input ≤ INPUT_LIMIT → S.left source.new ≡ Some []) }
     ensures read_fault { result ≡ Status.ReadFault → Rose (S.faults source.old) (S.faults source.new) }

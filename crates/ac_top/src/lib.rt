@@ -6,6 +6,7 @@ mod entry;
 mod examples;
 mod execute;
 mod gate;
+mod law;
 mod limits;
 mod line;
 mod mode;
@@ -15,6 +16,7 @@ mod status;
 pub use entry::run;
 pub use examples::worked_rows;
 pub use gate::{FreeGate, Gate};
+pub use law::one_meaning;
 pub use limits::{INPUT_LIMIT, LENGTH_LIMIT};
 pub use status::Status;
 

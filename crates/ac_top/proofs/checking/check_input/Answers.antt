@@ -1,6 +1,6 @@
-use Rattle.std.proofs.Common.{◌≡◌, refl, sym, subst, ap, Err, inl, inr, ◌∙◌}
+use Rattle.std.proofs.Common.{◌≡◌, sym, subst, ap, Err, inl, inr, ◌∙◌}
 use Rattle.ac_top.specs.Meaning.{Meaning}
-use Rattle.ac_top.specs.Checking.{refused, faulty, sound, canonical, refused_at}
+use Rattle.ac_top.specs.Checking.{canonical, refused_at}
 use Rattle.ac_top.specs.Status.{Writes}
 use Rattle.ac_top.proofs.Checked.{sound_means, refused_means, faulty_means}
 use Rattle.ac_top.proofs.checking.check_input.Goals as goal
@@ -11,9 +11,6 @@ returns-in-Ok-clause-writes g c m means =
     sound_means c.args.input.now c.in-Ok.script m c.requires c.in-Ok.ensures.spelled c.in-Ok.ensures.only c.in-Ok.ensures.checked means ∙ ap canonical (sym c.script-in-Ok.ensures.value) in
     subst (λ (n : Meaning). Writes n (g.K.Sink.held c.args.sink.now) (g.K.Sink.held c.write_canonical.new.sink) (g.K.Sink.room c.args.sink.now) c.write_canonical.result) (sym is) c.write_canonical.ensures.writes
 
-pub returns-in-Ok-clause-meant : goal.returns-in-Ok-clause-meant
-returns-in-Ok-clause-meant g c answer = (canonical c.in-Ok.script, sound c.in-Ok.script c.requires c.in-Ok.ensures.spelled c.in-Ok.ensures.checked refl)
-
 pub returns-in-Err-Refused-clause-writes : goal.returns-in-Err-Refused-clause-writes
 returns-in-Err-Refused-clause-writes g c m means =
     let is : m ≡ refused_at c.in-Err-Refused.line c.in-Err-Refused.kind =
@@ -22,12 +19,3 @@ returns-in-Err-Refused-clause-writes g c m means =
       | inr h ↦ faulty_means c.args.input.now h.script c.in-Err-Refused.line c.in-Err-Refused.kind m c.requires h.spelled h.only h.first means
     ] in
     subst (λ (n : Meaning). Writes n (g.K.Sink.held c.args.sink.now) (g.K.Sink.held c.refuse_at.new.sink) (g.K.Sink.room c.args.sink.now) c.refuse_at.result) (sym is) c.refuse_at.ensures.writes
-
-pub returns-in-Err-Refused-clause-meant : goal.returns-in-Err-Refused-clause-meant
-returns-in-Err-Refused-clause-meant g c answer =
-    let line = c.in-Err-Refused.line in
-    let kind = c.in-Err-Refused.kind in
-    elim (c.in-Err-Refused.ensures.refused line kind (ap Err c.in-Err-Refused.field-0-is)) [
-      | inl h ↦ (refused_at line kind, refused line kind c.requires h refl)
-      | inr h ↦ (refused_at line kind, faulty h.script line kind c.requires h.spelled h.first refl)
-    ]
