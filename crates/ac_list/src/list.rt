@@ -289,7 +289,8 @@ fn name_in(c: Cursor) -> Name
 impl<T> List<T> {
     /// Reverse_Elements (A.18.3): the elements with their names.
     pub fn reverse_elements(&mut self) -> Result<(), Fault>
-        ensures { Changing Same (lists.reverse_elements_call (plain self.old.object)) self.old.object self.new.object result }
+        ensures changed { Changing Same (lists.reverse_elements_call (plain self.old.object)) self.old.object self.new.object result }
+        ensures spare { self.new.spare ≡ self.old.spare }
     {
         match self.guards.forbids(Class::Cursors) {
             Some(reason) => Err(Fault::Raised(reason)),
@@ -304,7 +305,8 @@ impl<T> List<T> {
 impl<T> List<T> {
     /// Swap (A.18.3): the two elements change places, and each name keeps its place.
     pub fn swap(&mut self, first: Cursor, second: Cursor) -> Result<(), Fault>
-        ensures { Changing Same (sequences.swap_call (plain self.old.object) (mark self.old.object first) (mark self.old.object second)) self.old.object self.new.object result }
+        ensures changed { Changing Same (sequences.swap_call (plain self.old.object) (mark self.old.object first) (mark self.old.object second)) self.old.object self.new.object result }
+        ensures spare { self.new.spare ≡ self.old.spare }
     {
         match self.refuses_swap(first, second) {
             Some(reason) => Err(Fault::Raised(reason)),

@@ -14,7 +14,8 @@ use ac_cursor::{Class, Cursor, first_reason};
 impl<T> List<T> {
     /// Swap_Links (A.18.3): the two elements change places, and each takes its name with it.
     pub fn swap_links(&mut self, first: Cursor, second: Cursor) -> Result<(), Fault>
-        ensures { Changing Same (lists.swap_links_call (plain self.old.object) (mark self.old.object first) (mark self.old.object second)) self.old.object self.new.object result }
+        ensures changed { Changing Same (lists.swap_links_call (plain self.old.object) (mark self.old.object first) (mark self.old.object second)) self.old.object self.new.object result }
+        ensures spare { self.new.spare ≡ self.old.spare }
     {
         match self.refuses_swap_links(first, second) {
             Some(reason) => Err(Fault::Raised(reason)),
@@ -28,7 +29,8 @@ impl<T> List<T> {
     /// Splice (A.18.3) of an element of the list itself: it goes before the cursor, where No_Element is the end.
     pub fn splice_within(&mut self, b: Cursor, c: Cursor) -> Result<(), Fault>
         ensures kept { mark self.new.object c ≡ mark self.old.object c }
-        ensures spliced { Changing Same (lists.splice_within_call (plain self.old.object) (mark self.old.object b) (mark self.old.object c)) self.old.object self.new.object result }
+        ensures changed { Changing Same (lists.splice_within_call (plain self.old.object) (mark self.old.object b) (mark self.old.object c)) self.old.object self.new.object result }
+        ensures spare { self.new.spare ≡ self.old.spare }
     {
         match self.refuses_splice(b, c) {
             Some(reason) => Err(Fault::Raised(reason)),
@@ -41,7 +43,8 @@ impl<T> List<T> {
 
     /// Splice (A.18.3) of a list into itself: nothing changes.
     pub fn splice_self(&mut self, b: Cursor) -> Result<(), Fault>
-        ensures { Changing Same (lists.splice_self_call (plain self.old.object) (mark self.old.object b)) self.old.object self.new.object result }
+        ensures changed { Changing Same (lists.splice_self_call (plain self.old.object) (mark self.old.object b)) self.old.object self.new.object result }
+        ensures same { self.new ≡ self.old }
     {
         match first_reason(&[self.guards.forbids(Class::Cursors), self.may(b)]) {
             Some(reason) => Err(Fault::Raised(reason)),
@@ -51,7 +54,8 @@ impl<T> List<T> {
 
     /// As `splice_within`, with a variable for the element, which keeps its value.
     pub fn splice_one_self(&mut self, b: Cursor, q: Cursor) -> Result<(), Fault>
-        ensures { Changing (λ _ m. Marks self.new.object q m) (lists.splice_one_self_call (plain self.old.object) (mark self.old.object b) (mark self.old.object q)) self.old.object self.new.object result }
+        ensures changed { Changing (λ _ m. Marks self.new.object q m) (lists.splice_one_self_call (plain self.old.object) (mark self.old.object b) (mark self.old.object q)) self.old.object self.new.object result }
+        ensures spare { self.new.spare ≡ self.old.spare }
     {
         self.splice_within(b, q)
     }

@@ -75,7 +75,8 @@ fn sorted_names<T: Rank>(chain: &Chain<T>, alloc: Global) -> Result<Vec<Name>, N
 impl<T: Rank> List<T> {
     /// Sort (A.18.3): elements of which neither is less stay in their order, and each takes its name with it.
     pub fn sort(&mut self) -> Result<(), Fault>
-        ensures { Changing Same (lists.sort_call T.is_less (plain self.old.object)) self.old.object self.new.object result }
+        ensures changed { Changing Same (lists.sort_call T.is_less (plain self.old.object)) self.old.object self.new.object result }
+        ensures spare { self.new.spare ≡ self.old.spare }
     {
         match self.guards.forbids(Class::Cursors) {
             Some(reason) => Err(Fault::Raised(reason)),

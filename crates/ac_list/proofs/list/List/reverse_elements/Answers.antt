@@ -6,8 +6,8 @@ use Rattle.ac_list.specs.State.{Listed}
 use Rattle.ac_list.proofs.Grows.{reversed_after}
 use Rattle.ac_list.proofs.list.List.reverse_elements.Goals as goal
 
-pub returns-in-None : goal.returns-in-None
-returns-in-None g c =
+pub returns-in-None-clause-changed : goal.returns-in-None-clause-changed
+returns-in-None-clause-changed g c =
     let i = c.self.inside in let view = ap (λ (x : Listed _). x.object) c.self.view_is in (
       subst (λ (p : Object _ _). first_reason (tampers_cursors (plain p) ∷ []) ≡ None) view (ap (λ q. first_reason (q ∷ [])) (sym c.in-None.ensures)),
       reversed_after i.guards i.limit i.chain c.reverse.new.self c.args.self.now.object view c.reverse.ensures.reversed,

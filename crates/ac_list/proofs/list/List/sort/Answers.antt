@@ -17,8 +17,8 @@ invariant_of-self g c =
     let i = c.self.inside in
     list_sorted g.T.Rank.is_less i.chain c.self.invariant.sound c.in-Ok.order.items c.in-Ok.ensures i.limit c.relink.new.self c.self.invariant c.relink.ensures.sound (c.relink.ensures.names ∙ c.deref.ensures.value) c.relink.ensures.same
 
-pub returns-in-Ok : goal.returns-in-Ok
-returns-in-Ok g c =
+pub returns-in-Ok-clause-changed : goal.returns-in-Ok-clause-changed
+returns-in-Ok-clause-changed g c =
     let i = c.self.inside in let o = c.args.self.now.object in (
       subst (λ (p : Object _ _). first_reason (tampers_cursors (plain p) ∷ []) ≡ None) (ap (λ (x : Listed _). x.object) c.self.view_is) (ap (λ q. first_reason (q ∷ [])) (sym c.forbids.ensures ∙ c.in-None.is)),
       sorted_after g.T.Rank.is_less i.guards i.limit i.chain c.relink.new.self o (ap (λ (x : Listed _). x.object) c.self.view_is) c.self.invariant.sound c.in-Ok.order.items c.in-Ok.ensures

@@ -1,5 +1,5 @@
 use Rattle.ac_list.proofs.Links.{position_kept}
 use Rattle.ac_list.proofs.list.List.splice_one_self.Goals as goal
 
-pub returns : goal.returns
-returns g c = position_kept c.args.self.now.object c.splice_within.new.self.object c.args.b c.args.q c.splice_within.result c.splice_within.ensures.kept c.splice_within.ensures.spliced
+pub returns-clause-changed : goal.returns-clause-changed
+returns-clause-changed g c = position_kept c.args.self.now.object c.splice_within.new.self.object c.args.b c.args.q c.splice_within.result c.splice_within.ensures.kept c.splice_within.ensures.changed

@@ -33,8 +33,8 @@ returns-in-None-clause-kept g c =
     moved_mark i.guards i.limit i.chain c.move_before.new.self o view c.args.c c.place_in.result c.name_in.result c.name_in.ensures (place_live i.guards i.limit i.chain o view c.args.b c.place_in.result c.place_in.ensures none.1.0)
     none.1.1.0 c.move_before.ensures.moved
 
-pub returns-in-None-clause-spliced : goal.returns-in-None-clause-spliced
-returns-in-None-clause-spliced g c =
+pub returns-in-None-clause-changed : goal.returns-in-None-clause-changed
+returns-in-None-clause-changed g c =
     let i = c.self.inside in let o = c.args.self.now.object in let view = ap (λ (x : Listed _). x.object) c.self.view_is in
     let none = none_found (tampers_cursors (plain o) ∷ may_cursor o c.args.b ∷ needs_cursor o c.args.c ∷ []) (sym c.in-None.ensures) in (
       sym c.in-None.ensures,

@@ -19,8 +19,8 @@ swap_values-requires-clause-b g c =
     let none = none_found (tampers_elements (plain o) ∷ needs_cursor o c.args.first ∷ needs_cursor o c.args.second ∷ []) (sym c.in-None.ensures) in
     live_needed i.guards i.limit i.chain o (ap (λ (x : Listed _). x.object) c.self.view_is) c.args.second c.name_in-in-None.result c.name_in-in-None.ensures none.1.1.0
 
-pub returns-in-None : goal.returns-in-None
-returns-in-None g c =
+pub returns-in-None-clause-changed : goal.returns-in-None-clause-changed
+returns-in-None-clause-changed g c =
     let i = c.self.inside in let o = c.args.self.now.object in
     let none = none_found (tampers_elements (plain o) ∷ needs_cursor o c.args.first ∷ needs_cursor o c.args.second ∷ []) (sym c.in-None.ensures) in (
       sym c.in-None.ensures,
