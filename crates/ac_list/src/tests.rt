@@ -46,12 +46,7 @@ fn elements_stand_in_order(rt: HostRuntime) {
     assert!(rt; list.insert(last, 30, 1).is_ok());
     assert_eq!(rt; list.length(), 5);
     assert!(rt; list.reverse_elements().is_ok());
-    let mut c = list.first();
-    for wanted in [40, 30, 20, 20, 10] {
-        assert_eq!(rt; element(&list, c), Some(wanted));
-        c = list.next(c).unwrap_or(Cursor::NoElement);
-    }
-    assert!(rt; c == Cursor::NoElement);
+    assert!(rt; holds(&list, &[40, 30, 20, 20, 10]));
     assert_eq!(rt; list.first_element().ok().copied(), Some(40));
     assert_eq!(rt; list.last_element().ok().copied(), Some(10));
     assert_eq!(rt; list.slots(), 8);
@@ -176,11 +171,7 @@ fn level_elements_stay_in_their_order(rt: HostRuntime) {
     assert!(rt; !list.is_sorted());
     assert!(rt; list.sort().is_ok());
     assert!(rt; list.is_sorted());
-    let mut c = list.first();
-    for wanted in [10, 20, 30, 30] {
-        assert_eq!(rt; element(&list, c), Some(wanted));
-        c = list.next(c).unwrap_or(Cursor::NoElement);
-    }
+    assert!(rt; holds(&list, &[10, 20, 30, 30]));
     assert!(rt; list.next(first) == Ok(list.last()));
 }
 
@@ -225,12 +216,7 @@ fn a_move_empties_its_source(rt: HostRuntime) {
     assert!(rt; target.move_from(&mut source).is_ok());
     assert!(rt; source.is_empty());
     assert!(rt; !target.has_element(gone));
-    let mut c = target.first();
-    for wanted in [10, 20] {
-        assert_eq!(rt; element(&target, c), Some(wanted));
-        c = target.next(c).unwrap_or(Cursor::NoElement);
-    }
-    assert!(rt; c == Cursor::NoElement);
+    assert!(rt; holds(&target, &[10, 20]));
 }
 
 #[test]
