@@ -54,7 +54,7 @@ WORST = [
     ("commands with words", lambda size: filled(size, HEAD, "A.B;\n")),
     ("16 blocks deep all along", nested),
     ("1,000 names in scope", named),
-    ("calls", lambda size: filled(size, HEAD, "A.Insert (A.First, 1);\n".replace("A.First", "no_element"))),
+    ("calls", lambda size: filled(size, HEAD, "A.Insert (no_element, 1);\n")),
 ]
 
 

@@ -13,12 +13,6 @@ use ac_base::NoMemory;
 use ac_syntax::{Decl, ElemKind, Ident, TypeDef, ViewKind};
 use std::alloc::Global;
 
-fn copy(alloc: Global, name: &Ident) -> Result<Ident, NoMemory>
-    ensures { IfOk result (λ copy. copy ≡ name.now) }
-{
-    Ok(Ident::new(name.bytes().to_vec(alloc)?))
-}
-
 fn is_written_in(view: ViewKind) -> bool
     ensures { result ≡ scopes.is_written_in view }
 {
@@ -30,7 +24,7 @@ fn object_meaning(scope: &Scope, of: &Ident) -> Result<Option<Meaning>, NoMemory
 {
     match scope.meaning(of.bytes()) {
         Some(Meaning::Type(def)) => Ok(Some(Meaning::Object {
-            of: copy(scope.alloc(), of)?,
+            of: of.copy(scope.alloc())?,
             def: *def,
         })),
         _ => Ok(None),
@@ -45,7 +39,7 @@ pub fn decl_meaning(scope: &Scope, decl: &Decl) -> Result<Option<Meaning>, NoMem
         Decl::TypeDecl { def, .. } => Ok(Some(Meaning::Type(*def))),
         Decl::Object { of, .. } => object_meaning(scope, of),
         Decl::CursorVar { of, .. } => Ok(Some(Meaning::Cursor {
-            of: copy(scope.alloc(), of)?,
+            of: of.copy(scope.alloc())?,
             is_variable: true,
         })),
         Decl::IntVar { .. } => Ok(Some(Meaning::Value {
@@ -74,7 +68,7 @@ fn turn_meaning(
         })
     } else {
         Ok(Meaning::Cursor {
-            of: copy(alloc, of)?,
+            of: of.copy(alloc)?,
             is_variable: false,
         })
     }

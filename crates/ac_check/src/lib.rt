@@ -23,5 +23,4 @@ pub use checked::{Checked, check};
 pub use examples::{block_examples, command_examples, declaration_examples};
 pub use law::{each_script, one_fault};
 pub use rows::{Answer, Letter};
-pub use rules::{is_well_typed_decl, is_well_typed_stmt};
 pub use table::{Row, rows_of};

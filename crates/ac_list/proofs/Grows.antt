@@ -77,17 +77,17 @@ module _ {X : Type 0} where
 
   -- a bounded list that takes so many more has the slots
   has_slots : (most : ℕ) (k : Chained X) (n : ℕ) → IsList (Bounded most) k → is_past (Bounded most) (length k.rows + n) ≡ false → n ≤ k.spare
-  has_slots most k n s h = let sum = s.limit_fits.1 in let le : length k.rows + n ≤ most = elim (cases_lt most (length k.rows + n)) [ inl lt ↦ absurd (let t = lt-ltb most (length k.rows + n) lt in true≢false (sym t ∙ h)) | inr le ↦ le ] in omega arith
+  has_slots most k n s h = let sum = s.has_slots in let le : length k.rows + n ≤ most = elim (cases_lt most (length k.rows + n)) [ inl lt ↦ absurd (let t = lt-ltb most (length k.rows + n) lt in true≢false (sym t ∙ h)) | inr le ↦ le ] in omega arith
 
   -- a list that takes so many more stays one, whatever the rows are
   pub list_grown : {A : Type 0} (l : Limit) (k now : Chained X) (n : ℕ) (r : Result A NoMemory) → IsList l k → length k.rows + n ≤ 1000000 → is_past l (length k.rows + n) ≡ false
       → IfOk r (λ _. length now.rows ≡ length k.rows + n) → IfErr r (λ _. now ≡ k) → (n ≤ k.spare → length now.rows + now.spare ≡ length k.rows + k.spare) → IsSound now → IsList l now
   list_grown l k now n (Err x) s few within ok err slots sound = subst (λ c. IsList l c) (sym err) s
-  list_grown Unbounded k now n (Ok x) s few within ok err slots sound = record { sound = sound; within_greatest = omega (arith, ok); limit_fits = tt }
+  list_grown Unbounded k now n (Ok x) s few within ok err slots sound = record { sound = sound; within_greatest = omega (arith, ok); is_limit = tt; has_slots = tt }
   list_grown (Bounded most) k now n (Ok x) s few within ok err slots sound =
-      let sum = s.limit_fits.1 in let all = slots (has_slots most k n s within) in
+      let sum = s.has_slots in let all = slots (has_slots most k n s within) in
       let total : length now.rows + now.spare ≡ most = all ∙ sum in
-      record { sound = sound; within_greatest = omega (arith, ok); limit_fits = (s.limit_fits.0, total) }
+      record { sound = sound; within_greatest = omega (arith, ok); is_limit = s.is_limit; has_slots = total }
 
   pub list_after : (l : Limit) (k now : Chained X) (n : ℕ) (place : Option Name) (e : X) (r : Result (Option Name) NoMemory) → IsList l k → length k.rows + n ≤ 1000000 → is_past l (length k.rows + n) ≡ false
       → IfOk r (λ _. IsPut k.rows k.next_serial place (replicate n e) now) → IfErr r (λ _. now ≡ k)

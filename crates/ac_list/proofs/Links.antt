@@ -63,10 +63,10 @@ module _ {X : Type 0} where
 
   -- a list keeps its slots where as many rows stand in as many slots
   pub list_same : (l : Limit) (k now : Chained X) → IsList l k → length now.rows ≡ length k.rows → now.spare ≡ k.spare → IsSound now → IsList l now
-  list_same Unbounded k now s rows spare sound = let most = s.within_greatest in record { sound = sound; within_greatest = omega arith; limit_fits = tt }
+  list_same Unbounded k now s rows spare sound = let most = s.within_greatest in record { sound = sound; within_greatest = omega arith; is_limit = tt; has_slots = tt }
   list_same (Bounded most) k now s rows spare sound =
-      let greatest = s.within_greatest in let sum = s.limit_fits.1 in let total : length now.rows + now.spare ≡ most = omega arith in
-      record { sound = sound; within_greatest = omega arith; limit_fits = (s.limit_fits.0, total) }
+      let greatest = s.within_greatest in let sum = s.has_slots in let total : length now.rows + now.spare ≡ most = omega arith in
+      record { sound = sound; within_greatest = omega arith; is_limit = s.is_limit; has_slots = total }
 
   abbrev plain_of : chain.Row X → Row ℕ X
   plain_of r = row r.name.serial r.value

@@ -61,10 +61,10 @@ module _ {X : Type 0} where
   pub list_less : {Q A : Type 0} (l : Limit) (k now : Chained X) (r : Result A NoMemory) → IsList l k → (Q → length now.rows ≤ length k.rows) → (Q → length now.rows + now.spare ≡ length k.rows + k.spare)
       → IfOk r (λ _. Q) → IfErr r (λ _. now ≡ k) → IsSound now → IsList l now
   list_less l k now (Err e) s few same ok err sound = subst (λ c. IsList l c) (sym err) s
-  list_less Unbounded k now (Ok x) s few same ok err sound = let most = s.within_greatest in let le = few ok in record { sound = sound; within_greatest = omega arith; limit_fits = tt }
+  list_less Unbounded k now (Ok x) s few same ok err sound = let most = s.within_greatest in let le = few ok in record { sound = sound; within_greatest = omega arith; is_limit = tt; has_slots = tt }
   list_less (Bounded most) k now (Ok x) s few same ok err sound =
       let all = s.within_greatest in let le = few ok in
-      record { sound = sound; within_greatest = omega arith; limit_fits = (s.limit_fits.0, same ok ∙ s.limit_fits.1) }
+      record { sound = sound; within_greatest = omega arith; is_limit = s.is_limit; has_slots = same ok ∙ s.has_slots }
 
   -- the slots of a list whose chain has more rows, and of one whose chain has fewer
   pub more_slots : {G : Type 0} (g : GuardCounts) (l : Limit) (k now : Chained X) (o : Listed X) → listed (object_of g l k) k.spare ≡ o → (r : Result Done NoMemory) (d : Result Done Fault) → d ≡ as_fault r

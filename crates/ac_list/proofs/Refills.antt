@@ -185,12 +185,12 @@ module _ {X : Type 0} where
   pub refill_list : (l : Limit) (k now : Chained X) (source : List (chain.Row X)) (r : Result Done NoMemory) → IsList l k → length source ≤ greatest_length → is_past l (length source) ≡ false
       → IfOk r (λ _. IsRefilled k (values_in source) now) → IfErr r (λ _. now ≡ k) → (length source ≤ length k.rows + k.spare → length now.rows + now.spare ≡ length k.rows + k.spare) → IsSound now → IsList l now
   refill_list l k now source (Err e) s few within ok err slots sound = subst (λ c. IsList l c) (sym err) s
-  refill_list Unbounded k now source (Ok x) s few within ok err slots sound = let count = refilled_length k now source ok in record { sound = sound; within_greatest = omega arith; limit_fits = tt }
+  refill_list Unbounded k now source (Ok x) s few within ok err slots sound = let count = refilled_length k now source ok in record { sound = sound; within_greatest = omega arith; is_limit = tt; has_slots = tt }
   refill_list (Bounded most) k now source (Ok x) s few within ok err slots sound =
       let count = refilled_length k now source ok in
-      let sum = s.limit_fits.1 in
+      let sum = s.has_slots in
       let le : length source ≤ most = elim (cases_lt most (length source)) [ inl lt ↦ absurd (let t = lt-ltb most (length source) lt in true≢false (sym t ∙ within)) | inr le ↦ le ] in
-      record { sound = sound; within_greatest = omega arith; limit_fits = (s.limit_fits.0, slots (omega arith) ∙ sum) }
+      record { sound = sound; within_greatest = omega arith; is_limit = s.is_limit; has_slots = slots (omega arith) ∙ sum }
 
   -- what the rows of the source are to the definitions
   pub source_is : (g : GuardCounts) (l : Limit) (k : Chained X) (o : Object Name X) → object_of g l k ≡ o → (contents (plain o) ≡ values_in k.rows) × (length_of (plain o) ≡ length k.rows)

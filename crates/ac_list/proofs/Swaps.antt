@@ -20,7 +20,7 @@ use Rattle.ac_model.specs.Objects.{Object, plain, with_rows}
 use Rattle.ac_model.specs.Letters.{is_among, name_of}
 use Rattle.ac_model.specs.Calls.{IsAfter}
 use Rattle.ac_list.specs.Put.{plains}
-use Rattle.ac_list.specs.State.{row_of, object_of, needs_cursor, mark, name_in, IsList, LimitFits}
+use Rattle.ac_list.specs.State.{row_of, object_of, needs_cursor, mark, name_in, IsList, HasSlots}
 use Rattle.ac_list.proofs.Standing.{Alone, alone, has_among, value_live, stands}
 use Rattle.ac_list.proofs.Grows.{all_from}
 
@@ -134,12 +134,13 @@ module _ {X : Type 0} where
           few = omega arith;
         };
         within_greatest = omega arith;
-        limit_fits = fits l s.limit_fits;
+        is_limit = s.is_limit;
+        has_slots = slots_kept l s.has_slots;
       }
     where
-      fits : (l : Limit) → LimitFits l k → LimitFits l (chain.with_value k a w)
-      fits Unbounded h = tt
-      fits (Bounded most) h = (h.0, ap (λ n. n + k.spare) (length-set k.rows (index_of a k.rows) (chain.row a w)) ∙ h.1)
+      slots_kept : (l : Limit) → HasSlots l (length k.rows) k.spare → HasSlots l (length (chain.with_value k a w).rows) (chain.with_value k a w).spare
+      slots_kept Unbounded h = tt
+      slots_kept (Bounded most) h = ap (λ n. n + k.spare) (length-set k.rows (index_of a k.rows) (chain.row a w)) ∙ h
 
   pub set_after : (g : GuardCounts) (l : Limit) (k now : Chained X) (o : Object Name X) → object_of g l k ≡ o → IsSound k → (c : Cursor) (a : Name) (w : X) → a ≡ name_in c
       → needs_cursor o c ≡ None → now ≡ chain.with_value k a w → IsAfter o (object_of g l now) (with_rows (plain o) (with_value (plain o).rows (name_of (mark o c)) w))

@@ -14,7 +14,7 @@ use Rattle.ac_chain.proofs.Cuts.{has_live}
 use Rattle.ac_chain.proofs.Moves.{once_from}
 use Rattle.ac_model.specs.Objects.{Object, plain, times, is_past, IsValid}
 use Rattle.ac_list.specs.Put.{plains}
-use Rattle.ac_list.specs.State.{row_of, object_of, IsList, IsLimit, HasSlots}
+use Rattle.ac_list.specs.State.{row_of, object_of, IsList, HasSlots}
 use Rattle.ac_list.proofs.Puts.{length-plains}
 
 module _ {X : Type 0} where
@@ -40,7 +40,7 @@ module _ {X : Type 0} where
 
   within : (l : Limit) (k : Chained X) → IsList l k → is_past l (length (plains k.rows)) ≡ false
   within Unbounded k s = refl
-  within (Bounded most) k s = let count = length-plains k.rows in let sum = s.limit_fits.1 in le-ltb most (length (plains k.rows)) (omega arith)
+  within (Bounded most) k s = let count = length-plains k.rows in let sum = s.has_slots in le-ltb most (length (plains k.rows)) (omega arith)
 
   pub valid : (g : GuardCounts) (l : Limit) (k : Chained X) (o : Object Name X) → object_of g l k ≡ o → IsList l k → IsValid (plain o)
   valid g l k o view s = subst (λ (p : Object Name X). IsValid (plain p)) view (record {
@@ -54,10 +54,6 @@ module _ {X : Type 0} where
     capacity_fits = tt;
   })
 
-  pub limited : (l : Limit) (k : Chained X) → IsList l k → IsLimit l
-  limited Unbounded k s = tt
-  limited (Bounded most) k s = s.limit_fits.0
-
   pub has_slots : (l : Limit) (k : Chained X) → IsList l k → HasSlots l (length (map row_of k.rows)) k.spare
   has_slots Unbounded k s = tt
-  has_slots (Bounded most) k s = let count = length-map k.rows row_of in let sum = s.limit_fits.1 in omega arith
+  has_slots (Bounded most) k s = let count = length-map k.rows row_of in let sum = s.has_slots in omega arith

@@ -34,6 +34,16 @@ limit_back (Bounded most) = refl
 abbrev pub limit_code : Coded Limit
 limit_code = code_by (Option ℕ) (coded_option coded_ℕ) option_of_limit limit_of_option limit_back
 
+-- a limit that a list may have
+abbrev pub IsLimit : Limit → Type 0
+IsLimit Unbounded = ⊤
+IsLimit (Bounded most) = most ≤ greatest_length
+
+-- a bounded list has the slots of all that it may hold
+abbrev pub HasSlots : Limit → ℕ → ℕ → Type 0
+HasSlots Unbounded length spare = ⊤
+HasSlots (Bounded most) length spare = length + spare ≡ most
+
 module _ {T : Type 0} where
   abbrev row_code : Coded T → Coded (Row Name T)
   row_code t = code_by (Name × T) (coded× name_code t) (λ r. (r.name, r.value)) (λ p. row p.0 p.1) (λ _. refl)
@@ -70,16 +80,12 @@ module _ {T : Type 0} where
   abbrev pub object_of : GuardCounts → Limit → chain.Chained T → Object Name T
   object_of guards limit c = object_with guards.number limit None c.next_serial (map row_of c.rows) guards.cursor_guards guards.element_guards
 
-  -- a bounded list has the slots of all that it may hold
-  abbrev pub LimitFits : Limit → chain.Chained T → Type 0
-  LimitFits Unbounded c = ⊤
-  LimitFits (Bounded most) c = (most ≤ greatest_length) × (length c.rows + c.spare ≡ most)
-
   -- what holds of every list
   pub record IsList (limit : Limit) (c : chain.Chained T) : Type 0 where
     pub sound : chain.IsSound c
     pub within_greatest : length c.rows ≤ greatest_length
-    pub limit_fits : LimitFits limit c
+    pub is_limit : IsLimit limit
+    pub has_slots : HasSlots limit (length c.rows) c.spare
 
   -- the object with another number and other guards
   abbrev pub with_guards : Listed T → GuardCounts → Listed T
@@ -116,17 +122,7 @@ abbrev pub place_in : Cursor → Option Name
 place_in NoElement = None
 place_in (At object name) = Some name
 
--- a limit that a list may have
-abbrev pub IsLimit : Limit → Type 0
-IsLimit Unbounded = ⊤
-IsLimit (Bounded most) = most ≤ greatest_length
-
 -- how many elements a new list takes without memory
 abbrev pub first_spare : Limit → ℕ
 first_spare Unbounded = 0
 first_spare (Bounded most) = most
-
--- a bounded list has the slots of all that it may hold
-abbrev pub HasSlots : Limit → ℕ → ℕ → Type 0
-HasSlots Unbounded length spare = ⊤
-HasSlots (Bounded most) length spare = length + spare ≡ most

@@ -14,7 +14,7 @@ use Rattle.ac_syntax.specs.declared.token.Mark.TheVariants.{Semicolon, Comma, Op
 use Rattle.ac_syntax.specs.Parts.{Part, says, marks, names, kind_word, elem_word, second_parts, type_parts, capacity_parts}
 use Rattle.ac_syntax.specs.Grammar.{reserved, is_reserved}
 use Rattle.ac_script.specs.Readers.{as_word, as_mark}
-use Rattle.ac_script.specs.Declarations.{elem_of, elem, late_kind, kind_of, kind, bounded_kind, second_elem, keyed_end, type_def, type_declaration, capacity_end, integer_end, text_end, cursor_end, object_end, typed_end, typed, text_or_typed, declared}
+use Rattle.ac_script.specs.Declarations.{elem_of, elem, other_kind, kind_of, kind, bounded_kind, second_elem, keyed_end, type_def, type_declaration, capacity_end, integer_end, text_end, cursor_end, object_end, typed_end, typed, text_or_typed, declared}
 use Rattle.ac_script.proofs.Cases.{either_by, pair_by, bool_by, option_by}
 use Rattle.ac_script.proofs.Exact.{Exact, seq, mapped, recast}
 use Rattle.ac_script.proofs.Spelled.{Spelled}
@@ -34,9 +34,9 @@ elem_again Str = refl
 elem_exact : Exact (λ (e : ElemKind). e) (λ e. says (elem_word e) ∷ []) elem
 elem_exact = single (pick_looks elem_picked elem_again Integer)
 
-late_picked : (w : List ℕ) (a : Kind) → late_kind w ≡ Some a → w ≡ kind_word a
-unfolding late_kind
-late_picked w a e =
+other_picked : (w : List ℕ) (a : Kind) → other_kind w ≡ Some a → w ≡ kind_word a
+unfolding other_kind
+other_picked w a e =
     let P = w ≡ kind_word a in
     pick_step P w (codes "ordered_set") kinds.OrderedSet a _ e (λ same is. same ∙ ap kind_word is) (λ e.
     pick_step P w (codes "tree") kinds.Tree a _ e (λ same is. same ∙ ap kind_word is) (λ e.
@@ -52,10 +52,10 @@ kind_picked w a e =
     pick_step P w (codes "list") kinds.List a _ e (λ same is. same ∙ ap kind_word is) (λ e.
     pick_step P w (codes "hashed_map") kinds.HashedMap a _ e (λ same is. same ∙ ap kind_word is) (λ e.
     pick_step P w (codes "ordered_map") kinds.OrderedMap a _ e (λ same is. same ∙ ap kind_word is) (λ e.
-    pick_step P w (codes "hashed_set") kinds.HashedSet a _ e (λ same is. same ∙ ap kind_word is) (λ e. late_picked w a e)))))
+    pick_step P w (codes "hashed_set") kinds.HashedSet a _ e (λ same is. same ∙ ap kind_word is) (λ e. other_picked w a e)))))
 
 kind_again : (a : Kind) → kind_of (kind_word a) ≡ Some a
-unfolding kind_of late_kind
+unfolding kind_of other_kind
 kind_again kinds.Vector = refl
 kind_again kinds.List = refl
 kind_again kinds.HashedMap = refl

@@ -10,7 +10,7 @@ use Rattle.ac_syntax.specs.Grammar.{reserved, is_reserved}
 use Rattle.ac_script.specs.declared.head.Lead.{Lead}
 use Rattle.ac_script.specs.declared.head.Lead.TheVariants as lead
 use Rattle.ac_script.specs.Readers.{as_word, as_word_of}
-use Rattle.ac_script.specs.Heads.{late_lead, lead_of, elements_of, elements, object_loop, loop_end, loop_head, place_end, view_head, key_head, reference_head, stable_head, head}
+use Rattle.ac_script.specs.Heads.{other_lead, lead_of, elements_of, elements, object_loop, loop_end, loop_head, place_end, view_head, key_head, reference_head, stable_head, head}
 use Rattle.ac_script.proofs.Cases.{either_by, pair_by, bool_by, option_by}
 use Rattle.ac_script.proofs.Exact.{Exact, seq, give, mapped, recast}
 use Rattle.ac_script.proofs.Forks.{Looks, single, forked}
@@ -25,9 +25,9 @@ lead_word lead.Reference = codes "reference"
 lead_word lead.Stable = codes "stable"
 lead_word lead.Declare = codes "declare"
 
-late_picked : (w : List ℕ) (a : Lead) → late_lead w ≡ Some a → w ≡ lead_word a
-unfolding late_lead
-late_picked w a e =
+other_picked : (w : List ℕ) (a : Lead) → other_lead w ≡ Some a → w ≡ lead_word a
+unfolding other_lead
+other_picked w a e =
     let P = w ≡ lead_word a in
     pick_step P w (codes "reference") lead.Reference a _ e (λ same is. same ∙ ap lead_word is) (λ e.
     pick_step P w (codes "stable") lead.Stable a _ e (λ same is. same ∙ ap lead_word is) (λ e.
@@ -40,10 +40,10 @@ lead_picked w a e =
     pick_step P w (codes "for") lead.For a _ e (λ same is. same ∙ ap lead_word is) (λ e.
     pick_step P w (codes "query") lead.Query a _ e (λ same is. same ∙ ap lead_word is) (λ e.
     pick_step P w (codes "update") lead.Update a _ e (λ same is. same ∙ ap lead_word is) (λ e.
-    pick_step P w (codes "update_key") lead.UpdateKey a _ e (λ same is. same ∙ ap lead_word is) (λ e. late_picked w a e))))
+    pick_step P w (codes "update_key") lead.UpdateKey a _ e (λ same is. same ∙ ap lead_word is) (λ e. other_picked w a e))))
 
 lead_again : (a : Lead) → lead_of (lead_word a) ≡ Some a
-unfolding lead_of late_lead
+unfolding lead_of other_lead
 lead_again lead.For = refl
 lead_again lead.Query = refl
 lead_again lead.Update = refl

@@ -12,7 +12,7 @@ use Rattle.ac_syntax.specs.Grammar.{reserved, is_reserved}
 use Rattle.ac_script.specs.declared.head.Lead.{Lead}
 use Rattle.ac_script.specs.declared.head.Lead.TheVariants as lead
 use Rattle.ac_script.specs.Readers.{as_word, as_word_of, as_mark}
-use Rattle.ac_script.specs.Heads.{late_lead, lead_of}
+use Rattle.ac_script.specs.Heads.{other_lead, lead_of}
 use Rattle.ac_script.specs.ItemReader.{closing, type_item, declared_item, command_item, head_item, behind_name, named, ended, statement, in_listing, type_or_named, in_heading}
 use Rattle.ac_script.proofs.Cases.{either_by}
 use Rattle.ac_script.proofs.Spelled.{Spelled}
@@ -160,7 +160,7 @@ abbrev pub statement_parts : (stage : Stage) (innermost : Option Bool) → State
 statement_parts stage innermost = either_value block_parts (ended_parts stage innermost)
 
 not_lead : (v : List ℕ) → is_reserved v ≡ false → lead_of v ≡ None
-unfolding lead_of late_lead reserved is_reserved
+unfolding lead_of other_lead reserved is_reserved
 not_lead v free =
     rw (
       free_apart v (codes "for") refl free,
@@ -173,7 +173,7 @@ not_lead v free =
     ) refl
 
 end_leads : lead_of (codes "end") ≡ None
-unfolding lead_of late_lead
+unfolding lead_of other_lead
 end_leads = refl
 
 ended_apart : (stage : Stage) (innermost : Option Bool) (i : Ended stage innermost) (placed : List Placed) → Spelled (ended_parts stage innermost i) placed → Starts (as_word_of lead_of) None placed

@@ -18,8 +18,8 @@ elem_of found = if bytes_eq found (codes "integer") then Some Integer else if by
 abbrev pub elem : Reader ElemKind
 elem = one (as_word_of elem_of)
 
-unfoldable pub late_kind : List ℕ → Option Kind
-late_kind found =
+unfoldable pub other_kind : List ℕ → Option Kind
+other_kind found =
     if bytes_eq found (codes "ordered_set") then Some kinds.OrderedSet
     else if bytes_eq found (codes "tree") then Some kinds.Tree
     else if bytes_eq found (codes "holder") then Some kinds.Holder
@@ -34,7 +34,7 @@ kind_of found =
     else if bytes_eq found (codes "hashed_map") then Some kinds.HashedMap
     else if bytes_eq found (codes "ordered_map") then Some kinds.OrderedMap
     else if bytes_eq found (codes "hashed_set") then Some kinds.HashedSet
-    else late_kind found
+    else other_kind found
 
 abbrev pub kind : Reader Kind
 kind = one (as_word_of kind_of)

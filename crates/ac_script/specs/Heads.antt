@@ -9,8 +9,8 @@ use Rattle.ac_script.specs.declared.head.Lead.TheVariants as lead
 use Rattle.ac_script.specs.Outcomes.{Reader, ◌>>=◌, gives, fork, one}
 use Rattle.ac_script.specs.Readers.{as_word_of, word, name}
 
-unfoldable pub late_lead : List ℕ → Option Lead
-late_lead found =
+unfoldable pub other_lead : List ℕ → Option Lead
+other_lead found =
     if bytes_eq found (codes "reference") then Some lead.Reference
     else if bytes_eq found (codes "stable") then Some lead.Stable
     else if bytes_eq found (codes "declare") then Some lead.Declare
@@ -22,7 +22,7 @@ lead_of found =
     else if bytes_eq found (codes "query") then Some lead.Query
     else if bytes_eq found (codes "update") then Some lead.Update
     else if bytes_eq found (codes "update_key") then Some lead.UpdateKey
-    else late_lead found
+    else other_lead found
 
 -- the first word of a block
 abbrev pub first_word : Reader Lead

@@ -4,7 +4,6 @@ ghost use Rattle.ac_script.specs.Outcomes.{Sees, Finds};
 ghost use Rattle.ac_script.specs.Arguments.{argument_view};
 ghost use Rattle.ac_script.specs.Commands as commands;
 
-use crate::names::{copy, copy_text};
 use crate::reader::{find_mark, is, mark, name, number};
 use crate::stop::Stop;
 use ac_syntax::{Ident, Mark, Placed, StringBytes, Token};
@@ -78,7 +77,7 @@ pub fn constant(
             },
             rest @ ..,
         ] => {
-            let text = copy_text(alloc, text)?;
+            let text = text.copy(alloc)?;
             Ok(Some((Argument::Text(text), rest)))
         }
         [
@@ -107,7 +106,7 @@ fn other_argument(alloc: Global, tokens: &[Placed]) -> Result<(Argument, &[Place
         }
         None => {
             let (name, rest) = name(tokens)?;
-            Ok((Argument::Var(copy(alloc, name)?), rest))
+            Ok((Argument::Var(name.copy(alloc)?), rest))
         }
     }
 }

@@ -1,5 +1,5 @@
 //! Scripts from their items.
-ghost use Rattle.std.specs.Prelude.{◌≡◌, ◌∷◌, [], ◌++◌, map, All, false, IfOk, OnOk, Some};
+ghost use Rattle.std.specs.Prelude.{◌≡◌, ◌∷◌, [], ◌++◌, map, All, Bool, false, IfOk, OnOk, Some};
 ghost use Rattle.ac_syntax.specs.Code.{Code, Simple, one, block};
 ghost use Rattle.ac_syntax.specs.Items.{script_items, declares, commands, opens, begins, closes};
 ghost use Rattle.ac_syntax.specs.Order.{Context, context_after, next_after, at_front, IsEnd};
@@ -12,13 +12,11 @@ ghost use Rattle.ac_script.specs.Building.{items_so_far, IsBuilding, Adds, full_
 
 use crate::argument::{Argument, Arguments};
 use crate::item::{Command, Head, Item};
+use crate::limits::LEAST;
 use ac_base::{NoMemory, Text, Value};
 use ac_syntax::{Arg, Args, Decl, Decls, Script, Stmt, Stmts};
 use std::alloc::Global;
 use std::mem;
-
-/// The magnitude of the least integer.
-const LEAST: u64 = 9223372036854775808;
 
 /// What stands in a block, or outside of all.
 #[derive(Drop)]
@@ -195,7 +193,7 @@ impl Building {
             Item::Commands(simple) => self.run(command(alloc, simple)?),
             Item::Opens(head) => self.enter(alloc, head),
             Item::Begins => self.begin(),
-            Item::Closes { is_loop } => self.leave(is_loop),
+            Item::Closes { .. } => self.leave(),
         }
     }
 
@@ -230,8 +228,8 @@ impl Building {
     }
 
     /// Goes out of the innermost block.
-    fn leave(&mut self, _is_loop: bool) -> Result<(), NoMemory>
-        ensures { OnOk result (Adds (closes _is_loop) self.old self.new) }
+    fn leave(&mut self) -> Result<(), NoMemory>
+        ensures { (is_loop : Bool) → OnOk result (Adds (closes is_loop) self.old self.new) }
     {
         let Some(Enclosing { level, head }) = self.around.pop() else {
             return Ok(());

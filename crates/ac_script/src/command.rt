@@ -8,7 +8,7 @@ ghost use Rattle.ac_script.specs.Commands as commands;
 
 use crate::argument::{Argument, Arguments, arguments_end, constant};
 use crate::item::Command;
-use crate::names::{copy, copy_any};
+use crate::names::copy_any;
 use crate::reader::{find_mark, mark, name, number};
 use crate::stop::Stop;
 use ac_syntax::{Ident, Mark, Placed, Token};
@@ -29,8 +29,8 @@ fn call<'a>(
     let command = Command::Call {
         line,
         target: copy_any(alloc, target)?,
-        object: copy(alloc, object)?,
-        op: copy(alloc, op)?,
+        object: object.copy(alloc)?,
+        op: op.copy(alloc)?,
         args,
     };
     Ok((command, rest))
@@ -47,7 +47,7 @@ fn set_end<'a>(
     ensures { Sees (λ read. (command_view read.0, read.1.now)) result (commands.set_end line target.now (argument_view from) tokens.now) }
 {
     let rest = mark(tokens, Mark::Semicolon)?;
-    let target = copy(alloc, target)?;
+    let target = target.copy(alloc)?;
     Ok((Command::Set { line, target, from }, rest))
 }
 
@@ -89,8 +89,8 @@ fn sum<'a>(
     let rest = mark(rest, Mark::Semicolon)?;
     let command = Command::Sum {
         line,
-        target: copy(alloc, target)?,
-        from: copy(alloc, from)?,
+        target: target.copy(alloc)?,
+        from: from.copy(alloc)?,
         minus,
         number,
     };
@@ -110,7 +110,7 @@ fn sum_or_set<'a>(
     match find_sign(tokens) {
         Some((minus, rest)) => sum(alloc, line, target, from, minus, rest),
         None => {
-            let from = Argument::Var(copy(alloc, from)?);
+            let from = Argument::Var(from.copy(alloc)?);
             set_end(alloc, line, target, from, tokens)
         }
     }

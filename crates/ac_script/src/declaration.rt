@@ -3,7 +3,6 @@ ghost use Rattle.std.specs.Prelude.{◌≡◌};
 ghost use Rattle.ac_script.specs.Outcomes.{Sees, Finds};
 ghost use Rattle.ac_script.specs.Declarations as declarations;
 
-use crate::names::copy;
 use crate::reader::{find_mark, find_word, is, mark, name, number, word};
 use crate::stop::Stop;
 use ac_syntax::{Decl, ElemKind, Ident, Kind, Mark, Placed, Token, TypeDef};
@@ -21,9 +20,9 @@ fn elem_of(word: &[u8]) -> Option<ElemKind>
     }
 }
 
-#[tactic(auto, unfolding(crate::specs::Declarations::late_kind))]
-fn late_kind(word: &[u8]) -> Option<Kind>
-    ensures { result ≡ declarations.late_kind word.now }
+#[tactic(auto, unfolding(crate::specs::Declarations::other_kind))]
+fn other_kind(word: &[u8]) -> Option<Kind>
+    ensures { result ≡ declarations.other_kind word.now }
 {
     if is(word, b"ordered_set") {
         Some(Kind::OrderedSet)
@@ -55,7 +54,7 @@ fn kind_of(word: &[u8]) -> Option<Kind>
     } else if is(word, b"hashed_set") {
         Some(Kind::HashedSet)
     } else {
-        late_kind(word)
+        other_kind(word)
     }
 }
 
@@ -163,7 +162,7 @@ pub fn type_declaration(
     let (name, rest) = name(tokens)?;
     let rest = word(rest, b"is")?;
     let (def, rest) = type_def(rest)?;
-    let name = copy(alloc, name)?;
+    let name = name.copy(alloc)?;
     Ok((Decl::TypeDecl { line, name, def }, rest))
 }
 
@@ -191,7 +190,7 @@ fn integer_end<'a>(
     ensures { Sees (λ read. (read.0, read.1.now)) result (declarations.integer_end line name.now tokens.now) }
 {
     let rest = mark(tokens, Mark::Semicolon)?;
-    let name = copy(alloc, name)?;
+    let name = name.copy(alloc)?;
     Ok((Decl::IntVar { line, name }, rest))
 }
 
@@ -205,7 +204,7 @@ fn text_end<'a>(
     ensures { Sees (λ read. (read.0, read.1.now)) result (declarations.text_end line name.now tokens.now) }
 {
     let rest = mark(tokens, Mark::Semicolon)?;
-    let name = copy(alloc, name)?;
+    let name = name.copy(alloc)?;
     Ok((Decl::TextVar { line, name }, rest))
 }
 
@@ -221,8 +220,8 @@ fn cursor_end<'a>(
 {
     let rest = word(tokens, b"cursor")?;
     let rest = mark(rest, Mark::Semicolon)?;
-    let name = copy(alloc, name)?;
-    let of = copy(alloc, of)?;
+    let name = name.copy(alloc)?;
+    let of = of.copy(alloc)?;
     Ok((Decl::CursorVar { line, name, of }, rest))
 }
 
@@ -239,8 +238,8 @@ fn object_end<'a>(
     let (capacity, rest) = capacity_end(tokens)?;
     let object = Decl::Object {
         line,
-        name: copy(alloc, name)?,
-        of: copy(alloc, of)?,
+        name: name.copy(alloc)?,
+        of: of.copy(alloc)?,
         capacity,
     };
     Ok((object, rest))

@@ -6,7 +6,7 @@ ghost use Rattle.ac_script.specs.Views.{head_view};
 ghost use Rattle.ac_script.specs.Heads as heads;
 
 use crate::item::Head;
-use crate::names::{copy, copy_any};
+use crate::names::copy_any;
 use crate::reader::{find_word, is, name, word};
 use crate::stop::Stop;
 use ac_syntax::{Ident, Placed, Token, ViewKind};
@@ -24,9 +24,9 @@ pub enum Lead {
     Declare,
 }
 
-#[tactic(auto, unfolding(crate::specs::Heads::late_lead))]
-fn late_lead(word: &[u8]) -> Option<Lead>
-    ensures { result ≡ heads.late_lead word.now }
+#[tactic(auto, unfolding(crate::specs::Heads::other_lead))]
+fn other_lead(word: &[u8]) -> Option<Lead>
+    ensures { result ≡ heads.other_lead word.now }
 {
     if is(word, b"reference") {
         Some(Lead::Reference)
@@ -52,7 +52,7 @@ fn lead_of(word: &[u8]) -> Option<Lead>
     } else if is(word, b"update_key") {
         Some(Lead::UpdateKey)
     } else {
-        late_lead(word)
+        other_lead(word)
     }
 }
 
@@ -132,10 +132,10 @@ fn loop_head(alloc: Global, line: u64, tokens: &[Placed]) -> Result<(Head, &[Pla
     let ((backward, object), rest) = loop_end(rest)?;
     let head = Head::Loop {
         line,
-        name: copy(alloc, name)?,
+        name: name.copy(alloc)?,
         elements,
         backward,
-        object: copy(alloc, object)?,
+        object: object.copy(alloc)?,
     };
     Ok((head, rest))
 }
@@ -172,9 +172,9 @@ fn view_head(
     let head = Head::View {
         line,
         kind,
-        object: copy(alloc, object)?,
+        object: object.copy(alloc)?,
         at: copy_any(alloc, at)?,
-        name: copy(alloc, name)?,
+        name: name.copy(alloc)?,
     };
     Ok((head, rest))
 }
@@ -192,9 +192,9 @@ fn key_head(alloc: Global, line: u64, tokens: &[Placed]) -> Result<(Head, &[Plac
     let head = Head::View {
         line,
         kind: ViewKind::UpdateKey,
-        object: copy(alloc, object)?,
-        at: Some(copy(alloc, cursor)?),
-        name: copy(alloc, name)?,
+        object: object.copy(alloc)?,
+        at: Some(cursor.copy(alloc)?),
+        name: name.copy(alloc)?,
     };
     Ok((head, rest))
 }
@@ -214,9 +214,9 @@ fn reference_head(
     let head = Head::View {
         line,
         kind: ViewKind::Reference,
-        object: copy(alloc, object)?,
+        object: object.copy(alloc)?,
         at: copy_any(alloc, at)?,
-        name: copy(alloc, reference)?,
+        name: reference.copy(alloc)?,
     };
     Ok((head, rest))
 }
@@ -227,7 +227,7 @@ fn stable_head(alloc: Global, line: u64, tokens: &[Placed]) -> Result<(Head, &[P
 {
     let (object, rest) = name(tokens)?;
     let rest = word(rest, b"do")?;
-    let object = copy(alloc, object)?;
+    let object = object.copy(alloc)?;
     Ok((Head::Stable { line, object }, rest))
 }
 

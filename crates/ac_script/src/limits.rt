@@ -1,12 +1,11 @@
 //! The limits of a script's tokens.
 ghost use Rattle.std.specs.Prelude.{◌≡◌, ◌++◌, ◌∷◌, [], ◌<◌, ◌^◌, ◌-◌, List};
-ghost use Rattle.std.specs.List.{list_any};
-ghost use Rattle.std.specs.Str.{bytes_eq};
 ghost use Rattle.ac_syntax.specs.declared.token.Token.{Token as Piece};
 ghost use Rattle.ac_syntax.specs.Limits as limits;
 ghost use Rattle.ac_syntax.specs.Limits.{is_word_of, is_past_limit};
 ghost use Rattle.ac_script.specs.Behind.{IsBehind, StandWithin};
 
+use crate::reserved::is_among;
 use ac_syntax::{Mark, Placed, Token};
 
 /// The longest name, in bytes.
@@ -19,7 +18,7 @@ const LONGEST_STRING: usize = 1_000;
 const DEEPEST: u64 = 16;
 
 /// The magnitude of the least integer.
-const LEAST: u64 = 9223372036854775808;
+pub const LEAST: u64 = 9223372036854775808;
 
 const BLOCK_WORDS: [&[u8]; 7] = [
     b"for",
@@ -44,12 +43,6 @@ struct Behind {
     opened: bool,
     /// The last token is a literal's minus.
     minus: bool,
-}
-
-fn is_among(word: &[u8], words: &[&[u8]]) -> bool
-    ensures { result ≡ list_any (λ w. bytes_eq word.now w.now) words.now }
-{
-    words.iter().any(|w| word == *w)
 }
 
 fn is_block_word(token: &Token) -> bool

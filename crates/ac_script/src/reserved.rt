@@ -43,7 +43,8 @@ const RESERVED: [&[u8]; 36] = [
     b"no_element",
 ];
 
-fn is_among(word: &[u8], words: &[&[u8]]) -> bool
+/// Whether a word is one of these.
+pub fn is_among(word: &[u8], words: &[&[u8]]) -> bool
     ensures { result ≡ list_any (λ w. bytes_eq word.now w.now) words.now }
 {
     words.iter().any(|w| word == *w)

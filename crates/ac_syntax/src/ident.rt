@@ -1,5 +1,6 @@
-ghost use Rattle.std.specs.Prelude.{◌≡◌};
+ghost use Rattle.std.specs.Prelude.{◌≡◌, IfOk};
 
+use std::alloc::{AllocError, Global};
 use std::marker::Model;
 
 /// The bytes of a name.
@@ -28,6 +29,12 @@ impl Ident {
         ensures { result.now ≡ self.now }
     {
         &self.bytes
+    }
+
+    pub fn copy(&self, alloc: Global) -> Result<Ident, AllocError>
+        ensures { IfOk result (λ copy. copy ≡ self.now) }
+    {
+        Ok(Ident::new(self.bytes.to_vec(alloc)?))
     }
 }
 

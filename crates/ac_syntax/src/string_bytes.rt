@@ -1,5 +1,6 @@
-ghost use Rattle.std.specs.Prelude.{◌≡◌};
+ghost use Rattle.std.specs.Prelude.{◌≡◌, IfOk};
 
+use std::alloc::{AllocError, Global};
 use std::marker::Model;
 
 /// The bytes of a string between its quotes, each doubled quote as one.
@@ -28,5 +29,11 @@ impl StringBytes {
         ensures { result.now ≡ self.now }
     {
         &self.bytes
+    }
+
+    pub fn copy(&self, alloc: Global) -> Result<StringBytes, AllocError>
+        ensures { IfOk result (λ copy. copy ≡ self.now) }
+    {
+        Ok(StringBytes::new(self.bytes.to_vec(alloc)?))
     }
 }

@@ -4,9 +4,9 @@ ghost use Rattle.ac_top.specs.Status.{number_of};
 /// How the program ends.
 #[derive(Clone, Copy, Debug, PartialEq, Eq)]
 pub enum Status {
-    /// The script ran to its end.
+    /// The script ran to its end, or, where it is only checked, can run.
     Done,
-    /// The input isn't a script, or is too long.
+    /// The input isn't a script that can run, or is too long.
     Refused,
     /// The words aren't the command's.
     Usage,

@@ -25,8 +25,11 @@ fn append_line_feeds(text: &mut Vec<u8>, count: u64) -> Result<(), AllocError>
 #[derive(Drop)]
 pub struct Page {
     text: Vec<u8>,
+    /// The line that is reached.
     line: u64,
+    /// No item is begun.
     is_empty: bool,
+    /// The next part goes without a space before it.
     is_joined: bool,
 }
 
