@@ -1,1 +1,4 @@
 pub mod Powers
+pub mod Earlier
+pub mod FirstReason
+pub mod Equivalences

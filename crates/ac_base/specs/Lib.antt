@@ -9,3 +9,8 @@ pub mod HashLaws
 pub mod Examples
 pub mod WeakOrders
 pub mod Growth
+pub mod Names
+pub mod Rows
+pub mod Limits
+pub mod Tampering
+pub mod FirstReason

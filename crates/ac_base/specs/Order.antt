@@ -1,11 +1,15 @@
 -- What an order of values is, and the orders of the integers and of the texts.
-use Rattle.std.specs.Prelude.{◌≡◌, ℕ, ℤ, Bool, true, false, List, nat_eq}
+use Rattle.std.specs.Prelude.{◌≡◌, ◌&&◌, ℕ, ℤ, Bool, true, false, not, List, nat_eq}
 use Rattle.std.specs.Ordering.{int_cmp, nat_cmp, is_lt}
 use Rattle.std.specs.Cmp.Lexicographic.{slice_cmp, pointwise}
 
 -- neither is less than the other
 abbrev pub IsTied : {A : Type 0} → (A → A → Bool) → A → A → Type 0
 IsTied less x y = (less x y ≡ false) × (less y x ≡ false)
+
+-- the same as a test
+abbrev pub are_level : {A : Type 0} → (A → A → Bool) → A → A → Bool
+are_level less x y = not (less x y) && not (less y x)
 
 -- a strict weak order
 pub record IsWeakOrder {A : Type 0} (less : A → A → Bool) : Type 0 where

@@ -6,7 +6,7 @@ use Rattle.std.specs.declared.cmp.Ordering.TheVariants.{Less, Equal, Greater}
 use Rattle.std.specs.Ordering.{int_cmp, is_lt, is_eq, MatchOrdering, int_eq, eq_by_cmp, ordering_reverse, on}
 use Rattle.std.specs.Cmp.{IsTotalOrder, IsEquivalence}
 use Rattle.std.specs.Cmp.Lexicographic.{bytes_decides, texts_ties}
-use Rattle.std.proofs.lemmas.Cmp.{int_ranked, tied_itself, tied_back, int_cmp_total, nat_list_cmp_total, on_total, nat_list_eq_equiv}
+use Rattle.std.proofs.lemmas.Cmp.{int_ranked, tied_itself, tied_back, int_cmp_total, nat_list_cmp_total, on_total, nat_list_eq_equiv, int_eq_equiv}
 use Rattle.ac_base.specs.Order.{IsTied, IsWeakOrder, integer_less, text_less, text_alike}
 use Rattle.ac_base.specs.Key.{key_of_text}
 
@@ -62,6 +62,12 @@ integers_equal x y alike =
 
 pub texts_equal : (x y : List ℕ) → IsTrue (text_alike x y) → x ≡ y
 texts_equal x y alike = (bytes_decides x y).0 alike
+
+pub integers_same : (x y : ℤ) → IsTrue (int_eq x y) ↔ (x ≡ y)
+integers_same x y = (integers_equal x y, λ e. subst (λ z. IsTrue (int_eq x z)) e (int_eq_equiv.refl x))
+
+pub texts_same : (x y : List ℕ) → IsTrue (text_alike x y) ↔ (x ≡ y)
+texts_same x y = bytes_decides x y
 
 pub integers_alike_where_tied : (x y : ℤ) → IsTrue (int_eq x y) ↔ IsTied integer_less x y
 integers_alike_where_tied = equal_exactly_where_tied int_cmp_total

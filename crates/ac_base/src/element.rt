@@ -10,6 +10,9 @@ use std::sync::ledger::{Blank, Ledger};
 
 /// What a container keeps.
 pub trait Elem: Drop {
+    /// Whether two elements are equal.
+    ghost is_same: { Self → Self → Bool };
+
     /// How many bytes a bounded holder counts for the element.
     ghost size_of: { Self → ℕ };
 
@@ -17,7 +20,7 @@ pub trait Elem: Drop {
     ghost blank_element: { Self };
 
     fn same(&self, other: &Self) -> bool
-        ensures { IsTrue result ↔ (self.now ≡ other.now) };
+        ensures { result ≡ is_same self.now other.now };
 
     fn copy(&self, alloc: Global) -> Result<Self, NoMemory>
         ensures { IfOk result (λ made. made ≡ self.now) };
@@ -27,6 +30,8 @@ pub trait Elem: Drop {
 
     fn blank(alloc: Global) -> Result<Self, NoMemory>
         ensures { IfOk result (λ made. made ≡ blank_element) };
+
+    ghost same_is_equality: { (x y : Self) → IsTrue (is_same x y) ↔ (x ≡ y) };
 }
 
 /// Elements in an order.

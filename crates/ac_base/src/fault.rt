@@ -1,3 +1,7 @@
+ghost use Rattle.std.specs.Prelude.{◌≡◌};
+ghost use Rattle.ac_base.specs.declared.fault.Fault.{Fault};
+ghost use Rattle.ac_base.specs.declared.fault.Fault.TheVariants as fault;
+
 use crate::reason::Reason;
 use std::alloc::{AllocError, AllocFailed};
 
@@ -23,4 +27,20 @@ pub enum Fault {
     /// The call is refused, for this reason.
     Raised(Reason),
     NoMemory,
+}
+
+impl From<NoMemory> for Fault {
+    ghost from_gives = { λ _ made. made ≡ fault.NoMemory };
+
+    fn from(_: NoMemory) -> Fault {
+        Fault::NoMemory
+    }
+}
+
+impl From<Reason> for Fault {
+    ghost from_gives = { λ reason made. made ≡ fault.Raised reason };
+
+    fn from(reason: Reason) -> Fault {
+        Fault::Raised(reason)
+    }
 }

@@ -2,7 +2,7 @@ ghost use Rattle.std.specs.Prelude.{◌≡◌, IsOk, IfOk, pos};
 ghost use Rattle.std.specs.Ordering.{int_eq};
 ghost use Rattle.std.proofs.lemmas.Cmp.{int_eq_equiv};
 ghost use Rattle.ac_base.specs.Order.{integer_less};
-ghost use Rattle.ac_base.specs.OrderLaws.{integer_order, integers_alike_where_tied};
+ghost use Rattle.ac_base.specs.OrderLaws.{integer_order, integers_alike_where_tied, integers_same};
 ghost use Rattle.ac_base.specs.Hash.{hash_of_integer};
 ghost use Rattle.ac_base.specs.HashLaws.{alike_integers_hashes};
 
@@ -14,6 +14,10 @@ use std::alloc::Global;
 use std::sync::ledger::Ledger;
 
 impl Elem for i64 {
+    ghost is_same = { int_eq };
+
+    ghost same_is_equality = { integers_same };
+
     ghost size_of = { λ _. 8 };
 
     ghost blank_element = { pos 0 };

@@ -99,3 +99,16 @@ fn keyed_texts(rt: HostRuntime) -> Result<(), Fail> {
     hashed_as_wanted(&rt, &second, &other, 314);
     Ok(())
 }
+
+#[test]
+fn the_earliest_step_comes_first(rt: HostRuntime) {
+    let found = [
+        Some(Reason::DeadCursor),
+        None,
+        Some(Reason::ElementTampering),
+        Some(Reason::CursorTampering),
+    ];
+    assert_eq!(rt; first_reason(&found), Some(Reason::ElementTampering));
+    assert_eq!(rt; first_reason(&found[..2]), Some(Reason::DeadCursor));
+    assert_eq!(rt; first_reason(&found[1..2]), None);
+}

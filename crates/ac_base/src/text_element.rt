@@ -3,7 +3,7 @@ ghost use Rattle.std.specs.Ordering.{on};
 ghost use Rattle.std.proofs.lemmas.Cmp.{on_equiv};
 ghost use Rattle.ac_base.specs.Key.{key_of_text};
 ghost use Rattle.ac_base.specs.Order.{text_less, text_alike};
-ghost use Rattle.ac_base.specs.OrderLaws.{text_order, key_order, text_equivalence, texts_alike_where_tied, keyed_texts_alike_where_tied};
+ghost use Rattle.ac_base.specs.OrderLaws.{text_order, key_order, text_equivalence, texts_same, texts_alike_where_tied, keyed_texts_alike_where_tied};
 ghost use Rattle.ac_base.specs.Hash.{hash_of_bytes};
 ghost use Rattle.ac_base.specs.HashLaws.{alike_texts_hashes};
 
@@ -17,6 +17,10 @@ use std::alloc::Global;
 use std::sync::ledger::Ledger;
 
 impl Elem for Text {
+    ghost is_same = { text_alike };
+
+    ghost same_is_equality = { texts_same };
+
     ghost size_of = { length };
 
     ghost blank_element = { [] };
@@ -91,12 +95,16 @@ impl KeyOf for Text {
 }
 
 impl Elem for KeyedText {
+    ghost is_same = { text_alike };
+
+    ghost same_is_equality = { texts_same };
+
     ghost size_of = { length };
 
     ghost blank_element = { [] };
 
     fn same(&self, other: &KeyedText) -> bool {
-        *self == *other
+        self.text().same(other.text())
     }
 
     fn copy(&self, alloc: Global) -> Result<KeyedText, NoMemory> {

@@ -14,7 +14,8 @@ use Rattle.ac_pool.proofs.NameLaws.{cases_name}
 use Rattle.ac_pool.proofs.ContentsLaws.{live_value, value_of-added_same, value_of-added_other, value_of-taken_same, value_of-taken_other, live_count-added, live_count-taken, fresh_is_dead, taken_live, entries-reserved, reserved_kept, reserved_grown}
 use Rattle.ac_chain.specs.declared.links.Node.{Node}
 use Rattle.ac_chain.specs.declared.links.Links.{Links}
-use Rattle.ac_chain.specs.Rows.{Row, row, Chained, chained, index_of, place_of, IsLive, value_of, name_at, name_before, next_name, prev_name, names, cleared, no_rows, reserved, inserted, removed, IsFresh, IsSound, walk_from, WalksInOrder}
+use Rattle.ac_base.specs.Rows.{Row, row, names}
+use Rattle.ac_chain.specs.Rows.{Chained, chained, index_of, place_of, IsLive, value_of, name_at, name_before, next_name, prev_name, cleared, no_rows, reserved, inserted, removed, IsFresh, IsSound, walk_from, WalksInOrder}
 use Rattle.ac_chain.specs.ChainFields.{node, links, first_or, last_or, HasName, IsOnce, Linked, StandsFor, walked, rows_in, IsChain, next_of, prev_of, linked_before, unlinked}
 use Rattle.ac_chain.proofs.Cuts.{apart, index_of-cut, name_at_has, HasName-right, HasName-cut, HasName-put, once_cut, once_gone, once_put, has_live, live_has, Cut, cut, cut-row, split, once_at, remove-cut, insert-cut, name_at-first, name_at-after, name_before-cut}
 use Rattle.ac_chain.proofs.Linking.{Linked-same, Linked-at, Linked-live, walked-is}
@@ -24,24 +25,24 @@ module _ {X : Type 0} where
   abbrev pub view_of : Links X → Chained X
   view_of l = chained (rows_in l) l.nodes.next_serial l.nodes.spare
 
-  pub ends_of : (l : Links X) (rows : List (Row X)) → StandsFor l rows → Ends l rows
+  pub ends_of : (l : Links X) (rows : List (Row Name X)) → StandsFor l rows → Ends l rows
   ends_of l rows s = record { linked = s.linked; first = s.first; last = s.last }
 
-  pub rows_in-is : (l : Links X) (rows : List (Row X)) → StandsFor l rows → rows_in l ≡ rows
+  pub rows_in-is : (l : Links X) (rows : List (Row Name X)) → StandsFor l rows → rows_in l ≡ rows
   unfolding rows_in
   rows_in-is l rows s = ap (walked (live_count l.nodes) l.nodes) s.first ∙ walked-is l.nodes None rows (live_count l.nodes) s.linked (omega (arith, s.count))
 
-  pub IsChain-from : (l : Links X) (rows : List (Row X)) → StandsFor l rows → IsChain l
+  pub IsChain-from : (l : Links X) (rows : List (Row Name X)) → StandsFor l rows → IsChain l
   IsChain-from l rows s = subst (λ zs. StandsFor l zs) (sym (rows_in-is l rows s)) s
 
-  pub view-is : (l : Links X) (rows : List (Row X)) → StandsFor l rows → view_of l ≡ chained rows l.nodes.next_serial l.nodes.spare
+  pub view-is : (l : Links X) (rows : List (Row Name X)) → StandsFor l rows → view_of l ≡ chained rows l.nodes.next_serial l.nodes.spare
   view-is l rows s = ap (λ zs. chained zs l.nodes.next_serial l.nodes.spare) (rows_in-is l rows s)
 
   -- the rows' names are the pool's
-  pub named_live : (l : Links X) (rows : List (Row X)) → StandsFor l rows → (a : Name) → HasName a rows → pool.IsLive l.nodes a
+  pub named_live : (l : Links X) (rows : List (Row Name X)) → StandsFor l rows → (a : Name) → HasName a rows → pool.IsLive l.nodes a
   named_live l rows s a h = Linked-live (pool.value_of l.nodes) None rows None s.linked a h
 
-  pub sound_of : (l : Links X) (rows : List (Row X)) → StandsFor l rows → IsSound (chained rows l.nodes.next_serial l.nodes.spare)
+  pub sound_of : (l : Links X) (rows : List (Row Name X)) → StandsFor l rows → IsSound (chained rows l.nodes.next_serial l.nodes.spare)
   sound_of l rows s =
       let live = λ (a : Name) (h : index_of a rows < length rows). named_live l rows s a (live_has a rows h) in record {
         once = once_at rows s.once;
@@ -56,25 +57,25 @@ module _ {X : Type 0} where
   chain_sound l s = sound_of l (rows_in l) s
 
   -- the node of a row
-  pub node_at : (l : Links X) (rows : List (Row X)) (s : StandsFor l rows) (a : Name) (k : Cut a rows) → pool.value_of l.nodes a ≡ Some (node k.at.value (last_or None k.before) (first_or k.after None))
+  pub node_at : (l : Links X) (rows : List (Row Name X)) (s : StandsFor l rows) (a : Name) (k : Cut a rows) → pool.value_of l.nodes a ≡ Some (node k.at.value (last_or None k.before) (first_or k.after None))
   node_at l rows s a k =
       ap (pool.value_of l.nodes) k.named ∙ Linked-at (pool.value_of l.nodes) None k.before k.at k.after None (subst (λ zs. Linked (pool.value_of l.nodes) None zs None) k.is s.linked)
 
   same_node : (m n : Node X) → Some m ≡ Some n → m ≡ n
   same_node m n e = cc
 
-  pub value_at : (l : Links X) (rows : List (Row X)) (next spare : ℕ) → StandsFor l rows → (a : Name) (n : Node X) → pool.value_of l.nodes a ≡ Some n → Some n.value ≡ value_of (chained rows next spare) a
+  pub value_at : (l : Links X) (rows : List (Row Name X)) (next spare : ℕ) → StandsFor l rows → (a : Name) (n : Node X) → pool.value_of l.nodes a ≡ Some n → Some n.value ≡ value_of (chained rows next spare) a
   value_at l rows next spare s a n is =
       let k = cut a rows (s.all a (ap is_some is)) in
       let same : n ≡ node k.at.value (last_or None k.before) (first_or k.after None) = same_node n _ (sym is ∙ node_at l rows s a k) in
-      ap (λ (m : Node X). Some m.value) same ∙ sym (ap (option_map (λ (r : Row X). r.value)) (cut-row a rows k))
+      ap (λ (m : Node X). Some m.value) same ∙ sym (ap (option_map (λ (r : Row Name X). r.value)) (cut-row a rows k))
 
-  pub next_at : (l : Links X) (rows : List (Row X)) → StandsFor l rows → (a : Name) → HasName a rows → next_of (pool.value_of l.nodes a) ≡ name_at rows (suc (index_of a rows))
+  pub next_at : (l : Links X) (rows : List (Row Name X)) → StandsFor l rows → (a : Name) → HasName a rows → next_of (pool.value_of l.nodes a) ≡ name_at rows (suc (index_of a rows))
   next_at l rows s a h =
       let k = cut a rows h in
       ap next_of (node_at l rows s a k) ∙ sym (ap (λ i. name_at rows (suc i)) k.place ∙ ap (λ zs. name_at zs (suc (length k.before))) k.is ∙ name_at-after k.before k.at k.after)
 
-  pub prev_at : (l : Links X) (rows : List (Row X)) → StandsFor l rows → (a : Name) → HasName a rows → prev_of (pool.value_of l.nodes a) ≡ name_before rows (index_of a rows)
+  pub prev_at : (l : Links X) (rows : List (Row Name X)) → StandsFor l rows → (a : Name) → HasName a rows → prev_of (pool.value_of l.nodes a) ≡ name_before rows (index_of a rows)
   prev_at l rows s a h =
       let k = cut a rows h in
       ap prev_of (node_at l rows s a k) ∙ sym (ap (λ i. name_before rows i) k.place ∙ ap (λ zs. name_before zs (length k.before)) k.is ∙ name_before-cut k.before (k.at ∷ k.after))
@@ -95,7 +96,7 @@ module _ {X : Type 0} where
       dead a h = let no : pool.value_of d a ≡ None = ap (λ m. map.get m a) none ∙ map.get-empty name_cmp a in cc
 
   -- the same nodes in a pool that has grown
-  pub grown_stands : (l : Links X) (rows : List (Row X)) → StandsFor l rows → (d : Contents (Node X)) → d.entries ≡ l.nodes.entries → pool.IsSound d → StandsFor (links d l.first l.last) rows
+  pub grown_stands : (l : Links X) (rows : List (Row Name X)) → StandsFor l rows → (d : Contents (Node X)) → d.entries ≡ l.nodes.entries → pool.IsSound d → StandsFor (links d l.first l.last) rows
   grown_stands l rows s d same sound = record {
     linked = Linked-same (pool.value_of l.nodes) (pool.value_of d) None rows None (λ a h. ap (λ m. map.get m a) same) s.linked;
     first = s.first;
@@ -106,12 +107,12 @@ module _ {X : Type 0} where
     sound = sound;
   }
 
-  length_cut : (xs : List (Row X)) (r : Row X) (ys : List (Row X)) → length (xs ++ r ∷ ys) ≡ suc (length (xs ++ ys))
+  length_cut : (xs : List (Row Name X)) (r : Row Name X) (ys : List (Row Name X)) → length (xs ++ r ∷ ys) ≡ suc (length (xs ++ ys))
   length_cut [] r ys = refl
   length_cut (x ∷ xs) r ys = ap suc (length_cut xs r ys)
 
   -- a row more
-  pub inserted_stands : (l : Links X) (xs ys : List (Row X)) (place : Option Name) (a : Name) (v : X) (d : Contents (Node X)) → StandsFor l (xs ++ ys) → pool.IsFresh l.nodes a
+  pub inserted_stands : (l : Links X) (xs ys : List (Row Name X)) (place : Option Name) (a : Name) (v : X) (d : Contents (Node X)) → StandsFor l (xs ++ ys) → pool.IsFresh l.nodes a
       → d ≡ added l.nodes a (node v None None) → pool.IsSound d → place ≡ first_or ys None → StandsFor (linked_before (links d l.first l.last) place a) (xs ++ row a v ∷ ys)
   inserted_stands l xs ys place a v d s fresh is sound at =
       let f = pool.value_of l.nodes in
@@ -142,7 +143,7 @@ module _ {X : Type 0} where
       }
 
   -- a row less
-  pub removed_stands : (l : Links X) (xs : List (Row X)) (r : Row X) (ys : List (Row X)) (d : Contents (Node X)) → StandsFor l (xs ++ r ∷ ys)
+  pub removed_stands : (l : Links X) (xs : List (Row Name X)) (r : Row Name X) (ys : List (Row Name X)) (d : Contents (Node X)) → StandsFor l (xs ++ r ∷ ys)
       → d ≡ taken (unlinked l r.name).nodes r.name → pool.IsSound d → StandsFor (links d (unlinked l r.name).first (unlinked l r.name).last) (xs ++ ys)
   removed_stands l xs r ys d s is sound =
       let m = unlinked l r.name in
@@ -169,7 +170,7 @@ module _ {X : Type 0} where
       }
 
   -- a row elsewhere
-  pub moved_stands : (l : Links X) (xs : List (Row X)) (r : Row X) (ys zs ws : List (Row X)) (place : Option Name) → StandsFor l (xs ++ r ∷ ys) → xs ++ ys ≡ zs ++ ws → place ≡ first_or ws None
+  pub moved_stands : (l : Links X) (xs : List (Row Name X)) (r : Row Name X) (ys zs ws : List (Row Name X)) (place : Option Name) → StandsFor l (xs ++ r ∷ ys) → xs ++ ys ≡ zs ++ ws → place ≡ first_or ws None
       → StandsFor (linked_before (unlinked l r.name) place r.name) (zs ++ r ∷ ws)
   moved_stands l xs r ys zs ws place s same at =
       let m = unlinked l r.name in
@@ -208,7 +209,7 @@ module _ {X : Type 0} where
   entries_either (Ok x) c d n p q = ap (λ (e : Contents (Node X)). e.entries) p ∙ entries-reserved c n
   entries_either (Err e) c d n p q = ap (λ (e : Contents (Node X)). e.entries) q
 
-  pub reserved_view : (rows : List (Row X)) (c : Contents (Node X)) (n : ℕ) → length rows ≡ live_count c → chained rows (pool.reserved c n).next_serial (pool.reserved c n).spare ≡ reserved (chained rows c.next_serial c.spare) n
+  pub reserved_view : (rows : List (Row Name X)) (c : Contents (Node X)) (n : ℕ) → length rows ≡ live_count c → chained rows (pool.reserved c n).next_serial (pool.reserved c n).spare ≡ reserved (chained rows c.next_serial c.spare) n
   reserved_view rows c n count = elim (cases_lt c.spare n) [
     | inl lt ↦ ap (λ (d : Contents (Node X)). chained rows d.next_serial d.spare) (reserved_grown c n lt) ∙ ap (λ m. chained rows c.next_serial (pow8 (m + n) - m)) (sym count) ∙ sym (cond-false _ _ _ (lt-leb n c.spare lt))
     | inr le ↦ ap (λ (d : Contents (Node X)). chained rows d.next_serial d.spare) (reserved_kept c n le) ∙ sym (cond-true _ _ _ (le-leb n c.spare le))
@@ -226,7 +227,7 @@ module _ {X : Type 0} where
   pub first_is : (l : Links X) → IsChain l → l.first ≡ name_at (rows_in l) 0
   first_is l s = s.first ∙ sym (name_at-first (rows_in l))
 
-  walk-names : (rows : List (Row X)) (next spare : ℕ) (zs ys : List (Row X)) (many : ℕ) → rows ≡ zs ++ ys → IsOnce rows → length ys ≤ many → walk_from (chained rows next spare) many (first_or ys None) ≡ names ys
+  walk-names : (rows : List (Row Name X)) (next spare : ℕ) (zs ys : List (Row Name X)) (many : ℕ) → rows ≡ zs ++ ys → IsOnce rows → length ys ≤ many → walk_from (chained rows next spare) many (first_or ys None) ≡ names ys
   walk-names rows next spare zs [] zero is once h = refl
   walk-names rows next spare zs [] (suc many) is once h = refl
   walk-names rows next spare zs (y ∷ ys) zero is once h = absurd (omega arith)
@@ -241,11 +242,11 @@ module _ {X : Type 0} where
   walks l s many h = ap (walk_from (view_of l) many) (name_at-first (rows_in l)) ∙ walk-names (rows_in l) l.nodes.next_serial l.nodes.spare [] (rows_in l) many refl s.once h
 
   -- a name's place is where it stands
-  pub index_at : (rows : List (Row X)) → IsOnce rows → (i : ℕ) (a : Name) → name_at rows i ≡ Some a → (HasName a rows) × (index_of a rows ≡ i)
+  pub index_at : (rows : List (Row Name X)) → IsOnce rows → (i : ℕ) (a : Name) → name_at rows i ≡ Some a → (HasName a rows) × (index_of a rows ≡ i)
   index_at rows once i a e =
       let h = name_at_has rows i a e in
       let k = cut a rows h in
-      let at : name_at rows (index_of a rows) ≡ Some a = ap (option_map (λ (r : Row X). r.name)) (cut-row a rows k) ∙ ap Some (sym k.named) in
+      let at : name_at rows (index_of a rows) ≡ Some a = ap (option_map (λ (r : Row Name X). r.name)) (cut-row a rows k) ∙ ap Some (sym k.named) in
       (h, once_at rows once (index_of a rows) i a at e)
 
   pub next_is : (l : Links X) → IsChain l → (a : Name) → IsLive (view_of l) a → next_of (pool.value_of l.nodes a) ≡ next_name (view_of l) a
@@ -254,10 +255,10 @@ module _ {X : Type 0} where
   pub prev_is : (l : Links X) → IsChain l → (a : Name) → IsLive (view_of l) a → prev_of (pool.value_of l.nodes a) ≡ prev_name (view_of l) a
   prev_is l s a h = prev_at l (rows_in l) s a (live_has a (rows_in l) h)
 
-  pub next_in_order : (rows : List (Row X)) (next spare : ℕ) → IsOnce rows → (a : Name) (i : ℕ) → name_at rows i ≡ Some a → next_name (chained rows next spare) a ≡ name_at rows (i + 1)
+  pub next_in_order : (rows : List (Row Name X)) (next spare : ℕ) → IsOnce rows → (a : Name) (i : ℕ) → name_at rows i ≡ Some a → next_name (chained rows next spare) a ≡ name_at rows (i + 1)
   next_in_order rows next spare once a i e = ap (λ k. name_at rows (k + 1)) (index_at rows once i a e).1
 
-  pub prev_in_order : (rows : List (Row X)) (next spare : ℕ) → IsOnce rows → (a : Name) (i : ℕ) → name_at rows i ≡ Some a → prev_name (chained rows next spare) a ≡ name_before rows i
+  pub prev_in_order : (rows : List (Row Name X)) (next spare : ℕ) → IsOnce rows → (a : Name) (i : ℕ) → name_at rows i ≡ Some a → prev_name (chained rows next spare) a ≡ name_before rows i
   prev_in_order rows next spare once a i e = ap (λ k. name_before rows k) (index_at rows once i a e).1
 
   pub placed : (l : Links X) (place : Option Name) → ((b : Name) → place ≡ Some b → IsLive (view_of l) b) → (b : Name) → place ≡ Some b → HasName b (rows_in l)

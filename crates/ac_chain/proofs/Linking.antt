@@ -4,7 +4,7 @@ use Rattle.std.specs.Option.{option_map}
 use Rattle.ac_base.specs.declared.name.Name.{Name}
 use Rattle.ac_pool.specs.Contents.{Contents, value_of}
 use Rattle.ac_chain.specs.declared.links.Node.{Node}
-use Rattle.ac_chain.specs.Rows.{Row}
+use Rattle.ac_base.specs.Rows.{Row}
 use Rattle.ac_chain.specs.ChainFields.{node, first_or, last_or, HasName, IsOnce, Linked, walked, walked_on}
 use Rattle.ac_chain.proofs.Cuts.{once_left, once_right, apart}
 
@@ -16,28 +16,28 @@ some_name a b e = cc
 
 module _ {X : Type 0} where
   -- nodes of no other name are read
-  pub Linked-same : (f g : Nodes X) (p : Option Name) (rows : List (Row X)) (n : Option Name) → ((a : Name) → HasName a rows → g a ≡ f a) → Linked f p rows n → Linked g p rows n
+  pub Linked-same : (f g : Nodes X) (p : Option Name) (rows : List (Row Name X)) (n : Option Name) → ((a : Name) → HasName a rows → g a ≡ f a) → Linked f p rows n → Linked g p rows n
   Linked-same f g p [] n same h = tt
   Linked-same f g p (r ∷ rows) n same h = (same r.name (inl refl) ∙ h.0, Linked-same f g (Some r.name) rows n (λ a t. same a (inr t)) h.1)
 
-  pub Linked-left : (f : Nodes X) (p : Option Name) (xs ys : List (Row X)) (n : Option Name) → Linked f p (xs ++ ys) n → Linked f p xs (first_or ys n)
+  pub Linked-left : (f : Nodes X) (p : Option Name) (xs ys : List (Row Name X)) (n : Option Name) → Linked f p (xs ++ ys) n → Linked f p xs (first_or ys n)
   Linked-left f p [] ys n h = tt
   Linked-left f p (x ∷ []) ys n h = (h.0, tt)
   Linked-left f p (x ∷ y ∷ xs) ys n h = (h.0, Linked-left f (Some x.name) (y ∷ xs) ys n h.1)
 
-  pub Linked-right : (f : Nodes X) (p : Option Name) (xs ys : List (Row X)) (n : Option Name) → Linked f p (xs ++ ys) n → Linked f (last_or p xs) ys n
+  pub Linked-right : (f : Nodes X) (p : Option Name) (xs ys : List (Row Name X)) (n : Option Name) → Linked f p (xs ++ ys) n → Linked f (last_or p xs) ys n
   Linked-right f p [] ys n h = h
   Linked-right f p (x ∷ xs) ys n h = Linked-right f (Some x.name) xs ys n h.1
 
-  pub Linked-append : (f : Nodes X) (p : Option Name) (xs ys : List (Row X)) (n : Option Name) → Linked f p xs (first_or ys n) → Linked f (last_or p xs) ys n → Linked f p (xs ++ ys) n
+  pub Linked-append : (f : Nodes X) (p : Option Name) (xs ys : List (Row Name X)) (n : Option Name) → Linked f p xs (first_or ys n) → Linked f (last_or p xs) ys n → Linked f p (xs ++ ys) n
   Linked-append f p [] ys n h k = k
   Linked-append f p (x ∷ []) ys n h k = (h.0, k)
   Linked-append f p (x ∷ y ∷ xs) ys n h k = (h.0, Linked-append f (Some x.name) (y ∷ xs) ys n h.1 k)
 
-  pub Linked-at : (f : Nodes X) (p : Option Name) (xs : List (Row X)) (r : Row X) (ys : List (Row X)) (n : Option Name) → Linked f p (xs ++ r ∷ ys) n → f r.name ≡ Some (node r.value (last_or p xs) (first_or ys n))
+  pub Linked-at : (f : Nodes X) (p : Option Name) (xs : List (Row Name X)) (r : Row Name X) (ys : List (Row Name X)) (n : Option Name) → Linked f p (xs ++ r ∷ ys) n → f r.name ≡ Some (node r.value (last_or p xs) (first_or ys n))
   Linked-at f p xs r ys n h = (Linked-right f p xs (r ∷ ys) n h).0
 
-  pub Linked-live : (f : Nodes X) (p : Option Name) (rows : List (Row X)) (n : Option Name) → Linked f p rows n → (a : Name) → HasName a rows → IsSome (f a)
+  pub Linked-live : (f : Nodes X) (p : Option Name) (rows : List (Row Name X)) (n : Option Name) → Linked f p rows n → (a : Name) → HasName a rows → IsSome (f a)
   Linked-live f p [] n h a t = absurd t
   Linked-live f p (r ∷ rows) n h a t = elim t [
     | inl e ↦ ap (λ k. is_some (f k)) e ∙ ap is_some h.0
@@ -45,7 +45,7 @@ module _ {X : Type 0} where
   ]
 
   -- the rows are those that a walk by the links to the next one meets
-  pub walked-is : (c : Contents (Node X)) (p : Option Name) (rows : List (Row X)) (many : ℕ) → Linked (value_of c) p rows None → length rows ≤ many → walked many c (first_or rows None) ≡ rows
+  pub walked-is : (c : Contents (Node X)) (p : Option Name) (rows : List (Row Name X)) (many : ℕ) → Linked (value_of c) p rows None → length rows ≤ many → walked many c (first_or rows None) ≡ rows
   walked-is c p [] zero h le = refl
   walked-is c p [] (suc many) h le = refl
   walked-is c p (r ∷ rows) zero h le = absurd (omega arith)
@@ -63,12 +63,12 @@ module _ {X : Type 0} where
     pub here : (a : Name) → o ≡ Some a → g a ≡ option_map w (f a)
     pub there : (a : Name) → (o ≡ Some a → ⊥) → g a ≡ f a
 
-  pub last_named : (p : Name) (rows : List (Row X)) → (a : Name) × (last_or (Some p) rows ≡ Some a) × ((a ≡ p) ⊎ HasName a rows)
+  pub last_named : (p : Name) (rows : List (Row Name X)) → (a : Name) × (last_or (Some p) rows ≡ Some a) × ((a ≡ p) ⊎ HasName a rows)
   last_named p [] = (p, refl, inl refl)
   last_named p (r ∷ rows) = let k = last_named r.name rows in (k.0, k.1, inr k.2)
 
   -- the last of the rows is linked with another
-  pub Linked-last : (f g : Nodes X) (p : Option Name) (rows : List (Row X)) (n to : Option Name) → IsOnce rows → Writes f g (last_or None rows) (next_put to) → Linked f p rows n → Linked g p rows to
+  pub Linked-last : (f g : Nodes X) (p : Option Name) (rows : List (Row Name X)) (n to : Option Name) → IsOnce rows → Writes f g (last_or None rows) (next_put to) → Linked f p rows n → Linked g p rows to
   Linked-last f g p [] n to once w h = tt
   Linked-last f g p (r ∷ []) n to once w h = (w.here r.name refl ∙ ap (option_map (next_put to)) h.0, tt)
   Linked-last f g p (r ∷ s ∷ rows) n to once w h =
@@ -77,21 +77,21 @@ module _ {X : Type 0} where
       (w.there r.name n_r ∙ h.0, Linked-last f g (Some r.name) (s ∷ rows) n to once.1 w h.1)
 
   -- the first of the rows is linked with another
-  pub Linked-first : (f g : Nodes X) (p to : Option Name) (rows : List (Row X)) (n : Option Name) → IsOnce rows → Writes f g (first_or rows None) (prev_put to) → Linked f p rows n → Linked g to rows n
+  pub Linked-first : (f g : Nodes X) (p to : Option Name) (rows : List (Row Name X)) (n : Option Name) → IsOnce rows → Writes f g (first_or rows None) (prev_put to) → Linked f p rows n → Linked g to rows n
   Linked-first f g p to [] n once w h = tt
   Linked-first f g p to (r ∷ rows) n once w h =
       (w.here r.name refl ∙ ap (option_map (prev_put to)) h.0, Linked-same f g (Some r.name) rows n (λ a t. w.there a (λ e. once.0 (subst (λ k. HasName k rows) (sym (some_name r.name a e)) t))) h.1)
 
-  pub first_has : (rows : List (Row X)) (a : Name) → first_or rows None ≡ Some a → HasName a rows
+  pub first_has : (rows : List (Row Name X)) (a : Name) → first_or rows None ≡ Some a → HasName a rows
   first_has [] a e = cc
   first_has (r ∷ rows) a e = inl (some_name a r.name (sym e))
 
-  last_has : (rows : List (Row X)) (a : Name) → last_or None rows ≡ Some a → HasName a rows
+  last_has : (rows : List (Row Name X)) (a : Name) → last_or None rows ≡ Some a → HasName a rows
   last_has [] a e = cc
   last_has (r ∷ rows) a e = let k = last_named r.name rows in subst (λ b. HasName b (r ∷ rows)) (some_name k.0 a (sym k.1 ∙ e)) k.2
 
   -- two parts become one
-  pub Linked-join : (f g h : Nodes X) (xs ys : List (Row X)) (n p q to : Option Name) → IsOnce (xs ++ ys)
+  pub Linked-join : (f g h : Nodes X) (xs ys : List (Row Name X)) (n p q to : Option Name) → IsOnce (xs ++ ys)
       → Writes f g (last_or None xs) (next_put to) → Writes g h (first_or ys None) (prev_put (last_or None xs)) → to ≡ first_or ys q
       → Linked f None xs n → Linked f p ys q → Linked h None (xs ++ ys) q
   Linked-join f g h xs ys n p q to once w v is left right =
@@ -102,7 +102,7 @@ module _ {X : Type 0} where
       Linked-append h None xs ys q (subst (λ o. Linked h None xs o) is left_h) right_h
 
   -- the joining touches no node of another part
-  pub Linked-aside : (f g h : Nodes X) (xs ys zs : List (Row X)) (p n to of : Option Name)
+  pub Linked-aside : (f g h : Nodes X) (xs ys zs : List (Row Name X)) (p n to of : Option Name)
       → ((a : Name) → HasName a xs → HasName a zs → ⊥) → ((a : Name) → HasName a ys → HasName a zs → ⊥)
       → Writes f g (last_or None xs) (next_put to) → Writes g h (first_or ys None) (prev_put of)
       → Linked f p zs n → Linked h p zs n

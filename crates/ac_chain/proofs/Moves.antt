@@ -5,22 +5,23 @@ use Rattle.std.specs.List.{slice_get, insert, remove}
 use Rattle.std.specs.Option.{option_map}
 use Rattle.ac_base.specs.declared.name.Name.{Name}
 use Rattle.ac_chain.specs.declared.links.Links.{Links}
-use Rattle.ac_chain.specs.Rows.{Row, Chained, chained, index_of, place_of, IsLive, name_at, next_name, put_at, moved_rows, moved}
+use Rattle.ac_base.specs.Rows.{Row}
+use Rattle.ac_chain.specs.Rows.{Chained, chained, index_of, place_of, IsLive, name_at, next_name, put_at, moved_rows, moved}
 use Rattle.ac_chain.specs.ChainFields.{first_or, HasName, IsOnce, StandsFor, rows_in, IsChain, linked_before, unlinked}
 use Rattle.ac_chain.proofs.Cuts.{apart, live_has, Cut, cut, cut-row, split, slice_get-cut, remove-cut, insert-cut, index_of-cut, name_at-after}
 use Rattle.ac_chain.proofs.Standing.{unlinked-keeps, linked_before-keeps}
 use Rattle.ac_chain.proofs.Chains.{view_of, rows_in-is, IsChain-from, moved_stands, placed}
 
 module _ {X : Type 0} where
-  pub same_head : (x b : Row X) (xs bs : List (Row X)) → x ∷ xs ≡ b ∷ bs → x ≡ b
+  pub same_head : (x b : Row Name X) (xs bs : List (Row Name X)) → x ∷ xs ≡ b ∷ bs → x ≡ b
   same_head x b xs bs e = cc
 
-  pub same_tail : (x b : Row X) (xs bs : List (Row X)) → x ∷ xs ≡ b ∷ bs → xs ≡ bs
+  pub same_tail : (x b : Row Name X) (xs bs : List (Row Name X)) → x ∷ xs ≡ b ∷ bs → xs ≡ bs
   same_tail x b xs bs e = cc
 
   -- a row and a place of one list: the place is after the row, or not
-  pub two_cuts : (xs : List (Row X)) (r : Row X) (ys bs cs : List (Row X)) → xs ++ r ∷ ys ≡ bs ++ cs
-      → ((us : List (Row X)) × (bs ≡ xs ++ r ∷ us) × (ys ≡ us ++ cs)) ⊎ ((us : List (Row X)) × (xs ≡ bs ++ us) × (cs ≡ us ++ r ∷ ys))
+  pub two_cuts : (xs : List (Row Name X)) (r : Row Name X) (ys bs cs : List (Row Name X)) → xs ++ r ∷ ys ≡ bs ++ cs
+      → ((us : List (Row Name X)) × (bs ≡ xs ++ r ∷ us) × (ys ≡ us ++ cs)) ⊎ ((us : List (Row Name X)) × (xs ≡ bs ++ us) × (cs ≡ us ++ r ∷ ys))
   two_cuts xs r ys [] cs e = inr (xs, refl, sym e)
   two_cuts [] r ys (b ∷ bs) cs e = inl (bs, ap (λ x. x ∷ bs) (sym (same_head r b ys (bs ++ cs) e)), same_tail r b ys (bs ++ cs) e)
   two_cuts (x ∷ xs) r ys (b ∷ bs) cs e =
@@ -31,25 +32,25 @@ module _ {X : Type 0} where
       ]
 
   -- what a move leaves
-  pub record Move (xs : List (Row X)) (r : Row X) (ys : List (Row X)) (place : Option Name) (to : List (Row X)) : Type 0 where
-    pub left : List (Row X)
-    pub right : List (Row X)
+  pub record Move (xs : List (Row Name X)) (r : Row Name X) (ys : List (Row Name X)) (place : Option Name) (to : List (Row Name X)) : Type 0 where
+    pub left : List (Row Name X)
+    pub right : List (Row Name X)
     pub same : xs ++ ys ≡ left ++ right
     pub is : to ≡ left ++ r ∷ right
     pub named : (place ≡ Some r.name → ⊥) → place ≡ first_or right None
 
-  moved_rows-cut : (xs : List (Row X)) (r : Row X) (ys : List (Row X)) (j : ℕ) (left right : List (Row X)) → xs ++ ys ≡ left ++ right → j ≡ length left → put_at (remove (xs ++ r ∷ ys) (length xs)) j (slice_get (xs ++ r ∷ ys) (length xs)) ≡ left ++ r ∷ right
+  moved_rows-cut : (xs : List (Row Name X)) (r : Row Name X) (ys : List (Row Name X)) (j : ℕ) (left right : List (Row Name X)) → xs ++ ys ≡ left ++ right → j ≡ length left → put_at (remove (xs ++ r ∷ ys) (length xs)) j (slice_get (xs ++ r ∷ ys) (length xs)) ≡ left ++ r ∷ right
   moved_rows-cut xs r ys j left right same at =
       ap (put_at (remove (xs ++ r ∷ ys) (length xs)) j) (slice_get-cut xs r ys) ∙ ap (λ zs. insert zs j r) (remove-cut xs r ys ∙ same) ∙ ap (λ k. insert (left ++ right) k r) at ∙ insert-cut left r right
 
-  length_past : (xs : List (Row X)) (r : Row X) (us : List (Row X)) → length (xs ++ r ∷ us) ≡ suc (length (xs ++ us))
+  length_past : (xs : List (Row Name X)) (r : Row Name X) (us : List (Row Name X)) → length (xs ++ r ∷ us) ≡ suc (length (xs ++ us))
   length_past [] r us = refl
   length_past (x ∷ xs) r us = ap suc (length_past xs r us)
 
-  append-length : (xs us : List (Row X)) → length (xs ++ us) ≡ length xs + length us
+  append-length : (xs us : List (Row Name X)) → length (xs ++ us) ≡ length xs + length us
   append-length xs us = length-append xs us
 
-  move_at : (xs : List (Row X)) (r : Row X) (ys bs cs : List (Row X)) (place : Option Name) → xs ++ r ∷ ys ≡ bs ++ cs → place ≡ first_or cs None → Move xs r ys place (moved_rows (xs ++ r ∷ ys) (length xs) (length bs))
+  move_at : (xs : List (Row Name X)) (r : Row Name X) (ys bs cs : List (Row Name X)) (place : Option Name) → xs ++ r ∷ ys ≡ bs ++ cs → place ≡ first_or cs None → Move xs r ys place (moved_rows (xs ++ r ∷ ys) (length xs) (length bs))
   move_at xs r ys bs cs place e at = elim (two_cuts xs r ys bs cs e) [
     | inl k ↦
         let us = k.0 in
@@ -79,12 +80,12 @@ module _ {X : Type 0} where
         }
   ]
     where
-      first_past : (us : List (Row X)) (r : Row X) (ys : List (Row X)) → (first_or (us ++ r ∷ ys) None ≡ Some r.name → ⊥) → first_or (us ++ r ∷ ys) None ≡ first_or (us ++ ys) None
+      first_past : (us : List (Row Name X)) (r : Row Name X) (ys : List (Row Name X)) → (first_or (us ++ r ∷ ys) None ≡ Some r.name → ⊥) → first_or (us ++ r ∷ ys) None ≡ first_or (us ++ ys) None
       first_past [] r ys n = absurd (n refl)
       first_past (u ∷ us) r ys n = refl
 
   -- a move as the public words have it, at the cut of the row
-  pub move : (rows : List (Row X)) (place : Option Name) (a : Name) (k : Cut a rows) → ((b : Name) → place ≡ Some b → HasName b rows)
+  pub move : (rows : List (Row Name X)) (place : Option Name) (a : Name) (k : Cut a rows) → ((b : Name) → place ≡ Some b → HasName b rows)
       → Move k.before k.at k.after place (moved_rows rows (index_of a rows) (place_of place rows))
   move rows place a k h =
       let p = split place rows h in
@@ -124,7 +125,7 @@ module _ {X : Type 0} where
       ap (λ i. put_at (remove whole (length k.before)) i (slice_get whole (length k.before))) (cond-false _ _ _ (le-ltb (length k.before) (length k.before) le)) ∙ moved_rows-cut k.before k.at k.after (length k.before) k.before k.after refl refl in
       ap (λ zs. chained zs c.next_serial c.spare) (is ∙ stays ∙ sym k.is)
 
-  place_of-after : (xs : List (Row X)) (r : Row X) (ys : List (Row X)) → IsOnce (xs ++ r ∷ ys) → place_of (first_or ys None) (xs ++ r ∷ ys) ≡ suc (length xs)
+  place_of-after : (xs : List (Row Name X)) (r : Row Name X) (ys : List (Row Name X)) → IsOnce (xs ++ r ∷ ys) → place_of (first_or ys None) (xs ++ r ∷ ys) ≡ suc (length xs)
   place_of-after xs r [] once = length_past xs r [] ∙ ap suc (let n = append-length xs [] in omega arith)
   place_of-after xs r (y ∷ ys) once =
       let assoc : (xs ++ r ∷ []) ++ y ∷ ys ≡ xs ++ r ∷ y ∷ ys = append_assoc xs (r ∷ []) (y ∷ ys) in
@@ -151,11 +152,11 @@ module _ {X : Type 0} where
       ap (λ zs. chained zs c.next_serial c.spare) (is ∙ stays ∙ sym k.is)
 
   -- the rows of a sound chain have different names
-  pub once_from : (rows : List (Row X)) → ((i j : ℕ) (a : Name) → name_at rows i ≡ Some a → name_at rows j ≡ Some a → i ≡ j) → IsOnce rows
+  pub once_from : (rows : List (Row Name X)) → ((i j : ℕ) (a : Name) → name_at rows i ≡ Some a → name_at rows j ≡ Some a → i ≡ j) → IsOnce rows
   once_from [] h = tt
   once_from (r ∷ rows) h = (
     λ t. let k = cut r.name rows t in
-        let at : name_at rows (index_of r.name rows) ≡ Some r.name = ap (option_map (λ (x : Row X). x.name)) (cut-row r.name rows k) ∙ ap Some (sym k.named) in
+        let at : name_at rows (index_of r.name rows) ≡ Some r.name = ap (option_map (λ (x : Row Name X). x.name)) (cut-row r.name rows k) ∙ ap Some (sym k.named) in
         let no : 0 ≡ suc (index_of r.name rows) = h 0 (suc (index_of r.name rows)) r.name refl at in absurd (omega arith),
     once_from rows (λ i j a p q. let e : suc i ≡ suc j = h (suc i) (suc j) a p q in omega arith),
   )

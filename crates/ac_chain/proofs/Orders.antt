@@ -7,18 +7,19 @@ use Rattle.std.specs.List.{slice_get, swap}
 use Rattle.std.specs.Option.{option_map}
 use Rattle.ac_base.specs.declared.name.Name.{Name}
 use Rattle.ac_pool.proofs.NameLaws.{cases_name}
-use Rattle.ac_chain.specs.Rows.{Row, Chained, chained, with_rows, index_of, IsLive, name_at, next_name, moved, links_swapped, reversed, names, IsOrderOf, Reorders}
+use Rattle.ac_base.specs.Rows.{Row, names}
+use Rattle.ac_chain.specs.Rows.{Chained, chained, with_rows, index_of, IsLive, name_at, next_name, moved, links_swapped, reversed, IsOrderOf, Reorders}
 use Rattle.ac_chain.specs.ChainFields.{first_or, HasName, IsOnce}
 use Rattle.ac_chain.proofs.Cuts.{apart, HasName-left, HasName-right, HasName-either, HasName-put, HasName-cut, once_cut, once_gone, once_put, name_at_has, has_live, live_has, Cut, cut, index_here, index_past, index_of-cut, slice_get-cut, name_at-first}
 use Rattle.ac_chain.proofs.Linking.{first_has}
 use Rattle.ac_chain.proofs.Moves.{same_head, same_tail, move, moved_itself, moved_before_next, next_name-cut}
 
 module _ {X : Type 0} where
-  named_first : (ws : List (Row X)) (z : Name) → first_or ws None ≡ Some z → HasName z ws
+  named_first : (ws : List (Row Name X)) (z : Name) → first_or ws None ≡ Some z → HasName z ws
   named_first ws z e = first_has ws z e
 
   -- one cut of a list of different names has its first name after it
-  split_unique : (left right zs ws : List (Row X)) → left ++ right ≡ zs ++ ws → first_or right None ≡ first_or ws None → IsOnce (zs ++ ws) → (left ≡ zs) × (right ≡ ws)
+  split_unique : (left right zs ws : List (Row Name X)) → left ++ right ≡ zs ++ ws → first_or right None ≡ first_or ws None → IsOnce (zs ++ ws) → (left ≡ zs) × (right ≡ ws)
   split_unique [] right [] ws e f once = (refl, e)
   split_unique [] right (z ∷ zs) ws e f once = absurd (once.0 (HasName-right z.name zs ws (named_first ws z.name (sym f ∙ ap (λ k. first_or k None) e))))
   split_unique (x ∷ left) right [] ws e f once =
@@ -28,7 +29,7 @@ module _ {X : Type 0} where
       let k = split_unique left right zs ws (same_tail x z (left ++ right) (zs ++ ws) e) f once.1 in
       let h = same_head x z (left ++ right) (zs ++ ws) e in ((λ i. h i ∷ k.0 i), k.1)
 
-  cut_here : (rows xs : List (Row X)) (r : Row X) (ys : List (Row X)) → IsOnce rows → rows ≡ xs ++ r ∷ ys → Cut r.name rows
+  cut_here : (rows xs : List (Row Name X)) (r : Row Name X) (ys : List (Row Name X)) → IsOnce rows → rows ≡ xs ++ r ∷ ys → Cut r.name rows
   cut_here rows xs r ys once is = record {
     before = xs;
     at = r;
@@ -39,7 +40,7 @@ module _ {X : Type 0} where
   }
 
   -- where the row goes
-  pub moves_to : (c : Chained X) (xs : List (Row X)) (r : Row X) (ys zs ws : List (Row X)) (place : Option Name) → IsOnce c.rows → c.rows ≡ xs ++ r ∷ ys → xs ++ ys ≡ zs ++ ws
+  pub moves_to : (c : Chained X) (xs : List (Row Name X)) (r : Row Name X) (ys zs ws : List (Row Name X)) (place : Option Name) → IsOnce c.rows → c.rows ≡ xs ++ r ∷ ys → xs ++ ys ≡ zs ++ ws
       → place ≡ first_or ws None → (place ≡ Some r.name → ⊥) → moved c place r.name ≡ with_rows c (zs ++ r ∷ ws)
   unfolding cut_here
   moves_to c xs r ys zs ws place once is same at n =
@@ -51,11 +52,11 @@ module _ {X : Type 0} where
       let u = split_unique m.left m.right zs ws (sym m.same ∙ same) (sym (m.named n) ∙ at) once_cut_rows in
       ap (λ z. chained z c.next_serial c.spare) (m.is ∙ (λ i. u.0 i ++ r ∷ u.1 i))
 
-  first-not : (zs ws : List (Row X)) (r : Row X) → (HasName r.name ws → ⊥) → first_or ws None ≡ Some r.name → ⊥
+  first-not : (zs ws : List (Row Name X)) (r : Row Name X) → (HasName r.name ws → ⊥) → first_or ws None ≡ Some r.name → ⊥
   first-not zs ws r n e = n (named_first ws r.name e)
 
   -- the row before the other one goes behind it, and then the other one to where the first one was
-  swap_forward : (c : Chained X) (ps : List (Row X)) (r : Row X) (ms : List (Row X)) (s : Row X) (zs : List (Row X)) → IsOnce c.rows → c.rows ≡ ps ++ r ∷ (ms ++ s ∷ zs)
+  swap_forward : (c : Chained X) (ps : List (Row Name X)) (r : Row Name X) (ms : List (Row Name X)) (s : Row Name X) (zs : List (Row Name X)) → IsOnce c.rows → c.rows ≡ ps ++ r ∷ (ms ++ s ∷ zs)
       → moved (moved c (first_or zs None) r.name) (first_or (ms ++ s ∷ zs) None) s.name ≡ with_rows c (ps ++ s ∷ (ms ++ r ∷ zs))
   swap_forward c ps r ms s zs once is =
       let whole = ps ++ r ∷ (ms ++ s ∷ zs) in
@@ -72,7 +73,7 @@ module _ {X : Type 0} where
       let d_is : one ≡ (ps ++ ms) ++ s ∷ (r ∷ zs) = ap (λ k. k ++ r ∷ zs) (sym (append_assoc ps ms (s ∷ []))) ∙ append_assoc (ps ++ ms) (s ∷ []) (r ∷ zs) in
       ap (λ x. moved x (first_or (ms ++ s ∷ zs) None) s.name) first ∙ second ms d once_d d_is
     where
-      second : (ms : List (Row X)) (d : Chained X) → IsOnce d.rows → d.rows ≡ (ps ++ ms) ++ s ∷ (r ∷ zs) → moved d (first_or (ms ++ s ∷ zs) None) s.name ≡ with_rows d (ps ++ s ∷ (ms ++ r ∷ zs))
+      second : (ms : List (Row Name X)) (d : Chained X) → IsOnce d.rows → d.rows ≡ (ps ++ ms) ++ s ∷ (r ∷ zs) → moved d (first_or (ms ++ s ∷ zs) None) s.name ≡ with_rows d (ps ++ s ∷ (ms ++ r ∷ zs))
       second [] d once is =
           let h : HasName s.name d.rows = subst (λ k. HasName s.name k) (sym is) (HasName-right s.name (ps ++ []) (s ∷ r ∷ zs) (inl refl)) in
           moved_itself d (Some s.name) s.name (has_live s.name d.rows h) refl ∙ ap (λ k. with_rows d k) (is ∙ append_assoc ps [] (s ∷ r ∷ zs))
@@ -81,7 +82,7 @@ module _ {X : Type 0} where
           moves_to d (ps ++ m ∷ ms) s (r ∷ zs) ps (m ∷ ms ++ r ∷ zs) (Some m.name) once is (append_assoc ps (m ∷ ms) (r ∷ zs)) refl n
 
   -- the row behind the other one goes right after it, and then the other one to where the first one was
-  swap_backward : (c : Chained X) (ps : List (Row X)) (s : Row X) (ms : List (Row X)) (r : Row X) (zs : List (Row X)) → IsOnce c.rows → c.rows ≡ ps ++ s ∷ (ms ++ r ∷ zs)
+  swap_backward : (c : Chained X) (ps : List (Row Name X)) (s : Row Name X) (ms : List (Row Name X)) (r : Row Name X) (zs : List (Row Name X)) → IsOnce c.rows → c.rows ≡ ps ++ s ∷ (ms ++ r ∷ zs)
       → moved (moved c (first_or (ms ++ r ∷ zs) None) r.name) (first_or zs None) s.name ≡ with_rows c (ps ++ r ∷ (ms ++ s ∷ zs))
   swap_backward c ps s ms r zs once is =
       let whole = ps ++ s ∷ (ms ++ r ∷ zs) in
@@ -94,7 +95,7 @@ module _ {X : Type 0} where
       ∙ moves_to d ps s (r ∷ (ms ++ zs)) (ps ++ r ∷ ms) zs (first_or zs None) (once_d ms c once is) refl (sym (append_assoc ps (r ∷ ms) zs)) refl (first-not ps zs s s_not_in)
       ∙ ap (λ k. with_rows c k) (append_assoc ps (r ∷ ms) (s ∷ zs))
     where
-      first : (ms : List (Row X)) (c : Chained X) → IsOnce c.rows → c.rows ≡ ps ++ s ∷ (ms ++ r ∷ zs) → moved c (first_or (ms ++ r ∷ zs) None) r.name ≡ with_rows c (ps ++ s ∷ (r ∷ (ms ++ zs)))
+      first : (ms : List (Row Name X)) (c : Chained X) → IsOnce c.rows → c.rows ≡ ps ++ s ∷ (ms ++ r ∷ zs) → moved c (first_or (ms ++ r ∷ zs) None) r.name ≡ with_rows c (ps ++ s ∷ (r ∷ (ms ++ zs)))
       first [] c once is =
           let h : HasName r.name c.rows = subst (λ k. HasName r.name k) (sym is) (HasName-right r.name ps (s ∷ r ∷ zs) (inr (inl refl))) in
           moved_itself c (Some r.name) r.name (has_live r.name c.rows h) refl ∙ ap (λ k. with_rows c k) is
@@ -104,7 +105,7 @@ module _ {X : Type 0} where
           let same : (ps ++ s ∷ m ∷ ms) ++ zs ≡ (ps ++ s ∷ []) ++ (m ∷ ms ++ zs) = append_assoc ps (s ∷ m ∷ ms) zs ∙ sym (append_assoc ps (s ∷ []) (m ∷ ms ++ zs)) in
           moves_to c (ps ++ s ∷ m ∷ ms) r zs (ps ++ s ∷ []) (m ∷ ms ++ zs) (Some m.name) once at same refl n ∙ ap (λ k. with_rows c k) (append_assoc ps (s ∷ []) (r ∷ m ∷ ms ++ zs))
 
-      once_d : (ms : List (Row X)) (c : Chained X) → IsOnce c.rows → c.rows ≡ ps ++ s ∷ (ms ++ r ∷ zs) → IsOnce (ps ++ s ∷ (r ∷ (ms ++ zs)))
+      once_d : (ms : List (Row Name X)) (c : Chained X) → IsOnce c.rows → c.rows ≡ ps ++ s ∷ (ms ++ r ∷ zs) → IsOnce (ps ++ s ∷ (r ∷ (ms ++ zs)))
       once_d ms c once is =
           let at : c.rows ≡ (ps ++ s ∷ ms) ++ r ∷ zs = is ∙ sym (append_assoc ps (s ∷ ms) (r ∷ zs)) in
           let once_at : IsOnce ((ps ++ s ∷ ms) ++ r ∷ zs) = subst (λ k. IsOnce k) at once in
@@ -114,11 +115,11 @@ module _ {X : Type 0} where
           subst (λ k. IsOnce k) (append_assoc ps (s ∷ []) (r ∷ (ms ++ zs)))
           (once_put (ps ++ s ∷ []) r (ms ++ zs) (subst (λ k. IsOnce k) same rest) (λ t. gone (subst (λ k. HasName r.name k) (sym same) t)))
 
-  length_same : (ps : List (Row X)) (r s : Row X) (ms : List (Row X)) → length (ps ++ s ∷ ms) ≡ length (ps ++ r ∷ ms)
+  length_same : (ps : List (Row Name X)) (r s : Row Name X) (ms : List (Row Name X)) → length (ps ++ s ∷ ms) ≡ length (ps ++ r ∷ ms)
   length_same [] r s ms = refl
   length_same (p ∷ ps) r s ms = ap suc (length_same ps r s ms)
 
-  length_two : (ps : List (Row X)) (r : Row X) (ms : List (Row X)) (s : Row X) (zs : List (Row X)) → (length ps < length (ps ++ r ∷ (ms ++ s ∷ zs))) × (length (ps ++ r ∷ ms) < length (ps ++ r ∷ (ms ++ s ∷ zs)))
+  length_two : (ps : List (Row Name X)) (r : Row Name X) (ms : List (Row Name X)) (s : Row Name X) (zs : List (Row Name X)) → (length ps < length (ps ++ r ∷ (ms ++ s ∷ zs))) × (length (ps ++ r ∷ ms) < length (ps ++ r ∷ (ms ++ s ∷ zs)))
   length_two ps r ms s zs =
       let a : length (ps ++ r ∷ (ms ++ s ∷ zs)) ≡ length ps + suc (length (ms ++ s ∷ zs)) = length-append ps (r ∷ (ms ++ s ∷ zs)) in
       let b : length (ms ++ s ∷ zs) ≡ length ms + suc (length zs) = length-append ms (s ∷ zs) in
@@ -126,23 +127,23 @@ module _ {X : Type 0} where
       (omega arith, omega arith)
 
   -- the two rows of a cut list change places
-  set_two : (ps : List (Row X)) (r : Row X) (ms : List (Row X)) (s : Row X) (zs : List (Row X)) (x y : Row X) → set (set (ps ++ r ∷ (ms ++ s ∷ zs)) (length ps) x) (length (ps ++ r ∷ ms)) y ≡ ps ++ x ∷ (ms ++ y ∷ zs)
+  set_two : (ps : List (Row Name X)) (r : Row Name X) (ms : List (Row Name X)) (s : Row Name X) (zs : List (Row Name X)) (x y : Row Name X) → set (set (ps ++ r ∷ (ms ++ s ∷ zs)) (length ps) x) (length (ps ++ r ∷ ms)) y ≡ ps ++ x ∷ (ms ++ y ∷ zs)
   set_two ps r ms s zs x y =
       ap (λ k. set k (length (ps ++ r ∷ ms)) y) (set_at ps r (ms ++ s ∷ zs) x (length ps) refl ∙ sym (append_assoc ps (x ∷ ms) (s ∷ zs)))
       ∙ set_at (ps ++ x ∷ ms) s zs y (length (ps ++ r ∷ ms)) (length_same ps r x ms) ∙ append_assoc ps (x ∷ ms) (y ∷ zs)
 
-  set_two_back : (ps : List (Row X)) (r : Row X) (ms : List (Row X)) (s : Row X) (zs : List (Row X)) (x y : Row X) → set (set (ps ++ r ∷ (ms ++ s ∷ zs)) (length (ps ++ r ∷ ms)) y) (length ps) x ≡ ps ++ x ∷ (ms ++ y ∷ zs)
+  set_two_back : (ps : List (Row Name X)) (r : Row Name X) (ms : List (Row Name X)) (s : Row Name X) (zs : List (Row Name X)) (x y : Row Name X) → set (set (ps ++ r ∷ (ms ++ s ∷ zs)) (length (ps ++ r ∷ ms)) y) (length ps) x ≡ ps ++ x ∷ (ms ++ y ∷ zs)
   set_two_back ps r ms s zs x y =
       ap (λ k. set k (length ps) x) (ap (λ k. set k (length (ps ++ r ∷ ms)) y) (sym (append_assoc ps (r ∷ ms) (s ∷ zs))) ∙ set_at (ps ++ r ∷ ms) s zs y (length (ps ++ r ∷ ms)) refl ∙ append_assoc ps (r ∷ ms) (y ∷ zs))
       ∙ set_at ps r (ms ++ y ∷ zs) x (length ps) refl
 
-  get_first : (ps : List (Row X)) (r : Row X) (ms : List (Row X)) (s : Row X) (zs : List (Row X)) → get_or (ps ++ r ∷ (ms ++ s ∷ zs)) (length ps) r ≡ r
+  get_first : (ps : List (Row Name X)) (r : Row Name X) (ms : List (Row Name X)) (s : Row Name X) (zs : List (Row Name X)) → get_or (ps ++ r ∷ (ms ++ s ∷ zs)) (length ps) r ≡ r
   get_first ps r ms s zs = get_or_at ps r (ms ++ s ∷ zs) r (length ps) refl
 
-  get_second : (ps : List (Row X)) (r : Row X) (ms : List (Row X)) (s : Row X) (zs : List (Row X)) → get_or (ps ++ r ∷ (ms ++ s ∷ zs)) (length (ps ++ r ∷ ms)) r ≡ s
+  get_second : (ps : List (Row Name X)) (r : Row Name X) (ms : List (Row Name X)) (s : Row Name X) (zs : List (Row Name X)) → get_or (ps ++ r ∷ (ms ++ s ∷ zs)) (length (ps ++ r ∷ ms)) r ≡ s
   get_second ps r ms s zs = ap (λ k. get_or k (length (ps ++ r ∷ ms)) r) (sym (append_assoc ps (r ∷ ms) (s ∷ zs))) ∙ get_or_at (ps ++ r ∷ ms) s zs r (length (ps ++ r ∷ ms)) refl
 
-  swap-cut : (ps : List (Row X)) (r : Row X) (ms : List (Row X)) (s : Row X) (zs : List (Row X)) → swap (ps ++ r ∷ (ms ++ s ∷ zs)) (length ps) (length (ps ++ r ∷ ms)) ≡ ps ++ s ∷ (ms ++ r ∷ zs)
+  swap-cut : (ps : List (Row Name X)) (r : Row Name X) (ms : List (Row Name X)) (s : Row Name X) (zs : List (Row Name X)) → swap (ps ++ r ∷ (ms ++ s ∷ zs)) (length ps) (length (ps ++ r ∷ ms)) ≡ ps ++ s ∷ (ms ++ r ∷ zs)
   swap-cut ps r ms s zs =
       let w = ps ++ r ∷ (ms ++ s ∷ zs) in
       let i = length ps in
@@ -150,7 +151,7 @@ module _ {X : Type 0} where
       let in_both = length_two ps r ms s zs in
       sym (swap_is w i j r in_both.0 in_both.1) ∙ (λ t. set (set w i (get_second ps r ms s zs t)) j (get_first ps r ms s zs t)) ∙ set_two ps r ms s zs s r
 
-  swap-cut_back : (ps : List (Row X)) (r : Row X) (ms : List (Row X)) (s : Row X) (zs : List (Row X)) → swap (ps ++ r ∷ (ms ++ s ∷ zs)) (length (ps ++ r ∷ ms)) (length ps) ≡ ps ++ s ∷ (ms ++ r ∷ zs)
+  swap-cut_back : (ps : List (Row Name X)) (r : Row Name X) (ms : List (Row Name X)) (s : Row Name X) (zs : List (Row Name X)) → swap (ps ++ r ∷ (ms ++ s ∷ zs)) (length (ps ++ r ∷ ms)) (length ps) ≡ ps ++ s ∷ (ms ++ r ∷ zs)
   swap-cut_back ps r ms s zs =
       let w = ps ++ r ∷ (ms ++ s ∷ zs) in
       let i = length ps in
@@ -158,13 +159,13 @@ module _ {X : Type 0} where
       let in_both = length_two ps r ms s zs in
       sym (swap_is w j i r in_both.1 in_both.0) ∙ (λ t. set (set w j (get_first ps r ms s zs t)) i (get_second ps r ms s zs t)) ∙ set_two_back ps r ms s zs s r
 
-  swap-itself : (rows : List (Row X)) (i : ℕ) (d : Row X) → i < length rows → swap rows i i ≡ rows
+  swap-itself : (rows : List (Row Name X)) (i : ℕ) (d : Row Name X) → i < length rows → swap rows i i ≡ rows
   swap-itself rows i d h = sym (swap_is rows i i d h h) ∙ ap (λ k. set k i (get_or rows i d)) (set-get_or rows i d) ∙ set-get_or rows i d
 
-  cut_at_place : (rows : List (Row X)) (b : Name) (xs : List (Row X)) (r : Row X) (ys : List (Row X)) → IsOnce rows → b ≡ r.name → rows ≡ xs ++ r ∷ ys → index_of b rows ≡ length xs
+  cut_at_place : (rows : List (Row Name X)) (b : Name) (xs : List (Row Name X)) (r : Row Name X) (ys : List (Row Name X)) → IsOnce rows → b ≡ r.name → rows ≡ xs ++ r ∷ ys → index_of b rows ≡ length xs
   cut_at_place rows b xs r ys once e is = ap (λ q. index_of q rows) e ∙ ap (index_of r.name) is ∙ index_of-cut xs r ys (λ t. apart xs (r ∷ ys) (subst (λ k. IsOnce k) is once) r.name t (inl refl))
 
-  abbrev cut_at : (rows : List (Row X)) (b : Name) (xs : List (Row X)) (r : Row X) (ys : List (Row X)) → IsOnce rows → b ≡ r.name → rows ≡ xs ++ r ∷ ys → Cut b rows
+  abbrev cut_at : (rows : List (Row Name X)) (b : Name) (xs : List (Row Name X)) (r : Row Name X) (ys : List (Row Name X)) → IsOnce rows → b ≡ r.name → rows ≡ xs ++ r ∷ ys → Cut b rows
   cut_at rows b xs r ys once e is = record { before = xs; at = r; after = ys; is = is; named = e; place = cut_at_place rows b xs r ys once e is }
 
   -- a move by the next names of each of two rows, at the names of a chain
@@ -202,60 +203,60 @@ module _ {X : Type 0} where
       ]
 
   -- the row of a name, where another row is past over or moved
-  abbrev pub row_of : Name → List (Row X) → Option (Row X)
+  abbrev pub row_of : Name → List (Row Name X) → Option (Row Name X)
   row_of a rows = slice_get rows (index_of a rows)
 
-  row_of-past : (a : Name) (xs : List (Row X)) (r : Row X) (ys : List (Row X)) → a ≢ r.name → row_of a (xs ++ r ∷ ys) ≡ row_of a (xs ++ ys)
+  row_of-past : (a : Name) (xs : List (Row Name X)) (r : Row Name X) (ys : List (Row Name X)) → a ≢ r.name → row_of a (xs ++ r ∷ ys) ≡ row_of a (xs ++ ys)
   row_of-past a [] r ys n = ap (slice_get (r ∷ ys)) (index_past a r ys n)
   row_of-past a (x ∷ xs) r ys n = elim (cases_name a x.name) [
     | inl e ↦ ap (slice_get (x ∷ xs ++ r ∷ ys)) (index_here a x (xs ++ r ∷ ys) e) ∙ sym (ap (slice_get (x ∷ xs ++ ys)) (index_here a x (xs ++ ys) e))
     | inr ne ↦ ap (slice_get (x ∷ xs ++ r ∷ ys)) (index_past a x (xs ++ r ∷ ys) ne) ∙ row_of-past a xs r ys n ∙ sym (ap (slice_get (x ∷ xs ++ ys)) (index_past a x (xs ++ ys) ne))
   ]
 
-  row_of-here : (xs : List (Row X)) (r : Row X) (ys : List (Row X)) → IsOnce (xs ++ r ∷ ys) → row_of r.name (xs ++ r ∷ ys) ≡ Some r
+  row_of-here : (xs : List (Row Name X)) (r : Row Name X) (ys : List (Row Name X)) → IsOnce (xs ++ r ∷ ys) → row_of r.name (xs ++ r ∷ ys) ≡ Some r
   row_of-here xs r ys once = ap (slice_get (xs ++ r ∷ ys)) (index_of-cut xs r ys (λ t. apart xs (r ∷ ys) once r.name t (inl refl))) ∙ slice_get-cut xs r ys
 
   -- a row elsewhere is still the row of its name
-  pub row_of-moved : (a : Name) (xs : List (Row X)) (r : Row X) (ys zs ws : List (Row X)) → IsOnce (xs ++ r ∷ ys) → IsOnce (zs ++ r ∷ ws) → xs ++ ys ≡ zs ++ ws → row_of a (zs ++ r ∷ ws) ≡ row_of a (xs ++ r ∷ ys)
+  pub row_of-moved : (a : Name) (xs : List (Row Name X)) (r : Row Name X) (ys zs ws : List (Row Name X)) → IsOnce (xs ++ r ∷ ys) → IsOnce (zs ++ r ∷ ws) → xs ++ ys ≡ zs ++ ws → row_of a (zs ++ r ∷ ws) ≡ row_of a (xs ++ r ∷ ys)
   row_of-moved a xs r ys zs ws once_x once_z same = elim (cases_name a r.name) [
     | inl e ↦ ap (λ b. row_of b (zs ++ r ∷ ws)) e ∙ row_of-here zs r ws once_z ∙ sym (row_of-here xs r ys once_x) ∙ sym (ap (λ b. row_of b (xs ++ r ∷ ys)) e)
     | inr n ↦ row_of-past a zs r ws n ∙ ap (row_of a) (sym same) ∙ sym (row_of-past a xs r ys n)
   ]
 
-  once_moved : (xs : List (Row X)) (r : Row X) (ys zs ws : List (Row X)) → IsOnce (xs ++ r ∷ ys) → xs ++ ys ≡ zs ++ ws → IsOnce (zs ++ r ∷ ws)
+  once_moved : (xs : List (Row Name X)) (r : Row Name X) (ys zs ws : List (Row Name X)) → IsOnce (xs ++ r ∷ ys) → xs ++ ys ≡ zs ++ ws → IsOnce (zs ++ r ∷ ws)
   once_moved xs r ys zs ws once same = once_put zs r ws (subst (λ k. IsOnce k) same (once_cut xs r ys once)) (λ t. once_gone xs r ys once (subst (λ k. HasName r.name k) (sym same) t))
 
   -- what a turn has done: the rows in `done` stand before the head, the last one first
-  pub record Turned (head : Name) (from rows : List (Row X)) : Type 0 where
-    pub first : Row X
-    pub done : List (Row X)
-    pub rest : List (Row X)
+  pub record Turned (head : Name) (from rows : List (Row Name X)) : Type 0 where
+    pub first : Row Name X
+    pub done : List (Row Name X)
+    pub rest : List (Row Name X)
     pub named : head ≡ first.name
     pub was : from ≡ first ∷ (done ++ rest)
     pub is : rows ≡ reverse done ++ first ∷ rest
 
-  pub turn_start : (rows : List (Row X)) (head : Name) → name_at rows 0 ≡ Some head → Turned head rows rows
+  pub turn_start : (rows : List (Row Name X)) (head : Name) → name_at rows 0 ≡ Some head → Turned head rows rows
   turn_start [] head e = cc
   turn_start (r ∷ rows) head e = record { first = r; done = []; rest = rows; named = (let h : Some r.name ≡ Some head = e in cc); was = refl; is = refl }
 
-  turned_cut : (head : Name) (from rows : List (Row X)) → IsOnce rows → (t : Turned head from rows) → Cut head rows
+  turned_cut : (head : Name) (from rows : List (Row Name X)) → IsOnce rows → (t : Turned head from rows) → Cut head rows
   turned_cut head from rows once t = cut_at rows head (reverse t.done) t.first t.rest once t.named t.is
 
-  pub turned_live : (c : Chained X) (head : Name) (from : List (Row X)) → Turned head from c.rows → IsLive c head
+  pub turned_live : (c : Chained X) (head : Name) (from : List (Row Name X)) → Turned head from c.rows → IsLive c head
   turned_live c head from t = has_live head c.rows (subst (λ k. HasName head k) (sym t.is) (HasName-right head (reverse t.done) (t.first ∷ t.rest) (inl t.named)))
 
-  turned_next : (c : Chained X) (head : Name) (from : List (Row X)) → IsOnce c.rows → (t : Turned head from c.rows) → next_name c head ≡ first_or t.rest None
+  turned_next : (c : Chained X) (head : Name) (from : List (Row Name X)) → IsOnce c.rows → (t : Turned head from c.rows) → next_name c head ≡ first_or t.rest None
   turned_next c head from once t = next_name-cut c head (cut_at c.rows head (reverse t.done) t.first t.rest once t.named t.is)
 
-  reverse-push : (xs : List (Row X)) (r : Row X) → reverse (xs ++ r ∷ []) ≡ r ∷ reverse xs
+  reverse-push : (xs : List (Row Name X)) (r : Row Name X) → reverse (xs ++ r ∷ []) ≡ r ∷ reverse xs
   reverse-push xs r = reverse-append xs (r ∷ [])
 
-  first_of_cut : (xs : List (Row X)) (h : Row X) (ys zs : List (Row X)) → first_or (xs ++ h ∷ ys) None ≡ first_or (xs ++ h ∷ zs) None
+  first_of_cut : (xs : List (Row Name X)) (h : Row Name X) (ys zs : List (Row Name X)) → first_or (xs ++ h ∷ ys) None ≡ first_or (xs ++ h ∷ zs) None
   first_of_cut [] h ys zs = refl
   first_of_cut (x ∷ xs) h ys zs = refl
 
   -- one turn more
-  turned_step : (c : Chained X) (head : Name) (from : List (Row X)) (h : Row X) (done rest : List (Row X)) (name : Name) (place : Option Name) → IsOnce c.rows → head ≡ h.name → from ≡ h ∷ (done ++ rest) → c.rows ≡ reverse done ++ h ∷ rest
+  turned_step : (c : Chained X) (head : Name) (from : List (Row Name X)) (h : Row Name X) (done rest : List (Row Name X)) (name : Name) (place : Option Name) → IsOnce c.rows → head ≡ h.name → from ≡ h ∷ (done ++ rest) → c.rows ≡ reverse done ++ h ∷ rest
       → first_or rest None ≡ Some name → place ≡ name_at c.rows 0 → (t : Turned head from (moved c place name).rows) × (suc (length t.rest) ≡ length rest)
   turned_step c head from h done [] name place once named was is next at = cc
   turned_step c head from h done (r ∷ rest) name place once named was is next at =
@@ -278,29 +279,29 @@ module _ {X : Type 0} where
         refl,
       )
 
-  turned_on : (c : Chained X) (head : Name) (from : List (Row X)) (name : Name) (place : Option Name) → IsOnce c.rows → (t : Turned head from c.rows) → next_name c head ≡ Some name → place ≡ name_at c.rows 0
+  turned_on : (c : Chained X) (head : Name) (from : List (Row Name X)) (name : Name) (place : Option Name) → IsOnce c.rows → (t : Turned head from c.rows) → next_name c head ≡ Some name → place ≡ name_at c.rows 0
       → (u : Turned head from (moved c place name).rows) × (suc (length u.rest) ≡ length t.rest)
   turned_on c head from name place once t next at = turned_step c head from t.first t.done t.rest name place once t.named t.was t.is (sym (turned_next c head from once t) ∙ next) at
 
-  pub turned_more : (c : Chained X) (head : Name) (from : List (Row X)) (name : Name) (place : Option Name) → IsOnce c.rows → Turned head from c.rows → next_name c head ≡ Some name → place ≡ name_at c.rows 0 → Turned head from (moved c place name).rows
+  pub turned_more : (c : Chained X) (head : Name) (from : List (Row Name X)) (name : Name) (place : Option Name) → IsOnce c.rows → Turned head from c.rows → next_name c head ≡ Some name → place ≡ name_at c.rows 0 → Turned head from (moved c place name).rows
   turned_more c head from name place once t next at = (turned_on c head from name place once t next at).0
 
-  rest_none : (rest : List (Row X)) → first_or rest None ≡ None → rest ≡ []
+  rest_none : (rest : List (Row Name X)) → first_or rest None ≡ None → rest ≡ []
   rest_none [] e = refl
   rest_none (r ∷ rest) e = cc
 
-  pub turned_all : (c : Chained X) (head : Name) (from : List (Row X)) → IsOnce c.rows → Turned head from c.rows → next_name c head ≡ None → c.rows ≡ reverse from
+  pub turned_all : (c : Chained X) (head : Name) (from : List (Row Name X)) → IsOnce c.rows → Turned head from c.rows → next_name c head ≡ None → c.rows ≡ reverse from
   turned_all c head from once t next =
       let none : t.rest ≡ [] = rest_none t.rest (sym (turned_next c head from once t) ∙ next) in
       t.is ∙ ap (λ k. reverse t.done ++ t.first ∷ k) none ∙ sym (reverse-append (t.first ∷ []) t.done) ∙ ap (λ k. reverse (t.first ∷ k)) (sym (append-nil t.done) ∙ ap (λ k. t.done ++ k) (sym none)) ∙ ap reverse (sym t.was)
 
-  turned_left : (rows : List (Row X)) (head : Name) (from : List (Row X)) → IsOnce rows → (t : Turned head from rows) → length rows - index_of head rows ≡ suc (length t.rest)
+  turned_left : (rows : List (Row Name X)) (head : Name) (from : List (Row Name X)) → IsOnce rows → (t : Turned head from rows) → length rows - index_of head rows ≡ suc (length t.rest)
   turned_left rows head from once t =
       let len : length rows ≡ length (reverse t.done) + suc (length t.rest) = ap length t.is ∙ length-append (reverse t.done) (t.first ∷ t.rest) in
       let i : index_of head rows ≡ length (reverse t.done) = cut_at_place rows head (reverse t.done) t.first t.rest once t.named t.is in omega arith
 
   -- the rows that are left to turn grow fewer
-  pub turned_falls : (c : Chained X) (head : Name) (from : List (Row X)) (name : Name) (place : Option Name) → IsOnce c.rows → Turned head from c.rows → next_name c head ≡ Some name → place ≡ name_at c.rows 0 → IsOnce (moved c place name).rows
+  pub turned_falls : (c : Chained X) (head : Name) (from : List (Row Name X)) (name : Name) (place : Option Name) → IsOnce c.rows → Turned head from c.rows → next_name c head ≡ Some name → place ≡ name_at c.rows 0 → IsOnce (moved c place name).rows
       → length (moved c place name).rows - index_of head (moved c place name).rows < length c.rows - index_of head c.rows
   turned_falls c head from name place once t next at once_after =
       let u = turned_on c head from name place once t next at in
@@ -331,8 +332,8 @@ module _ {X : Type 0} where
 
   -- what a relinking has done: the rows in `done` stand at the end, in the order of the list
   pub record Relinked (order : List Name) (k : ℕ) (from c : Chained X) : Type 0 where
-    pub rest : List (Row X)
-    pub done : List (Row X)
+    pub rest : List (Row Name X)
+    pub done : List (Row Name X)
     pub is : c.rows ≡ rest ++ done
     pub names : names done ≡ take k order
     pub rows : (a : Name) → row_of a c.rows ≡ row_of a from.rows
@@ -355,7 +356,7 @@ module _ {X : Type 0} where
   }
 
   -- a name of the rows at the end came earlier in the list
-  named_at : (a : Name) (done : List (Row X)) → HasName a done → (j : ℕ) × (j < length (names done)) × (slice_get (names done) j ≡ Some a)
+  named_at : (a : Name) (done : List (Row Name X)) → HasName a done → (j : ℕ) × (j < length (names done)) × (slice_get (names done) j ≡ Some a)
   named_at a [] h = absurd h
   named_at a (r ∷ done) h = elim h [
     | inl e ↦ (0, omega arith, ap Some (sym e))
@@ -390,7 +391,7 @@ module _ {X : Type 0} where
         rest = m.before ++ m.after;
         done = t.done ++ r ∷ [];
         is = rows ∙ ap (λ z. z ++ r ∷ []) (sym (append_assoc m.before m.after t.done)) ∙ append_assoc (m.before ++ m.after) t.done (r ∷ []);
-        names = map-append (λ (x : Row X). x.name) t.done (r ∷ []) ∙ (λ i. t.names i ++ sym m.named i ∷ []) ∙ sym (take_more order k a within ∙ ap (λ b. take k order ++ b ∷ []) (get_or_from_slice_get order k a a at));
+        names = map-append (λ (x : Row Name X). x.name) t.done (r ∷ []) ∙ (λ i. t.names i ++ sym m.named i ∷ []) ∙ sym (take_more order k a within ∙ ap (λ b. take k order ++ b ∷ []) (get_or_from_slice_get order k a a at));
         rows = λ b. ap (row_of b) rows ∙ row_of-moved b m.before r (m.after ++ t.done) (m.before ++ (m.after ++ t.done)) [] once_w (once_moved m.before r (m.after ++ t.done) (m.before ++ (m.after ++ t.done)) [] once_w same) same ∙ ap (row_of b) (sym whole) ∙ t.rows b;
         live = λ b hb. live_moved c None a no_place live b (t.live b hb);
         length = length_moved c None a no_place live ∙ t.length;
@@ -407,16 +408,16 @@ module _ {X : Type 0} where
   pub relink_all : (order : List Name) (from c : Chained X) → IsOrderOf order from → Relinked order (length order) from c → (names c.rows ≡ order) × Reorders from c
   relink_all order from c o t =
       let all : names t.done ≡ order = t.names ∙ take_all (length order) order (omega arith) in
-      let len : length t.done ≡ length order = sym (length-map t.done (λ (x : Row X). x.name)) ∙ ap length all in
+      let len : length t.done ≡ length order = sym (length-map t.done (λ (x : Row Name X). x.name)) ∙ ap length all in
       let sum : length c.rows ≡ length t.rest + length t.done = ap length t.is ∙ length-append t.rest t.done in
       let zero_rest : length t.rest ≡ 0 = (let a = o.all in let b = t.length in omega arith) in
       let none : t.rest ≡ [] = nil_from_length t.rest zero_rest in (
         ap names (t.is ∙ ap (λ z. z ++ t.done) none) ∙ all,
-        record { values = λ a. ap (option_map (λ (r : Row X). r.value)) (t.rows a); next = t.next; spare = t.spare },
+        record { values = λ a. ap (option_map (λ (r : Row Name X). r.value)) (t.rows a); next = t.next; spare = t.spare },
       )
 
 module _ {X : Type 0} where
-  reverse_none : (rows : List (Row X)) → name_at rows 0 ≡ None → rows ≡ reverse rows
+  reverse_none : (rows : List (Row Name X)) → name_at rows 0 ≡ None → rows ≡ reverse rows
   reverse_none [] e = refl
   reverse_none (r ∷ rows) e = cc
 

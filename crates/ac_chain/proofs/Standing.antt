@@ -8,7 +8,7 @@ use Rattle.ac_pool.proofs.NameLaws.{cases_name}
 use Rattle.ac_pool.proofs.ContentsLaws.{value_of-with_value_same, value_of-with_value_other, live_count-with_value, IsSound-with_value}
 use Rattle.ac_chain.specs.declared.links.Node.{Node}
 use Rattle.ac_chain.specs.declared.links.Links.{Links}
-use Rattle.ac_chain.specs.Rows.{Row}
+use Rattle.ac_base.specs.Rows.{Row}
 use Rattle.ac_chain.specs.ChainFields.{node, first_or, last_or, HasName, IsOnce, Linked, next_of, prev_of, next_written, prev_written, with_next, with_prev, joined, before_in, linked_before, unlinked}
 use Rattle.ac_chain.proofs.Cuts.{last_or-append, HasName-left, HasName-right, once_left, apart, once-append, once_cut, once_put}
 use Rattle.ac_chain.proofs.Linking.{Linked-left, Linked-right, Linked-at, next_put, prev_put, Writes, last_named, Linked-join, Linked-aside}
@@ -141,7 +141,7 @@ module _ {X : Type 0} where
   last-at_some l None b = refl
   last-at_some l (Some a) b = refl
 
-  joined-linked : (l : Links X) (xs ys : List (Row X)) (n p q to : Option Name) → IsOnce (xs ++ ys) → to ≡ first_or ys q → to ≡ first_or ys None
+  joined-linked : (l : Links X) (xs ys : List (Row Name X)) (n p q to : Option Name) → IsOnce (xs ++ ys) → to ≡ first_or ys q → to ≡ first_or ys None
       → Linked (value_of l.nodes) None xs n → Linked (value_of l.nodes) p ys q → Linked (value_of (joined l (last_or None xs) to).nodes) None (xs ++ ys) q
   unfolding joined
   joined-linked l xs ys n p q to once is at left right =
@@ -151,7 +151,7 @@ module _ {X : Type 0} where
       (subst (λ o. Writes (value_of m.nodes) (value_of (with_prev m to (last_or None xs)).nodes) o (prev_put (last_or None xs))) at (with_prev-writes m to (last_or None xs)))
       is left right
 
-  joined-aside : (l : Links X) (xs ys zs : List (Row X)) (p n to : Option Name) → to ≡ first_or ys None
+  joined-aside : (l : Links X) (xs ys zs : List (Row Name X)) (p n to : Option Name) → to ≡ first_or ys None
       → ((a : Name) → HasName a xs → HasName a zs → ⊥) → ((a : Name) → HasName a ys → HasName a zs → ⊥)
       → Linked (value_of l.nodes) p zs n → Linked (value_of (joined l (last_or None xs) to).nodes) p zs n
   unfolding joined
@@ -162,33 +162,33 @@ module _ {X : Type 0} where
       (subst (λ o. Writes (value_of m.nodes) (value_of (with_prev m to (last_or None xs)).nodes) o (prev_put (last_or None xs))) at (with_prev-writes m to (last_or None xs))) h
 
   -- the links of the rows, and the two ends
-  pub record Ends (l : Links X) (rows : List (Row X)) : Type 0 where
+  pub record Ends (l : Links X) (rows : List (Row Name X)) : Type 0 where
     pub linked : Linked (value_of l.nodes) None rows None
     pub first : l.first ≡ first_or rows None
     pub last : l.last ≡ last_or None rows
 
-  first-joined : (l : Links X) (xs ys : List (Row X)) (to : Option Name) → to ≡ first_or ys None → l.first ≡ first_or xs l.first → (joined l (last_or None xs) to).first ≡ first_or (xs ++ ys) None
+  first-joined : (l : Links X) (xs ys : List (Row Name X)) (to : Option Name) → to ≡ first_or ys None → l.first ≡ first_or xs l.first → (joined l (last_or None xs) to).first ≡ first_or (xs ++ ys) None
   first-joined l [] ys to at first = first-at_none l to ∙ at
   first-joined l (x ∷ xs) ys to at first = let k = last_named x.name xs in ap (λ o. (joined l o to).first) k.1 ∙ first-at_some l k.0 to ∙ first
 
-  last-joined : (l : Links X) (xs ys : List (Row X)) (to : Option Name) → to ≡ first_or ys None → l.last ≡ last_or l.last ys → (joined l (last_or None xs) to).last ≡ last_or None (xs ++ ys)
+  last-joined : (l : Links X) (xs ys : List (Row Name X)) (to : Option Name) → to ≡ first_or ys None → l.last ≡ last_or l.last ys → (joined l (last_or None xs) to).last ≡ last_or None (xs ++ ys)
   last-joined l xs [] to at last = ap (λ o. (joined l (last_or None xs) o).last) at ∙ last-at_none l (last_or None xs) ∙ sym (last_or-append None xs [])
   last-joined l xs (y ∷ ys) to at last = ap (λ o. (joined l (last_or None xs) o).last) at ∙ last-at_some l (last_or None xs) y.name ∙ last ∙ sym (last_or-append None xs (y ∷ ys))
 
-  first-kept : (l : Links X) (xs ys : List (Row X)) → l.first ≡ first_or (xs ++ ys) None → l.first ≡ first_or xs l.first
+  first-kept : (l : Links X) (xs ys : List (Row Name X)) → l.first ≡ first_or (xs ++ ys) None → l.first ≡ first_or xs l.first
   first-kept l [] ys h = refl
   first-kept l (x ∷ xs) ys h = h
 
-  last-kept : (l : Links X) (xs ys : List (Row X)) → l.last ≡ last_or None (xs ++ ys) → l.last ≡ last_or l.last ys
+  last-kept : (l : Links X) (xs ys : List (Row Name X)) → l.last ≡ last_or None (xs ++ ys) → l.last ≡ last_or l.last ys
   last-kept l xs [] h = refl
   last-kept l xs (y ∷ ys) h = h ∙ last_or-append None xs (y ∷ ys)
 
-  pub unlinked-is : (l : Links X) (xs : List (Row X)) (r : Row X) (ys : List (Row X)) → Linked (value_of l.nodes) None (xs ++ r ∷ ys) None → unlinked l r.name ≡ joined l (last_or None xs) (first_or ys None)
+  pub unlinked-is : (l : Links X) (xs : List (Row Name X)) (r : Row Name X) (ys : List (Row Name X)) → Linked (value_of l.nodes) None (xs ++ r ∷ ys) None → unlinked l r.name ≡ joined l (last_or None xs) (first_or ys None)
   unfolding unlinked
   unlinked-is l xs r ys h = let at = Linked-at (value_of l.nodes) None xs r ys None h in λ i. joined l (prev_of (at i)) (next_of (at i))
 
   -- the rows without one
-  pub unlinked-ends : (l : Links X) (xs : List (Row X)) (r : Row X) (ys : List (Row X)) → IsOnce (xs ++ r ∷ ys) → Ends l (xs ++ r ∷ ys) → Ends (unlinked l r.name) (xs ++ ys)
+  pub unlinked-ends : (l : Links X) (xs : List (Row Name X)) (r : Row Name X) (ys : List (Row Name X)) → IsOnce (xs ++ r ∷ ys) → Ends l (xs ++ r ∷ ys) → Ends (unlinked l r.name) (xs ++ ys)
   unlinked-ends l xs r ys once e =
       let left = Linked-left (value_of l.nodes) None xs (r ∷ ys) None e.linked in
       let right = (Linked-right (value_of l.nodes) None xs (r ∷ ys) None e.linked).1 in
@@ -198,16 +198,16 @@ module _ {X : Type 0} where
         last = last-joined l xs ys (first_or ys None) refl (last_after l xs r ys e.last);
       })
     where
-      last_after : (l : Links X) (xs : List (Row X)) (r : Row X) (ys : List (Row X)) → l.last ≡ last_or None (xs ++ r ∷ ys) → l.last ≡ last_or l.last ys
+      last_after : (l : Links X) (xs : List (Row Name X)) (r : Row Name X) (ys : List (Row Name X)) → l.last ≡ last_or None (xs ++ r ∷ ys) → l.last ≡ last_or l.last ys
       last_after l xs r [] h = refl
       last_after l xs r (y ∷ ys) h = h ∙ last_or-append None xs (r ∷ y ∷ ys)
 
-  before_in-is : (l : Links X) (xs ys : List (Row X)) → Ends l (xs ++ ys) → before_in l (first_or ys None) ≡ last_or None xs
+  before_in-is : (l : Links X) (xs ys : List (Row Name X)) → Ends l (xs ++ ys) → before_in l (first_or ys None) ≡ last_or None xs
   before_in-is l xs [] e = e.last ∙ last_or-append None xs []
   before_in-is l xs (y ∷ ys) e = ap prev_of (Linked-at (value_of l.nodes) None xs y ys None e.linked)
 
   -- the rows with one more
-  pub linked_before-ends : (l : Links X) (xs : List (Row X)) (r : Row X) (ys : List (Row X)) (place p q : Option Name) → IsOnce (xs ++ ys) → (HasName r.name (xs ++ ys) → ⊥)
+  pub linked_before-ends : (l : Links X) (xs : List (Row Name X)) (r : Row Name X) (ys : List (Row Name X)) (place p q : Option Name) → IsOnce (xs ++ ys) → (HasName r.name (xs ++ ys) → ⊥)
       → value_of l.nodes r.name ≡ Some (node r.value p q) → place ≡ first_or ys None → Ends l (xs ++ ys) → Ends (linked_before l place r.name) (xs ++ r ∷ ys)
   unfolding linked_before
   linked_before-ends l xs r ys place p q once new is at e =

@@ -8,29 +8,30 @@ use Rattle.ac_pool.proofs.NameLaws.{cases_name, same_names}
 use Rattle.ac_pool.proofs.ContentsLaws.{live_value, value_of-with_value_same, value_of-with_value_other, live_count-with_value, IsSound-with_value, swapped_live}
 use Rattle.ac_chain.specs.declared.links.Node.{Node}
 use Rattle.ac_chain.specs.declared.links.Links.{Links}
-use Rattle.ac_chain.specs.Rows.{Row, row, chained, index_of, IsLive, with_value, values_swapped, values_exchanged}
+use Rattle.ac_base.specs.Rows.{Row, row}
+use Rattle.ac_chain.specs.Rows.{chained, index_of, IsLive, with_value, values_swapped, values_exchanged}
 use Rattle.ac_chain.specs.ChainFields.{node, links, first_or, last_or, HasName, IsOnce, Linked, StandsFor, rows_in, IsChain, next_of, prev_of, value_written, with_node_value, links_written, with_links, exchanged_in}
 use Rattle.ac_chain.proofs.Cuts.{last_or-append, HasName-cut, HasName-put, HasName-right, once_cut, once_gone, once_put, live_has, cut}
 use Rattle.ac_chain.proofs.Linking.{Nodes, Linked-same}
 use Rattle.ac_chain.proofs.Chains.{view_of, rows_in-is, IsChain-from, node_at, value_at, live_in, live_from}
 
 module _ {X : Type 0} where
-  Linked-value : (f g : Nodes X) (p : Option Name) (xs : List (Row X)) (r : Row X) (ys : List (Row X)) (n : Option Name) (w : X) → IsOnce (xs ++ r ∷ ys)
+  Linked-value : (f g : Nodes X) (p : Option Name) (xs : List (Row Name X)) (r : Row Name X) (ys : List (Row Name X)) (n : Option Name) (w : X) → IsOnce (xs ++ r ∷ ys)
       → ((b : Name) → b ≢ r.name → g b ≡ f b) → g r.name ≡ Some (node w (last_or p xs) (first_or ys n)) → Linked f p (xs ++ r ∷ ys) n → Linked g p (xs ++ row r.name w ∷ ys) n
   Linked-value f g p [] r ys n w once there here h = (here, Linked-same f g (Some r.name) ys n (λ b t. there b (λ e. once.0 (subst (λ k. HasName k ys) e t))) h.1)
   Linked-value f g p (x ∷ []) r ys n w once there here h = (there x.name (λ e. once.0 (inl e)) ∙ h.0, Linked-value f g (Some x.name) [] r ys n w once.1 there here h.1)
   Linked-value f g p (x ∷ y ∷ xs) r ys n w once there here h =
       (there x.name (λ e. once.0 (HasName-right x.name (y ∷ xs) (r ∷ ys) (inl e))) ∙ h.0, Linked-value f g (Some x.name) (y ∷ xs) r ys n w once.1 there here h.1)
 
-  first-value : (xs : List (Row X)) (r : Row X) (ys : List (Row X)) (w : X) → first_or (xs ++ r ∷ ys) None ≡ first_or (xs ++ row r.name w ∷ ys) None
+  first-value : (xs : List (Row Name X)) (r : Row Name X) (ys : List (Row Name X)) (w : X) → first_or (xs ++ r ∷ ys) None ≡ first_or (xs ++ row r.name w ∷ ys) None
   first-value [] r ys w = refl
   first-value (x ∷ xs) r ys w = refl
 
-  length-value : (xs : List (Row X)) (r : Row X) (ys : List (Row X)) (w : X) → length (xs ++ row r.name w ∷ ys) ≡ length (xs ++ r ∷ ys)
+  length-value : (xs : List (Row Name X)) (r : Row Name X) (ys : List (Row Name X)) (w : X) → length (xs ++ row r.name w ∷ ys) ≡ length (xs ++ r ∷ ys)
   length-value [] r ys w = refl
   length-value (x ∷ xs) r ys w = ap suc (length-value xs r ys w)
 
-  written_stands : (l : Links X) (xs : List (Row X)) (r : Row X) (ys : List (Row X)) (w : X) (p q : Option Name) → StandsFor l (xs ++ r ∷ ys) → pool.value_of l.nodes r.name ≡ Some (node r.value p q)
+  written_stands : (l : Links X) (xs : List (Row Name X)) (r : Row Name X) (ys : List (Row Name X)) (w : X) (p q : Option Name) → StandsFor l (xs ++ r ∷ ys) → pool.value_of l.nodes r.name ≡ Some (node r.value p q)
       → p ≡ last_or None xs → q ≡ first_or ys None → StandsFor (links (pool.with_value l.nodes r.name (node w p q)) l.first l.last) (xs ++ row r.name w ∷ ys)
   written_stands l xs r ys w p q s is p_is q_is =
       let d = pool.with_value l.nodes r.name (node w p q) in

@@ -4,7 +4,7 @@ use Rattle.ac_base.specs.declared.name.Name.{Name}
 use Rattle.ac_pool.specs.Contents.{Contents, value_of, IsLive, live_count, with_value, swapped, IsSound}
 use Rattle.ac_chain.specs.declared.links.Node.{Node}
 use Rattle.ac_chain.specs.declared.links.Links.{Links}
-use Rattle.ac_chain.specs.Rows.{Row, row}
+use Rattle.ac_base.specs.Rows.{Row, row}
 
 module _ {X : Type 0} where
   abbrev pub node : X → Option Name → Option Name → Node X
@@ -14,28 +14,28 @@ module _ {X : Type 0} where
   links nodes first last = record { nodes = nodes; first = first; last = last }
 
   -- the first and the last of the rows' names, or else o
-  abbrev pub first_or : List (Row X) → Option Name → Option Name
+  abbrev pub first_or : List (Row Name X) → Option Name → Option Name
   first_or [] o = o
   first_or (r ∷ rows) o = Some r.name
 
-  abbrev pub last_or : Option Name → List (Row X) → Option Name
+  abbrev pub last_or : Option Name → List (Row Name X) → Option Name
   last_or o [] = o
   last_or o (r ∷ rows) = last_or (Some r.name) rows
 
-  abbrev pub HasName : Name → List (Row X) → Type 0
+  abbrev pub HasName : Name → List (Row Name X) → Type 0
   HasName a [] = ⊥
   HasName a (r ∷ rows) = (a ≡ r.name) ⊎ HasName a rows
 
-  abbrev pub IsOnce : List (Row X) → Type 0
+  abbrev pub IsOnce : List (Row Name X) → Type 0
   IsOnce [] = Unit {0}
   IsOnce (r ∷ rows) = (HasName r.name rows → ⊥) × IsOnce rows
 
   -- each row's node is linked with the rows before and after it, the first with p and the last with n
-  abbrev pub Linked : (Name → Option (Node X)) → Option Name → List (Row X) → Option Name → Type 0
+  abbrev pub Linked : (Name → Option (Node X)) → Option Name → List (Row Name X) → Option Name → Type 0
   Linked f p [] n = Unit {0}
   Linked f p (r ∷ rows) n = (f r.name ≡ Some (node r.value p (first_or rows n))) × Linked f (Some r.name) rows n
 
-  pub record StandsFor (l : Links X) (rows : List (Row X)) : Type 0 where
+  pub record StandsFor (l : Links X) (rows : List (Row Name X)) : Type 0 where
     pub linked : Linked (value_of l.nodes) None rows None
     pub first : l.first ≡ first_or rows None
     pub last : l.last ≡ last_or None rows
@@ -44,17 +44,17 @@ module _ {X : Type 0} where
     pub count : length rows ≡ live_count l.nodes
     pub sound : IsSound l.nodes
 
-  abbrev pub walked_on : Name → Option (Node X) → (Option Name → List (Row X)) → List (Row X)
+  abbrev pub walked_on : Name → Option (Node X) → (Option Name → List (Row Name X)) → List (Row Name X)
   walked_on a None rest = []
   walked_on a (Some n) rest = row a n.value ∷ rest n.next
 
   -- the rows from the name on, by the links to the next one, at most so many
-  abbrev pub walked : ℕ → Contents (Node X) → Option Name → List (Row X)
+  abbrev pub walked : ℕ → Contents (Node X) → Option Name → List (Row Name X)
   walked zero c o = []
   walked (suc many) c None = []
   walked (suc many) c (Some a) = walked_on a (value_of c a) (λ o. walked many c o)
 
-  unfoldable pub rows_in : Links X → List (Row X)
+  unfoldable pub rows_in : Links X → List (Row Name X)
   rows_in l = walked (live_count l.nodes) l.nodes l.first
 
   abbrev pub IsChain : Links X → Type 0

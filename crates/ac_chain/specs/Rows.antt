@@ -5,38 +5,30 @@ use Rattle.std.specs.Option.{option_map}
 use Rattle.std.specs.Coded.{Coded, code_by, coded×, coded_ℕ, coded_list}
 use Rattle.std.specs.Ordering.{eq_by_cmp}
 use Rattle.ac_base.specs.declared.name.Name.{Name}
-use Rattle.ac_pool.specs.Names.{name_cmp, name_code}
+use Rattle.ac_base.specs.Names.{name_code}
+use Rattle.ac_pool.specs.Names.{name_cmp}
 use Rattle.ac_base.specs.Growth.{pow8}
-
-pub record Row (X : Type 0) : Type 0 where
-  pub name : Name
-  pub value : X
+use Rattle.ac_base.specs.Rows.{Row, row, names, row_code}
 
 pub record Chained (X : Type 0) : Type 0 where
-  pub rows : List (Row X)
+  pub rows : List (Row Name X)
   pub next_serial : ℕ
   pub spare : ℕ
 
 module _ {X : Type 0} where
-  abbrev pub row : Name → X → Row X
-  row a v = record { name = a; value = v }
-
-  abbrev pub chained : List (Row X) → ℕ → ℕ → Chained X
+  abbrev pub chained : List (Row Name X) → ℕ → ℕ → Chained X
   chained rows next spare = record { rows = rows; next_serial = next; spare = spare }
 
-  abbrev pub row_code : Coded X → Coded (Row X)
-  row_code x = code_by (Name × X) (coded× name_code x) (λ r. (r.name, r.value)) (λ p. row p.0 p.1) (λ _. refl)
-
   abbrev pub chained_code : Coded X → Coded (Chained X)
-  chained_code x = code_by (List (Row X) × (ℕ × ℕ)) (coded× (coded_list (row_code x)) (coded× coded_ℕ coded_ℕ)) (λ c. (c.rows, (c.next_serial, c.spare))) (λ p. chained p.0 p.1.0 p.1.1) (λ _. refl)
+  chained_code x = code_by (List (Row Name X) × (ℕ × ℕ)) (coded× (coded_list (row_code x)) (coded× coded_ℕ coded_ℕ)) (λ c. (c.rows, (c.next_serial, c.spare))) (λ p. chained p.0 p.1.0 p.1.1) (λ _. refl)
 
   -- the place of the name's row, or the number of rows where there is none
-  abbrev pub index_of : Name → List (Row X) → ℕ
+  abbrev pub index_of : Name → List (Row Name X) → ℕ
   index_of a [] = 0
   index_of a (r ∷ rs) = if eq_by_cmp name_cmp a r.name then 0 else suc (index_of a rs)
 
   -- the place before which a row is put: before the name's, or at the end
-  abbrev pub place_of : Option Name → List (Row X) → ℕ
+  abbrev pub place_of : Option Name → List (Row Name X) → ℕ
   place_of None rows = length rows
   place_of (Some a) rows = index_of a rows
 
@@ -45,13 +37,13 @@ module _ {X : Type 0} where
 
   -- the value under the name, if the name is live
   abbrev pub value_of : Chained X → Name → Option X
-  value_of c a = option_map (λ (r : Row X). r.value) (slice_get c.rows (index_of a c.rows))
+  value_of c a = option_map (λ (r : Row Name X). r.value) (slice_get c.rows (index_of a c.rows))
 
   -- the name of the row at the place i, and of the row before it
-  abbrev pub name_at : List (Row X) → ℕ → Option Name
-  name_at rows i = option_map (λ (r : Row X). r.name) (slice_get rows i)
+  abbrev pub name_at : List (Row Name X) → ℕ → Option Name
+  name_at rows i = option_map (λ (r : Row Name X). r.name) (slice_get rows i)
 
-  abbrev pub name_before : List (Row X) → ℕ → Option Name
+  abbrev pub name_before : List (Row Name X) → ℕ → Option Name
   name_before rows zero = None
   name_before rows (suc i) = name_at rows i
 
@@ -66,7 +58,7 @@ module _ {X : Type 0} where
   no_rows next spare = chained [] next spare
 
   -- the same but for the rows
-  abbrev pub with_rows : Chained X → List (Row X) → Chained X
+  abbrev pub with_rows : Chained X → List (Row Name X) → Chained X
   with_rows c rows = chained rows c.next_serial c.spare
 
   abbrev pub with_value : Chained X → Name → X → Chained X
@@ -77,7 +69,7 @@ module _ {X : Type 0} where
   reserved c n = if nat_le n c.spare then c else chained c.rows c.next_serial (pow8 (length c.rows + n) - length c.rows)
 
   -- a row more before the place, in a slot that was spare
-  abbrev pub inserted : Chained X → Option Name → Row X → Chained X
+  abbrev pub inserted : Chained X → Option Name → Row Name X → Chained X
   inserted c place r = chained (insert c.rows (place_of place c.rows) r) (c.next_serial + 1) (c.spare - 1)
 
   -- the name's row is gone, and its slot is spare
@@ -100,12 +92,12 @@ module _ {X : Type 0} where
   abbrev pub links_swapped : Chained X → Name → Name → Chained X
   links_swapped c a b = with_rows c (swap c.rows (index_of a c.rows) (index_of b c.rows))
 
-  abbrev pub put_at : List (Row X) → ℕ → Option (Row X) → List (Row X)
+  abbrev pub put_at : List (Row Name X) → ℕ → Option (Row Name X) → List (Row Name X)
   put_at rows i None = rows
   put_at rows i (Some r) = insert rows i r
 
   -- the row at i is taken out and put before the one that was at j
-  abbrev pub moved_rows : List (Row X) → ℕ → ℕ → List (Row X)
+  abbrev pub moved_rows : List (Row Name X) → ℕ → ℕ → List (Row Name X)
   moved_rows rows i j = put_at (remove rows i) (if nat_lt i j then j - 1 else j) (slice_get rows i)
 
   -- the name's row is taken out and put before the place
@@ -114,9 +106,6 @@ module _ {X : Type 0} where
 
   abbrev pub reversed : Chained X → Chained X
   reversed c = with_rows c (reverse c.rows)
-
-  abbrev pub names : List (Row X) → List Name
-  names rows = map (λ (r : Row X). r.name) rows
 
   -- the names that a walk meets, from one on by the next ones, at most so many
   abbrev pub walk_from : Chained X → ℕ → Option Name → List Name

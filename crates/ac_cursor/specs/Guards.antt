@@ -1,20 +1,7 @@
--- The guards of an object, and what they forbid (A.18.2(90/5) to A.18.2(97.1/5)).
-use Rattle.std.specs.Prelude.{◌≡◌, ℕ, ◌+◌, ◌-◌, Bool, true, false, Option, Some, None, nat_lt, if◌then◌else◌}
-use Rattle.ac_base.specs.declared.reason.Reason.{Reason}
-use Rattle.ac_base.specs.declared.reason.Reason.TheVariants.{CursorTampering, ElementTampering}
-use Rattle.ac_cursor.specs.declared.guard.Class.{Class}
-use Rattle.ac_cursor.specs.declared.guard.Class.TheVariants as class
-use Rattle.ac_cursor.specs.declared.guard.GuardKind.{GuardKind}
-use Rattle.ac_cursor.specs.declared.guard.GuardKind.TheVariants as kind
-
--- why a call of the class is refused, while so many cursor guards and so many element guards are held
-abbrev pub forbids : Class → ℕ → ℕ → Option Reason
-forbids class.Cursors cursor_guards element_guards =
-    if nat_lt 0 cursor_guards then Some CursorTampering
-    else if nat_lt 0 element_guards then Some ElementTampering
-    else None
-forbids class.Elements cursor_guards element_guards =
-    if nat_lt 0 element_guards then Some ElementTampering else None
+-- The guards that are held on an object.
+use Rattle.std.specs.Prelude.{◌≡◌, ℕ, ◌+◌, ◌-◌, Bool, true, false}
+use Rattle.ac_base.specs.declared.guard.GuardKind.{GuardKind}
+use Rattle.ac_base.specs.declared.guard.GuardKind.TheVariants as kind
 
 -- an object's number, and how many guards of each kind are held on it
 pub record GuardCounts : Type 0 where

@@ -1,9 +1,9 @@
 ghost use Rattle.std.specs.Prelude.{◌≡◌, ◌<◌, Bool, false, refl};
-ghost use Rattle.ac_cursor.specs.Guards.{forbids, GuardCounts, count_of, one_more, one_less, raised_kind};
+ghost use Rattle.ac_base.specs.Tampering.{forbids};
+ghost use Rattle.ac_cursor.specs.Guards.{GuardCounts, count_of, one_more, one_less, raised_kind};
 
-use crate::guard::{Class, GuardKind};
 use crate::mint::Tag;
-use ac_base::Reason;
+use ac_base::{Class, GuardKind, Reason};
 use std::marker::Model;
 
 /// A guard that is held. Its object releases it: a key can't be dropped, so no guard is forgotten.

@@ -123,16 +123,3 @@ fn a_set_has_cursor_guards_alone(rt: HostRuntime) -> Result<(), Fail> {
     assert_eq!(rt; set.limit, 5);
     Ok(())
 }
-
-#[test]
-fn the_earliest_step_comes_first(rt: HostRuntime) {
-    let found = [
-        Some(Reason::DeadCursor),
-        None,
-        Some(Reason::ElementTampering),
-        Some(Reason::CursorTampering),
-    ];
-    assert_eq!(rt; first_reason(&found), Some(Reason::ElementTampering));
-    assert_eq!(rt; first_reason(&found[..2]), Some(Reason::DeadCursor));
-    assert_eq!(rt; first_reason(&found[1..2]), None);
-}

@@ -11,7 +11,8 @@ use Rattle.ac_chain.specs.Rows as chain
 use Rattle.ac_chain.specs.Rows.{Chained, index_of, place_of, name_at, next_name, IsLive, IsSound, value_of}
 use Rattle.ac_chain.specs.ChainFields.{first_or}
 use Rattle.ac_chain.proofs.Moves.{once_from}
-use Rattle.ac_model.specs.Rows.{values, is_ascending}
+use Rattle.ac_base.specs.Rows.{values}
+use Rattle.ac_model.specs.Rows.{is_ascending}
 use Rattle.ac_model.specs.Objects.{Object, plain}
 use Rattle.ac_model.specs.Sequences as sequences
 use Rattle.ac_model.specs.Sequences.{are_equal}

@@ -10,11 +10,13 @@ use Rattle.ac_base.specs.declared.name.Name.{Name}
 use Rattle.ac_base.specs.declared.reason.Reason.TheVariants.{LengthRange, CapacityFull, NamesSpent}
 use Rattle.ac_base.specs.declared.fault.Fault.{Fault}
 use Rattle.ac_base.specs.declared.fault.Fault.TheVariants as fault
-use Rattle.ac_cursor.specs.Steps.{first_reason}
+use Rattle.ac_base.specs.FirstReason.{first_reason}
 use Rattle.ac_base.specs.Growth.{pow8}
 use Rattle.ac_base.proofs.Powers.{pow8-rises}
-use Rattle.ac_model.specs.Rows.{Row}
-use Rattle.ac_model.specs.Objects.{Object, plain, plain_row, contents, length_of, is_past, greatest_length, numbers_end, empty_object}
+use Rattle.ac_base.specs.Rows.{Row}
+use Rattle.ac_base.specs.Limits.{is_past, numbers_end}
+use Rattle.ac_base.specs.declared.limit.TheConstants.{GREATEST_LENGTH}
+use Rattle.ac_model.specs.Objects.{Object, plain, plain_row, contents, length_of, empty_object}
 use Rattle.ac_model.specs.Letters.{reason_if}
 use Rattle.ac_model.specs.Calls.{Changing, IsAfter, Same, Done}
 use Rattle.ac_model.specs.Common.{assign_call, copy_call, limit_of_copy}
@@ -38,14 +40,14 @@ fits (Bounded most) (suc capacity) len h = elim (cases_lt (suc capacity) len) [
 
 module _ {X : Type 0} where
   -- an empty list takes the elements of any other, where it may hold so many
-  empty_takes : (o : Object Name X) (number : ℕ) (m : Limit) → length_of (plain o) ≤ greatest_length → is_past m (length_of (plain o)) ≡ false → (assign_call (plain (empty_object {N = Name} {V = X} false number m)) (plain o)).reason ≡ None
+  empty_takes : (o : Object Name X) (number : ℕ) (m : Limit) → length_of (plain o) ≤ GREATEST_LENGTH → is_past m (length_of (plain o)) ≡ false → (assign_call (plain (empty_object {N = Name} {V = X} false number m)) (plain o)).reason ≡ None
   empty_takes o number m few within =
       let len = length_of (plain o) in
-      let short : nat_lt greatest_length len ≡ false = le-ltb greatest_length len few in
+      let short : nat_lt GREATEST_LENGTH len ≡ false = le-ltb GREATEST_LENGTH len few in
       let left : nat_lt numbers_end (1 + len) ≡ false = le-ltb numbers_end (1 + len) (omega arith) in
       λ i. first_reason (None ∷ reason_if (short i) LengthRange ∷ reason_if (within i) CapacityFull ∷ reason_if (left i) NamesSpent ∷ [])
 
-  pub copy_wants : (o : Object Name X) (made new : Object Name X) (number capacity len : ℕ) (m : Limit) (r : Result Done Fault) (q : Fault) (t : Result (Listed X) Fault) → length_of (plain o) ≤ greatest_length → len ≡ length_of (plain o)
+  pub copy_wants : (o : Object Name X) (made new : Object Name X) (number capacity len : ℕ) (m : Limit) (r : Result Done Fault) (q : Fault) (t : Result (Listed X) Fault) → length_of (plain o) ≤ GREATEST_LENGTH → len ≡ length_of (plain o)
       → reason_if (nat_lt 0 capacity && nat_lt capacity len) CapacityFull ≡ None → m ≡ limit_of_copy o.limit capacity len → made ≡ empty_object false number m
       → Changing Same (assign_call (plain made) (plain o)) made new r → r ≡ Err q → t ≡ Err q → Making (copy_call (plain o) number capacity) t
   copy_wants o made new number capacity len m r q t few count enough limit empty h is back =

@@ -14,8 +14,9 @@ use Rattle.ac_chain.proofs.Cuts.{split, apart, index_here, index_of-cut, remove-
 use Rattle.ac_chain.proofs.Moves.{once_from}
 use Rattle.ac_chain.proofs.Linking.{first_has}
 use Rattle.ac_cursor.specs.Guards.{GuardCounts}
-use Rattle.ac_cursor.specs.declared.cursor.Cursor.{Cursor}
-use Rattle.ac_model.specs.Rows.{names, cut}
+use Rattle.ac_base.specs.declared.cursor.Cursor.{Cursor}
+use Rattle.ac_base.specs.Rows.{names}
+use Rattle.ac_model.specs.Rows.{cut}
 use Rattle.ac_model.specs.Objects.{Object, plain, plain_row, with_rows, length_of}
 use Rattle.ac_model.specs.Letters.{is_among, place_at}
 use Rattle.ac_model.specs.Calls.{IsAfter}

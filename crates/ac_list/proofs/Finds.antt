@@ -7,17 +7,17 @@ use Rattle.std.proofs.lemmas.List.{take-map, drop-map, take_all}
 use Rattle.std.proofs.lemmas.Option.{none-some}
 use Rattle.ac_base.specs.declared.limit.Limit.{Limit}
 use Rattle.ac_base.specs.declared.name.Name.{Name}
-use Rattle.ac_cursor.specs.declared.cursor.Cursor.{Cursor}
-use Rattle.ac_cursor.specs.declared.cursor.Cursor.TheVariants.{NoElement, At}
+use Rattle.ac_base.specs.declared.cursor.Cursor.{Cursor}
+use Rattle.ac_base.specs.declared.cursor.Cursor.TheVariants.{NoElement, At}
 use Rattle.ac_cursor.specs.Guards.{GuardCounts}
-use Rattle.ac_cursor.specs.Steps.{first_reason}
+use Rattle.ac_base.specs.FirstReason.{first_reason}
 use Rattle.ac_chain.specs.Rows as chain
 use Rattle.ac_chain.specs.Rows.{Chained, index_of, place_of, name_at, name_before, IsLive, IsSound}
 use Rattle.ac_chain.specs.ChainFields.{HasName, IsOnce}
 use Rattle.ac_chain.proofs.Cuts.{index_here, name_at_has, has_live, HasName-left, HasName-right}
 use Rattle.ac_chain.proofs.Chains.{index_at}
 use Rattle.ac_chain.proofs.Moves.{once_from}
-use Rattle.ac_model.specs.Rows.{Row, row, names, values}
+use Rattle.ac_base.specs.Rows.{Row, row, names, values}
 use Rattle.ac_model.specs.Objects.{Object, plain, plain_row}
 use Rattle.ac_model.specs.Letters.{mark_of, mark_for, place_at, is_no_mark}
 use Rattle.ac_model.specs.Calls.{Looking, Marks}

@@ -12,19 +12,23 @@ use Rattle.ac_base.specs.declared.reason.Reason.TheVariants.{LengthRange, Capaci
 use Rattle.ac_base.specs.declared.fault.Fault.{Fault}
 use Rattle.ac_base.specs.declared.fault.NoMemory.{NoMemory}
 use Rattle.ac_base.specs.declared.fault.Fault.TheVariants as fault
-use Rattle.ac_cursor.specs.Guards.{GuardCounts, forbids}
-use Rattle.ac_cursor.specs.declared.guard.Class.TheVariants as class
-use Rattle.ac_cursor.specs.declared.cursor.Cursor.{Cursor}
-use Rattle.ac_cursor.specs.declared.cursor.Cursor.TheVariants.{NoElement, At}
-use Rattle.ac_cursor.specs.Steps.{first_reason}
+use Rattle.ac_base.specs.Tampering.{forbids}
+use Rattle.ac_cursor.specs.Guards.{GuardCounts}
+use Rattle.ac_base.specs.declared.guard.Class.TheVariants as class
+use Rattle.ac_base.specs.declared.cursor.Cursor.{Cursor}
+use Rattle.ac_base.specs.declared.cursor.Cursor.TheVariants.{NoElement, At}
+use Rattle.ac_base.specs.FirstReason.{first_reason}
 use Rattle.ac_base.specs.Growth.{pow8}
 use Rattle.ac_chain.specs.Rows as chain
 use Rattle.ac_chain.specs.Rows.{Chained, IsLive, IsSound, place_of, index_of, name_at, reversed}
 use Rattle.ac_chain.specs.ChainFields.{HasName}
 use Rattle.ac_chain.proofs.Cuts.{HasName-left, HasName-right, HasName-either, has_live, live_has, index_here}
 use Rattle.ac_model.specs.Rows as model
-use Rattle.ac_model.specs.Rows.{Row, row, names, fresh, put}
-use Rattle.ac_model.specs.Objects.{Object, plain, plain_row, length_of, is_past, greatest_length, numbers_end, capacity_after, with_rows, grown}
+use Rattle.ac_base.specs.Rows.{Row, row, names}
+use Rattle.ac_model.specs.Rows.{fresh, put}
+use Rattle.ac_base.specs.Limits.{is_past, numbers_end}
+use Rattle.ac_base.specs.declared.limit.TheConstants.{GREATEST_LENGTH}
+use Rattle.ac_model.specs.Objects.{Object, plain, plain_row, length_of, capacity_after, with_rows, grown}
 use Rattle.ac_model.specs.Letters.{no_mark, mark_at, mark_of, is_among, has_room, tampers_cursors, room, in_range, count_of, reason_if, place_at}
 use Rattle.ac_model.specs.Calls.{Call, call, Changing, IsAfter, Same, Marks, Done}
 use Rattle.ac_model.specs.Sequences.{with_new, first_new, room_for_copies, copies_take_memory, with_copies}
@@ -201,7 +205,7 @@ module _ {X : Type 0} where
   takes_from o place n h =
       let rest = after_two (tampers_cursors (plain o)) place (room_for_copies (plain o) n) (sym h) in
       let has = room_none (plain o) (length_of (plain o) + count_of n) (count_of n) (none_others (in_range n) (room (plain o) (length_of (plain o) + count_of n) (count_of n)) rest) in
-      subst (λ m. (m + count_of n ≤ greatest_length) → (is_past o.limit (m + count_of n) ≡ false) → Takes o (count_of n)) (sym (length-map o.rows plain_row)) (λ few within. record { few = few; within = within; unspent = has.within_names }) has.within_greatest has.within_limit
+      subst (λ m. (m + count_of n ≤ GREATEST_LENGTH) → (is_past o.limit (m + count_of n) ≡ false) → Takes o (count_of n)) (sym (length-map o.rows plain_row)) (λ few within. record { few = few; within = within; unspent = has.within_names }) has.within_greatest has.within_limit
 
   pub first_spot : (g : GuardCounts) (l : Limit) (k : Chained X) (o : Object Name X) → object_of g l k ≡ o → IsSound k → (place : Option Name) → place ≡ name_at k.rows 0 → (ForSome place (IsNamed o)) × (spot o place ≡ 0)
   first_spot g l k o view s place e = subst (λ (p : Object Name X). (ForSome place (IsNamed p)) × (spot p place ≡ 0)) view (subst (λ q. (ForSome q (IsNamed (object_of g l k))) × (spot (object_of g l k) q ≡ 0)) (sym e) (at_first k.rows refl))
@@ -238,12 +242,12 @@ module _ {X : Type 0} where
   -- the reasons that were looked for are the definition's
   pub refused : (g : GuardCounts) (l : Limit) (k : Chained X) (o : Object Name X) → object_of g l k ≡ o → (n : _) (more len next : ℕ) (place result t a b c d : Option Reason)
       → more ≡ count_of n → len ≡ length k.rows → next ≡ k.next_serial → t ≡ forbids class.Cursors g.cursor_guards g.element_guards → a ≡ in_range n
-      → b ≡ reason_if (nat_lt greatest_length (len + more)) LengthRange → c ≡ reason_if (is_past l (len + more)) CapacityFull → d ≡ reason_if (nat_lt numbers_end (next + more)) NamesSpent
+      → b ≡ reason_if (nat_lt GREATEST_LENGTH (len + more)) LengthRange → c ≡ reason_if (is_past l (len + more)) CapacityFull → d ≡ reason_if (nat_lt numbers_end (next + more)) NamesSpent
       → result ≡ first_reason (t ∷ place ∷ a ∷ b ∷ c ∷ d ∷ []) → result ≡ first_reason (tampers_cursors (plain o) ∷ place ∷ room_for_copies (plain o) n)
   refused g l k o view n more len next place result t a b c d em el en et ea eb ec ed er =
       let sum : len + more ≡ length (plains k.rows) + count_of n = λ i. (el ∙ sym (length-plains k.rows)) i + em i in
       er ∙ (λ i. first_reason (et i ∷ place ∷ ea i
-      ∷ (eb ∙ ap (λ m. reason_if (nat_lt greatest_length m) LengthRange) sum) i
+      ∷ (eb ∙ ap (λ m. reason_if (nat_lt GREATEST_LENGTH m) LengthRange) sum) i
       ∷ (ec ∙ ap (λ m. reason_if (is_past l m) CapacityFull) sum) i
       ∷ (ed ∙ (λ j. reason_if (nat_lt numbers_end (en j + em j)) NamesSpent)) i ∷ []))
       ∙ ap (λ (p : Object Name X). first_reason (tampers_cursors (plain p) ∷ place ∷ room_for_copies (plain p) n)) view

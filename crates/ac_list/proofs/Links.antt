@@ -12,8 +12,8 @@ use Rattle.ac_base.specs.declared.limit.Limit.TheVariants.{Unbounded, Bounded}
 use Rattle.ac_base.specs.declared.name.Name.{Name}
 use Rattle.ac_base.specs.declared.fault.Fault.{Fault}
 use Rattle.ac_base.specs.declared.fault.Fault.TheVariants as fault
-use Rattle.ac_cursor.specs.declared.cursor.Cursor.{Cursor}
-use Rattle.ac_cursor.specs.declared.cursor.Cursor.TheVariants.{NoElement, At}
+use Rattle.ac_base.specs.declared.cursor.Cursor.{Cursor}
+use Rattle.ac_base.specs.declared.cursor.Cursor.TheVariants.{NoElement, At}
 use Rattle.ac_cursor.specs.Guards.{GuardCounts}
 use Rattle.ac_chain.specs.Rows as chain
 use Rattle.ac_chain.specs.Rows.{Chained, index_of, place_of, name_at, IsLive, IsSound, links_swapped, moved, moved_rows}
@@ -23,7 +23,8 @@ use Rattle.ac_chain.proofs.Chains.{index_at}
 use Rattle.ac_chain.proofs.Moves.{once_from, move, moved_itself}
 use Rattle.ac_chain.proofs.Orders.{length_moved, live_moved}
 use Rattle.ac_model.specs.Rows as model
-use Rattle.ac_model.specs.Rows.{Row, row, named, names, cut, put, with_exchanged_rows}
+use Rattle.ac_base.specs.Rows.{Row, row, names}
+use Rattle.ac_model.specs.Rows.{named, cut, put, with_exchanged_rows}
 use Rattle.ac_model.specs.Objects.{Object, plain, with_rows}
 use Rattle.ac_model.specs.Letters.{mark_at, name_of, is_among}
 use Rattle.ac_model.specs.Lists.{moved_before, one_row, splice_within_call, splice_one_self_call}

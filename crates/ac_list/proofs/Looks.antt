@@ -7,16 +7,17 @@ use Rattle.std.proofs.lemmas.Bool.{cond-true}
 use Rattle.ac_base.specs.declared.limit.Limit.{Limit}
 use Rattle.ac_base.specs.declared.name.Name.{Name}
 use Rattle.ac_base.specs.declared.reason.Reason.TheVariants.{Empty, DeadCursor}
-use Rattle.ac_cursor.specs.declared.cursor.Cursor.{Cursor}
-use Rattle.ac_cursor.specs.declared.cursor.Cursor.TheVariants.{At}
+use Rattle.ac_base.specs.declared.cursor.Cursor.{Cursor}
+use Rattle.ac_base.specs.declared.cursor.Cursor.TheVariants.{At}
 use Rattle.ac_cursor.specs.Guards.{GuardCounts}
-use Rattle.ac_cursor.specs.Steps.{first_reason}
+use Rattle.ac_base.specs.FirstReason.{first_reason}
 use Rattle.ac_chain.specs.Rows as chain
 use Rattle.ac_chain.specs.Rows.{Chained, index_of, IsLive, IsSound, name_at, name_before, next_name, prev_name}
 use Rattle.ac_chain.proofs.Cuts.{live_has, has_live}
 use Rattle.ac_chain.proofs.Chains.{index_at}
 use Rattle.ac_chain.proofs.Moves.{once_from}
-use Rattle.ac_model.specs.Rows.{names, values, value_at}
+use Rattle.ac_base.specs.Rows.{names, values}
+use Rattle.ac_model.specs.Rows.{value_at}
 use Rattle.ac_model.specs.Objects.{Object, plain, length_of}
 use Rattle.ac_model.specs.Letters.{no_mark, mark_at, mark_of, is_among, judged_in, mark_in, place_at, is_no_mark, name_of, reason_if}
 use Rattle.ac_model.specs.Calls.{Looking, Marks, Lends}

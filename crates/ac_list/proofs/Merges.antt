@@ -14,7 +14,8 @@ use Rattle.ac_chain.specs.ChainFields.{first_or, HasName, IsOnce}
 use Rattle.ac_chain.proofs.Cuts.{insert-cut, live_has, has_live, HasName-right, HasName-cut, name_at-first}
 use Rattle.ac_chain.proofs.Linking.{first_has}
 use Rattle.ac_chain.proofs.Moves.{once_from}
-use Rattle.ac_model.specs.Rows.{Row, row, fresh, merged}
+use Rattle.ac_base.specs.Rows.{Row, row}
+use Rattle.ac_model.specs.Rows.{fresh, merged}
 use Rattle.ac_model.specs.Objects.{Object, plain, length_of, contents, grown}
 use Rattle.ac_model.specs.Letters.{tampers_cursors, room}
 use Rattle.ac_model.specs.Calls.{IsAfter}

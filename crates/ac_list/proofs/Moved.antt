@@ -7,18 +7,21 @@ use Rattle.ac_base.specs.declared.limit.Limit.{Limit}
 use Rattle.ac_base.specs.declared.limit.Limit.TheVariants.{Unbounded, Bounded}
 use Rattle.ac_base.specs.declared.name.Name.{Name}
 use Rattle.ac_base.specs.declared.fault.Fault.{Fault}
-use Rattle.ac_cursor.specs.declared.cursor.Cursor.TheVariants.{At}
+use Rattle.ac_base.specs.declared.cursor.Cursor.TheVariants.{At}
 use Rattle.ac_base.specs.declared.fault.NoMemory.{NoMemory}
 use Rattle.ac_cursor.specs.Guards.{GuardCounts}
-use Rattle.ac_cursor.specs.Steps.{first_reason}
-use Rattle.ac_cursor.specs.declared.cursor.Cursor.{Cursor}
+use Rattle.ac_base.specs.FirstReason.{first_reason}
+use Rattle.ac_base.specs.declared.cursor.Cursor.{Cursor}
 use Rattle.ac_base.specs.Growth.{pow8}
 use Rattle.ac_chain.specs.Rows as chain
 use Rattle.ac_chain.specs.Rows.{Chained, IsLive, IsSound, value_of, index_of, removed, cleared, next_name}
 use Rattle.ac_chain.proofs.Cuts.{cut, cut-row, live_has}
-use Rattle.ac_model.specs.Rows.{Row, fresh, merged, value_at, put, names}
+use Rattle.ac_base.specs.Rows.{Row, names}
+use Rattle.ac_model.specs.Rows.{fresh, merged, value_at, put}
 use Rattle.ac_model.specs.Rows as model
-use Rattle.ac_model.specs.Objects.{Object, plain, length_of, contents, is_past, with_rows, greatest_length}
+use Rattle.ac_base.specs.Limits.{is_past}
+use Rattle.ac_base.specs.declared.limit.TheConstants.{GREATEST_LENGTH}
+use Rattle.ac_model.specs.Objects.{Object, plain, length_of, contents, with_rows}
 use Rattle.ac_model.specs.Letters.{mark_at, name_of, place_at, tampers_cursors, room, room_for_one}
 use Rattle.ac_model.specs.Calls.{Call, ChangingBoth, Same, Marks, Both, both, IsAfter, Done}
 use Rattle.ac_model.specs.Sequences.{with_new}
@@ -41,7 +44,7 @@ use Rattle.ac_list.proofs.Deletes.{cutting_start, cutting_more, cutting_end, cut
 module _ {X : Type 0} where
   -- a chain's list has room for this length, and for so many new names
   pub record Fits (l : Limit) (k : Chained X) (len n : ℕ) : Type 0 where
-    pub few : len ≤ greatest_length
+    pub few : len ≤ GREATEST_LENGTH
     pub within : is_past l len ≡ false
     pub unspent : k.next_serial + n < 2 ^ 64
 

@@ -18,9 +18,12 @@ use Rattle.ac_chain.proofs.Cuts.{apart, index_of-cut, name_before-cut, slice_get
 use Rattle.ac_chain.proofs.Chains.{index_at}
 use Rattle.ac_chain.proofs.Moves.{once_from}
 use Rattle.ac_cursor.specs.Guards.{GuardCounts}
-use Rattle.ac_cursor.specs.Steps.{first_reason}
-use Rattle.ac_model.specs.Rows.{values, fresh}
-use Rattle.ac_model.specs.Objects.{Object, plain, contents, length_of, grown, is_past, greatest_length}
+use Rattle.ac_base.specs.FirstReason.{first_reason}
+use Rattle.ac_base.specs.Rows.{values}
+use Rattle.ac_model.specs.Rows.{fresh}
+use Rattle.ac_base.specs.Limits.{is_past}
+use Rattle.ac_base.specs.declared.limit.TheConstants.{GREATEST_LENGTH}
+use Rattle.ac_model.specs.Objects.{Object, plain, contents, length_of, grown}
 use Rattle.ac_model.specs.Letters.{tampers_cursors, room}
 use Rattle.ac_model.specs.Calls.{Changing, IsAfter, Same, Done}
 use Rattle.ac_model.specs.Common.{assign_call}
@@ -182,7 +185,7 @@ module _ {X : Type 0} where
   refilled_length k now source f =
       sym (length-plains now.rows) ∙ ap length f.rows ∙ length-fresh k.next_serial (values_in source) ∙ length-map source (λ (r : chain.Row X). r.value)
 
-  pub refill_list : (l : Limit) (k now : Chained X) (source : List (chain.Row X)) (r : Result Done NoMemory) → IsList l k → length source ≤ greatest_length → is_past l (length source) ≡ false
+  pub refill_list : (l : Limit) (k now : Chained X) (source : List (chain.Row X)) (r : Result Done NoMemory) → IsList l k → length source ≤ GREATEST_LENGTH → is_past l (length source) ≡ false
       → IfOk r (λ _. IsRefilled k (values_in source) now) → IfErr r (λ _. now ≡ k) → (length source ≤ length k.rows + k.spare → length now.rows + now.spare ≡ length k.rows + k.spare) → IsSound now → IsList l now
   refill_list l k now source (Err e) s few within ok err slots sound = subst (λ c. IsList l c) (sym err) s
   refill_list Unbounded k now source (Ok x) s few within ok err slots sound = let count = refilled_length k now source ok in record { sound = sound; within_greatest = omega arith; is_limit = tt; has_slots = tt }

@@ -16,14 +16,15 @@ use Rattle.ac_base.specs.declared.limit.Limit.{Limit}
 use Rattle.ac_base.specs.declared.name.Name.{Name}
 use Rattle.ac_cursor.specs.Guards.{GuardCounts}
 use Rattle.ac_chain.specs.Rows as chain
-use Rattle.ac_chain.specs.Rows.{Chained, names, place_of, name_at, next_name, IsLive, IsSound, value_of, IsOrderOf, Reorders}
+use Rattle.ac_base.specs.Rows.{names}
+use Rattle.ac_chain.specs.Rows.{Chained, place_of, name_at, next_name, IsLive, IsSound, value_of, IsOrderOf, Reorders}
 use Rattle.ac_chain.specs.ChainFields.{HasName, IsOnce}
 use Rattle.ac_chain.proofs.Cuts.{has_live, name_at_has, once_at}
 use Rattle.ac_chain.proofs.Chains.{index_at}
 use Rattle.ac_chain.proofs.Moves.{once_from}
 use Rattle.ac_list.specs.declared.list.order.Keyed.{Keyed}
 use Rattle.ac_model.specs.Rows as model
-use Rattle.ac_model.specs.Rows.{Row, row}
+use Rattle.ac_base.specs.Rows.{Row, row}
 use Rattle.ac_list.specs.Put.{plains}
 use Rattle.ac_list.specs.Sorting.{row_at, IsSortedOrder}
 use Rattle.ac_model.specs.Objects.{Object, plain, with_rows}

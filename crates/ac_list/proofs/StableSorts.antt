@@ -9,7 +9,9 @@ use Rattle.std.proofs.lemmas.List.Sorted.{length_permutation}
 use Rattle.ac_base.specs.Order.{IsWeakOrder}
 use Rattle.ac_base.specs.WeakOrders.{asymmetric, not_less_transitive}
 use Rattle.ac_model.specs.Rows as model
-use Rattle.ac_model.specs.Rows.{Row, values, sorted, is_ascending, are_level}
+use Rattle.ac_base.specs.Rows.{Row, values}
+use Rattle.ac_base.specs.Order.{are_level}
+use Rattle.ac_model.specs.Rows.{sorted, is_ascending}
 use Rattle.ac_model.proofs.RowLaws.{sorted_ascends, sorted_stable}
 
 module _ {V : Type 0} (less : V → V → Bool) (order : IsWeakOrder less) where

@@ -5,15 +5,16 @@ use Rattle.std.specs.Option.{option_map}
 use Rattle.std.proofs.lemmas.Bool.{cases_Bool, cases_eq, cond-true, cond-false}
 use Rattle.ac_base.specs.declared.limit.Limit.{Limit}
 use Rattle.ac_base.specs.declared.name.Name.{Name}
-use Rattle.ac_cursor.specs.declared.cursor.Cursor.{Cursor}
-use Rattle.ac_cursor.specs.declared.cursor.Cursor.TheVariants.{NoElement, At}
+use Rattle.ac_base.specs.declared.cursor.Cursor.{Cursor}
+use Rattle.ac_base.specs.declared.cursor.Cursor.TheVariants.{NoElement, At}
 use Rattle.ac_cursor.specs.Guards.{GuardCounts}
 use Rattle.ac_pool.proofs.NameLaws.{same_name}
 use Rattle.ac_chain.specs.Rows as chain
 use Rattle.ac_chain.specs.Rows.{Chained, index_of, IsLive, IsSound, name_at}
 use Rattle.ac_chain.specs.ChainFields.{HasName}
 use Rattle.ac_chain.proofs.Cuts.{has_live, index_here, index_past, name_at_has}
-use Rattle.ac_model.specs.Rows.{Row, row, names, is_named, place_of, value_at}
+use Rattle.ac_base.specs.Rows.{Row, row, names}
+use Rattle.ac_model.specs.Rows.{is_named, place_of, value_at}
 use Rattle.ac_model.specs.Objects.{Object, plain_row}
 use Rattle.ac_model.specs.Letters.{mark_at, is_same_name, is_among, mark_of, judged_in, mark_for}
 use Rattle.ac_model.proofs.RowLaws.{at_its_place}

@@ -8,14 +8,15 @@ use Rattle.std.proofs.lemmas.List.{length-set}
 use Rattle.ac_base.specs.declared.limit.Limit.{Limit}
 use Rattle.ac_base.specs.declared.limit.Limit.TheVariants.{Unbounded, Bounded}
 use Rattle.ac_base.specs.declared.name.Name.{Name}
-use Rattle.ac_cursor.specs.declared.cursor.Cursor.{Cursor}
+use Rattle.ac_base.specs.declared.cursor.Cursor.{Cursor}
 use Rattle.ac_cursor.specs.Guards.{GuardCounts}
 use Rattle.ac_chain.specs.Rows as chain
 use Rattle.ac_chain.specs.Rows.{Chained, index_of, IsLive, IsSound, values_swapped, values_exchanged}
 use Rattle.ac_chain.specs.ChainFields.{HasName, IsOnce}
 use Rattle.ac_chain.proofs.Cuts.{index_here, index_past, has_live, live_has, once_at}
 use Rattle.ac_chain.proofs.Moves.{once_from}
-use Rattle.ac_model.specs.Rows.{row, names, with_value, with_some_value, with_exchanged_values}
+use Rattle.ac_base.specs.Rows.{row, names}
+use Rattle.ac_model.specs.Rows.{with_value, with_some_value, with_exchanged_values}
 use Rattle.ac_model.specs.Objects.{Object, plain, with_rows}
 use Rattle.ac_model.specs.Letters.{is_among, name_of}
 use Rattle.ac_model.specs.Calls.{IsAfter}

@@ -12,7 +12,8 @@ use Rattle.ac_chain.specs.Rows.{Chained}
 use Rattle.ac_chain.specs.ChainFields.{HasName, IsOnce}
 use Rattle.ac_chain.proofs.Cuts.{has_live}
 use Rattle.ac_chain.proofs.Moves.{once_from}
-use Rattle.ac_model.specs.Objects.{Object, plain, times, is_past, IsValid}
+use Rattle.ac_base.specs.Limits.{is_past}
+use Rattle.ac_model.specs.Objects.{Object, plain, times, IsValid}
 use Rattle.ac_list.specs.Put.{plains}
 use Rattle.ac_list.specs.State.{row_of, object_of, IsList, HasSlots}
 use Rattle.ac_list.proofs.Puts.{length-plains}

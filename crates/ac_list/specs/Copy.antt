@@ -4,8 +4,8 @@ use Rattle.ac_base.specs.declared.fault.Fault.{Fault}
 use Rattle.ac_base.specs.declared.fault.Fault.TheVariants as fault
 use Rattle.ac_base.specs.declared.fault.NoMemory.{NoMemory}
 use Rattle.ac_base.specs.declared.name.Name.{Name}
-use Rattle.ac_cursor.specs.declared.cursor.Cursor.{Cursor}
-use Rattle.ac_cursor.specs.declared.cursor.Cursor.TheVariants.{At}
+use Rattle.ac_base.specs.declared.cursor.Cursor.{Cursor}
+use Rattle.ac_base.specs.declared.cursor.Cursor.TheVariants.{At}
 use Rattle.ac_chain.specs.Rows.{Chained}
 use Rattle.ac_model.specs.Rows.{fresh}
 use Rattle.ac_model.specs.Objects.{Object, plain}

@@ -2,14 +2,17 @@
 use Rattle.std.specs.Prelude.{◌≡◌, ℕ, zero, suc, ◌+◌, max, List, ◌++◌, length, map, replicate, Option, None, Some, ◌≤◌, ◌==◌, ◌&&◌, false, not, IsTrue, Result, Ok, Err}
 use Rattle.ac_base.specs.declared.name.Name.{Name}
 use Rattle.ac_base.specs.declared.fault.Fault.{Fault}
-use Rattle.ac_cursor.specs.declared.cursor.Cursor.{Cursor}
+use Rattle.ac_base.specs.declared.cursor.Cursor.{Cursor}
 use Rattle.ac_base.specs.Growth.{pow8}
 use Rattle.ac_chain.specs.Rows as chain
 use Rattle.ac_chain.specs.Rows.{Chained, IsLive, place_of}
 use Rattle.ac_chain.specs.ChainFields.{first_or}
 use Rattle.ac_model.specs.Rows as model
-use Rattle.ac_model.specs.Rows.{Row, fresh, names}
-use Rattle.ac_model.specs.Objects.{Object, plain_row, plain, length_of, is_past, greatest_length, numbers_end}
+use Rattle.ac_base.specs.Rows.{Row, names}
+use Rattle.ac_model.specs.Rows.{fresh}
+use Rattle.ac_base.specs.Limits.{is_past, numbers_end}
+use Rattle.ac_base.specs.declared.limit.TheConstants.{GREATEST_LENGTH}
+use Rattle.ac_model.specs.Objects.{Object, plain_row, plain, length_of}
 use Rattle.ac_model.specs.Letters.{Mark, no_mark, is_among, has_room}
 use Rattle.ac_model.specs.Calls.{Call, call, Done}
 use Rattle.ac_model.specs.Sequences.{with_new, first_new}
@@ -77,7 +80,7 @@ module _ {X : Type 0} where
 
   -- an object that takes so many more
   pub record Takes (o : Object Name X) (n : ℕ) : Type 0 where
-    pub few : length_of o + n ≤ greatest_length
+    pub few : length_of o + n ≤ GREATEST_LENGTH
     pub within : is_past o.limit (length_of o + n) ≡ false
     pub unspent : o.next + n ≤ numbers_end
 

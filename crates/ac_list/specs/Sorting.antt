@@ -2,7 +2,7 @@
 use Rattle.std.specs.Prelude.{◌≡◌, List, Bool, IsPermutation}
 use Rattle.ac_base.specs.declared.name.Name.{Name}
 use Rattle.ac_chain.specs.Rows as chain
-use Rattle.ac_chain.specs.Rows.{names}
+use Rattle.ac_base.specs.Rows.{names}
 use Rattle.ac_model.specs.Rows as model
 use Rattle.ac_list.specs.declared.list.order.Keyed.{Keyed}
 use Rattle.ac_list.specs.Put.{plains}

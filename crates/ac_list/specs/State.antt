@@ -5,13 +5,14 @@ use Rattle.ac_base.specs.declared.limit.Limit.{Limit}
 use Rattle.ac_base.specs.declared.limit.Limit.TheVariants.{Unbounded, Bounded}
 use Rattle.ac_base.specs.declared.name.Name.{Name}
 use Rattle.ac_base.specs.declared.reason.Reason.{Reason}
-use Rattle.ac_cursor.specs.declared.cursor.Cursor.{Cursor}
-use Rattle.ac_cursor.specs.declared.cursor.Cursor.TheVariants.{NoElement, At}
+use Rattle.ac_base.specs.declared.cursor.Cursor.{Cursor}
+use Rattle.ac_base.specs.declared.cursor.Cursor.TheVariants.{NoElement, At}
 use Rattle.ac_cursor.specs.Guards.{GuardCounts}
-use Rattle.ac_pool.specs.Names.{name_code}
+use Rattle.ac_base.specs.Names.{name_code}
 use Rattle.ac_chain.specs.Rows as chain
-use Rattle.ac_model.specs.Rows.{Row, row, names}
-use Rattle.ac_model.specs.Objects.{Object, greatest_length, plain}
+use Rattle.ac_base.specs.Rows.{Row, row, names}
+use Rattle.ac_base.specs.declared.limit.TheConstants.{GREATEST_LENGTH}
+use Rattle.ac_model.specs.Objects.{Object, plain}
 use Rattle.ac_model.specs.Letters.{Mark, mark_of, needs, may}
 
 pub record Listed (T : Type 0) : Type 0 where
@@ -37,7 +38,7 @@ limit_code = code_by (Option ℕ) (coded_option coded_ℕ) option_of_limit limit
 -- a limit that a list may have
 abbrev pub IsLimit : Limit → Type 0
 IsLimit Unbounded = ⊤
-IsLimit (Bounded most) = most ≤ greatest_length
+IsLimit (Bounded most) = most ≤ GREATEST_LENGTH
 
 -- a bounded list has the slots of all that it may hold
 abbrev pub HasSlots : Limit → ℕ → ℕ → Type 0
@@ -83,7 +84,7 @@ module _ {T : Type 0} where
   -- what holds of every list
   pub record IsList (limit : Limit) (c : chain.Chained T) : Type 0 where
     pub sound : chain.IsSound c
-    pub within_greatest : length c.rows ≤ greatest_length
+    pub within_greatest : length c.rows ≤ GREATEST_LENGTH
     pub is_limit : IsLimit limit
     pub has_slots : HasSlots limit (length c.rows) c.spare
 

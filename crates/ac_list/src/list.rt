@@ -1,12 +1,13 @@
 //! The list. A contract sees its object, with the slots of its names, and how many elements more it takes without memory.
 ghost use Rattle.std.specs.Prelude.{◌≡◌, ◌∷◌, [], ℕ, ◌+◌, ◌≤◌, None, pos, IfOk, IfErr, OnErr, IsOk, length, false, refl};
-ghost use Rattle.ac_list.specs.State.{IsLimit, HasSlots, first_spare, with_guards, guards_of, mark, needs_cursor, may_cursor, cursor_at, name_in, place_in};
+ghost use Rattle.ac_base.specs.Limits.{IsLimit};
+ghost use Rattle.ac_list.specs.State.{HasSlots, first_spare, with_guards, guards_of, mark, needs_cursor, may_cursor, cursor_at, name_in, place_in};
 ghost use Rattle.ac_list.specs.Searches.{IsEquality, same_by};
 ghost use Rattle.std.specs.Option.{ForSome};
 ghost use Rattle.ac_list.specs.Put.{IsNamed, Takes, Grows, put_call, done, cursor_of_first, spot};
 ghost use Rattle.ac_model.specs.Letters.{tampers_cursors, tampers_elements, place_at};
 ghost use Rattle.ac_model.specs.Sequences.{room_for_copies};
-ghost use Rattle.ac_cursor.specs.Steps.{first_reason};
+ghost use Rattle.ac_base.specs.FirstReason.{first_reason};
 ghost use Rattle.ac_model.specs.Objects.{IsValid, empty_object, plain, length_of};
 ghost use Rattle.ac_model.specs.Calls.{Changing, Looking, Same, Lends, Marks};
 ghost use Rattle.ac_model.specs.Common as common;

@@ -3,9 +3,13 @@ use Rattle.std.proofs.Common.{◌≡◌, ◌==◌, ◌+◌, ◌≤◌, ℕ, zero
 use Rattle.std.specs.Prelude.{filter}
 use Rattle.std.specs.List.{list_all, prefix_len}
 use Rattle.std.proofs.Math.Nat.{suc-add}
-use Rattle.ac_model.specs.Rows.{Row, row, cut, put, named, values, with_value, are_level, IsWeakOrder}
+use Rattle.ac_base.specs.Rows.{Row, row, values}
+use Rattle.ac_base.specs.Order.{are_level, IsWeakOrder}
+use Rattle.ac_model.specs.Rows.{cut, put, named, with_value}
 use Rattle.ac_model.specs.Objects.{times}
-use Rattle.ac_model.specs.Keyed.{ascending, is_strictly_ascending, added, IsEquivalence}
+use Rattle.std.specs.Cmp.{IsEquivalence, IsPartialEquivalence, equiv}
+use Rattle.ac_base.specs.WeakOrders.{asymmetric, level_transitive}
+use Rattle.ac_model.specs.Keyed.{ascending, is_strictly_ascending, added}
 use Rattle.ac_model.proofs.Counts.{count, count-cons, count-put, count_step, unnamed}
 
 and_left : (a b : Bool) → (a && b) ≡ true → a ≡ true
@@ -116,16 +120,20 @@ level_sym less v w h = grind arith
 both_not : (a b : Bool) → a ≡ false → b ≡ false → (not a && not b) ≡ true
 both_not a b h k = rw (h, k)
 
-never : (b : Bool) → (b ≡ true → b ≡ false) → b ≡ false
-never true h = h refl
-never false h = refl
+and_swapped : (a b : Bool) → (a && b) ≡ (b && a)
+and_swapped true true = refl
+and_swapped true false = refl
+and_swapped false true = refl
+and_swapped false false = refl
 
 pub level_equal : {V : Type 0} (less : V → V → Bool) → IsWeakOrder less → IsEquivalence (are_level less)
-level_equal less order = record {
-  reflexive = λ v. let not_less : less v v ≡ false = never (less v v) (order.asymmetric v v) in both_not (less v v) (less v v) not_less not_less;
-  symmetric = level_sym less;
-  transitive = λ v w x h k. both_not (less v x) (less x v) (order.level_transitive v w x h k) (order.level_transitive x w v (level_sym less w x k) (level_sym less v w h));
-}
+level_equal less order =
+    let partial : IsPartialEquivalence (are_level less) = record {
+      symm = λ v w. and_swapped (not (less v w)) (not (less w v));
+      trans = λ v w x h k. both_not (less v x) (less x v) (level_transitive order v w x h k)
+          (level_transitive order x w v (level_sym less w x k) (level_sym less v w h));
+    } in
+    equiv partial (λ v. both_not (less v v) (less v v) (order.irreflexive v) (order.irreflexive v))
 
 -- what is less than a value is less than one that is level with it, and so with what a value is less than
 less_level : {V : Type 0} (less : V → V → Bool) → IsWeakOrder less → (a r v : V) → less a r ≡ true → are_level less r v ≡ true → (b c : Bool) → less a v ≡ b → less v a ≡ c → less a v ≡ true
@@ -133,14 +141,14 @@ less_level less order a r v h k true c e f = e
 less_level less order a r v h k false true e f = let before : less v r ≡ true = order.transitive v a r f h in grind arith
 less_level less order a r v h k false false e f =
     let level_too : are_level less a v ≡ true = both_not (less a v) (less v a) e f in
-    let not_less : less a r ≡ false = order.level_transitive a v r level_too (level_sym less r v k) in cc
+    let not_less : less a r ≡ false = level_transitive order a v r level_too (level_sym less r v k) in cc
 
 level_less : {V : Type 0} (less : V → V → Bool) → IsWeakOrder less → (r v y : V) → less r y ≡ true → are_level less r v ≡ true → (b c : Bool) → less v y ≡ b → less y v ≡ c → less v y ≡ true
 level_less less order r v y h k true c e f = e
 level_less less order r v y h k false true e f = let before : less r v ≡ true = order.transitive r y v h f in grind arith
 level_less less order r v y h k false false e f =
     let level_too : are_level less v y ≡ true = both_not (less v y) (less y v) e f in
-    let not_less : less r y ≡ false = order.level_transitive r v y k level_too in cc
+    let not_less : less r y ≡ false = level_transitive order r v y k level_too in cc
 
 all_replaced_step : {V : Type 0} (p : V → Bool) (x : Row ℕ V) (rows : List (Row ℕ V)) (name : ℕ) (v : V) (b : Bool) → p x.value ≡ true → p v ≡ true → list_all p (values (with_value rows name v)) ≡ true →
     list_all p (values ((if b then row name v else x) ∷ with_value rows name v)) ≡ true
@@ -194,7 +202,7 @@ pub asc_added : {V : Type 0} (less : V → V → Bool) → IsWeakOrder less → 
 asc_added less order [] rows next h apart = h
 asc_added less order (v ∷ vs) rows next h apart =
     let place = prefix_len (λ w. less w v) (values rows) in
-    let itself : are_level less v v ≡ true = (level_equal less order).reflexive v in
+    let itself : are_level less v v ≡ true = (level_equal less order).refl v in
     let one : ◌≡◌ {A = ℕ} (if are_level less v v then 1 else 0) 1 = rw itself in
     let none : count (λ w. are_level less w v) rows ≡ 0 = omega (arith, one, apart v, count_step (are_level less v v) v (filter (λ w. are_level less w v) vs)) in
     asc_added less order vs (put rows place (row next v ∷ [])) (next + 1) (asc_put less order rows next v h none)

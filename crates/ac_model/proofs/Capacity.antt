@@ -5,8 +5,10 @@ use Rattle.std.proofs.lemmas.Bool.Decides.{nat_tests}
 use Rattle.ac_base.specs.declared.limit.Limit.{Limit}
 use Rattle.ac_base.specs.declared.limit.Limit.TheVariants.{Unbounded, Bounded}
 use Rattle.ac_base.specs.Growth.{pow8}
-use Rattle.ac_cursor.specs.Steps.{first_reason}
-use Rattle.ac_model.specs.Objects.{Object, IsValid, CapacityFits, grown, capacity_after, greatest_length, numbers_end, is_past}
+use Rattle.ac_base.specs.FirstReason.{first_reason}
+use Rattle.ac_base.specs.Limits.{numbers_end, is_past}
+use Rattle.ac_base.specs.declared.limit.TheConstants.{GREATEST_LENGTH}
+use Rattle.ac_model.specs.Objects.{Object, IsValid, CapacityFits, grown, capacity_after}
 use Rattle.ac_model.specs.Letters.{room}
 
 kept_step : (c length room : ℕ) → length ≤ c → (if nat_le length c then c else room) ≡ c
@@ -23,7 +25,7 @@ nothing_grown o v =
 
 pub nothing_refused : {V : Type 0} (o : Object ℕ V) → IsValid o → first_reason (room o (length o.rows) 0) ≡ None
 nothing_refused o v =
-    let long : nat_lt greatest_length (length o.rows) ≡ false = let h = v.within_greatest in grind (arith, nat_tests) in
+    let long : nat_lt GREATEST_LENGTH (length o.rows) ≡ false = let h = v.within_greatest in grind (arith, nat_tests) in
     let spent : nat_lt numbers_end (o.next + 0) ≡ false = let h = v.next_in_range in grind (arith, nat_tests) in
     let full : is_past o.limit (length o.rows) ≡ false = v.within_limit in
     rw (long, full, spent)

@@ -4,7 +4,8 @@ use Rattle.std.specs.Prelude.{filter}
 use Rattle.std.specs.List.{list_any}
 use Rattle.std.proofs.lemmas.Bool.Decides.{nat_tests}
 use Rattle.std.proofs.lemmas.List.{drop-drop}
-use Rattle.ac_model.specs.Rows.{fresh, Row, row, cut, put, named, is_named, values, with_value, row_by}
+use Rattle.ac_base.specs.Rows.{Row, row, values}
+use Rattle.ac_model.specs.Rows.{fresh, cut, put, named, is_named, with_value, row_by}
 use Rattle.ac_model.specs.Objects.{times}
 use Rattle.ac_model.specs.Keyed.{Order, added}
 

@@ -3,7 +3,8 @@ use Rattle.std.proofs.Common.{◌≡◌, ℕ, Bool, true, false, refl, arith}
 use Rattle.std.proofs.lemmas.Bool.Decides.{nat_tests}
 use Rattle.ac_base.specs.declared.limit.Limit.{Limit}
 use Rattle.ac_base.specs.declared.limit.Limit.TheVariants.{Unbounded, Bounded}
-use Rattle.ac_model.specs.Objects.{IsValid, CapacityFits, empty_object, is_past, first_capacity}
+use Rattle.ac_base.specs.Limits.{is_past}
+use Rattle.ac_model.specs.Objects.{IsValid, CapacityFits, empty_object, first_capacity}
 use Rattle.std.proofs.Common.{IfSome}
 
 not_past : (limit : Limit) → is_past limit 0 ≡ false

@@ -8,7 +8,8 @@ use Rattle.std.proofs.lemmas.List.{length-append, length-drop, take-append-drop}
 use Rattle.ac_base.specs.declared.limit.Limit.{Limit}
 use Rattle.ac_base.specs.declared.limit.Limit.TheVariants.{Unbounded, Bounded}
 use Rattle.ac_base.specs.declared.reason.Reason.TheVariants.{Empty, TooLarge, LengthRange}
-use Rattle.ac_model.specs.Objects.{greatest_length, is_past}
+use Rattle.ac_base.specs.Limits.{is_past}
+use Rattle.ac_base.specs.declared.limit.TheConstants.{GREATEST_LENGTH}
 use Rattle.ac_model.specs.Letters.{reason_if}
 use Rattle.ac_model.specs.Holders as holder
 use Rattle.ac_model.specs.Holders.{Holder, IsValidHolder, KeepsHolder, KeepsBothHolders, is_too_large, fits, tampers}
@@ -120,10 +121,10 @@ line_drop by_priority (x ∷ xs) h = line_tail x xs h
 -- room for one more
 record Fits (limit : Limit) (n : ℕ) : Type 0 where
   within : is_past limit (n + 1) ≡ false
-  most : n + 1 ≤ greatest_length
+  most : n + 1 ≤ GREATEST_LENGTH
 
-fits_more : (limit : Limit) (n : ℕ) → LimitInRange limit → is_past limit n ≡ false → n ≤ greatest_length → (elim limit [ Unbounded ↦ false | Bounded most ↦ most == n ]) ≡ false →
-    (elim limit [ Unbounded ↦ greatest_length == n | Bounded most ↦ false ]) ≡ false → Fits limit n
+fits_more : (limit : Limit) (n : ℕ) → LimitInRange limit → is_past limit n ≡ false → n ≤ GREATEST_LENGTH → (elim limit [ Unbounded ↦ false | Bounded most ↦ most == n ]) ≡ false →
+    (elim limit [ Unbounded ↦ GREATEST_LENGTH == n | Bounded most ↦ false ]) ≡ false → Fits limit n
 fits_more Unbounded n range past le full long = record { within = refl; most = grind (arith, nat_tests) }
 fits_more (Bounded most) n range past le full long =
     let below : n + 1 ≤ most = grind (arith, nat_tests) in record { within = grind (arith, nat_tests); most = omega arith }

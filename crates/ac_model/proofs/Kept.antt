@@ -7,10 +7,13 @@ use Rattle.ac_base.specs.declared.limit.Limit.{Limit}
 use Rattle.ac_base.specs.declared.limit.Limit.TheVariants.{Unbounded, Bounded}
 use Rattle.ac_base.specs.Growth.{pow8}
 use Rattle.ac_base.proofs.Powers.{pow8-enough}
-use Rattle.ac_model.specs.Rows.{Row, fresh}
-use Rattle.ac_model.specs.Objects.{Object, IsValid, CapacityFits, times, is_past, with_rows, grown, capacity_after, greatest_length}
+use Rattle.ac_base.specs.Rows.{Row}
+use Rattle.ac_model.specs.Rows.{fresh}
+use Rattle.ac_base.specs.Limits.{is_past}
+use Rattle.ac_base.specs.declared.limit.TheConstants.{GREATEST_LENGTH}
+use Rattle.ac_model.specs.Objects.{Object, IsValid, CapacityFits, times, with_rows, grown, capacity_after}
 use Rattle.ac_model.proofs.Times.{times-fresh_below, times-fresh_above, times-fresh_once}
-use Rattle.ac_cursor.specs.Steps.{first_reason}
+use Rattle.ac_base.specs.FirstReason.{first_reason}
 use Rattle.ac_model.specs.Rows.{put}
 use Rattle.ac_model.specs.Letters.{room}
 use Rattle.ac_model.specs.Sequences.{with_new}
@@ -31,7 +34,7 @@ capacity-less (Bounded most) (Some c) m n le h = h
 doubled-step : (capacity need rest : ℕ) → need ≤ rest → need ≤ (if nat_le need capacity then capacity else rest)
 doubled-step capacity need rest h = grind (arith, nat_tests)
 
-capacity-grown : (limit : Limit) (capacity : Option ℕ) (m n : ℕ) → n ≤ greatest_length → IfSome capacity (λ c. CapacityFits limit m c) → IfSome (capacity_after limit capacity n) (λ c. CapacityFits limit n c)
+capacity-grown : (limit : Limit) (capacity : Option ℕ) (m n : ℕ) → n ≤ GREATEST_LENGTH → IfSome capacity (λ c. CapacityFits limit m c) → IfSome (capacity_after limit capacity n) (λ c. CapacityFits limit n c)
 capacity-grown (Bounded most) None m n le h = tt
 capacity-grown (Bounded most) (Some c) m n le h = h
 capacity-grown Unbounded None m n le h = tt
@@ -41,7 +44,7 @@ capacity-grown Unbounded (Some c) m n le h = doubled-step c n (pow8 n) (pow8-eno
 asked-step : (capacity length need rest : ℕ) → length ≤ capacity → need ≤ rest → length ≤ (if nat_le need capacity then capacity else rest)
 asked-step capacity length need rest h k = grind (arith, nat_tests)
 
-pub capacity-asked : (limit : Limit) (capacity : Option ℕ) (length need : ℕ) → need ≤ greatest_length → IfSome capacity (λ c. CapacityFits limit length c) → IfSome (capacity_after limit capacity need) (λ c. CapacityFits limit length c)
+pub capacity-asked : (limit : Limit) (capacity : Option ℕ) (length need : ℕ) → need ≤ GREATEST_LENGTH → IfSome capacity (λ c. CapacityFits limit length c) → IfSome (capacity_after limit capacity need) (λ c. CapacityFits limit length c)
 capacity-asked (Bounded most) capacity length need le h = h
 capacity-asked Unbounded None length need le h = tt
 capacity-asked Unbounded (Some c) length need le h = asked-step c length need (pow8 need) h (pow8-enough need)

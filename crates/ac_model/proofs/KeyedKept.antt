@@ -1,8 +1,9 @@
 -- The calls of maps and sets keep the names and the numbers of a valid object valid.
 use Rattle.std.proofs.Common.{◌≡◌, ◌==◌, ◌+◌, ◌≤◌, ℕ, Bool, cond, true, false, List, [], ◌∷◌, length, refl, arith, Option, Some, None, if◌then◌else◌}
 use Rattle.std.specs.Prelude.{filter}
-use Rattle.ac_cursor.specs.Steps.{first_reason}
-use Rattle.ac_model.specs.Rows.{Row, row, fresh, cut, put, place_of, named, is_named, values}
+use Rattle.ac_base.specs.FirstReason.{first_reason}
+use Rattle.ac_base.specs.Rows.{Row, row, values}
+use Rattle.ac_model.specs.Rows.{fresh, cut, put, place_of, named, is_named}
 use Rattle.ac_model.specs.Objects.{Object, IsValid, times, with_rows, grown}
 use Rattle.ac_model.specs.Letters.{room, room_for_one}
 use Rattle.ac_model.specs.Lists.{one_row}

@@ -3,12 +3,15 @@ use Rattle.std.proofs.Common.{◌≡◌, ◌+◌, ◌-◌, ◌≤◌, ℕ, Bool,
 use Rattle.std.specs.Prelude.{filter, is_some, option_map}
 use Rattle.ac_base.specs.declared.reason.Reason.{Reason}
 use Rattle.ac_base.specs.declared.reason.Reason.TheVariants.{KeyPresent, KeyAbsent, Duplicate}
-use Rattle.ac_cursor.specs.Steps.{first_reason}
-use Rattle.ac_model.specs.Rows.{fresh, Row, Entry, entry, row, cut, put, place_of, named, is_named, values, value_at, with_value, with_some_value, row_by, are_level, IsWeakOrder}
+use Rattle.ac_base.specs.FirstReason.{first_reason}
+use Rattle.ac_base.specs.Rows.{Row, row, values}
+use Rattle.ac_base.specs.Order.{are_level, IsWeakOrder}
+use Rattle.ac_model.specs.Rows.{fresh, Entry, entry, cut, put, place_of, named, is_named, value_at, with_value, with_some_value, row_by}
 use Rattle.ac_model.specs.Objects.{IsValid, Object, times, contents, with_rows, grown}
 use Rattle.ac_model.specs.Letters.{Mark, room, room_for_one, needs, tampers_cursors, tampers_elements, name_of, reason_if}
 use Rattle.ac_model.specs.Keyed as keyed
-use Rattle.ac_model.specs.Keyed.{Order, IsValidKeyed, IsEquivalence, by_arrival, ascending, KeepsKeyed, InEachOrder, added, with_added, without, with_replaced, with_reordered, another_is_like, row_like, room_where_absent, with_added_if_absent, with_added_or_replaced, has}
+use Rattle.std.specs.Cmp.{IsEquivalence}
+use Rattle.ac_model.specs.Keyed.{Order, IsValidKeyed, by_arrival, ascending, KeepsKeyed, InEachOrder, added, with_added, without, with_replaced, with_reordered, another_is_like, row_like, room_where_absent, with_added_if_absent, with_added_or_replaced, has}
 use Rattle.ac_model.specs.Sets as set
 use Rattle.ac_model.specs.Common as common
 use Rattle.ac_model.specs.Maps as map
@@ -245,41 +248,41 @@ element_kept : {K T : Type 0} (order : Order (Entry K T)) → Closed order → (
 element_kept order closed same o c element valid none =
     same_key_valid order closed o (name_of c) (λ e. entry e.key element) (λ e. same e element) valid (needs_none o c none)
 
-pub hashed_equal : {K T : Type 0} (alike : K → K → Bool) → IsEquivalence alike → IsEquivalence {V = Entry K T} (λ e f. alike e.key f.key)
+pub hashed_equal : {K T : Type 0} (alike : K → K → Bool) → IsEquivalence alike → IsEquivalence {K = Entry K T} (λ e f. alike e.key f.key)
 hashed_equal alike equal = record {
-  reflexive = λ e. equal.reflexive e.key;
-  symmetric = λ e f. equal.symmetric e.key f.key;
-  transitive = λ e f g. equal.transitive e.key f.key g.key;
+  refl = λ e. equal.refl e.key;
+  symm = λ e f. equal.symm e.key f.key;
+  congr = λ e f g. equal.congr e.key f.key g.key;
 }
 
-pub ordered_weak : {K T : Type 0} (less : K → K → Bool) → IsWeakOrder less → IsWeakOrder {V = Entry K T} (λ e f. less e.key f.key)
+pub ordered_weak : {K T : Type 0} (less : K → K → Bool) → IsWeakOrder less → IsWeakOrder {A = Entry K T} (λ e f. less e.key f.key)
 ordered_weak less weak = record {
-  asymmetric = λ e f. weak.asymmetric e.key f.key;
+  irreflexive = λ e. weak.irreflexive e.key;
   transitive = λ e f g. weak.transitive e.key f.key g.key;
-  level_transitive = λ e f g. weak.level_transitive e.key f.key g.key;
+  ties_transitive = λ e f g. weak.ties_transitive e.key f.key g.key;
 }
 
 pub hashed_replace_element_keeps : {K T : Type 0} (alike : K → K → Bool) → IsEquivalence alike → (o : Object ℕ (Entry K T)) (c : Mark) (element : T) → KeepsKeyed (map.hashed alike) o (map.replace_element_call o c element)
 hashed_replace_element_keeps alike equal o c element valid none =
     let entries = hashed_equal alike equal in
-    element_kept (map.hashed alike) (closed_arrival (λ e f. alike e.key f.key) entries) (λ e t. equal.reflexive e.key) o c element valid
+    element_kept (map.hashed alike) (closed_arrival (λ e f. alike e.key f.key) entries) (λ e t. equal.refl e.key) o c element valid
     (none_first (needs o c) [] (none_others (tampers_elements o) (needs o c ∷ []) none))
 
 pub ordered_replace_element_keeps : {K T : Type 0} (less : K → K → Bool) → IsWeakOrder less → (o : Object ℕ (Entry K T)) (c : Mark) (element : T) → KeepsKeyed (map.ordered less) o (map.replace_element_call o c element)
 ordered_replace_element_keeps less weak o c element valid none =
     let entries = ordered_weak less weak in
-    element_kept (map.ordered less) (closed_ascending (λ e f. less e.key f.key) entries) (λ e t. (level_equal less weak).reflexive e.key) o c element valid
+    element_kept (map.ordered less) (closed_ascending (λ e f. less e.key f.key) entries) (λ e t. (level_equal less weak).refl e.key) o c element valid
     (none_first (needs o c) [] (none_others (tampers_elements o) (needs o c ∷ []) none))
 
 pub hashed_write_keeps : {K T : Type 0} (alike : K → K → Bool) → IsEquivalence alike → (o : Object ℕ (Entry K T)) (c : Mark) (element : T) → KeepsKeyed (map.hashed alike) o (map.write_call o c element)
 hashed_write_keeps alike equal o c element valid none =
     let entries = hashed_equal alike equal in
-    element_kept (map.hashed alike) (closed_arrival (λ e f. alike e.key f.key) entries) (λ e t. equal.reflexive e.key) o c element valid (none_first (needs o c) [] none)
+    element_kept (map.hashed alike) (closed_arrival (λ e f. alike e.key f.key) entries) (λ e t. equal.refl e.key) o c element valid (none_first (needs o c) [] none)
 
 pub ordered_write_keeps : {K T : Type 0} (less : K → K → Bool) → IsWeakOrder less → (o : Object ℕ (Entry K T)) (c : Mark) (element : T) → KeepsKeyed (map.ordered less) o (map.write_call o c element)
 ordered_write_keeps less weak o c element valid none =
     let entries = ordered_weak less weak in
-    element_kept (map.ordered less) (closed_ascending (λ e f. less e.key f.key) entries) (λ e t. (level_equal less weak).reflexive e.key) o c element valid (none_first (needs o c) [] none)
+    element_kept (map.ordered less) (closed_ascending (λ e f. less e.key f.key) entries) (λ e t. (level_equal less weak).refl e.key) o c element valid (none_first (needs o c) [] none)
 
 -- each law in each order
 pub each_insert : {V : Type 0} → InEachOrder (λ (order : Order V). (o : Object ℕ V) (v : V) → KeepsKeyed order o (keyed.insert_call order o v))
@@ -338,18 +341,18 @@ pub each_move_from : {V : Type 0} → InEachOrder (λ (order : Order V). (target
 each_move_from {V} = in_each (λ (order : Order V). (target source : Object ℕ V) → IsValidKeyed order target → IsValidKeyed order source → (common.move_from_call target source).reason ≡ None →
     IsValidKeyed order (common.move_from_call target source).after.target × IsValidKeyed order (common.move_from_call target source).after.source) (λ order closed. move_from_keeps order closed)
 
-keys_equal : {K V : Type 0} (key : V → K) (alike : K → K → Bool) → IsEquivalence alike → IsEquivalence {V = V} (λ v w. alike (key v) (key w))
+keys_equal : {K V : Type 0} (key : V → K) (alike : K → K → Bool) → IsEquivalence alike → IsEquivalence {K = V} (λ v w. alike (key v) (key w))
 keys_equal key alike equal = record {
-  reflexive = λ v. equal.reflexive (key v);
-  symmetric = λ v w. equal.symmetric (key v) (key w);
-  transitive = λ v w x. equal.transitive (key v) (key w) (key x);
+  refl = λ v. equal.refl (key v);
+  symm = λ v w. equal.symm (key v) (key w);
+  congr = λ v w x. equal.congr (key v) (key w) (key x);
 }
 
-keys_weak : {K V : Type 0} (key : V → K) (less : K → K → Bool) → IsWeakOrder less → IsWeakOrder {V = V} (λ v w. less (key v) (key w))
+keys_weak : {K V : Type 0} (key : V → K) (less : K → K → Bool) → IsWeakOrder less → IsWeakOrder {A = V} (λ v w. less (key v) (key w))
 keys_weak key less weak = record {
-  asymmetric = λ v w. weak.asymmetric (key v) (key w);
+  irreflexive = λ v. weak.irreflexive (key v);
   transitive = λ v w x. weak.transitive (key v) (key w) (key x);
-  level_transitive = λ v w x. weak.level_transitive (key v) (key w) (key x);
+  ties_transitive = λ v w x. weak.ties_transitive (key v) (key w) (key x);
 }
 
 released_valid : {V : Type 0} (o : Object ℕ V) → IsValid o → IsValid (record o { cursor_guards = o.cursor_guards - 1 })

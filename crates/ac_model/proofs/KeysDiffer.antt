@@ -4,9 +4,12 @@ use Rattle.std.specs.Prelude.{filter}
 use Rattle.std.specs.List.{list_any}
 use Rattle.std.proofs.lemmas.Bool.{cases_lt}
 use Rattle.std.proofs.Math.Nat.{suc-add}
-use Rattle.ac_model.specs.Rows.{Row, row, cut, place_of, named, values, with_value, row_by}
+use Rattle.ac_base.proofs.Equivalences.{turned, chained}
+use Rattle.ac_base.specs.Rows.{Row, row, values}
+use Rattle.ac_model.specs.Rows.{cut, place_of, named, with_value, row_by}
 use Rattle.ac_model.specs.Objects.{times}
-use Rattle.ac_model.specs.Keyed.{Order, IsEquivalence, added, with_reordered, another_is_like, has}
+use Rattle.std.specs.Cmp.{IsEquivalence}
+use Rattle.ac_model.specs.Keyed.{Order, added, with_reordered, another_is_like, has}
 use Rattle.ac_model.proofs.Counts.{count, count_step, count-cons, count-cut, count-put, count-added, count-filter, count_implied, absent_zero, count-replaced, filter_of_filter}
 
 -- no value is equivalent to two rows' values
@@ -17,8 +20,8 @@ Differ {V} alike rows = (v : V) → length (filter (λ r. alike r.value v) rows)
 pub one_more : {V : Type 0} (alike : V → V → Bool) → IsEquivalence alike → (rows : List (Row ℕ V)) (v u : V) → count (λ w. alike w v) rows ≡ 0 → count (λ w. alike w u) rows ≤ 1 →
     (b : Bool) → alike v u ≡ b → count (λ w. alike w u) rows + (if b then 1 else 0) ≤ 1
 one_more alike equal rows v u none most true e =
-    let turned : alike u v ≡ true = equal.symmetric v u e in
-    let fewer : count (λ w. alike w u) rows ≤ count (λ w. alike w v) rows = count_implied (λ w. alike w u) (λ w. alike w v) (λ w h. equal.transitive w u v h turned) rows in
+    let turned_back : alike u v ≡ true = turned equal v u e in
+    let fewer : count (λ w. alike w u) rows ≤ count (λ w. alike w v) rows = count_implied (λ w. alike w u) (λ w. alike w v) (λ w h. chained equal w u v h turned_back) rows in
     omega arith
 one_more alike equal rows v u none most false e = omega arith
 
@@ -31,8 +34,8 @@ insert_apart alike equal rows v differ absent u =
 same_class : {V : Type 0} (alike : V → V → Bool) → IsEquivalence alike → (r v u : V) → alike r v ≡ true → (b c : Bool) → alike r u ≡ b → alike v u ≡ c → alike r u ≡ alike v u
 same_class alike equal r v u like true true e f = e ∙ sym f
 same_class alike equal r v u like false false e f = e ∙ sym f
-same_class alike equal r v u like true false e f = let both : alike v u ≡ true = equal.transitive v r u (equal.symmetric r v like) e in cc
-same_class alike equal r v u like false true e f = let both : alike r u ≡ true = equal.transitive r v u like f in cc
+same_class alike equal r v u like true false e f = let both : alike v u ≡ true = chained equal v r u (turned equal r v like) e in cc
+same_class alike equal r v u like false true e f = let both : alike r u ≡ true = chained equal r v u like f in cc
 
 -- a replacement in place
 pub differ_replaced : {V : Type 0} (alike : V → V → Bool) → IsEquivalence alike → (rows : List (Row ℕ V)) (name : ℕ) (v : V) (r : Row ℕ V) → Differ alike rows → times name rows ≤ 1 → named rows name ≡ Some r → alike r.value v ≡ true → Differ alike (with_value rows name v)
@@ -104,8 +107,8 @@ additions_step : {V : Type 0} (order : Order V) (v : V) (more : List V) (u : V) 
 additions_step order v more u equal rows true e c f later h = later h
 additions_step order v more u equal rows false e true f later h =
     let none = none_among (λ w. order.alike w v) rows e in
-    let turned : order.alike u v ≡ true = equal.symmetric v u f in
-    let fewer : count (λ w. order.alike w u) rows ≤ count (λ w. order.alike w v) rows = count_implied (λ w. order.alike w u) (λ w. order.alike w v) (λ w k. equal.transitive w u v k turned) rows in
+    let turned_back : order.alike u v ≡ true = turned equal v u f in
+    let fewer : count (λ w. order.alike w u) rows ≤ count (λ w. order.alike w v) rows = count_implied (λ w. order.alike w u) (λ w. order.alike w v) (λ w k. chained equal w u v k turned_back) rows in
     omega arith
 additions_step order v more u equal rows false e false f later h =
     let rest = filter (λ w. not (has order (values rows) w)) more in

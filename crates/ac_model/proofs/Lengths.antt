@@ -1,7 +1,8 @@
 -- How many rows there are after each change of a list of rows.
 use Rattle.std.proofs.Common.{◌≡◌, ◌+◌, ◌≤◌, ℕ, suc, Bool, true, false, List, [], ◌∷◌, length, take, drop, refl, ap, arith, Option, Some, None, if◌then◌else◌}
 use Rattle.std.proofs.lemmas.List.{length-append, length-drop, length-take, length-map}
-use Rattle.ac_model.specs.Rows.{Row, fresh, cut, values, with_value, with_some_value, over, sorted, sorted_in, merged, merged_in}
+use Rattle.ac_base.specs.Rows.{Row, values}
+use Rattle.ac_model.specs.Rows.{fresh, cut, with_value, with_some_value, over, sorted, sorted_in, merged, merged_in}
 
 pub length-fresh : {V : Type 0} (next : ℕ) (vs : List V) → length (fresh next vs) ≡ length vs
 length-fresh next [] = refl

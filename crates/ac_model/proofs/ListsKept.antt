@@ -2,7 +2,8 @@
 use Rattle.std.proofs.Common.{◌≡◌, ◌==◌, ◌+◌, ◌≤◌, ℕ, Bool, true, List, [], ◌∷◌, length, reverse, arith, if◌then◌else◌}
 use Rattle.std.proofs.lemmas.List.{length-reverse}
 use Rattle.std.proofs.lemmas.Bool.Decides.{nat_tests}
-use Rattle.ac_model.specs.Rows.{Row, is_named, value_at, with_exchanged_rows, sorted}
+use Rattle.ac_base.specs.Rows.{Row}
+use Rattle.ac_model.specs.Rows.{is_named, value_at, with_exchanged_rows, sorted}
 use Rattle.ac_model.specs.Objects.{Object, IsValid, times, contents, with_rows}
 use Rattle.ac_model.specs.Letters.{Mark, room, room_for_one, needs, may, tampers_cursors, name_of, place_at}
 use Rattle.ac_model.specs.Calls.{Keeps, KeepsBoth}

@@ -3,7 +3,8 @@ use Rattle.std.proofs.Common.{◌≡◌, ◌==◌, ◌+◌, ◌≤◌, ℕ, suc,
 use Rattle.std.proofs.lemmas.Bool.Decides.{nat_tests}
 use Rattle.std.proofs.Math.Nat.{suc-add}
 use Rattle.std.proofs.lemmas.List.{length-append, length-map, take-append-drop}
-use Rattle.ac_model.specs.Rows.{Row, cut, put, place_of, named, is_named, with_exchanged_rows}
+use Rattle.ac_base.specs.Rows.{Row}
+use Rattle.ac_model.specs.Rows.{cut, put, place_of, named, is_named, with_exchanged_rows}
 use Rattle.ac_model.specs.Objects.{times}
 use Rattle.ac_model.specs.Lists.{one_row, moved_before}
 use Rattle.ac_model.specs.Letters.{Mark, name_of, place_at}

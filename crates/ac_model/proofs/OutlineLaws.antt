@@ -5,7 +5,8 @@ use Rattle.std.specs.List.{list_any}
 use Rattle.std.proofs.lemmas.Bool.Decides.{nat_tests}
 use Rattle.std.proofs.lemmas.Bool.{cases_lt}
 use Rattle.std.proofs.lemmas.List.{reverse-append, reverse-reverse, length-map}
-use Rattle.ac_model.specs.Rows.{Row, Node}
+use Rattle.ac_base.specs.Rows.{Row}
+use Rattle.ac_model.specs.Rows.{Node}
 use Rattle.ac_model.specs.Outline.{Spot, root, spot, spots, follows, depths, is_outline, depth_at, HasParent}
 
 any-append : {X : Type 0} (p : X → Bool) (xs ys : List X) → list_any p (xs ++ ys) ≡ (list_any p xs || list_any p ys)

@@ -4,8 +4,10 @@ use Rattle.std.specs.Prelude.{nat_lt}
 use Rattle.std.proofs.lemmas.Bool.Decides.{nat_tests}
 use Rattle.ac_base.specs.declared.reason.Reason.{Reason}
 use Rattle.ac_base.specs.declared.reason.Reason.TheVariants.{LengthRange, CapacityFull, NamesSpent}
-use Rattle.ac_cursor.specs.Steps.{first_reason, earlier}
-use Rattle.ac_model.specs.Objects.{Object, is_past, greatest_length, numbers_end}
+use Rattle.ac_base.specs.FirstReason.{first_reason, earlier}
+use Rattle.ac_base.specs.Limits.{is_past, numbers_end}
+use Rattle.ac_base.specs.declared.limit.TheConstants.{GREATEST_LENGTH}
+use Rattle.ac_model.specs.Objects.{Object}
 use Rattle.ac_model.specs.Rows.{is_named}
 use Rattle.ac_model.specs.Letters.{Mark, no_mark, mark_at, stale_mark, reason_if, room, judged_in, needs, name_of, in_range, count_of}
 
@@ -35,17 +37,17 @@ not_if true reason h = cc
 not_if false reason h = refl
 
 pub record HasRoom {V : Type 0} (o : Object ℕ V) (length more : ℕ) : Type 0 where
-  pub within_greatest : length ≤ greatest_length
+  pub within_greatest : length ≤ GREATEST_LENGTH
   pub within_limit : is_past o.limit length ≡ false
   pub within_names : o.next + more ≤ numbers_end
 
 pub room_none : {V : Type 0} (o : Object ℕ V) (length more : ℕ) → first_reason (room o length more) ≡ None → HasRoom o length more
 room_none o length more h =
-    let long = reason_if (nat_lt greatest_length length) LengthRange in
+    let long = reason_if (nat_lt GREATEST_LENGTH length) LengthRange in
     let full = reason_if (is_past o.limit length) CapacityFull in
     let spent = reason_if (nat_lt numbers_end (o.next + more)) NamesSpent in
     let others = none_others long (full ∷ spent ∷ []) h in
-    let short : nat_lt greatest_length length ≡ false = not_if _ LengthRange (none_first long (full ∷ spent ∷ []) h) in
+    let short : nat_lt GREATEST_LENGTH length ≡ false = not_if _ LengthRange (none_first long (full ∷ spent ∷ []) h) in
     let left : nat_lt numbers_end (o.next + more) ≡ false = not_if _ NamesSpent (none_first spent [] (none_others full (spent ∷ []) others)) in
     record {
       within_greatest = grind (arith, nat_tests);
@@ -62,6 +64,6 @@ needs_none o no_mark h = cc
 needs_none o (mark_at object name) h = judged_none o.number object (is_named o.rows name) h
 needs_none o (stale_mark object) h = let e : false ≡ true = judged_none o.number object false h in cc
 
-pub in_range_none : (count : ℤ) → in_range count ≡ None → count_of count ≤ greatest_length
+pub in_range_none : (count : ℤ) → in_range count ≡ None → count_of count ≤ GREATEST_LENGTH
 in_range_none (pos n) h = grind (arith, nat_tests)
 in_range_none (negsuc n) h = cc

@@ -4,7 +4,10 @@ use Rattle.std.specs.Prelude.{slice_get, slice_index, filter}
 use Rattle.std.specs.List.{list_any}
 use Rattle.std.proofs.Math.Nat.{suc-add}
 use Rattle.std.proofs.Math.Seq.{drop-append_seam}
-use Rattle.ac_model.specs.Rows.{Row, fresh, cut, put, place_of, named, names, values, row_by, sorted, sorted_in, is_ascending, merged, merged_in, are_level, IsWeakOrder, HasRowsOf}
+use Rattle.ac_base.specs.Rows.{Row, names, values}
+use Rattle.ac_base.specs.WeakOrders.{asymmetric, level_transitive}
+use Rattle.ac_base.specs.Order.{are_level, IsWeakOrder}
+use Rattle.ac_model.specs.Rows.{fresh, cut, put, place_of, named, row_by, sorted, sorted_in, is_ascending, merged, merged_in, HasRowsOf}
 
 pub cut_of_put : {V : Type 0} (rows : List (Row ℕ V)) (place : ℕ) (more : List (Row ℕ V)) → place ≤ length rows → cut (put rows place more) place (length more) ≡ rows
 cut_of_put rows zero more h = rw zero-add (drop-append_seam more rows)
@@ -117,7 +120,7 @@ ascending_first less v w vs h = grind arith
 put_step : {V : Type 0} (less : V → V → Bool) → IsWeakOrder less → (r s : Row ℕ V) (rows : List (Row ℕ V)) → is_ascending less (values (s ∷ rows)) ≡ true →
     (is_ascending less (values rows) ≡ true → less r.value s.value ≡ false → is_ascending less (s.value ∷ values rows) ≡ true → is_ascending less (s.value ∷ values (sorted_in less r rows)) ≡ true) →
     (b : Bool) → less s.value r.value ≡ b → is_ascending less (values (if b then s ∷ sorted_in less r rows else r ∷ s ∷ rows)) ≡ true
-put_step less order r s rows h later true e = later (ascending_rest less s.value (values rows) h) (order.asymmetric s.value r.value e) h
+put_step less order r s rows h later true e = later (ascending_rest less s.value (values rows) h) (asymmetric order s.value r.value e) h
 put_step less order r s rows h later false e = ascending_on less r.value s.value (values rows) e h
 
 after_step : {V : Type 0} (less : V → V → Bool) (r s : Row ℕ V) (rows : List (Row ℕ V)) (v : V) → less r.value v ≡ false → less s.value v ≡ false →
@@ -149,7 +152,7 @@ level_sym less v w h = grind arith
 stable_step : {V : Type 0} (less : V → V → Bool) → IsWeakOrder less → (v : V) (r s : Row ℕ V) → less s.value r.value ≡ true → (b c : Bool) → are_level less r.value v ≡ b → are_level less s.value v ≡ c → (xs : List (Row ℕ V)) →
     cond c (s ∷ cond b (r ∷ xs) xs) (cond b (r ∷ xs) xs) ≡ cond b (r ∷ cond c (s ∷ xs) xs) (cond c (s ∷ xs) xs)
 stable_step less order v r s e true true h k xs =
-    let not_less : less s.value r.value ≡ false = order.level_transitive s.value v r.value k (level_sym less r.value v h) in cc
+    let not_less : less s.value r.value ≡ false = level_transitive order s.value v r.value k (level_sym less r.value v h) in cc
 stable_step less order v r s e true false h k xs = refl
 stable_step less order v r s e false true h k xs = refl
 stable_step less order v r s e false false h k xs = refl

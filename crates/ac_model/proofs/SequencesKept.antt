@@ -3,9 +3,10 @@ use Rattle.std.proofs.Common.{◌≡◌, ◌+◌, ◌-◌, ℕ, ℤ, Bool, [], �
 use Rattle.std.proofs.lemmas.List.{length-replicate}
 use Rattle.ac_base.specs.declared.reason.Reason.{Reason}
 use Rattle.ac_base.specs.declared.reason.Reason.TheVariants.{CapacityFull}
-use Rattle.ac_cursor.specs.Steps.{first_reason}
+use Rattle.ac_base.specs.FirstReason.{first_reason}
 use Rattle.ac_model.specs.Rows.{cut, value_at, with_value, with_some_value, with_exchanged_values, merged, fresh}
-use Rattle.ac_model.specs.Objects.{is_past, Object, IsValid, contents, with_rows, grown}
+use Rattle.ac_base.specs.Limits.{is_past}
+use Rattle.ac_model.specs.Objects.{Object, IsValid, contents, with_rows, grown}
 use Rattle.ac_model.specs.Letters.{reason_if, Mark, room, count_of, may, in_range, tampers_cursors, name_of, place_at}
 use Rattle.ac_model.specs.Calls.{Keeps, KeepsBoth}
 use Rattle.ac_model.specs.Common as common

@@ -2,7 +2,8 @@
 use Rattle.std.proofs.Common.{◌≡◌, ◌+◌, ◌≤◌, ◌<◌, ℕ, zero, suc, Bool, true, false, List, [], ◌∷◌, ◌++◌, length, take, drop, reverse, refl, arith, Option, Some, None, if◌then◌else◌}
 use Rattle.std.proofs.lemmas.Bool.Decides.{nat_tests}
 use Rattle.std.proofs.lemmas.List.{drop-drop, reverse-append}
-use Rattle.ac_model.specs.Rows.{Row, fresh, cut, put, with_value, with_some_value, over, sorted, sorted_in, merged, merged_in}
+use Rattle.ac_base.specs.Rows.{Row}
+use Rattle.ac_model.specs.Rows.{fresh, cut, put, with_value, with_some_value, over, sorted, sorted_in, merged, merged_in}
 use Rattle.ac_model.specs.Objects.{times}
 
 pub times-append : {V : Type 0} (s : ℕ) (xs ys : List (Row ℕ V)) → times s (xs ++ ys) ≡ times s xs + times s ys

@@ -5,8 +5,9 @@ use Rattle.std.specs.List.{prefix_len}
 use Rattle.std.proofs.lemmas.Bool.Decides.{nat_tests}
 use Rattle.std.proofs.lemmas.List.{length-replicate, length-map, drop-map, take-map}
 use Rattle.ac_base.specs.declared.reason.Reason.TheVariants.{NoElement, RootNode, RootSource, NotLeaf, NotChild}
-use Rattle.ac_cursor.specs.Steps.{first_reason}
-use Rattle.ac_model.specs.Rows.{Row, row, Node, node, fresh, cut, put, place_of, named, is_named, value_at, values, with_value, with_some_value}
+use Rattle.ac_base.specs.FirstReason.{first_reason}
+use Rattle.ac_base.specs.Rows.{Row, row, values}
+use Rattle.ac_model.specs.Rows.{Node, node, fresh, cut, put, place_of, named, is_named, value_at, with_value, with_some_value}
 use Rattle.ac_model.specs.Objects.{Object, times, contents, with_rows, grown}
 use Rattle.ac_model.specs.Letters.{Mark, no_mark, mark_at, stale_mark, judged_in, name_of, is_no_mark, reason_if, tampers_cursors, in_range, room, count_of}
 use Rattle.ac_model.specs.Sequences.{with_new, room_for_copies}

@@ -3,7 +3,8 @@ use Rattle.std.proofs.Common.{◌≡◌, ◌==◌, ◌+◌, ◌≤◌, ◌<◌, 
 use Rattle.std.specs.Prelude.{nat_lt}
 use Rattle.std.proofs.lemmas.List.{drop-map, take-map}
 use Rattle.std.proofs.Math.Nat.{suc-add}
-use Rattle.ac_model.specs.Rows.{Row, Node, cut, place_of, named, is_named}
+use Rattle.ac_base.specs.Rows.{Row}
+use Rattle.ac_model.specs.Rows.{Node, cut, place_of, named, is_named}
 use Rattle.ac_model.specs.Objects.{times}
 use Rattle.ac_model.specs.Outline.{Spot, spot, spots, depth_of, run_of, run_start, is_in}
 use Rattle.ac_model.proofs.Depths.{AllFrom}

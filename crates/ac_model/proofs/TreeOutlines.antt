@@ -5,7 +5,8 @@ use Rattle.std.specs.List.{list_any, prefix_len}
 use Rattle.std.proofs.lemmas.Bool.Decides.{nat_tests}
 use Rattle.std.proofs.lemmas.List.{drop-drop, drop-map}
 use Rattle.std.proofs.Math.Seq.{take-add}
-use Rattle.ac_model.specs.Rows.{Row, Node, cut, put, place_of, named}
+use Rattle.ac_base.specs.Rows.{Row}
+use Rattle.ac_model.specs.Rows.{Node, cut, put, place_of, named}
 use Rattle.ac_model.specs.Objects.{times}
 use Rattle.ac_model.specs.Outline.{Spot, spot, spots, depths, depth_of, run_of, run_start, children_of, is_in, is_outline, follows}
 use Rattle.ac_model.proofs.Depths.{ends, ends-append, ends_from, HeadAtMost, head_weaker, head_follows, AllFrom, first_of, follows_front, follows_back, run_deeper, run_ends, put_follows, cut_follows}

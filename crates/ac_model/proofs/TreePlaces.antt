@@ -4,7 +4,8 @@ use Rattle.std.specs.Prelude.{nat_lt, take_while}
 use Rattle.std.specs.List.{prefix_len}
 use Rattle.std.proofs.lemmas.Bool.Decides.{nat_tests}
 use Rattle.std.proofs.lemmas.List.{map-append, take-map, drop-map}
-use Rattle.ac_model.specs.Rows.{Row, Node, fresh, cut, put, place_of, named, is_named, values}
+use Rattle.ac_base.specs.Rows.{Row, values}
+use Rattle.ac_model.specs.Rows.{Node, fresh, cut, put, place_of, named, is_named}
 use Rattle.ac_model.specs.Outline.{spot, spots, depths, depth_at, spot_place, depth_of, run_of, run_start}
 use Rattle.std.proofs.Math.Seq.{take-add}
 use Rattle.ac_model.proofs.Depths.{ends, ends-append}

@@ -5,8 +5,9 @@ use Rattle.std.proofs.lemmas.Bool.Decides.{nat_tests}
 use Rattle.std.proofs.lemmas.Bool.{cases_lt}
 use Rattle.std.proofs.lemmas.List.{drop-drop, length-append, length-map, take-append-drop}
 use Rattle.ac_base.specs.declared.reason.Reason.TheVariants.{NotChild, BelowItself}
-use Rattle.ac_cursor.specs.Steps.{first_reason}
-use Rattle.ac_model.specs.Rows.{Row, Node, cut, put, place_of, named, is_named}
+use Rattle.ac_base.specs.FirstReason.{first_reason}
+use Rattle.ac_base.specs.Rows.{Row}
+use Rattle.ac_model.specs.Rows.{Node, cut, put, place_of, named, is_named}
 use Rattle.ac_model.specs.Objects.{Object, times, with_rows}
 use Rattle.ac_model.specs.Letters.{Mark, name_of, is_no_mark, reason_if, tampers_cursors}
 use Rattle.ac_model.specs.Outline.{Spot, spot, IsValidTree, depths, depth_of, run_of, run_start, run_rows, children_of, is_in, is_in_subtree, is_outline, subtree_start, subtree_rows, moved_to_depth}

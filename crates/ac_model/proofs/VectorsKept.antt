@@ -3,8 +3,9 @@ use Rattle.std.proofs.Common.{◌≡◌, ◌+◌, ◌-◌, ◌≤◌, ℕ, ℤ, 
 use Rattle.std.specs.Prelude.{nat_le}
 use Rattle.std.proofs.lemmas.List.{length-take, length-replicate}
 use Rattle.std.proofs.lemmas.Bool.Decides.{nat_tests}
-use Rattle.ac_cursor.specs.Steps.{first_reason}
-use Rattle.ac_model.specs.Rows.{over, put, values, sorted, fresh}
+use Rattle.ac_base.specs.FirstReason.{first_reason}
+use Rattle.ac_base.specs.Rows.{values}
+use Rattle.ac_model.specs.Rows.{over, put, sorted, fresh}
 use Rattle.ac_model.specs.Objects.{Object, IsValid, contents, with_rows, grown}
 use Rattle.ac_model.specs.Letters.{Mark, room, may, in_range, index_in, count_of, tampers_cursors, place_at, place_of_index}
 use Rattle.ac_model.specs.Calls.{Keeps}

@@ -5,8 +5,8 @@ use Rattle.ac_base.specs.declared.reason.Reason.{Reason}
 use Rattle.ac_base.specs.declared.fault.Fault.{Fault}
 use Rattle.ac_base.specs.declared.fault.Fault.TheVariants as fault
 use Rattle.ac_base.specs.declared.name.Name.{Name}
-use Rattle.ac_cursor.specs.declared.cursor.Cursor.{Cursor}
-use Rattle.ac_model.specs.Rows.{names}
+use Rattle.ac_base.specs.declared.cursor.Cursor.{Cursor}
+use Rattle.ac_base.specs.Rows.{names}
 use Rattle.ac_model.specs.Objects.{Object, plain, IsValid}
 use Rattle.ac_model.specs.Letters.{Mark, mark_of, is_among}
 

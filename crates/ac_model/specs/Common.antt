@@ -3,11 +3,12 @@ use Rattle.std.specs.Prelude.{◌==◌, ◌+◌, ◌-◌, ℕ, zero, suc, ℤ, p
 use Rattle.ac_base.specs.declared.limit.Limit.{Limit}
 use Rattle.ac_base.specs.declared.limit.Limit.TheVariants.{Unbounded, Bounded}
 use Rattle.ac_base.specs.declared.reason.Reason.TheVariants.{CapacityFull}
-use Rattle.ac_cursor.specs.declared.guard.GuardKind.{GuardKind}
-use Rattle.ac_cursor.specs.declared.guard.GuardKind.TheVariants as kind
-use Rattle.ac_cursor.specs.Steps.{first_reason}
+use Rattle.ac_base.specs.declared.guard.GuardKind.{GuardKind}
+use Rattle.ac_base.specs.declared.guard.GuardKind.TheVariants as kind
+use Rattle.ac_base.specs.FirstReason.{first_reason}
 use Rattle.ac_model.specs.Rows.{fresh}
-use Rattle.ac_model.specs.Objects.{Object, contents, length_of, with_rows, grown, capacity_after, is_past, empty_object}
+use Rattle.ac_base.specs.Limits.{is_past}
+use Rattle.ac_model.specs.Objects.{Object, contents, length_of, with_rows, grown, capacity_after, empty_object}
 use Rattle.ac_model.specs.Letters.{Mark, designates, tampers_cursors, room, reason_if, in_range, count_of}
 use Rattle.ac_model.specs.Calls.{Call, call, Both, both, Done, takes_none, takes_some}
 

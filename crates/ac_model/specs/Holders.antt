@@ -3,10 +3,10 @@ use Rattle.std.specs.Prelude.{◌≡◌, ℕ, Bool, true, false, [], ◌∷◌, 
 use Rattle.ac_base.specs.declared.limit.Limit.{Limit}
 use Rattle.ac_base.specs.declared.reason.Reason.{Reason}
 use Rattle.ac_base.specs.declared.reason.Reason.TheVariants.{Empty, TooLarge}
-use Rattle.ac_cursor.specs.declared.guard.Class.TheVariants as class
-use Rattle.ac_cursor.specs.Guards.{forbids}
-use Rattle.ac_cursor.specs.Steps.{first_reason}
-use Rattle.ac_model.specs.Objects.{is_past}
+use Rattle.ac_base.specs.declared.guard.Class.TheVariants as class
+use Rattle.ac_base.specs.Tampering.{forbids}
+use Rattle.ac_base.specs.FirstReason.{first_reason}
+use Rattle.ac_base.specs.Limits.{is_past}
 use Rattle.ac_model.specs.Letters.{reason_if}
 use Rattle.ac_model.specs.Calls.{Call, call, Look, look, Both, both, Done, takes_none, takes_some}
 

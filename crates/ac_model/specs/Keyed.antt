@@ -3,10 +3,13 @@
 -- A look-up takes the test of a row's value that the key or item passes.
 use Rattle.std.specs.Prelude.{◌≡◌, ◌==◌, ◌+◌, ◌≤◌, ℕ, Bool, true, false, not, ◌&&◌, List, [], ◌∷◌, length, reverse, filter, find, Option, Some, None, is_some}
 use Rattle.std.specs.List.{list_any, prefix_len}
+use Rattle.std.specs.Cmp.{IsEquivalence}
 use Rattle.ac_base.specs.declared.reason.Reason.{Reason}
 use Rattle.ac_base.specs.declared.reason.Reason.TheVariants.{KeyPresent, KeyAbsent, Duplicate}
-use Rattle.ac_cursor.specs.Steps.{first_reason}
-use Rattle.ac_model.specs.Rows.{Row, row, cut, put, place_of, values, with_value, row_by, are_level, IsWeakOrder}
+use Rattle.ac_base.specs.FirstReason.{first_reason}
+use Rattle.ac_base.specs.Rows.{Row, row, values}
+use Rattle.ac_base.specs.Order.{are_level, IsWeakOrder}
+use Rattle.ac_model.specs.Rows.{cut, put, place_of, with_value, row_by}
 use Rattle.ac_model.specs.Objects.{Object, IsValid, contents, with_rows, grown}
 use Rattle.ac_model.specs.Letters.{Mark, no_mark, mark_at, needs, name_of, mark_for, tampers_cursors, room_for_one, reason_if, has_room}
 use Rattle.ac_model.specs.Calls.{Call, call, Done, takes_none}
@@ -34,12 +37,6 @@ ascending less = record {
   place = λ from others v. prefix_len (λ w. less w v) others;
   is_in_order = is_strictly_ascending less;
 }
-
--- an equivalence
-pub record IsEquivalence {V : Type 0} (alike : V → V → Bool) : Type 0 where
-  pub reflexive : (v : V) → alike v v ≡ true
-  pub symmetric : (v w : V) → alike v w ≡ true → alike w v ≡ true
-  pub transitive : (v w x : V) → alike v w ≡ true → alike w x ≡ true → alike v x ≡ true
 
 -- what holds of a map or a set: no value is equivalent to two rows' values
 pub record IsValidKeyed {V : Type 0} (order : Order V) (o : Object ℕ V) : Type 0 where

@@ -1,8 +1,9 @@
 -- The calls that sets with keys add (Generic_Keys, A.18.8 and A.18.9). `key` is an element's key, `alike` says which keys are equivalent, `less` which is less.
 use Rattle.std.specs.Prelude.{◌+◌, ◌-◌, ℕ, Bool, false, not, [], ◌∷◌, Option, Some, None, option_map, is_some, if◌then◌else◌}
 use Rattle.ac_base.specs.declared.reason.Reason.TheVariants.{KeyAbsent, KeyChanged, Duplicate}
-use Rattle.ac_cursor.specs.Steps.{first_reason}
-use Rattle.ac_model.specs.Rows.{Row, row_by, value_at, with_value, cut, place_of}
+use Rattle.ac_base.specs.FirstReason.{first_reason}
+use Rattle.ac_base.specs.Rows.{Row}
+use Rattle.ac_model.specs.Rows.{row_by, value_at, with_value, cut, place_of}
 use Rattle.ac_model.specs.Objects.{Object, with_rows}
 use Rattle.ac_model.specs.Letters.{Mark, needs, name_of, tampers_cursors, reason_if}
 use Rattle.ac_model.specs.Calls.{Call, call, Look, look, Done, takes_none, takes_some}

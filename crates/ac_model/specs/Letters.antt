@@ -5,12 +5,15 @@ use Rattle.ac_base.specs.declared.reason.Reason.{Reason}
 use Rattle.ac_base.specs.declared.reason.Reason.TheVariants.{NoElement, ForeignCursor, DeadCursor, IndexRange, LengthRange, CapacityFull, NamesSpent}
 use Rattle.ac_base.specs.declared.limit.Limit.TheVariants.{Unbounded, Bounded}
 use Rattle.ac_base.specs.declared.name.Name.{Name}
-use Rattle.ac_cursor.specs.declared.cursor.Cursor.{Cursor}
-use Rattle.ac_cursor.specs.declared.cursor.Cursor.TheVariants as cursor
-use Rattle.ac_cursor.specs.declared.guard.Class.TheVariants as class
-use Rattle.ac_cursor.specs.Guards.{forbids}
-use Rattle.ac_model.specs.Rows.{Row, is_named, place_of}
-use Rattle.ac_model.specs.Objects.{Object, is_past, greatest_length, numbers_end}
+use Rattle.ac_base.specs.declared.cursor.Cursor.{Cursor}
+use Rattle.ac_base.specs.declared.cursor.Cursor.TheVariants as cursor
+use Rattle.ac_base.specs.declared.guard.Class.TheVariants as class
+use Rattle.ac_base.specs.Tampering.{forbids}
+use Rattle.ac_base.specs.Rows.{Row}
+use Rattle.ac_model.specs.Rows.{is_named, place_of}
+use Rattle.ac_base.specs.Limits.{is_past, numbers_end}
+use Rattle.ac_base.specs.declared.limit.TheConstants.{GREATEST_LENGTH}
+use Rattle.ac_model.specs.Objects.{Object}
 
 -- a cursor without its slot: none, at what an object has under a name, or at nothing that the object has, whatever its name
 pub data Mark : Type 0 where
@@ -96,7 +99,7 @@ count_of (pos n) = n
 count_of (negsuc n) = 0
 
 abbrev pub in_range : ℤ → Option Reason
-in_range (pos n) = reason_if (nat_lt greatest_length n) LengthRange
+in_range (pos n) = reason_if (nat_lt GREATEST_LENGTH n) LengthRange
 in_range (negsuc n) = Some LengthRange
 
 -- an index, counted from 1, which must be in 1 .. last
@@ -114,7 +117,7 @@ place_of_index index = count_of index - 1
 -- a new length, and so many new names
 abbrev pub room : {V : Type 0} → Object ℕ V → ℕ → ℕ → List (Option Reason)
 room o length more =
-    reason_if (nat_lt greatest_length length) LengthRange
+    reason_if (nat_lt GREATEST_LENGTH length) LengthRange
     ∷ reason_if (is_past o.limit length) CapacityFull
     ∷ reason_if (nat_lt numbers_end (o.next + more)) NamesSpent
     ∷ []

@@ -1,7 +1,8 @@
 -- The calls of doubly linked lists alone (A.18.3): elements move with their cursors.
 use Rattle.std.specs.Prelude.{◌==◌, ◌+◌, ℕ, Bool, List, [], ◌∷◌, reverse, Option, Some, None, if◌then◌else◌}
-use Rattle.ac_cursor.specs.Steps.{first_reason}
-use Rattle.ac_model.specs.Rows.{Row, fresh, cut, put, named, value_at, with_exchanged_rows, sorted}
+use Rattle.ac_base.specs.FirstReason.{first_reason}
+use Rattle.ac_base.specs.Rows.{Row}
+use Rattle.ac_model.specs.Rows.{fresh, cut, put, named, value_at, with_exchanged_rows, sorted}
 use Rattle.ac_model.specs.Objects.{Object, contents, length_of, with_rows, grown}
 use Rattle.ac_model.specs.Letters.{Mark, mark_at, needs, may, name_of, place_at, tampers_cursors, room, room_for_one}
 use Rattle.ac_model.specs.Calls.{Call, call, Both, both, Done, takes_none, takes_some}

@@ -2,8 +2,9 @@
 use Rattle.std.specs.Prelude.{◌==◌, ℕ, Bool, false, ◌&&◌, not, [], ◌∷◌, Option, Some, None, option_map, is_some}
 use Rattle.std.specs.List.{list_all}
 use Rattle.ac_base.specs.declared.reason.Reason.TheVariants.{KeyAbsent}
-use Rattle.ac_cursor.specs.Steps.{first_reason}
-use Rattle.ac_model.specs.Rows.{Row, Entry, entry, row_by, value_at, with_some_value}
+use Rattle.ac_base.specs.FirstReason.{first_reason}
+use Rattle.ac_base.specs.Rows.{Row}
+use Rattle.ac_model.specs.Rows.{Entry, entry, row_by, value_at, with_some_value}
 use Rattle.ac_model.specs.Objects.{Object, contents, length_of, with_rows}
 use Rattle.ac_model.specs.Letters.{Mark, needs, name_of, tampers_elements, reason_if}
 use Rattle.ac_model.specs.Calls.{Call, call, Look, look, Done, takes_none}

@@ -4,7 +4,9 @@ use Rattle.ac_base.specs.declared.limit.Limit.{Limit}
 use Rattle.ac_base.specs.declared.limit.Limit.TheVariants.{Unbounded, Bounded}
 use Rattle.ac_base.specs.declared.name.Name.{Name}
 use Rattle.ac_base.specs.Growth.{pow8}
-use Rattle.ac_model.specs.Rows.{Row, row, values}
+use Rattle.ac_base.specs.Limits.{is_past, numbers_end}
+use Rattle.ac_base.specs.declared.limit.TheConstants.{GREATEST_LENGTH}
+use Rattle.ac_base.specs.Rows.{Row, row, values}
 
 -- N: the names, plain or with slots; V: what a row holds
 pub record Object (N V : Type 0) : Type 0 where
@@ -17,14 +19,6 @@ pub record Object (N V : Type 0) : Type 0 where
   pub rows : List (Row N V)
   pub cursor_guards : ℕ
   pub element_guards : ℕ
-
--- the greatest length of a container (Count_Type'Last, A.18.1)
-abbrev pub greatest_length : ℕ
-greatest_length = 1000000
-
--- the number that no name and no object has: those below it may be given
-abbrev pub numbers_end : ℕ
-numbers_end = 2 ^ 64 - 1
 
 -- the row without its slot
 abbrev pub plain_row : {V : Type 0} → Row Name V → Row ℕ V
@@ -47,11 +41,6 @@ contents o = values o.rows
 
 abbrev pub length_of : {N V : Type 0} → Object N V → ℕ
 length_of o = length o.rows
-
--- a length is past the limit
-abbrev pub is_past : Limit → ℕ → Bool
-is_past Unbounded length = false
-is_past (Bounded most) length = nat_lt most length
 
 -- the Capacity after a need (A.18.2, A.18.5, A.18.8): a bounded object's stays
 abbrev pub capacity_after : Limit → Option ℕ → ℕ → Option ℕ
@@ -85,7 +74,7 @@ pub record IsValid {V : Type 0} (o : Object ℕ V) : Type 0 where
   pub next_from_one : 1 ≤ o.next
   pub next_in_range : o.next ≤ numbers_end
   pub within_limit : is_past o.limit (length o.rows) ≡ false
-  pub within_greatest : length o.rows ≤ greatest_length
+  pub within_greatest : length o.rows ≤ GREATEST_LENGTH
   pub capacity_fits : IfSome o.capacity (λ capacity. CapacityFits o.limit (length o.rows) capacity)
 
 -- an empty object: a bounded one has its limit as its Capacity, an unbounded one 0, where it has one

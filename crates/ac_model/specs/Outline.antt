@@ -1,7 +1,8 @@
 -- The outline of a multiway tree (A.18.10): its rows in preorder, each with its depth. The root stands before them all, with depth 1 and name 0, and is no row.
 use Rattle.std.specs.Prelude.{◌≡◌, ◌==◌, ◌+◌, ◌-◌, ℕ, suc, Bool, true, ◌&&◌, ◌||◌, nat_lt, nat_le, List, [], ◌∷◌, length, take, drop, map, reverse, filter, find, take_while, Option, Some, None, option_map, unwrap_or, slice_get, if◌then◌else◌}
 use Rattle.std.specs.List.{list_any}
-use Rattle.ac_model.specs.Rows.{Row, row, Node, node}
+use Rattle.ac_base.specs.Rows.{Row, row}
+use Rattle.ac_model.specs.Rows.{Node, node}
 use Rattle.ac_model.specs.Objects.{Object, IsValid}
 
 -- where a node stands: its depth and its name

@@ -5,8 +5,9 @@ use Rattle.ac_base.specs.declared.limit.Limit.{Limit}
 use Rattle.ac_base.specs.declared.limit.Limit.TheVariants.{Unbounded, Bounded}
 use Rattle.ac_base.specs.declared.reason.Reason.{Reason}
 use Rattle.ac_base.specs.declared.reason.Reason.TheVariants.{LengthRange}
-use Rattle.ac_cursor.specs.Steps.{first_reason}
-use Rattle.ac_model.specs.Objects.{greatest_length, is_past}
+use Rattle.ac_base.specs.FirstReason.{first_reason}
+use Rattle.ac_base.specs.Limits.{is_past}
+use Rattle.ac_base.specs.declared.limit.TheConstants.{GREATEST_LENGTH}
 use Rattle.ac_model.specs.Letters.{reason_if}
 
 pub record Queue : Type 0 where
@@ -45,12 +46,12 @@ are_in_line_by by_priority items = are_in_line items
 -- a limit is at most the greatest length
 abbrev pub LimitInRange : Limit → Type 0
 LimitInRange Unbounded = ⊤
-LimitInRange (Bounded most) = most ≤ greatest_length
+LimitInRange (Bounded most) = most ≤ GREATEST_LENGTH
 
 pub record IsValidQueue (discipline : Discipline) (q : Queue) : Type 0 where
   pub limit_in_range : LimitInRange q.limit
   pub within_limit : is_past q.limit (length q.items) ≡ false
-  pub within_greatest : length q.items ≤ greatest_length
+  pub within_greatest : length q.items ≤ GREATEST_LENGTH
   pub within_peak : length q.items ≤ q.peak
   pub in_line : are_in_line_by discipline q.items ≡ true
 
@@ -66,7 +67,7 @@ abbrev pub is_full : Queue → Bool
 is_full q = elim q.limit [ Unbounded ↦ false | Bounded most ↦ most == length q.items ]
 
 abbrev pub is_too_long : Queue → Bool
-is_too_long q = elim q.limit [ Unbounded ↦ greatest_length == length q.items | Bounded most ↦ false ]
+is_too_long q = elim q.limit [ Unbounded ↦ GREATEST_LENGTH == length q.items | Bounded most ↦ false ]
 
 -- at the back, or after all items that aren't of lower priority
 abbrev pub lined_up : Discipline → List ℤ → ℤ → List ℤ

@@ -3,15 +3,12 @@
 -- A name is a serial number here. In the library a name has a slot too, which the code may choose: a container's
 -- own rows have the names with their slots, and `plain` (in `Objects`) leaves the slots out. So a call's meaning is
 -- a function of plain rows, the same for a script, whose cursors have no slots, and for a library call, whose
--- contract says besides that each name that stays keeps its slot (in `Contracts`).
+-- contract says besides that each name that stays keeps its slot (in `Calls`).
 --
 -- A place is the number of rows that stand before it.
 use Rattle.std.specs.Prelude.{◌≡◌, ◌==◌, ◌+◌, ℕ, suc, Bool, false, true, not, ◌&&◌, List, [], ◌∷◌, ◌++◌, length, take, drop, map, filter, find, Option, Some, None, option_map, if◌then◌else◌}
 use Rattle.std.specs.List.{list_any}
-
-pub record Row (N V : Type 0) : Type 0 where
-  pub name : N
-  pub value : V
+use Rattle.ac_base.specs.Rows.{Row, row}
 
 -- what a map's row holds
 pub record Entry (K T : Type 0) : Type 0 where
@@ -23,20 +20,11 @@ pub record Node (T : Type 0) : Type 0 where
   pub depth : ℕ
   pub element : T
 
-abbrev pub row : {N V : Type 0} → N → V → Row N V
-row name value = record { name = name; value = value }
-
 abbrev pub entry : {K T : Type 0} → K → T → Entry K T
 entry key element = record { key = key; element = element }
 
 abbrev pub node : {T : Type 0} → ℕ → T → Node T
 node depth element = record { depth = depth; element = element }
-
-abbrev pub names : {N V : Type 0} → List (Row N V) → List N
-names rows = map (λ r. r.name) rows
-
-abbrev pub values : {N V : Type 0} → List (Row N V) → List V
-values rows = map (λ r. r.value) rows
 
 -- the values under new names, from this one on
 abbrev pub fresh : {V : Type 0} → ℕ → List V → List (Row ℕ V)
@@ -127,16 +115,6 @@ merged_in less r rest (s ∷ rows) = if less s.value r.value then s ∷ merged_i
 abbrev pub merged : {V : Type 0} → (V → V → Bool) → List (Row ℕ V) → List (Row ℕ V) → List (Row ℕ V)
 merged less [] others = others
 merged less (r ∷ rows) others = merged_in less r (merged less rows) others
-
--- neither is less than the other
-abbrev pub are_level : {V : Type 0} → (V → V → Bool) → V → V → Bool
-are_level less v w = not (less v w) && not (less w v)
-
--- a strict weak order
-pub record IsWeakOrder {V : Type 0} (less : V → V → Bool) : Type 0 where
-  pub asymmetric : (v w : V) → less v w ≡ true → less w v ≡ false
-  pub transitive : (v w x : V) → less v w ≡ true → less w x ≡ true → less v x ≡ true
-  pub level_transitive : (v w x : V) → are_level less v w ≡ true → are_level less w x ≡ true → less v x ≡ false
 
 -- one list has the rows of another: of each sort as many
 abbrev pub HasRowsOf : {V : Type 0} → List (Row ℕ V) → List (Row ℕ V) → Type 0

@@ -3,7 +3,7 @@ use Rattle.std.specs.Prelude.{◌==◌, ◌+◌, ◌-◌, ℕ, zero, suc, ℤ, B
 use Rattle.std.specs.List.{list_any}
 use Rattle.ac_base.specs.declared.reason.Reason.{Reason}
 use Rattle.ac_base.specs.declared.reason.Reason.TheVariants.{Empty, SameContainer}
-use Rattle.ac_cursor.specs.Steps.{first_reason}
+use Rattle.ac_base.specs.FirstReason.{first_reason}
 use Rattle.ac_model.specs.Rows.{fresh, cut, put, value_at, with_value, with_exchanged_values, is_ascending, merged}
 use Rattle.ac_model.specs.Objects.{Object, contents, length_of, with_rows, grown}
 use Rattle.ac_model.specs.Letters.{Mark, no_mark, mark_at, needs, may, name_of, place_at, is_no_mark, mark_for, mark_in, tampers_cursors, tampers_elements, count_of, in_range, room, reason_if, has_room}

@@ -1,8 +1,8 @@
 -- The calls of hashed and ordered sets (A.18.7, A.18.8, A.18.9). Every change of a set tampers with cursors. An element's order and equivalence are those of its key, equality is its own.
 use Rattle.std.specs.Prelude.{◌==◌, ◌+◌, ℕ, Bool, not, ◌&&◌, List, [], ◌∷◌, length, filter}
 use Rattle.std.specs.List.{list_any, list_all}
-use Rattle.ac_cursor.specs.Steps.{first_reason}
-use Rattle.ac_model.specs.Rows.{Row}
+use Rattle.ac_base.specs.FirstReason.{first_reason}
+use Rattle.ac_base.specs.Rows.{Row}
 use Rattle.ac_model.specs.Objects.{Object, contents, length_of, with_rows, grown}
 use Rattle.ac_model.specs.Letters.{Mark, tampers_cursors, room}
 use Rattle.ac_model.specs.Calls.{Call, call, Done, takes_none, takes_some}

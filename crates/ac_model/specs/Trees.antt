@@ -4,9 +4,10 @@ use Rattle.std.specs.List.{list_any}
 use Rattle.ac_base.specs.declared.reason.Reason.{Reason}
 use Rattle.ac_base.specs.declared.reason.Reason.TheVariants.{NoElement, RootNode, RootSource, NotLeaf, NotChild, BelowItself}
 use Rattle.ac_base.specs.declared.name.Name.{Name}
-use Rattle.ac_cursor.specs.declared.cursor.Cursor.{Cursor}
-use Rattle.ac_cursor.specs.Steps.{first_reason, earlier}
-use Rattle.ac_model.specs.Rows.{Row, Node, node, names, values, cut, put, is_named, value_at, with_some_value, place_of}
+use Rattle.ac_base.specs.declared.cursor.Cursor.{Cursor}
+use Rattle.ac_base.specs.FirstReason.{first_reason, earlier}
+use Rattle.ac_base.specs.Rows.{Row, names, values}
+use Rattle.ac_model.specs.Rows.{Node, node, cut, put, is_named, value_at, with_some_value, place_of}
 use Rattle.ac_model.specs.Objects.{Object, contents, length_of, with_rows}
 use Rattle.ac_model.specs.Letters.{Mark, no_mark, mark_at, stale_mark, mark_of, judged_in, name_of, is_no_mark, tampers_cursors, tampers_elements, count_of, room, reason_if}
 use Rattle.ac_model.specs.Calls.{Call, call, Look, look, Both, both, Done, takes_none, takes_some}

@@ -2,8 +2,9 @@
 use Rattle.std.specs.Prelude.{◌==◌, ◌+◌, ◌-◌, ℕ, ℤ, pos, Bool, min, nat_le, List, [], ◌∷◌, take, drop, reverse, replicate, position, Option, Some, None, slice_get, if◌then◌else◌}
 use Rattle.ac_base.specs.declared.reason.Reason.{Reason}
 use Rattle.ac_base.specs.declared.reason.Reason.TheVariants.{IndexRange}
-use Rattle.ac_cursor.specs.Steps.{first_reason}
-use Rattle.ac_model.specs.Rows.{fresh, cut, put, values, over, sorted, with_value, with_exchanged_values}
+use Rattle.ac_base.specs.FirstReason.{first_reason}
+use Rattle.ac_base.specs.Rows.{values}
+use Rattle.ac_model.specs.Rows.{fresh, cut, put, over, sorted, with_value, with_exchanged_values}
 use Rattle.ac_model.specs.Objects.{Object, contents, length_of, with_rows, grown}
 use Rattle.ac_model.specs.Letters.{Mark, no_mark, may, place_at, is_no_mark, mark_in, tampers_cursors, tampers_elements, count_of, in_range, is_index, index_in, place_of_index, room, reason_if, name_of}
 use Rattle.ac_model.specs.Calls.{Call, call, Look, look, Done, takes_none, takes_some}

@@ -1,12 +1,14 @@
 //! Every effect keeps a valid map or set valid: in order of arrival by any equivalence of keys, and ascending by any weak order.
 ghost use Rattle.std.specs.Prelude.{◌≡◌, Bool, true, ℕ, None, Option};
 ghost use Rattle.ac_base.specs.declared.reason.Reason.{Reason};
-ghost use Rattle.ac_model.specs.Rows.{Entry, IsWeakOrder, are_level, is_named};
+ghost use Rattle.ac_base.specs.Order.{IsWeakOrder, are_level};
+ghost use Rattle.ac_model.specs.Rows.{Entry, is_named};
 ghost use Rattle.ac_model.specs.Objects.{Object};
 ghost use Rattle.ac_model.specs.Letters.{Mark, name_of};
 ghost use Rattle.ac_model.specs.Common as common;
 ghost use Rattle.ac_model.specs.Keyed as keyed;
-ghost use Rattle.ac_model.specs.Keyed.{Order, IsValidKeyed, IsEquivalence, KeepsKeyed, InEachOrder};
+ghost use Rattle.std.specs.Cmp.{IsEquivalence};
+ghost use Rattle.ac_model.specs.Keyed.{Order, IsValidKeyed, KeepsKeyed, InEachOrder};
 ghost use Rattle.ac_model.specs.Maps as map;
 ghost use Rattle.ac_model.specs.Ordered as ordered;
 ghost use Rattle.ac_model.specs.Sets as set;

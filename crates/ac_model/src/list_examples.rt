@@ -1,8 +1,8 @@
 //! Examples of list calls.
 ghost use Rattle.std.specs.Prelude.{◌≡◌, ◌∷◌, [], ℕ, nat_lt, nat_eq, pos, negsuc, true, false, None, Some};
 ghost use Rattle.ac_base.specs.declared.reason.Reason.TheVariants.{CursorTampering, ElementTampering, NoElement, ForeignCursor, DeadCursor, Empty, SameContainer};
-ghost use Rattle.ac_cursor.specs.declared.cursor.Cursor.TheVariants.{At};
-ghost use Rattle.ac_model.specs.Rows.{row, names};
+ghost use Rattle.ac_base.specs.declared.cursor.Cursor.TheVariants.{At};
+ghost use Rattle.ac_base.specs.Rows.{row, names};
 ghost use Rattle.ac_model.specs.Objects.{Object, contents, plain};
 ghost use Rattle.ac_model.specs.Letters.{no_mark, mark_at, stale_mark, mark_of};
 ghost use Rattle.ac_model.specs.Common as common;

@@ -1,7 +1,8 @@
 //! Examples of map calls. Keys and elements are numbers.
 ghost use Rattle.std.specs.Prelude.{◌≡◌, ◌∷◌, [], ℕ, nat_lt, nat_eq, pos, true, false, None, Some};
 ghost use Rattle.ac_base.specs.declared.reason.Reason.TheVariants.{CursorTampering, ElementTampering, NoElement, ForeignCursor, KeyPresent, KeyAbsent, NamesSpent, DeadCursor};
-ghost use Rattle.ac_model.specs.Rows.{row, entry};
+ghost use Rattle.ac_base.specs.Rows.{row};
+ghost use Rattle.ac_model.specs.Rows.{entry};
 ghost use Rattle.ac_model.specs.Objects.{contents};
 ghost use Rattle.ac_model.specs.Letters.{no_mark, mark_at};
 ghost use Rattle.ac_model.specs.Sequences as sequence;

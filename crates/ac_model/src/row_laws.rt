@@ -2,7 +2,9 @@
 ghost use Rattle.std.specs.Prelude.{◌≡◌, ◌+◌, ◌<◌, ◌≤◌, ℕ, Bool, true, false, List, [], ◌∷◌, ◌++◌, length, take, drop, filter, slice_get, slice_index, if◌then◌else◌};
 ghost use Rattle.std.specs.List.{list_any};
 ghost use Rattle.ac_model.specs.Outline.{spots, is_outline, HasParent};
-ghost use Rattle.ac_model.specs.Rows.{Node, Row, fresh, cut, put, place_of, named, names, values, row_by, sorted, is_ascending, are_level, IsWeakOrder, HasRowsOf, merged};
+ghost use Rattle.ac_base.specs.Rows.{Row, names, values};
+ghost use Rattle.ac_base.specs.Order.{are_level, IsWeakOrder};
+ghost use Rattle.ac_model.specs.Rows.{Node, fresh, cut, put, place_of, named, row_by, sorted, is_ascending, HasRowsOf, merged};
 
 /// A cut and a put of the same rows give the list back.
 pub fn cut_and_put<V>()

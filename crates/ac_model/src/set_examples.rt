@@ -1,8 +1,8 @@
 //! Examples of set calls. Elements are numbers, and in a keyed set the key is all digits but the last.
 ghost use Rattle.std.specs.Prelude.{◌≡◌, ◌∷◌, [], ℕ, nat_lt, nat_eq, pos, true, false, None, Some};
 ghost use Rattle.ac_base.specs.declared.reason.Reason.TheVariants.{CursorTampering, NoElement, DeadCursor, KeyPresent, KeyAbsent, KeyChanged, Duplicate, CapacityFull};
-ghost use Rattle.ac_cursor.specs.declared.guard.GuardKind.TheVariants as kind;
-ghost use Rattle.ac_model.specs.Rows.{row};
+ghost use Rattle.ac_base.specs.declared.guard.GuardKind.TheVariants as kind;
+ghost use Rattle.ac_base.specs.Rows.{row};
 ghost use Rattle.ac_model.specs.Objects.{contents};
 ghost use Rattle.ac_model.specs.Letters.{no_mark, mark_at};
 ghost use Rattle.ac_model.specs.Common as common;

@@ -1,7 +1,8 @@
 //! Examples of tree calls. A row is (depth, element), in preorder.
 ghost use Rattle.std.specs.Prelude.{◌≡◌, ◌∷◌, [], ℕ, nat_eq, pos, true, false, None, Some};
 ghost use Rattle.ac_base.specs.declared.reason.Reason.TheVariants.{CursorTampering, ElementTampering, NoElement, ForeignCursor, DeadCursor, RootNode, RootSource, NotLeaf, NotChild, BelowItself, LengthRange};
-ghost use Rattle.ac_model.specs.Rows.{row, node};
+ghost use Rattle.ac_base.specs.Rows.{row};
+ghost use Rattle.ac_model.specs.Rows.{node};
 ghost use Rattle.ac_model.specs.Objects.{contents};
 ghost use Rattle.ac_model.specs.Letters.{no_mark, mark_at};
 ghost use Rattle.ac_model.specs.Common as common;

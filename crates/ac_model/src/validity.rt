@@ -1,7 +1,7 @@
 //! Every effect keeps a valid object valid: each call of vectors and lists, at any valid object, where nothing refuses it.
 ghost use Rattle.std.specs.Prelude.{◌≡◌, ◌≤◌, ℕ, ℤ, Bool, None, length};
 ghost use Rattle.ac_base.specs.declared.limit.Limit.{Limit};
-ghost use Rattle.ac_cursor.specs.Steps.{first_reason};
+ghost use Rattle.ac_base.specs.FirstReason.{first_reason};
 ghost use Rattle.ac_model.specs.Objects.{Object, IsValid, empty_object, grown};
 ghost use Rattle.ac_model.specs.Letters.{Mark, room};
 ghost use Rattle.ac_model.specs.Calls.{Keeps, KeepsBoth};

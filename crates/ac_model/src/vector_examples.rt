@@ -1,7 +1,7 @@
 //! Examples of vector calls.
 ghost use Rattle.std.specs.Prelude.{◌≡◌, ◌∷◌, [], ℕ, nat_lt, nat_eq, pos, negsuc, true, false, None, Some};
 ghost use Rattle.ac_base.specs.declared.reason.Reason.TheVariants.{CursorTampering, ElementTampering, IndexRange, LengthRange, CapacityFull};
-ghost use Rattle.ac_model.specs.Rows.{row};
+ghost use Rattle.ac_base.specs.Rows.{row};
 ghost use Rattle.ac_model.specs.Objects.{contents};
 ghost use Rattle.ac_model.specs.Letters.{no_mark, mark_at, in_range};
 ghost use Rattle.ac_model.specs.Common as common;

@@ -3,7 +3,8 @@ use Rattle.std.specs.Prelude.{◌≡◌, ◌≢◌, ℕ, ◌+◌, ◌-◌, ◌<�
 use Rattle.std.specs.Coded.{Coded, code_by, coded×, coded_ℕ}
 use Rattle.std.specs.FinMap as map
 use Rattle.ac_base.specs.declared.name.Name.{Name}
-use Rattle.ac_pool.specs.Names.{name_cmp, name_code}
+use Rattle.ac_base.specs.Names.{name_code}
+use Rattle.ac_pool.specs.Names.{name_cmp}
 use Rattle.ac_base.specs.Growth.{pow8}
 
 pub record Contents (X : Type 0) : Type 0 where

@@ -11,9 +11,12 @@ use Rattle.ac_base.specs.declared.fault.Fault.{Fault}
 use Rattle.ac_base.specs.declared.fault.Fault.TheVariants as fault
 use Rattle.ac_base.specs.declared.reason.Reason.{Reason}
 use Rattle.ac_base.specs.declared.reason.Reason.TheVariants.{LengthRange}
-use Rattle.ac_cursor.specs.Steps.{first_reason}
-use Rattle.ac_model.specs.Rows.{Row, row, put, values}
-use Rattle.ac_model.specs.Objects.{Object, plain, plain_row, contents, length_of, greatest_length, numbers_end, IsValid}
+use Rattle.ac_base.specs.FirstReason.{first_reason}
+use Rattle.ac_base.specs.Rows.{Row, row, values}
+use Rattle.ac_model.specs.Rows.{put}
+use Rattle.ac_base.specs.Limits.{numbers_end}
+use Rattle.ac_base.specs.declared.limit.TheConstants.{GREATEST_LENGTH}
+use Rattle.ac_model.specs.Objects.{Object, plain, plain_row, contents, length_of, IsValid}
 use Rattle.ac_model.specs.Letters.{reason_if}
 use Rattle.ac_model.specs.Calls.{Changing, Same, IsAfter, Done}
 use Rattle.ac_model.specs.Sequences.{append_call}
@@ -29,8 +32,8 @@ one_reason false = refl
 
 -- an append is refused just where the list is as long as it may be
 reason_is : (o : Object ℕ ℤ) (value : ℤ) → o.limit ≡ Unbounded → o.cursor_guards ≡ 0 → o.element_guards ≡ 0 → nat_lt numbers_end (o.next + 1) ≡ false
-    → (append_call o value (pos 1)).reason ≡ reason_if (nat_lt greatest_length (length_of o + 1)) LengthRange
-reason_is o value l c e n = rw (l, c, e, n) (one_reason (nat_lt greatest_length (length_of o + 1)))
+    → (append_call o value (pos 1)).reason ≡ reason_if (nat_lt GREATEST_LENGTH (length_of o + 1)) LengthRange
+reason_is o value l c e n = rw (l, c, e, n) (one_reason (nat_lt GREATEST_LENGTH (length_of o + 1)))
 
 names_left : (o : Object Name ℤ) → IsGrowing o → IsValid (plain o) → nat_lt numbers_end ((plain o).next + 1) ≡ false
 names_left o g v = le-ltb numbers_end (o.next + 1) (omega (arith, g.all_there, v.within_greatest, length-map o.rows plain_row))
@@ -74,17 +77,17 @@ pub record Says (old new : Object Name ℤ) (value : ℤ) (refusal : Option Reas
   pub growing : IsGrowing new
 
 module _ (old new : Object Name ℤ) (value : ℤ) (g : IsGrowing old) (v : IsValid (plain old)) where
-  is : (append_call (plain old) value (pos 1)).reason ≡ reason_if (nat_lt greatest_length (length_of (plain old) + 1)) LengthRange
+  is : (append_call (plain old) value (pos 1)).reason ≡ reason_if (nat_lt GREATEST_LENGTH (length_of (plain old) + 1)) LengthRange
   is = reason_is (plain old) value g.unbounded g.no_cursor_guards g.no_element_guards (names_left old g v)
 
   pub done : Changing Same (append_call (plain old) value (pos 1)) old new (Ok tt) → Says old new value None
   done h =
-      let few = none_by (nat_lt greatest_length (length_of (plain old) + 1)) (sym is ∙ h.0) in
+      let few = none_by (nat_lt GREATEST_LENGTH (length_of (plain old) + 1)) (sym is ∙ h.0) in
       let after = grown_by old new value g h.1 in
       record {
         appended = (
-          elim (cases_lt greatest_length (length_of (plain old) + 1)) [
-            | inl more ↦ absurd (true≢false (sym (lt-ltb greatest_length (length_of (plain old) + 1) more) ∙ few))
+          elim (cases_lt GREATEST_LENGTH (length_of (plain old) + 1)) [
+            | inl more ↦ absurd (true≢false (sym (lt-ltb GREATEST_LENGTH (length_of (plain old) + 1) more) ∙ few))
             | inr less ↦ omega (arith, length-map old.rows plain_row, length_contents old)
           ],
           after.0,
@@ -94,12 +97,12 @@ module _ (old new : Object Name ℤ) (value : ℤ) (g : IsGrowing old) (v : IsVa
 
   pub refused : (reason : Reason) → Changing Same (append_call (plain old) value (pos 1)) old new (Err (fault.Raised reason)) → Says old new value (Some reason)
   refused reason h =
-      let by = reason_by (nat_lt greatest_length (length_of (plain old) + 1)) reason (sym is ∙ h.0) in
+      let by = reason_by (nat_lt GREATEST_LENGTH (length_of (plain old) + 1)) reason (sym is ∙ h.0) in
       record {
         appended = (
-          elim (cases_lt greatest_length (length_of (plain old) + 1)) [
+          elim (cases_lt GREATEST_LENGTH (length_of (plain old) + 1)) [
             | inl more ↦ omega (arith, length-map old.rows plain_row, length_contents old)
-            | inr less ↦ absurd (true≢false (sym by.0 ∙ le-ltb greatest_length (length_of (plain old) + 1) less))
+            | inr less ↦ absurd (true≢false (sym by.0 ∙ le-ltb GREATEST_LENGTH (length_of (plain old) + 1) less))
           ],
           by.1,
           ap contents h.1,

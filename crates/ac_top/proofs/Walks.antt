@@ -11,9 +11,10 @@ use Rattle.std.proofs.Math.Seq.{take-suc}
 use Rattle.ac_base.specs.declared.name.Name.{Name}
 use Rattle.ac_base.specs.declared.fault.Fault.{Fault}
 use Rattle.ac_base.specs.declared.fault.Fault.TheVariants as fault
-use Rattle.ac_cursor.specs.declared.cursor.Cursor.{Cursor}
-use Rattle.ac_cursor.specs.Steps.{first_reason}
-use Rattle.ac_model.specs.Rows.{Row, names, values, is_named, place_of, value_at}
+use Rattle.ac_base.specs.declared.cursor.Cursor.{Cursor}
+use Rattle.ac_base.specs.FirstReason.{first_reason}
+use Rattle.ac_base.specs.Rows.{Row, names, values}
+use Rattle.ac_model.specs.Rows.{is_named, place_of, value_at}
 use Rattle.ac_model.specs.Objects.{Object, plain, plain_row, contents, length_of, IsValid, times}
 use Rattle.ac_model.specs.Letters.{name_of, mark_at, mark_in, mark_for, mark_of, needs, may, judged_in}
 use Rattle.ac_model.specs.Calls.{Looking, Lends, Marks}

@@ -3,8 +3,9 @@ ghost use Rattle.std.specs.Prelude.{◌≡◌, ◌∷◌, [], ◌≤◌, ◌&&�
 ghost use Rattle.ac_base.specs.Growth.{pow8};
 ghost use Rattle.ac_list.specs.Put.{Grows, slots_of};
 ghost use Rattle.ac_list.specs.Copy.{Making, as_fault};
-ghost use Rattle.ac_cursor.specs.Steps.{first_reason};
-ghost use Rattle.ac_model.specs.Objects.{plain, length_of, greatest_length};
+ghost use Rattle.ac_base.specs.FirstReason.{first_reason};
+ghost use Rattle.ac_base.specs.declared.limit.TheConstants.{GREATEST_LENGTH};
+ghost use Rattle.ac_model.specs.Objects.{plain, length_of};
 ghost use Rattle.ac_model.specs.Letters.{tampers_cursors, room, reason_if};
 ghost use Rattle.ac_model.specs.Calls.{Changing, Same};
 ghost use Rattle.ac_model.specs.Common as common;
@@ -21,7 +22,7 @@ use std::alloc::Global;
 impl<T: Elem> List<T> {
     /// Copy (A.18.3): a list of its own number with copies of the elements. A bounded one's limit is the capacity, or the length where that is 0.
     pub fn copy(&self, alloc: Global, tag: Tag, capacity: u64) -> Result<List<T>, Fault>
-        requires { capacity ≤ greatest_length }
+        requires { capacity ≤ GREATEST_LENGTH }
         ensures made { Making (common.copy_call (plain self.now.object) tag capacity) result }
         ensures slots { self.now.object.limit ≡ Limit.Unbounded → IfOk result (λ made. slots_of made ≤ pow8 (max (length_of self.now.object) capacity)) }
     {

@@ -1,7 +1,7 @@
 //! Elements that are deleted.
 ghost use Rattle.std.specs.Prelude.{◌≡◌, ◌∷◌, [], ◌+◌, OnErr};
 ghost use Rattle.ac_list.specs.State.{mark, needs_cursor};
-ghost use Rattle.ac_cursor.specs.Steps.{first_reason};
+ghost use Rattle.ac_base.specs.FirstReason.{first_reason};
 ghost use Rattle.ac_model.specs.Objects.{plain, length_of};
 ghost use Rattle.ac_model.specs.Letters.{tampers_cursors, in_range};
 ghost use Rattle.ac_model.specs.Calls.{Changing, Same, Marks};

@@ -2,7 +2,7 @@
 ghost use Rattle.std.specs.Prelude.{◌≡◌, ◌∷◌, []};
 ghost use Rattle.ac_list.specs.State.{mark, needs_cursor, may_cursor};
 ghost use Rattle.ac_model.specs.Letters.{tampers_cursors};
-ghost use Rattle.ac_cursor.specs.Steps.{first_reason};
+ghost use Rattle.ac_base.specs.FirstReason.{first_reason};
 ghost use Rattle.ac_model.specs.Objects.{plain};
 ghost use Rattle.ac_model.specs.Calls.{Changing, Same, Marks};
 ghost use Rattle.ac_model.specs.Lists as lists;

@@ -1,7 +1,8 @@
 //! The order of a list's elements.
 ghost use Rattle.std.specs.Prelude.{◌≡◌, IfOk, map};
 ghost use Rattle.std.specs.Ordering.{is_lt};
-ghost use Rattle.ac_chain.specs.Rows.{names, IsSound};
+ghost use Rattle.ac_base.specs.Rows.{names};
+ghost use Rattle.ac_chain.specs.Rows.{IsSound};
 ghost use Rattle.ac_list.specs.Sorting.{row_at, IsSortedOrder};
 ghost use Rattle.ac_model.specs.Objects.{plain};
 ghost use Rattle.ac_model.specs.Calls.{Changing, Same};

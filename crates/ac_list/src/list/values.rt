@@ -1,7 +1,7 @@
 //! Another value under a name that stays.
 ghost use Rattle.std.specs.Prelude.{◌≡◌, ◌∷◌, [], None};
 ghost use Rattle.ac_list.specs.State.{mark, needs_cursor};
-ghost use Rattle.ac_cursor.specs.Steps.{first_reason};
+ghost use Rattle.ac_base.specs.FirstReason.{first_reason};
 ghost use Rattle.ac_model.specs.Rows.{with_value};
 ghost use Rattle.ac_model.specs.Objects.{plain, with_rows};
 ghost use Rattle.ac_model.specs.Letters.{tampers_elements, name_of};

@@ -1,7 +1,8 @@
 use Rattle.std.proofs.Common.{◌≡◌, None, sym, subst}
 use Rattle.std.specs.Option.{ForSome}
 use Rattle.ac_chain.specs.declared.links.Links.{Links}
-use Rattle.ac_chain.specs.Rows.{row, IsLive, inserted, IsFresh}
+use Rattle.ac_base.specs.Rows.{row}
+use Rattle.ac_chain.specs.Rows.{IsLive, inserted, IsFresh}
 use Rattle.ac_chain.specs.ChainFields.{node, IsChain}
 use Rattle.ac_chain.proofs.Chains.{view_of, inserted_chain, fresh_name, chain_sound}
 use Rattle.ac_chain.proofs.chain.Chain.insert_before.Goals as goal

@@ -1,6 +1,6 @@
 use Rattle.std.proofs.Common.{◌≤◌, Err, sym, ap, ◌∙◌, subst}
 use Rattle.std.proofs.lemmas.Result.{err_from_is_err_and}
-use Rattle.ac_model.specs.Objects.{greatest_length}
+use Rattle.ac_base.specs.declared.limit.TheConstants.{GREATEST_LENGTH}
 use Rattle.ac_model.specs.Common.{limit_of_copy}
 use Rattle.ac_list.specs.State.{Listed}
 use Rattle.ac_list.proofs.Refills.{source_is}
@@ -14,7 +14,7 @@ returns-in_err-assign-clause-made g c =
     let limit = c.limit_of_copy.ensures ∙ ap (λ (x : Listed _). limit_of_copy x.object.limit c.args.capacity c.len-length.result) c.self.view_is in
     let fault = err_from_is_err_and c.from_residual-in_err-assign.result c.from_residual-in_err-assign.ensures.1 in
     copy_wants o c.in_ok-made.made.object c.assign.new.self.object c.args.tag c.args.capacity c.len-length.result c.limit_of_copy.result c.assign.result c.in_err-assign.field-0.0
-    c.from_residual-in_err-assign.result (subst (λ n. n ≤ greatest_length) (sym count) c.self.invariant.within_greatest) (c.len-length.ensures.count ∙ sym count)
+    c.from_residual-in_err-assign.result (subst (λ n. n ≤ GREATEST_LENGTH) (sym count) c.self.invariant.within_greatest) (c.len-length.ensures.count ∙ sym count)
     (sym c.too_small.ensures ∙ c.in_default.is) limit c.in_ok-made.ensures.empty c.assign.ensures.changed c.in_err-assign.was (fault.1 ∙ ap Err fault.2)
 
 pub returns-clause-slots : goal.returns-clause-slots

@@ -1,5 +1,5 @@
 use Rattle.std.proofs.Common.{◌∷◌, [], refl, sym, ap, ◌∙◌, to_z-of_z, w64}
-use Rattle.ac_cursor.specs.Steps.{first_reason}
+use Rattle.ac_base.specs.FirstReason.{first_reason}
 use Rattle.ac_model.specs.Letters.{tampers_cursors, in_range, count_of}
 use Rattle.ac_model.specs.Objects.{plain}
 use Rattle.ac_list.specs.State.{Listed}

@@ -1,6 +1,7 @@
 use Rattle.std.proofs.Common.{ap, subst}
 use Rattle.ac_model.specs.Objects.{length_of}
-use Rattle.ac_list.specs.State.{Listed, IsLimit, HasSlots}
+use Rattle.ac_base.specs.Limits.{IsLimit}
+use Rattle.ac_list.specs.State.{Listed, HasSlots}
 use Rattle.ac_list.proofs.Valid.{valid, has_slots}
 use Rattle.ac_list.proofs.Searches.{same_is_equal}
 use Rattle.ac_list.proofs.list.List.law.Goals as goal

@@ -1,5 +1,5 @@
 use Rattle.std.proofs.Common.{◌∷◌, None, sym, ap, ◌∙◌, subst, to_z-of_z, w64}
-use Rattle.ac_cursor.specs.Steps.{first_reason}
+use Rattle.ac_base.specs.FirstReason.{first_reason}
 use Rattle.ac_model.specs.Objects.{plain}
 use Rattle.ac_model.specs.Letters.{count_of, tampers_cursors}
 use Rattle.ac_model.specs.Sequences as sequences

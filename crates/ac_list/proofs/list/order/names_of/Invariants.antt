@@ -1,5 +1,5 @@
 use Rattle.std.proofs.Common.{◌≡◌, map, take}
-use Rattle.ac_chain.specs.Rows.{names}
+use Rattle.ac_base.specs.Rows.{names}
 use Rattle.ac_list.specs.Sorting.{row_at}
 use Rattle.ac_list.proofs.list.order.names_of.Given as goal
 

@@ -1,7 +1,7 @@
 use Rattle.std.proofs.Common.{◌≡◌, ◌++◌, ◌<◌, ◌∙◌, ℤ, pos, sym, ap, take, get_or, arith, length, append-nil, append_assoc, nat_eq}
 use Rattle.std.proofs.lemmas.List.{length-map}
 use Rattle.std.proofs.Math.Seq.{take-length}
-use Rattle.ac_model.specs.Rows.{Row}
+use Rattle.ac_base.specs.Rows.{Row}
 use Rattle.ac_base.specs.declared.name.Name.{Name}
 use Rattle.ac_model.specs.Objects.{contents}
 use Rattle.ac_top.specs.Output.{listed, item}

@@ -1,7 +1,8 @@
+//! Which of several reasons a call is refused for.
 ghost use Rattle.std.specs.Prelude.{◌≡◌};
-ghost use Rattle.ac_cursor.specs.Steps.{step_of, earlier, first_reason};
+ghost use Rattle.ac_base.specs.FirstReason.{step_of, earlier, first_reason};
 
-use ac_base::Reason;
+use crate::reason::Reason;
 
 /// The step in which a call looks for the reason.
 fn step_of(reason: Reason) -> u8

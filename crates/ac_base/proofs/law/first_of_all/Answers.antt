@@ -1,5 +1,5 @@
-use Rattle.ac_cursor.proofs.FirstReason.{none_found, none_earlier}
-use Rattle.ac_cursor.proofs.examples.first_of_all.Goals as goal
+use Rattle.ac_base.proofs.FirstReason.{none_found, none_earlier}
+use Rattle.ac_base.proofs.law.first_of_all.Goals as goal
 
 pub returns-clause-none : goal.returns-clause-none
 returns-clause-none c = none_found

@@ -4,7 +4,7 @@ use Rattle.std.specs.Prelude.{nat_lt}
 use Rattle.std.proofs.lemmas.Bool.Decides.{nat_tests}
 use Rattle.std.proofs.lemmas.List.{drop_more, drop_all}
 use Rattle.ac_base.specs.declared.reason.Reason.{Reason}
-use Rattle.ac_cursor.specs.Steps.{first_reason, earlier, step_of}
+use Rattle.ac_base.specs.FirstReason.{first_reason, earlier, step_of}
 
 chosen : (r q p : Reason) (b d : Bool) → nat_lt (step_of q) (step_of r) ≡ b → nat_lt (step_of p) (step_of q) ≡ d →
     earlier (if b then Some q else Some r) (Some p) ≡ earlier (Some r) (if d then Some p else Some q)

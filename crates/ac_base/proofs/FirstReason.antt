@@ -3,7 +3,7 @@ use Rattle.std.proofs.Common.{◌≡◌, ◌≤◌, Bool, true, false, List, [],
 use Rattle.std.specs.Prelude.{nat_lt}
 use Rattle.std.proofs.lemmas.Bool.Decides.{nat_tests}
 use Rattle.ac_base.specs.declared.reason.Reason.{Reason}
-use Rattle.ac_cursor.specs.Steps.{first_reason, earlier, step_of, AllNone, NoneEarlier}
+use Rattle.ac_base.specs.FirstReason.{first_reason, earlier, step_of, AllNone, NoneEarlier}
 
 earlier_none : (a b : Option Reason) → earlier a b ≡ None → (a ≡ None) × (b ≡ None)
 earlier_none None b h = (refl, h)
