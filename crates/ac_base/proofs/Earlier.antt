@@ -23,9 +23,9 @@ earlier_assoc (Some r) None c = refl
 earlier_assoc (Some r) (Some q) None = with_none r q (nat_lt (step_of q) (step_of r))
 earlier_assoc (Some r) (Some q) (Some p) = chosen r q p (nat_lt (step_of q) (step_of r)) (nat_lt (step_of p) (step_of q)) refl refl
 
-pub earlier-none : (a : Option Reason) → earlier a None ≡ a
-earlier-none None = refl
-earlier-none (Some r) = refl
+pub with_none_later : (a : Option Reason) → earlier a None ≡ a
+with_none_later None = refl
+with_none_later (Some r) = refl
 
 -- one step of a walk from the front
 pub one_further : (found : List (Option Reason)) (i : ℕ) (first next : Option Reason) → i < length found → next ≡ earlier first (get_or found i None) →
@@ -35,4 +35,4 @@ one_further found i first next in_range is =
 
 -- its end
 pub at_end : (found : List (Option Reason)) (i : ℕ) (first : Option Reason) → length found ≤ i → earlier first (first_reason (drop i found)) ≡ first
-at_end found i first out = rw (drop_all i found out) (earlier-none first)
+at_end found i first out = rw (drop_all i found out) (with_none_later first)

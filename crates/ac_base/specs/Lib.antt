@@ -14,3 +14,4 @@ pub mod Rows
 pub mod Limits
 pub mod Tampering
 pub mod FirstReason
+pub mod Guards

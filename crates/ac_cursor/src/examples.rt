@@ -1,6 +1,6 @@
 //! What callers know of tags, and of guards on any object.
 ghost use Rattle.std.specs.Prelude.{◌≡◌, ◌+◌, ◌<◌, ◌≤◌, IfSome, IsSome};
-ghost use Rattle.ac_cursor.specs.Guards.{count_of, one_more, raised_kind, OthersKept};
+ghost use Rattle.ac_base.specs.Guards.{count_of, one_more, raised_kind, OthersKept};
 
 use crate::guards::{GuardKey, Guarded};
 use crate::mint::{Tag, TagMint};

@@ -1,6 +1,6 @@
 ghost use Rattle.std.specs.Prelude.{◌≡◌, ◌<◌, Bool, false, refl};
 ghost use Rattle.ac_base.specs.Tampering.{forbids};
-ghost use Rattle.ac_cursor.specs.Guards.{GuardCounts, count_of, one_more, one_less, raised_kind};
+ghost use Rattle.ac_base.specs.Guards.{GuardCounts, count_of, one_more, one_less, raised_kind};
 
 use crate::mint::Tag;
 use ac_base::{Class, GuardKind, Reason};
@@ -14,7 +14,7 @@ pub struct GuardKey {
 }
 
 impl Model for GuardKey {
-    ghost use Rattle.ac_cursor.specs.Guards.{HeldGuard};
+    ghost use Rattle.ac_base.specs.Guards.{HeldGuard};
 
     ghost Value = { HeldGuard };
 
@@ -71,7 +71,7 @@ pub struct Guards {
 }
 
 impl Model for Guards {
-    ghost use Rattle.ac_cursor.specs.Guards.{GuardCounts};
+    ghost use Rattle.ac_base.specs.Guards.{GuardCounts};
 
     ghost Value = { GuardCounts };
 

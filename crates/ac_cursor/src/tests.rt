@@ -64,7 +64,7 @@ struct EmptySet {
 
 impl Model for EmptySet {
     ghost use Rattle.std.specs.Prelude.{ℕ};
-    ghost use Rattle.ac_cursor.specs.Guards.{GuardCounts};
+    ghost use Rattle.ac_base.specs.Guards.{GuardCounts};
 
     ghost Value = { GuardCounts × ℕ };
 

@@ -6,41 +6,41 @@ use Rattle.std.proofs.lemmas.Bool.{and_parts}
 use Rattle.std.proofs.lemmas.Option.{none-some}
 use Rattle.ac_base.specs.declared.limit.Limit.{Limit}
 use Rattle.ac_base.specs.declared.name.Name.{Name}
-use Rattle.ac_cursor.specs.Guards.{GuardCounts}
+use Rattle.ac_base.specs.Guards.{GuardCounts}
 use Rattle.ac_chain.specs.Rows as chain
 use Rattle.ac_chain.specs.Rows.{Chained, index_of, place_of, name_at, next_name, IsLive, IsSound, value_of}
 use Rattle.ac_chain.specs.ChainFields.{first_or}
 use Rattle.ac_chain.proofs.Moves.{once_from}
-use Rattle.ac_base.specs.Rows.{values}
+use Rattle.ac_base.specs.Rows.{Row, values}
 use Rattle.ac_model.specs.Rows.{is_ascending}
 use Rattle.ac_model.specs.Objects.{Object, plain}
 use Rattle.ac_model.specs.Sequences as sequences
 use Rattle.ac_model.specs.Sequences.{are_equal}
 use Rattle.ac_list.specs.Put.{plains}
 use Rattle.ac_list.specs.State.{object_of}
-use Rattle.ac_list.specs.Searches.{same_by, values_in}
+use Rattle.ac_list.specs.Searches.{values_in}
 use Rattle.ac_list.proofs.Walks.{Forward, Ahead, ahead, forward_first, forward_end, forward_left}
-use Rattle.ac_list.proofs.Searches.{some_value, same_is}
+use Rattle.ac_list.proofs.Searches.{some_value}
 
 turned : (r s : Bool) → s ≡ not r → r ≡ not s
 turned true s e = sym (ap not e)
 turned false s e = sym (ap not e)
 
 module _ {T : Type 0} where
-  pub values-plains : (rows : List (chain.Row T)) → values_in rows ≡ values (plains rows)
+  pub values-plains : (rows : List (Row Name T)) → values_in rows ≡ values (plains rows)
   values-plains [] = refl
   values-plains (r ∷ rows) = ap (λ vs. r.value ∷ vs) (values-plains rows)
 
   -- two walks side by side: what is left of them decides
-  pub record Comparing (coded : Coded T) (c d : Chained T) (here there : Option Name) : Type 0 where
-    pub lefts : List (chain.Row T)
-    pub rights : List (chain.Row T)
+  pub record Comparing (same : T → T → Bool) (c d : Chained T) (here there : Option Name) : Type 0 where
+    pub lefts : List (Row Name T)
+    pub rights : List (Row Name T)
     pub walk_left : Forward c here lefts
     pub walk_right : Forward d there rights
-    pub answer : are_equal (same_by coded) (values_in lefts) (values_in rights) ≡ are_equal (same_by coded) (values_in c.rows) (values_in d.rows)
+    pub answer : are_equal same (values_in lefts) (values_in rights) ≡ are_equal same (values_in c.rows) (values_in d.rows)
 
-  pub comparing_start : (coded : Coded T) (c d : Chained T) (here there : Option Name) → here ≡ name_at c.rows 0 → there ≡ name_at d.rows 0 → Comparing coded c d here there
-  comparing_start coded c d here there e f = record {
+  pub comparing_start : (same : T → T → Bool) (c d : Chained T) (here there : Option Name) → here ≡ name_at c.rows 0 → there ≡ name_at d.rows 0 → Comparing same c d here there
+  comparing_start same c d here there e f = record {
     lefts = c.rows;
     rights = d.rows;
     walk_left = forward_first c here e;
@@ -54,7 +54,7 @@ module _ {T : Type 0} where
   heads_same : (same : T → T → Bool) (v w : T) (vs ws : List T) → same v w ≡ true → are_equal same (v ∷ vs) (w ∷ ws) ≡ are_equal same vs ws
   heads_same same v w vs ws h = rw h refl
 
-  module _ (coded : Coded T) (c d : Chained T) (left_sound : IsSound c) (right_sound : IsSound d) (a b : Name) (t : Comparing coded c d (Some a) (Some b)) where
+  module _ (same : T → T → Bool) (c d : Chained T) (left_sound : IsSound c) (right_sound : IsSound d) (a b : Name) (t : Comparing same c d (Some a) (Some b)) where
     ahead_left : Ahead c a t.lefts
     ahead_left = ahead c (once_from c.rows left_sound.once) a t.lefts t.walk_left
 
@@ -67,26 +67,26 @@ module _ {T : Type 0} where
     pub right_live : IsLive d b
     right_live = ahead_right.live
 
-    row_test : (v w : T) (r : Bool) → Some v ≡ value_of c a → Some w ≡ value_of d b → (IsTrue r ↔ (v ≡ w)) → same_by coded ahead_left.row.value ahead_right.row.value ≡ r
+    row_test : (v w : T) (r : Bool) → Some v ≡ value_of c a → Some w ≡ value_of d b → r ≡ same v w → same ahead_left.row.value ahead_right.row.value ≡ r
     row_test v w r ev ew test =
         let p = some_value v ahead_left.row.value (ev ∙ ahead_left.value) in
         let q = some_value w ahead_right.row.value (ew ∙ ahead_right.value) in
-        (λ i. same_by coded (sym p i) (sym q i)) ∙ same_is coded v w r test
+        (λ i. same (sym p i) (sym q i)) ∙ sym test
 
-    pub compare_differs : (v w : T) (r : Bool) → Some v ≡ value_of c a → Some w ≡ value_of d b → (IsTrue r ↔ (v ≡ w)) → r ≡ false → false ≡ are_equal (same_by coded) (values_in c.rows) (values_in d.rows)
+    pub compare_differs : (v w : T) (r : Bool) → Some v ≡ value_of c a → Some w ≡ value_of d b → r ≡ same v w → r ≡ false → false ≡ are_equal same (values_in c.rows) (values_in d.rows)
     compare_differs v w r ev ew test miss =
-        sym (heads_differ (same_by coded) ahead_left.row.value ahead_right.row.value (values_in ahead_left.rest) (values_in ahead_right.rest) (row_test v w r ev ew test ∙ miss))
-        ∙ (λ i. are_equal (same_by coded) (values_in (sym ahead_left.is i)) (values_in (sym ahead_right.is i))) ∙ t.answer
+        sym (heads_differ same ahead_left.row.value ahead_right.row.value (values_in ahead_left.rest) (values_in ahead_right.rest) (row_test v w r ev ew test ∙ miss))
+        ∙ (λ i. are_equal same (values_in (sym ahead_left.is i)) (values_in (sym ahead_right.is i))) ∙ t.answer
 
-    pub compare_more : (v w : T) (r : Bool) → Some v ≡ value_of c a → Some w ≡ value_of d b → (IsTrue r ↔ (v ≡ w)) → r ≡ true → (here there : Option Name) → here ≡ next_name c a → there ≡ next_name d b → Comparing coded c d here there
+    pub compare_more : (v w : T) (r : Bool) → Some v ≡ value_of c a → Some w ≡ value_of d b → r ≡ same v w → r ≡ true → (here there : Option Name) → here ≡ next_name c a → there ≡ next_name d b → Comparing same c d here there
     compare_more v w r ev ew test hit here there eh et = record {
       lefts = ahead_left.rest;
       rights = ahead_right.rest;
       walk_left = subst (λ p. Forward c p ahead_left.rest) (sym eh) ahead_left.next;
       walk_right = subst (λ p. Forward d p ahead_right.rest) (sym et) ahead_right.next;
       answer =
-          sym (heads_same (same_by coded) ahead_left.row.value ahead_right.row.value (values_in ahead_left.rest) (values_in ahead_right.rest) (row_test v w r ev ew test ∙ hit))
-          ∙ (λ i. are_equal (same_by coded) (values_in (sym ahead_left.is i)) (values_in (sym ahead_right.is i))) ∙ t.answer;
+          sym (heads_same same ahead_left.row.value ahead_right.row.value (values_in ahead_left.rest) (values_in ahead_right.rest) (row_test v w r ev ew test ∙ hit))
+          ∙ (λ i. are_equal same (values_in (sym ahead_left.is i)) (values_in (sym ahead_right.is i))) ∙ t.answer;
     }
 
     pub compare_less : (here : Option Name) → here ≡ next_name c a → length c.rows - place_of here c.rows < length c.rows - place_of (Some a) c.rows
@@ -97,18 +97,18 @@ module _ {T : Type 0} where
         let len : length t.lefts ≡ length (ahead_left.row ∷ ahead_left.rest) = ap length ahead_left.is in
         omega arith
 
-  pub compare_short : (coded : Coded T) (c d : Chained T) → IsSound c → (a : Name) → Comparing coded c d (Some a) None → false ≡ are_equal (same_by coded) (values_in c.rows) (values_in d.rows)
-  compare_short coded c d s a t =
+  pub compare_short : (same : T → T → Bool) (c d : Chained T) → IsSound c → (a : Name) → Comparing same c d (Some a) None → false ≡ are_equal same (values_in c.rows) (values_in d.rows)
+  compare_short same c d s a t =
       let k = ahead c (once_from c.rows s.once) a t.lefts t.walk_left in
       let none = forward_end d t.rights t.walk_right in
-      (λ i. are_equal (same_by coded) (values_in (sym k.is i)) (values_in (sym none i))) ∙ t.answer
+      (λ i. are_equal same (values_in (sym k.is i)) (values_in (sym none i))) ∙ t.answer
 
-  pub compare_end : (coded : Coded T) (c d : Chained T) (there : Option Name) (r : Bool) → Comparing coded c d None there → is_some there ≡ not r → r ≡ are_equal (same_by coded) (values_in c.rows) (values_in d.rows)
-  compare_end coded c d there r t e =
+  pub compare_end : (same : T → T → Bool) (c d : Chained T) (there : Option Name) (r : Bool) → Comparing same c d None there → is_some there ≡ not r → r ≡ are_equal same (values_in c.rows) (values_in d.rows)
+  compare_end same c d there r t e =
       let none = forward_end c t.lefts t.walk_left in
-      turned r (is_some there) e ∙ ap is_none t.walk_right.at ∙ rest (same_by coded) t.rights ∙ ap (λ ls. are_equal (same_by coded) (values_in ls) (values_in t.rights)) (sym none) ∙ t.answer
+      turned r (is_some there) e ∙ ap is_none t.walk_right.at ∙ rest same t.rights ∙ ap (λ ls. are_equal same (values_in ls) (values_in t.rights)) (sym none) ∙ t.answer
     where
-      rest : (same : T → T → Bool) (rights : List (chain.Row T)) → is_none (first_or rights None) ≡ are_equal same [] (values_in rights)
+      rest : (same : T → T → Bool) (rights : List (Row Name T)) → is_none (first_or rights None) ≡ are_equal same [] (values_in rights)
       rest same [] = refl
       rest same (x ∷ rights) = refl
 
@@ -120,7 +120,7 @@ module _ {T : Type 0} where
 
   -- a walk that compares each value with the one before it
   pub record Ascending (less : T → T → Bool) (c : Chained T) (before : Name) : Type 0 where
-    pub left : List (chain.Row T)
+    pub left : List (Row Name T)
     pub walk : Forward c (Some before) left
     pub answer : is_ascending less (values_in left) ≡ is_ascending less (values_in c.rows)
 
@@ -188,6 +188,6 @@ module _ {X : Type 0} (g : GuardCounts) (l : Limit) (k : Chained X) (o : Object 
   pub none_ascends : (less : X → X → Bool) → None ≡ name_at k.rows 0 → true ≡ sequences.is_sorted_call less (plain o)
   none_ascends less e = none k.rows e ∙ ap (is_ascending less) contents_are
     where
-      none : (rows : List (chain.Row X)) → None ≡ name_at rows 0 → true ≡ is_ascending less (values_in rows)
+      none : (rows : List (Row Name X)) → None ≡ name_at rows 0 → true ≡ is_ascending less (values_in rows)
       none [] e = refl
       none (r ∷ rows) e = absurd (none-some r.name e)

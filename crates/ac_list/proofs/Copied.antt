@@ -21,9 +21,9 @@ use Rattle.ac_model.specs.Letters.{reason_if}
 use Rattle.ac_model.specs.Calls.{Changing, IsAfter, Same, Done}
 use Rattle.ac_model.specs.Common.{assign_call, copy_call, limit_of_copy}
 use Rattle.ac_model.proofs.Lengths.{length-fresh}
-use Rattle.ac_list.specs.Put.{slots_of}
+use Rattle.ac_model.specs.Containers.{slots_of}
 use Rattle.ac_list.specs.Copy.{Making}
-use Rattle.ac_list.specs.State.{Listed, first_spare}
+use Rattle.ac_model.specs.Containers.{Container, first_spare}
 
 -- a capacity that isn't too small
 fits : (l : Limit) (capacity len : ℕ) → reason_if (nat_lt 0 capacity && nat_lt capacity len) CapacityFull ≡ None → is_past (limit_of_copy l capacity len) len ≡ false
@@ -47,7 +47,7 @@ module _ {X : Type 0} where
       let left : nat_lt numbers_end (1 + len) ≡ false = le-ltb numbers_end (1 + len) (omega arith) in
       λ i. first_reason (None ∷ reason_if (short i) LengthRange ∷ reason_if (within i) CapacityFull ∷ reason_if (left i) NamesSpent ∷ [])
 
-  pub copy_wants : (o : Object Name X) (made new : Object Name X) (number capacity len : ℕ) (m : Limit) (r : Result Done Fault) (q : Fault) (t : Result (Listed X) Fault) → length_of (plain o) ≤ GREATEST_LENGTH → len ≡ length_of (plain o)
+  pub copy_wants : (o : Object Name X) (made new : Object Name X) (number capacity len : ℕ) (m : Limit) (r : Result Done Fault) (q : Fault) (t : Result (Container X) Fault) → length_of (plain o) ≤ GREATEST_LENGTH → len ≡ length_of (plain o)
       → reason_if (nat_lt 0 capacity && nat_lt capacity len) CapacityFull ≡ None → m ≡ limit_of_copy o.limit capacity len → made ≡ empty_object false number m
       → Changing Same (assign_call (plain made) (plain o)) made new r → r ≡ Err q → t ≡ Err q → Making (copy_call (plain o) number capacity) t
   copy_wants o made new number capacity len m r q t few count enough limit empty h is back =
@@ -65,7 +65,7 @@ module _ {X : Type 0} where
       by (fault.Raised x) h = absurd (let k : None ≡ Some x = sym none ∙ h.0 in cc)
       by fault.NoMemory h = (refl, ap (λ a. first_reason (a ∷ [])) large)
 
-  pub copy_slots : (o : Object Name X) (made new : Listed X) (number capacity len : ℕ) (m : Limit) → o.limit ≡ Unbounded → m ≡ limit_of_copy o.limit capacity len → made.object ≡ empty_object false number m → made.spare ≡ first_spare m
+  pub copy_slots : (o : Object Name X) (made new : Container X) (number capacity len : ℕ) (m : Limit) → o.limit ≡ Unbounded → m ≡ limit_of_copy o.limit capacity len → made.object ≡ empty_object false number m → made.spare ≡ first_spare m
       → IsAfter made.object new.object (assign_call (plain made.object) (plain o)).after → slots_of new ≤ max (slots_of made) (pow8 (length_of new.object)) → slots_of new ≤ pow8 (max (length_of o) capacity)
   copy_slots o made new number capacity len m unbounded limit empty spare after few =
       let none : made.spare ≡ 0 = spare ∙ ap first_spare (limit ∙ ap (λ l. limit_of_copy l capacity len) unbounded) in

@@ -13,16 +13,17 @@ use Rattle.ac_chain.specs.ChainFields.{first_or, HasName, IsOnce}
 use Rattle.ac_chain.proofs.Cuts.{split, apart, index_here, index_of-cut, remove-cut, name_at-after, live_has, has_live, HasName-left, HasName-right, HasName-either}
 use Rattle.ac_chain.proofs.Moves.{once_from}
 use Rattle.ac_chain.proofs.Linking.{first_has}
-use Rattle.ac_cursor.specs.Guards.{GuardCounts}
+use Rattle.ac_base.specs.Guards.{GuardCounts}
 use Rattle.ac_base.specs.declared.cursor.Cursor.{Cursor}
-use Rattle.ac_base.specs.Rows.{names}
+use Rattle.ac_base.specs.Rows.{Row, names}
 use Rattle.ac_model.specs.Rows.{cut}
 use Rattle.ac_model.specs.Objects.{Object, plain, plain_row, with_rows, length_of}
 use Rattle.ac_model.specs.Letters.{is_among, place_at}
 use Rattle.ac_model.specs.Calls.{IsAfter}
 use Rattle.ac_list.specs.Cut.{IsCut}
 use Rattle.ac_list.specs.Put.{plains}
-use Rattle.ac_list.specs.State.{row_of, object_of, needs_cursor, mark, place_in, name_in}
+use Rattle.ac_model.specs.Cursors.{needs_cursor, mark, place_in, name_in}
+use Rattle.ac_list.specs.State.{object_of}
 use Rattle.ac_list.proofs.Standing.{has_among, stands, place_live}
 use Rattle.ac_list.proofs.Puts.{plains-append, length-plains}
 use Rattle.ac_list.proofs.Grows.{all_from}
@@ -30,9 +31,9 @@ use Rattle.ac_list.proofs.Grows.{all_from}
 module _ {X : Type 0} where
   -- so far: so many rows from the place on are gone
   pub record Cutting (from : Chained X) (start count : ℕ) (place : Option Name) (now : Chained X) : Type 0 where
-    pub before : List (chain.Row X)
-    pub gone : List (chain.Row X)
-    pub after : List (chain.Row X)
+    pub before : List (Row Name X)
+    pub gone : List (Row Name X)
+    pub after : List (Row Name X)
     pub was : from.rows ≡ before ++ (gone ++ after)
     pub is : now.rows ≡ before ++ after
     pub at : length before ≡ start
@@ -52,7 +53,7 @@ module _ {X : Type 0} where
       → then ≡ next_name now a → later ≡ removed now a → IsSound later → Cutting from start (count + 1) then later
   cutting_more from start count place then now later a c e n r sound = from_rest c.after refl
     where
-      from_rest : (rest : List (chain.Row X)) → c.after ≡ rest → Cutting from start (count + 1) then later
+      from_rest : (rest : List (Row Name X)) → c.after ≡ rest → Cutting from start (count + 1) then later
       from_rest [] is = absurd (let k : None ≡ Some a = sym (c.named ∙ ap (λ rows. first_or rows None) is) ∙ e in cc)
       from_rest (x ∷ rest) is =
           let k : Some x.name ≡ Some a = sym (c.named ∙ ap (λ rows. first_or rows None) is) ∙ e in
@@ -79,7 +80,7 @@ module _ {X : Type 0} where
             sound = sound;
           }
 
-  unnamed : (rows : List (chain.Row X)) → None ≡ first_or rows None → rows ≡ []
+  unnamed : (rows : List (Row Name X)) → None ≡ first_or rows None → rows ≡ []
   unnamed [] e = refl
   unnamed (r ∷ rows) e = absurd (let k : None ≡ Some r.name = e in cc)
 
@@ -110,7 +111,7 @@ module _ {X : Type 0} where
 
   -- so far: so many rows at the end are gone
   pub record Dropping (from : Chained X) (count : ℕ) (now : Chained X) : Type 0 where
-    pub gone : List (chain.Row X)
+    pub gone : List (Row Name X)
     pub was : from.rows ≡ now.rows ++ gone
     pub many : length gone ≡ count
     pub next : now.next_serial ≡ from.next_serial
@@ -120,22 +121,22 @@ module _ {X : Type 0} where
   pub dropping_start : (from : Chained X) → IsSound from → Dropping from 0 from
   dropping_start from sound = record { gone = []; was = sym (append-nil from.rows); many = refl; next = refl; spare = omega arith; sound = sound }
 
-  pub record LastOf (rows : List (chain.Row X)) (a : Name) : Type 0 where
-    pub rest : List (chain.Row X)
-    pub last : chain.Row X
+  pub record LastOf (rows : List (Row Name X)) (a : Name) : Type 0 where
+    pub rest : List (Row Name X)
+    pub last : Row Name X
     pub is : rows ≡ rest ++ last ∷ []
     pub named : a ≡ last.name
 
-  pub last_split : (rows : List (chain.Row X)) (a : Name) → Some a ≡ name_before rows (length rows) → LastOf rows a
+  pub last_split : (rows : List (Row Name X)) (a : Name) → Some a ≡ name_before rows (length rows) → LastOf rows a
   last_split [] a e = absurd (let k : Some a ≡ None = e in cc)
   last_split (r ∷ []) a e = record { rest = []; last = r; is = refl; named = let k : Some a ≡ Some r.name = e in cc }
   last_split (r ∷ q ∷ rows) a e = let s = last_split (q ∷ rows) a e in record { rest = r ∷ s.rest; last = s.last; is = ap (λ xs. r ∷ xs) s.is; named = s.named }
 
-  pub none_last : (rows : List (chain.Row X)) → None ≡ name_before rows (length rows) → rows ≡ []
+  pub none_last : (rows : List (Row Name X)) → None ≡ name_before rows (length rows) → rows ≡ []
   none_last [] e = refl
   none_last (r ∷ rows) e = absurd (there r rows e)
     where
-      there : (r : chain.Row X) (rows : List (chain.Row X)) → None ≡ chain.name_at (r ∷ rows) (length rows) → ⊥
+      there : (r : Row Name X) (rows : List (Row Name X)) → None ≡ chain.name_at (r ∷ rows) (length rows) → ⊥
       there r [] e = let k : None ≡ Some r.name = e in cc
       there r (q ∷ rows) e = there q rows e
 
@@ -174,16 +175,16 @@ module _ {X : Type 0} where
   pub dropping_live : (now : Chained X) (a : Name) → Some a ≡ name_before now.rows (length now.rows) → IsLive now a
   dropping_live now a e = let s = last_split now.rows a e in has_live a now.rows (subst (λ rows. HasName a rows) (sym s.is) (HasName-right a s.rest (s.last ∷ []) (inl s.named)))
 
-  plains-take : (i : ℕ) (rows : List (chain.Row X)) → plains (take i rows) ≡ take i (plains rows)
-  plains-take i rows = ap (map plain_row) (sym (take-map row_of i rows)) ∙ sym (take-map plain_row i (map row_of rows))
+  plains-take : (i : ℕ) (rows : List (Row Name X)) → plains (take i rows) ≡ take i (plains rows)
+  plains-take i rows = sym (take-map plain_row i rows)
 
-  plains-drop : (i : ℕ) (rows : List (chain.Row X)) → plains (drop i rows) ≡ drop i (plains rows)
-  plains-drop i rows = ap (map plain_row) (sym (drop-map row_of i rows)) ∙ sym (drop-map plain_row i (map row_of rows))
+  plains-drop : (i : ℕ) (rows : List (Row Name X)) → plains (drop i rows) ≡ drop i (plains rows)
+  plains-drop i rows = sym (drop-map plain_row i rows)
 
-  plains-cut : (rows : List (chain.Row X)) (i n : ℕ) → plains (take i rows ++ drop (i + n) rows) ≡ cut (plains rows) i n
+  plains-cut : (rows : List (Row Name X)) (i n : ℕ) → plains (take i rows ++ drop (i + n) rows) ≡ cut (plains rows) i n
   plains-cut rows i n = plains-append (take i rows) (drop (i + n) rows) ∙ (λ j. plains-take i rows j ++ plains-drop (i + n) rows j)
 
-  cut_has : (a : Name) (rows : List (chain.Row X)) (i n : ℕ) → HasName a (take i rows ++ drop (i + n) rows) → HasName a rows
+  cut_has : (a : Name) (rows : List (Row Name X)) (i n : ℕ) → HasName a (take i rows ++ drop (i + n) rows) → HasName a rows
   cut_has a rows i n t = elim (HasName-either a (take i rows) (drop (i + n) rows) t) [
     | inl left ↦ subst (λ zs. HasName a zs) (take-append-drop i rows) (HasName-left a (take i rows) (drop i rows) left)
     | inr right ↦ subst (λ zs. HasName a zs) (take-append-drop (i + n) rows) (HasName-right a (take (i + n) rows) (drop (i + n) rows) right)
@@ -194,7 +195,7 @@ module _ {X : Type 0} where
       let rows : plains now.rows ≡ cut (plains k.rows) i n = ap plains c.rows ∙ plains-cut k.rows i n in
       subst (λ (p : Object Name X). IsAfter p (object_of g l now) (with_rows (plain p) (cut (plain p).rows i n))) view (record {
         plainly = λ j. record { number = g.number; limit = l; capacity = None; next = c.next j; rows = rows j; cursor_guards = g.cursor_guards; element_guards = g.element_guards };
-        slots = all_from (λ name. name.serial < k.next_serial → IsTrue (is_among (names (map row_of k.rows)) name)) now.rows (λ a t lt. has_among a k.rows (cut_has a k.rows i n (subst (λ zs. HasName a zs) c.rows t)));
+        slots = all_from (λ name. name.serial < k.next_serial → IsTrue (is_among (names k.rows) name)) now.rows (λ a t lt. has_among a k.rows (cut_has a k.rows i n (subst (λ zs. HasName a zs) c.rows t)));
       })
 
   -- a cursor that isn't refused stands at a place of the chain
@@ -211,7 +212,7 @@ module _ {X : Type 0} where
             ap (λ p. place_of p k.rows) some ∙ sym (place_live k (name_in q) s one.live) ∙ ap (place_at (plains k.rows)) (sym one.marked),
           )
 
-  pub first_place : (rows : List (chain.Row X)) (place : Option Name) → place ≡ chain.name_at rows 0 → place_of place rows ≡ 0
+  pub first_place : (rows : List (Row Name X)) (place : Option Name) → place ≡ chain.name_at rows 0 → place_of place rows ≡ 0
   first_place [] place e = ap (λ p. place_of {X = X} p []) e
   first_place (r ∷ rows) place e = ap (λ p. place_of p (r ∷ rows)) e ∙ index_here r.name r rows refl
 

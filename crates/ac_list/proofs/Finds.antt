@@ -9,7 +9,7 @@ use Rattle.ac_base.specs.declared.limit.Limit.{Limit}
 use Rattle.ac_base.specs.declared.name.Name.{Name}
 use Rattle.ac_base.specs.declared.cursor.Cursor.{Cursor}
 use Rattle.ac_base.specs.declared.cursor.Cursor.TheVariants.{NoElement, At}
-use Rattle.ac_cursor.specs.Guards.{GuardCounts}
+use Rattle.ac_base.specs.Guards.{GuardCounts}
 use Rattle.ac_base.specs.FirstReason.{first_reason}
 use Rattle.ac_chain.specs.Rows as chain
 use Rattle.ac_chain.specs.Rows.{Chained, index_of, place_of, name_at, name_before, IsLive, IsSound}
@@ -23,44 +23,45 @@ use Rattle.ac_model.specs.Letters.{mark_of, mark_for, place_at, is_no_mark}
 use Rattle.ac_model.specs.Calls.{Looking, Marks}
 use Rattle.ac_model.specs.Sequences as sequences
 use Rattle.ac_list.specs.Put.{plains}
-use Rattle.ac_list.specs.State.{row_of, object_of, mark, may_cursor, cursor_at}
+use Rattle.ac_model.specs.Cursors.{mark, may_cursor, cursor_at}
+use Rattle.ac_list.specs.State.{object_of}
 use Rattle.ac_list.specs.Searches.{found_in, count_to, start_of, end_of}
 use Rattle.ac_list.proofs.Standing.{stands, marked_live, may_by_name, place_live}
 use Rattle.ac_list.proofs.Grows.{past_end, plains-reverse, reverse_has}
 
 module _ {X : Type 0} where
   -- the cursor at what is found is the definitions' mark
-  found_marked : (same : X → X → Bool) (e : X) (number : ℕ) (rows some : List (chain.Row X)) → ((a : Name) → HasName a some → HasName a rows)
-      → mark_of number (names (map row_of rows)) (cursor_at number (found_in same e some)) ≡ mark_for number (find (λ (r : Row ℕ X). same r.value e) (plains some))
+  found_marked : (same : X → X → Bool) (e : X) (number : ℕ) (rows some : List (Row Name X)) → ((a : Name) → HasName a some → HasName a rows)
+      → mark_of number (names rows) (cursor_at number (found_in same e some)) ≡ mark_for number (find (λ (r : Row ℕ X). same r.value e) (plains some))
   found_marked same e number rows [] had = refl
   found_marked same e number rows (r ∷ some) had =
-      elim (same r.value e) as (λ b. mark_of number (names (map row_of rows)) (cursor_at number (option_map (λ (q : chain.Row X). q.name) (cond b (Some r) (find (λ (q : chain.Row X). same q.value e) some))))
+      elim (same r.value e) as (λ b. mark_of number (names rows) (cursor_at number (option_map (λ (q : Row Name X). q.name) (cond b (Some r) (find (λ (q : Row Name X). same q.value e) some))))
       ≡ mark_for number (cond b (Some (row r.name.serial r.value)) (find (λ (q : Row ℕ X). same q.value e) (plains some)))) [
         | true ↦ marked_live number rows r.name (had r.name (inl refl))
         | false ↦ found_marked same e number rows some (λ a t. had a (inr t))
       ]
 
-  any_found : (same : X → X → Bool) (e : X) (rows : List (chain.Row X)) → is_some (found_in same e rows) ≡ list_any (λ v. same v e) (values (plains rows))
+  any_found : (same : X → X → Bool) (e : X) (rows : List (Row Name X)) → is_some (found_in same e rows) ≡ list_any (λ v. same v e) (values (plains rows))
   any_found same e [] = refl
   any_found same e (r ∷ rows) =
-      elim (same r.value e) as (λ b. is_some (option_map (λ (q : chain.Row X). q.name) (cond b (Some r) (find (λ (q : chain.Row X). same q.value e) rows))) ≡ (b || list_any (λ v. same v e) (values (plains rows)))) [
+      elim (same r.value e) as (λ b. is_some (option_map (λ (q : Row Name X). q.name) (cond b (Some r) (find (λ (q : Row Name X). same q.value e) rows))) ≡ (b || list_any (λ v. same v e) (values (plains rows)))) [
         | true ↦ refl
         | false ↦ any_found same e rows
       ]
 
-  drop_had : (n : ℕ) (rows : List (chain.Row X)) (a : Name) → HasName a (drop n rows) → HasName a rows
+  drop_had : (n : ℕ) (rows : List (Row Name X)) (a : Name) → HasName a (drop n rows) → HasName a rows
   drop_had n rows a h = subst (λ zs. HasName a zs) (take-append-drop n rows) (HasName-right a (take n rows) (drop n rows) h)
 
-  take_had : (n : ℕ) (rows : List (chain.Row X)) (a : Name) → HasName a (take n rows) → HasName a rows
+  take_had : (n : ℕ) (rows : List (Row Name X)) (a : Name) → HasName a (take n rows) → HasName a rows
   take_had n rows a h = subst (λ zs. HasName a zs) (take-append-drop n rows) (HasName-left a (take n rows) (drop n rows) h)
 
-  plains-drop : (n : ℕ) (rows : List (chain.Row X)) → plains (drop n rows) ≡ drop n (plains rows)
-  plains-drop n rows = ap (map plain_row) (sym (drop-map row_of n rows)) ∙ sym (drop-map plain_row n (map row_of rows))
+  plains-drop : (n : ℕ) (rows : List (Row Name X)) → plains (drop n rows) ≡ drop n (plains rows)
+  plains-drop n rows = sym (drop-map plain_row n rows)
 
-  plains-take : (n : ℕ) (rows : List (chain.Row X)) → plains (take n rows) ≡ take n (plains rows)
-  plains-take n rows = ap (map plain_row) (sym (take-map row_of n rows)) ∙ sym (take-map plain_row n (map row_of rows))
+  plains-take : (n : ℕ) (rows : List (Row Name X)) → plains (take n rows) ≡ take n (plains rows)
+  plains-take n rows = sym (take-map plain_row n rows)
 
-  first_place : (rows : List (chain.Row X)) → place_of (name_at rows 0) rows ≡ 0
+  first_place : (rows : List (Row Name X)) → place_of (name_at rows 0) rows ≡ 0
   first_place [] = refl
   first_place (r ∷ rows) = index_here r.name r rows refl
 
@@ -71,14 +72,14 @@ module _ {X : Type 0} where
   last_live k place zero e = λ a q. absurd (none-some a (sym e ∙ q))
   last_live k place (suc i) e = first_live k place i e
 
-  count_last : (rows : List (chain.Row X)) → IsOnce rows → count_to (name_before rows (length rows)) rows ≡ length rows
+  count_last : (rows : List (Row Name X)) → IsOnce rows → count_to (name_before rows (length rows)) rows ≡ length rows
   count_last [] once = refl
   count_last (r ∷ rows) once = at (name_at (r ∷ rows) (length rows)) refl
     where
       at : (o : Option Name) → name_at (r ∷ rows) (length rows) ≡ o → count_to (name_at (r ∷ rows) (length rows)) (r ∷ rows) ≡ suc (length rows)
       at None e = absurd (no_last r rows e)
         where
-          no_last : (r : chain.Row X) (rows : List (chain.Row X)) → name_at (r ∷ rows) (length rows) ≡ None → ⊥
+          no_last : (r : Row Name X) (rows : List (Row Name X)) → name_at (r ∷ rows) (length rows) ≡ None → ⊥
           no_last r [] e = none-some r.name (sym e)
           no_last r (q ∷ rows) e = no_last q rows e
       at (Some a) e =
@@ -137,7 +138,7 @@ module _ {X : Type 0} (g : GuardCounts) (l : Limit) (k : Chained X) (o : Object 
           let n_b : name ≡ found_in same e (drop (place_of (start_of k.rows b) k.rows) k.rows) = n ∙ ap (λ p. found_in same e (drop (place_of p k.rows) k.rows)) is in
           let i = place_of (start_of k.rows b) k.rows in (
             ap (λ m. first_reason (m ∷ [])) q,
-            ap (mark_of g.number (names (map row_of k.rows))) (er ∙ ap (cursor_at g.number) n_b)
+            ap (mark_of g.number (names k.rows)) (er ∙ ap (cursor_at g.number) n_b)
                 ∙ found_marked same e g.number k.rows (drop i k.rows) (drop_had i k.rows)
                 ∙ ap (λ zs. mark_for g.number (find (λ (r : Row ℕ X). same r.value e) zs)) (plains-drop i k.rows ∙ ap (λ j. drop j (plains k.rows)) t.count),
           )
@@ -153,7 +154,7 @@ module _ {X : Type 0} (g : GuardCounts) (l : Limit) (k : Chained X) (o : Object 
           let i = count_to (end_of k.rows b) k.rows in
           let n_b : name ≡ found_in same e (reverse (take i k.rows)) = n ∙ ap (λ p. found_in same e (reverse (take (count_to p k.rows) k.rows))) is in (
             ap (λ m. first_reason (m ∷ [])) q,
-            ap (mark_of g.number (names (map row_of k.rows))) (er ∙ ap (cursor_at g.number) n_b)
+            ap (mark_of g.number (names k.rows)) (er ∙ ap (cursor_at g.number) n_b)
                 ∙ found_marked same e g.number k.rows (reverse (take i k.rows)) (λ a t. take_had i k.rows a (reverse_has a (take i k.rows) t))
                 ∙ ap (λ zs. mark_for g.number (find (λ (r : Row ℕ X). same r.value e) zs)) (plains-reverse (take i k.rows) ∙ ap reverse t.taken),
           )

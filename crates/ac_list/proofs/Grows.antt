@@ -13,11 +13,12 @@ use Rattle.ac_base.specs.declared.fault.Fault.{Fault}
 use Rattle.ac_base.specs.declared.fault.NoMemory.{NoMemory}
 use Rattle.ac_base.specs.declared.fault.Fault.TheVariants as fault
 use Rattle.ac_base.specs.Tampering.{forbids}
-use Rattle.ac_cursor.specs.Guards.{GuardCounts}
+use Rattle.ac_base.specs.Guards.{GuardCounts}
 use Rattle.ac_base.specs.declared.guard.Class.TheVariants as class
 use Rattle.ac_base.specs.declared.cursor.Cursor.{Cursor}
 use Rattle.ac_base.specs.declared.cursor.Cursor.TheVariants.{NoElement, At}
-use Rattle.ac_base.specs.FirstReason.{first_reason}
+use Rattle.ac_base.specs.FirstReason.{first_reason, earlier}
+use Rattle.ac_base.proofs.Earlier.{with_none_later}
 use Rattle.ac_base.specs.Growth.{pow8}
 use Rattle.ac_chain.specs.Rows as chain
 use Rattle.ac_chain.specs.Rows.{Chained, IsLive, IsSound, place_of, index_of, name_at, reversed}
@@ -29,12 +30,16 @@ use Rattle.ac_model.specs.Rows.{fresh, put}
 use Rattle.ac_base.specs.Limits.{is_past, numbers_end}
 use Rattle.ac_base.specs.declared.limit.TheConstants.{GREATEST_LENGTH}
 use Rattle.ac_model.specs.Objects.{Object, plain, plain_row, length_of, capacity_after, with_rows, grown}
-use Rattle.ac_model.specs.Letters.{no_mark, mark_at, mark_of, is_among, has_room, tampers_cursors, room, in_range, count_of, reason_if, place_at}
+use Rattle.ac_model.specs.Letters.{room_in, no_mark, mark_at, mark_of, is_among, has_room, tampers_cursors, room, in_range, count_of, reason_if, place_at}
 use Rattle.ac_model.specs.Calls.{Call, call, Changing, IsAfter, Same, Marks, Done}
 use Rattle.ac_model.specs.Sequences.{with_new, first_new, room_for_copies, copies_take_memory, with_copies}
 use Rattle.ac_model.proofs.Reasons.{after_two, none_first, none_others, room_none}
-use Rattle.ac_list.specs.Put.{plains, IsPut, HasFirst, spot, IsNamed, Takes, Grows, put_call, done, slots_of}
-use Rattle.ac_list.specs.State.{Listed, listed, row_of, object_of, IsList, may_cursor, mark, place_in, cursor_at}
+use Rattle.ac_model.specs.Cursors.{spot, IsNamed}
+use Rattle.ac_model.specs.Containers.{Grows, slots_of}
+use Rattle.ac_list.specs.Put.{plains, IsPut, HasFirst, Takes, put_call, done}
+use Rattle.ac_model.specs.Cursors.{may_cursor, mark, place_in, cursor_at}
+use Rattle.ac_model.specs.Containers.{Container, container}
+use Rattle.ac_list.specs.State.{object_of, IsList}
 use Rattle.ac_list.proofs.Standing.{among_has, has_among, place_live, stands, may_by_name, marked_live}
 use Rattle.ac_list.proofs.Puts.{plains-append, length-plains, put_length}
 
@@ -51,11 +56,11 @@ done_changes Answers memory reason after answer old new (Ok x) h = (h.0, h.1, re
 done_changes Answers memory reason after answer old new (Err (fault.Raised q)) h = h
 done_changes Answers memory reason after answer old new (Err fault.NoMemory) h = h
 
-done_grows : {V A : Type 0} (r : Result A Fault) (old new : Listed V) → Grows r old new → Grows (done r) old new
+done_grows : {V A : Type 0} (r : Result A Fault) (old new : Container V) → Grows r old new → Grows (done r) old new
 done_grows (Ok x) old new h = h
 done_grows (Err e) old new h = h
 
-pub done_slots : {V A : Type 0} (r : Result A Fault) (d : Result Done Fault) (old new : Listed V) → d ≡ done r → Grows r old new → Grows d old new
+pub done_slots : {V A : Type 0} (r : Result A Fault) (d : Result Done Fault) (old new : Container V) → d ≡ done r → Grows r old new → Grows d old new
 done_slots r d old new e h = subst (λ q. Grows q old new) (sym e) (done_grows r old new h)
 
 -- of a call that answers by a variable, without the variable
@@ -71,7 +76,7 @@ no_capacity (Bounded most) n = refl
 module _ {X : Type 0} where
   -- of a list that takes so many more, the chain does too
   pub takes_few : (g : GuardCounts) (l : Limit) (k : Chained X) (o : Object Name X) → object_of g l k ≡ o → (n : ℕ) → Takes o n → length k.rows + n ≤ 1000000
-  takes_few g l k o view n t = let few = (subst (λ (p : Object Name X). Takes p n) (sym view) t).few in let e = length-map k.rows row_of in omega arith
+  takes_few g l k o view n t = let few = (subst (λ (p : Object Name X). Takes p n) (sym view) t).few in omega arith
 
   pub takes_names : (g : GuardCounts) (l : Limit) (k : Chained X) (o : Object Name X) → object_of g l k ≡ o → (n : ℕ) → Takes o n → k.next_serial + n < 2 ^ 64
   takes_names g l k o view n t = let few = (subst (λ (p : Object Name X). Takes p n) (sym view) t).unspent in omega arith
@@ -100,12 +105,12 @@ module _ {X : Type 0} where
   list_after l k now n place e (Ok x) s few within ok err slots sound =
       list_grown {A = Option Name} l k now n (Ok x) s few within (put_length k.rows k.next_serial place (replicate n e) now ok ∙ ap (λ m. length k.rows + m) (length-replicate n e)) err slots sound
 
-  pub all_from : (P : Name → Type 0) (rows : List (chain.Row X)) → ((a : Name) → HasName a rows → P a) → All P (names (map row_of rows))
+  pub all_from : (P : Name → Type 0) (rows : List (Row Name X)) → ((a : Name) → HasName a rows → P a) → All P (names rows)
   all_from P [] h i d lt = absurd (omega arith)
   all_from P (r ∷ rows) h zero d lt = h r.name (inl refl)
   all_from P (r ∷ rows) h (suc i) d lt = all_from P rows (λ a t. h a (inr t)) i d (omega arith)
 
-  pub more_serials : (a : Name) (next : ℕ) (vs : List X) (more : List (chain.Row X)) → plains more ≡ fresh next vs → HasName a more → next ≤ a.serial
+  pub more_serials : (a : Name) (next : ℕ) (vs : List X) (more : List (Row Name X)) → plains more ≡ fresh next vs → HasName a more → next ≤ a.serial
   more_serials a next vs [] e h = absurd h
   more_serials a next [] (r ∷ more) e h = absurd (cc)
   more_serials a next (v ∷ vs) (r ∷ more) e h =
@@ -148,10 +153,10 @@ module _ {X : Type 0} where
       cursor_guards = g.cursor_guards;
       element_guards = g.element_guards;
     };
-    slots = all_from (λ name. name.serial < k.next_serial → IsTrue (is_among (names (map row_of k.rows)) name)) now.rows (λ a t lt. has_among a k.rows (kept a t lt));
+    slots = all_from (λ name. name.serial < k.next_serial → IsTrue (is_among (names k.rows) name)) now.rows (λ a t lt. has_among a k.rows (kept a t lt));
   }
 
-  put_kept : (rows : List (chain.Row X)) (next : ℕ) (place : Option Name) (vs : List X) (now : Chained X) → IsPut rows next place vs now → (a : Name) → HasName a now.rows → a.serial < next → HasName a rows
+  put_kept : (rows : List (Row Name X)) (next : ℕ) (place : Option Name) (vs : List X) (now : Chained X) → IsPut rows next place vs now → (a : Name) → HasName a now.rows → a.serial < next → HasName a rows
   put_kept rows next place vs now p a t lt = elim (HasName-either a (p.before ++ p.more) p.after (subst (λ zs. HasName a zs) p.are t)) [
     | inl left ↦ elim (HasName-either a p.before p.more left) [
       | inl b ↦ subst (λ zs. HasName a zs) (sym p.were) (HasName-left a p.before p.after b)
@@ -177,10 +182,10 @@ module _ {X : Type 0} where
       → IsPut k.rows k.next_serial place (replicate n e) now → HasFirst k.next_serial n now first → c ≡ cursor_at g.number first
       → Changing (Marks (object_of g l now)) (put_call (object_of g l k) place e n) (object_of g l k) (object_of g l now) (Ok c)
   put_done g l k now n place e first c s h ok has is =
-      (refl, put_after g l k now n place (replicate n e) (length-replicate n e) s.sound h ok, ap (mark_of g.number (names (map row_of now.rows))) is ∙ marked n first has)
+      (refl, put_after g l k now n place (replicate n e) (length-replicate n e) s.sound h ok, ap (mark_of g.number (names now.rows)) is ∙ marked n first has)
     where
-      marked : (n : ℕ) (first : Option Name) → HasFirst k.next_serial n now first → mark_of g.number (names (map row_of now.rows)) (cursor_at g.number first) ≡ first_new (plain (object_of g l k)) no_mark n
-      marked zero first has = ap (λ f. mark_of g.number (names (map row_of now.rows)) (cursor_at g.number f)) has
+      marked : (n : ℕ) (first : Option Name) → HasFirst k.next_serial n now first → mark_of g.number (names now.rows) (cursor_at g.number first) ≡ first_new (plain (object_of g l k)) no_mark n
+      marked zero first has = ap (λ f. mark_of g.number (names now.rows) (cursor_at g.number f)) has
       marked (suc n) None has = absurd has
       marked (suc n) (Some a) has = marked_live g.number now.rows a (live_has a now.rows has.live) ∙ ap (mark_at g.number) has.serial
 
@@ -190,16 +195,16 @@ module _ {X : Type 0} where
   put_wants g l k now n place e s within err room = (wants g l k n s within room, refl, ap (object_of g l) err)
 
   -- the slots of the chain are the list's
-  pub grown_slots : (g : GuardCounts) (l : Limit) (k now : Chained X) (o : Listed X) → listed (object_of g l k) k.spare ≡ o → length now.rows + now.spare ≤ max (length k.rows + k.spare) (pow8 (length now.rows))
-      → slots_of (listed (object_of g l now) now.spare) ≤ max (slots_of o) (pow8 (length_of (object_of g l now)))
+  pub grown_slots : (g : GuardCounts) (l : Limit) (k now : Chained X) (o : Container X) → container (object_of g l k) k.spare ≡ o → length now.rows + now.spare ≤ max (length k.rows + k.spare) (pow8 (length now.rows))
+      → slots_of (container (object_of g l now) now.spare) ≤ max (slots_of o) (pow8 (length_of (object_of g l now)))
   grown_slots g l k now o view h =
-      subst (λ (x : Listed X). slots_of (listed (object_of g l now) now.spare) ≤ max (slots_of x) (pow8 (length_of (object_of g l now)))) view
-      (subst (λ m. m + now.spare ≤ max (length (map row_of k.rows) + k.spare) (pow8 m)) (sym (length-map now.rows row_of))
-      (subst (λ m. length now.rows + now.spare ≤ max (m + k.spare) (pow8 (length now.rows))) (sym (length-map k.rows row_of)) h))
+      subst (λ (x : Container X). slots_of (container (object_of g l now) now.spare) ≤ max (slots_of x) (pow8 (length_of (object_of g l now)))) view
+      (subst (λ m. m + now.spare ≤ max (length k.rows + k.spare) (pow8 m)) refl
+      (subst (λ m. length now.rows + now.spare ≤ max (m + k.spare) (pow8 (length now.rows))) refl h))
 
   pub takes_within : (g : GuardCounts) (l : Limit) (k : Chained X) (o : Object Name X) → object_of g l k ≡ o → (n : ℕ) → Takes o n → is_past l (length k.rows + n) ≡ false
   takes_within g l k o view n t =
-      subst (λ m. is_past l (m + n) ≡ false) (length-map k.rows row_of) (subst (λ (p : Object Name X). Takes p n) (sym view) t).within
+      subst (λ m. is_past l (m + n) ≡ false) refl (subst (λ (p : Object Name X). Takes p n) (sym view) t).within
 
   pub takes_from : (o : Object Name X) (place : Option Reason) (n : _) → None ≡ first_reason (tampers_cursors (plain o) ∷ place ∷ room_for_copies (plain o) n) → Takes o (count_of n)
   takes_from o place n h =
@@ -210,7 +215,7 @@ module _ {X : Type 0} where
   pub first_spot : (g : GuardCounts) (l : Limit) (k : Chained X) (o : Object Name X) → object_of g l k ≡ o → IsSound k → (place : Option Name) → place ≡ name_at k.rows 0 → (ForSome place (IsNamed o)) × (spot o place ≡ 0)
   first_spot g l k o view s place e = subst (λ (p : Object Name X). (ForSome place (IsNamed p)) × (spot p place ≡ 0)) view (subst (λ q. (ForSome q (IsNamed (object_of g l k))) × (spot (object_of g l k) q ≡ 0)) (sym e) (at_first k.rows refl))
     where
-      at_first : (rows : List (chain.Row X)) → k.rows ≡ rows → (ForSome (name_at k.rows 0) (IsNamed (object_of g l k))) × (spot (object_of g l k) (name_at k.rows 0) ≡ 0)
+      at_first : (rows : List (Row Name X)) → k.rows ≡ rows → (ForSome (name_at k.rows 0) (IsNamed (object_of g l k))) × (spot (object_of g l k) (name_at k.rows 0) ≡ 0)
       at_first [] is = subst (λ rows. (ForSome (name_at rows 0) (IsNamed (object_of g l k))) × (spot (object_of g l k) (name_at rows 0) ≡ 0)) (sym is) ((λ a q. absurd (let n : None ≡ Some a = q in cc)), ap (λ rows. length (plains rows)) is)
       at_first (r ∷ rows) is =
           let h : HasName r.name k.rows = subst (λ zs. HasName r.name zs) (sym is) (inl refl) in
@@ -220,7 +225,7 @@ module _ {X : Type 0} where
           )
 
   -- no row has the name that a cursor at no element has
-  pub past_end : (rows : List (chain.Row X)) → ((a : Name) → HasName a rows → 0 < a.serial) → model.place_of (plains rows) 0 ≡ length (plains rows)
+  pub past_end : (rows : List (Row Name X)) → ((a : Name) → HasName a rows → 0 < a.serial) → model.place_of (plains rows) 0 ≡ length (plains rows)
   past_end [] h = refl
   past_end (r ∷ rows) h =
       let some = h r.name (inl refl) in
@@ -240,16 +245,13 @@ module _ {X : Type 0} where
           )
 
   -- the reasons that were looked for are the definition's
-  pub refused : (g : GuardCounts) (l : Limit) (k : Chained X) (o : Object Name X) → object_of g l k ≡ o → (n : _) (more len next : ℕ) (place result t a b c d : Option Reason)
+  pub refused : (g : GuardCounts) (l : Limit) (k : Chained X) (o : Object Name X) → object_of g l k ≡ o → (n : _) (more len next : ℕ) (place result t a r : Option Reason)
       → more ≡ count_of n → len ≡ length k.rows → next ≡ k.next_serial → t ≡ forbids class.Cursors g.cursor_guards g.element_guards → a ≡ in_range n
-      → b ≡ reason_if (nat_lt GREATEST_LENGTH (len + more)) LengthRange → c ≡ reason_if (is_past l (len + more)) CapacityFull → d ≡ reason_if (nat_lt numbers_end (next + more)) NamesSpent
-      → result ≡ first_reason (t ∷ place ∷ a ∷ b ∷ c ∷ d ∷ []) → result ≡ first_reason (tampers_cursors (plain o) ∷ place ∷ room_for_copies (plain o) n)
-  refused g l k o view n more len next place result t a b c d em el en et ea eb ec ed er =
+      → r ≡ first_reason (room_in l next (len + more) more)
+      → result ≡ first_reason (t ∷ place ∷ a ∷ r ∷ []) → result ≡ first_reason (tampers_cursors (plain o) ∷ place ∷ room_for_copies (plain o) n)
+  refused g l k o view n more len next place result t a r em el en et ea er e =
       let sum : len + more ≡ length (plains k.rows) + count_of n = λ i. (el ∙ sym (length-plains k.rows)) i + em i in
-      er ∙ (λ i. first_reason (et i ∷ place ∷ ea i
-      ∷ (eb ∙ ap (λ m. reason_if (nat_lt GREATEST_LENGTH m) LengthRange) sum) i
-      ∷ (ec ∙ ap (λ m. reason_if (is_past l m) CapacityFull) sum) i
-      ∷ (ed ∙ (λ j. reason_if (nat_lt numbers_end (en j + em j)) NamesSpent)) i ∷ []))
+      e ∙ (λ i. earlier (et i) (earlier place (earlier (ea i) ((with_none_later r ∙ er ∙ (λ j. first_reason (room_in l (en j) (sum j) (em j)))) i))))
       ∙ ap (λ (p : Object Name X). first_reason (tampers_cursors (plain p) ∷ place ∷ room_for_copies (plain p) n)) view
 
   pub place_none : (o : Object Name X) (place : Option Reason) (n : _) → first_reason (tampers_cursors (plain o) ∷ place ∷ room_for_copies (plain o) n) ≡ None → place ≡ None
@@ -269,12 +271,12 @@ module _ {X : Type 0} where
       (done_changes (Marks new) (copies_take_memory (plain o) n) reason (with_copies (plain o) at e n) (first_new (plain o) no_mark (count_of n)) o new r
       (copies_changed o new place at m n e r reason spot_at count none h))
 
-  pub plains-reverse : (rows : List (chain.Row X)) → plains (reverse rows) ≡ reverse (plains rows)
+  pub plains-reverse : (rows : List (Row Name X)) → plains (reverse rows) ≡ reverse (plains rows)
   plains-reverse [] = refl
   plains-reverse (r ∷ rows) =
       ap plains (reverse-append (r ∷ []) rows) ∙ plains-append (reverse rows) (r ∷ []) ∙ ap (λ zs. zs ++ plains (r ∷ [])) (plains-reverse rows) ∙ sym (reverse-append (plains (r ∷ [])) (plains rows))
 
-  pub reverse_has : (a : Name) (rows : List (chain.Row X)) → HasName a (reverse rows) → HasName a rows
+  pub reverse_has : (a : Name) (rows : List (Row Name X)) → HasName a (reverse rows) → HasName a rows
   reverse_has a [] h = h
   reverse_has a (r ∷ rows) h = elim (HasName-either a (reverse rows) (r ∷ []) (subst (λ zs. HasName a zs) (reverse-append (r ∷ []) rows) h)) [
     | inl t ↦ inr (reverse_has a rows t)
@@ -286,5 +288,5 @@ module _ {X : Type 0} where
       subst (λ (p : Object Name X). IsAfter p (object_of g l now) (with_rows (plain p) (reverse (plain p).rows))) view
       (subst (λ (d : Chained X). IsAfter (object_of g l k) (object_of g l d) (with_rows (plain (object_of g l k)) (reverse (plains k.rows)))) (sym e) (record {
         plainly = ap (λ rows. record { number = g.number; limit = l; capacity = None; next = k.next_serial; rows = rows; cursor_guards = g.cursor_guards; element_guards = g.element_guards }) (plains-reverse k.rows);
-        slots = all_from (λ name. name.serial < k.next_serial → IsTrue (is_among (names (map row_of k.rows)) name)) (reverse k.rows) (λ a t lt. has_among a k.rows (reverse_has a k.rows t));
+        slots = all_from (λ name. name.serial < k.next_serial → IsTrue (is_among (names k.rows) name)) (reverse k.rows) (λ a t lt. has_among a k.rows (reverse_has a k.rows t));
       }))

@@ -14,7 +14,7 @@ use Rattle.ac_base.specs.declared.fault.Fault.{Fault}
 use Rattle.ac_base.specs.declared.fault.Fault.TheVariants as fault
 use Rattle.ac_base.specs.declared.cursor.Cursor.{Cursor}
 use Rattle.ac_base.specs.declared.cursor.Cursor.TheVariants.{NoElement, At}
-use Rattle.ac_cursor.specs.Guards.{GuardCounts}
+use Rattle.ac_base.specs.Guards.{GuardCounts}
 use Rattle.ac_chain.specs.Rows as chain
 use Rattle.ac_chain.specs.Rows.{Chained, index_of, place_of, name_at, IsLive, IsSound, links_swapped, moved, moved_rows}
 use Rattle.ac_chain.specs.ChainFields.{HasName, IsOnce, first_or}
@@ -31,7 +31,8 @@ use Rattle.ac_model.specs.Lists.{moved_before, one_row, splice_within_call, spli
 use Rattle.ac_model.specs.Calls.{IsAfter, Changing, Same, Marks, Done}
 use Rattle.ac_model.proofs.RowLaws.{at_its_place}
 use Rattle.ac_list.specs.Put.{plains}
-use Rattle.ac_list.specs.State.{row_of, object_of, IsList, needs_cursor, may_cursor, mark, name_in, place_in}
+use Rattle.ac_model.specs.Cursors.{needs_cursor, may_cursor, mark, name_in, place_in}
+use Rattle.ac_list.specs.State.{object_of, IsList}
 use Rattle.ac_list.proofs.Standing.{Alone, alone, has_among, place_is, slice_get-plains, stands, marked_live, may_by_name}
 use Rattle.ac_list.proofs.Puts.{plains-append, length-plains}
 use Rattle.ac_list.proofs.Grows.{all_from, put_cut, past_end}
@@ -59,7 +60,7 @@ module _ {X : Type 0} where
       → ((a : Name) → HasName a now.rows → HasName a k.rows) → IsAfter (object_of g l k) (object_of g l now) (with_rows (plain (object_of g l k)) rows)
   rows_after g l k now rows next are had = record {
     plainly = λ i. record { number = g.number; limit = l; capacity = None; next = next i; rows = are i; cursor_guards = g.cursor_guards; element_guards = g.element_guards };
-    slots = all_from (λ name. name.serial < k.next_serial → IsTrue (is_among (names (map row_of k.rows)) name)) now.rows (λ a t lt. has_among a k.rows (had a t));
+    slots = all_from (λ name. name.serial < k.next_serial → IsTrue (is_among (names k.rows) name)) now.rows (λ a t lt. has_among a k.rows (had a t));
   }
 
   -- a list keeps its slots where as many rows stand in as many slots
@@ -69,20 +70,20 @@ module _ {X : Type 0} where
       let greatest = s.within_greatest in let sum = s.has_slots in let total : length now.rows + now.spare ≡ most = omega arith in
       record { sound = sound; within_greatest = omega arith; is_limit = s.is_limit; has_slots = total }
 
-  abbrev plain_of : chain.Row X → Row ℕ X
+  abbrev plain_of : Row Name X → Row ℕ X
   plain_of r = row r.name.serial r.value
 
-  swap_first : (rows : List (chain.Row X)) (d : chain.Row X) (i j : ℕ) → i < length rows → j < length rows → slice_get (swap rows i j) i ≡ slice_get rows j
+  swap_first : (rows : List (Row Name X)) (d : Row Name X) (i j : ℕ) → i < length rows → j < length rows → slice_get (swap rows i j) i ≡ slice_get rows j
   swap_first rows d i j hi hj =
       let e = length-swap rows i j in
       slice_get-get_or (swap rows i j) i d (omega arith) ∙ ap Some (swapped_from_swap rows (swap rows i j) i j d hi hj refl).0 ∙ sym (slice_get-get_or rows j d hj)
 
-  swap_second : (rows : List (chain.Row X)) (d : chain.Row X) (i j : ℕ) → i < length rows → j < length rows → slice_get (swap rows i j) j ≡ slice_get rows i
+  swap_second : (rows : List (Row Name X)) (d : Row Name X) (i j : ℕ) → i < length rows → j < length rows → slice_get (swap rows i j) j ≡ slice_get rows i
   swap_second rows d i j hi hj =
       let e = length-swap rows i j in
       slice_get-get_or (swap rows i j) j d (omega arith) ∙ ap Some (swapped_from_swap rows (swap rows i j) i j d hi hj refl).1 ∙ sym (slice_get-get_or rows i d hi)
 
-  swap_other : (rows : List (chain.Row X)) (d : chain.Row X) (i j m : ℕ) → i < length rows → j < length rows → m ≢ i → m ≢ j → slice_get (swap rows i j) m ≡ slice_get rows m
+  swap_other : (rows : List (Row Name X)) (d : Row Name X) (i j m : ℕ) → i < length rows → j < length rows → m ≢ i → m ≢ j → slice_get (swap rows i j) m ≡ slice_get rows m
   swap_other rows d i j m hi hj ni nj =
       let e = length-swap rows i j in
       elim (cases_lt m (length rows)) [
@@ -90,14 +91,14 @@ module _ {X : Type 0} where
         | inr le ↦ slice_get_past (swap rows i j) m (omega arith) ∙ sym (slice_get_past rows m le)
       ]
 
-  named_row : (rows : List (chain.Row X)) (a : Name) (r : chain.Row X) → Alone a rows → slice_get rows (index_of a rows) ≡ Some r → named (plains rows) a.serial ≡ Some (plain_of r)
+  named_row : (rows : List (Row Name X)) (a : Name) (r : Row Name X) → Alone a rows → slice_get rows (index_of a rows) ≡ Some r → named (plains rows) a.serial ≡ Some (plain_of r)
   named_row rows a r h is = sym (at_its_place (plains rows) a.serial) ∙ ap (slice_get (plains rows)) (place_is a rows h) ∙ slice_get-plains rows (index_of a rows) ∙ ap (option_map plain_of) is
 
   -- a row under the name's serial stands at the name's place
-  its_place : (rows : List (chain.Row X)) (a : Name) (m : ℕ) (r : chain.Row X) → IsOnce rows → Alone a rows → slice_get rows m ≡ Some r → r.name.serial ≡ a.serial → m ≡ index_of a rows
+  its_place : (rows : List (Row Name X)) (a : Name) (m : ℕ) (r : Row Name X) → IsOnce rows → Alone a rows → slice_get rows m ≡ Some r → r.name.serial ≡ a.serial → m ≡ index_of a rows
   unfolding Alone
   its_place rows a m r once h is e =
-      let name : name_at rows m ≡ Some r.name = ap (option_map (λ (q : chain.Row X). q.name)) is in
+      let name : name_at rows m ≡ Some r.name = ap (option_map (λ (q : Row Name X). q.name)) is in
       let same : r.name ≡ a = h r.name (name_at_has rows m r.name name) e in
       sym (index_at rows once m a (name ∙ ap Some same)).1
 
@@ -107,7 +108,7 @@ module _ {X : Type 0} where
       else if r.name == second then model.instead r (named rows first)
       else r
 
-  exchanged_row : (rows : List (chain.Row X)) (a b : Name) (ra rb : chain.Row X) → IsOnce rows → Alone a rows → Alone b rows
+  exchanged_row : (rows : List (Row Name X)) (a b : Name) (ra rb : Row Name X) → IsOnce rows → Alone a rows → Alone b rows
       → slice_get rows (index_of a rows) ≡ Some ra → ra.name ≡ a → slice_get rows (index_of b rows) ≡ Some rb → rb.name ≡ b → index_of a rows < length rows → index_of b rows < length rows
       → (m : ℕ) → slice_get (plains (swap rows (index_of a rows) (index_of b rows))) m ≡ slice_get (with_exchanged_rows (plains rows) a.serial b.serial) m
   exchanged_row rows a b ra rb once ha hb at_a name_a at_b name_b la lb m =
@@ -134,7 +135,7 @@ module _ {X : Type 0} where
         ]
       ] ∙ sym right
     where
-      other : (o : Option (chain.Row X)) → slice_get rows m ≡ o → m ≢ index_of a rows → m ≢ index_of b rows → option_map plain_of (slice_get rows m) ≡ option_map (exchange (plains rows) a.serial b.serial) (option_map plain_of (slice_get rows m))
+      other : (o : Option (Row Name X)) → slice_get rows m ≡ o → m ≢ index_of a rows → m ≢ index_of b rows → option_map plain_of (slice_get rows m) ≡ option_map (exchange (plains rows) a.serial b.serial) (option_map plain_of (slice_get rows m))
       other None is ni nj = rw is refl
       other (Some r) is ni nj =
           let na : r.name.serial ≢ a.serial = λ q. ni (its_place rows a m r once ha is q) in
@@ -142,7 +143,7 @@ module _ {X : Type 0} where
           let here : exchange (plains rows) a.serial b.serial (plain_of r) ≡ plain_of r = cond-false _ _ _ (ne_eqb r.name.serial a.serial na) ∙ cond-false _ _ _ (ne_eqb r.name.serial b.serial nb) in
           rw is (ap Some (sym here))
 
-  pub swap_was : (rows : List (chain.Row X)) (d : chain.Row X) (i j : ℕ) → i < length rows → j < length rows → (m : ℕ) → (n : ℕ) × (slice_get (swap rows i j) m ≡ slice_get rows n) × WasAt i j m n
+  pub swap_was : (rows : List (Row Name X)) (d : Row Name X) (i j : ℕ) → i < length rows → j < length rows → (m : ℕ) → (n : ℕ) × (slice_get (swap rows i j) m ≡ slice_get rows n) × WasAt i j m n
   swap_was rows d i j hi hj m = elim (cases_eq m i) [
     | inl e ↦ (j, ap (slice_get (swap rows i j)) e ∙ swap_first rows d i j hi hj, inl (e, refl))
     | inr ni ↦ elim (cases_eq m j) [
@@ -151,13 +152,13 @@ module _ {X : Type 0} where
     ]
   ]
 
-  pub swap_had : (rows : List (chain.Row X)) (i j : ℕ) → i < length rows → j < length rows → (c : Name) → HasName c (swap rows i j) → HasName c rows
+  pub swap_had : (rows : List (Row Name X)) (i j : ℕ) → i < length rows → j < length rows → (c : Name) → HasName c (swap rows i j) → HasName c rows
   swap_had rows i j hi hj c h =
       let k = cut_at c (swap rows i j) h in
       let m = index_of c (swap rows i j) in
-      let name : name_at (swap rows i j) m ≡ Some c = ap (option_map (λ (q : chain.Row X). q.name)) (cut-row c (swap rows i j) k) ∙ ap Some (sym k.named) in
+      let name : name_at (swap rows i j) m ≡ Some c = ap (option_map (λ (q : Row Name X). q.name)) (cut-row c (swap rows i j) k) ∙ ap Some (sym k.named) in
       let was = swap_was rows k.at i j hi hj m in
-      name_at_has rows was.0 c (sym (ap (option_map (λ (q : chain.Row X). q.name)) was.1) ∙ name)
+      name_at_has rows was.0 c (sym (ap (option_map (λ (q : Row Name X). q.name)) was.1) ∙ name)
 
   links_after : (g : GuardCounts) (l : Limit) (k : Chained X) (a b : Name) → IsSound k → IsLive k a → IsLive k b
       → IsAfter (object_of g l k) (object_of g l (links_swapped k a b)) (with_rows (plain (object_of g l k)) (with_exchanged_rows (plains k.rows) a.serial b.serial))
@@ -194,7 +195,7 @@ module _ {X : Type 0} where
   cut_one (x ∷ xs) y ys = rw (suc-add (length xs) 1) (ap (λ zs. x ∷ zs) (cut_one xs y ys))
 
   -- a place before what is right of it
-  seam : (k : Chained X) (place : Option Name) (left right : List (chain.Row X)) → IsSound k → IsOnce (left ++ right) → ((b : Name) → HasName b (left ++ right) → HasName b k.rows)
+  seam : (k : Chained X) (place : Option Name) (left right : List (Row Name X)) → IsSound k → IsOnce (left ++ right) → ((b : Name) → HasName b (left ++ right) → HasName b k.rows)
       → place ≡ first_or right None → model.place_of (plains (left ++ right)) (serial_at place) ≡ length (plains left)
   unfolding Alone
   seam k place left [] s once had e =

@@ -9,14 +9,14 @@ use Rattle.ac_base.specs.declared.name.Name.{Name}
 use Rattle.ac_base.specs.declared.reason.Reason.TheVariants.{Empty, DeadCursor}
 use Rattle.ac_base.specs.declared.cursor.Cursor.{Cursor}
 use Rattle.ac_base.specs.declared.cursor.Cursor.TheVariants.{At}
-use Rattle.ac_cursor.specs.Guards.{GuardCounts}
+use Rattle.ac_base.specs.Guards.{GuardCounts}
 use Rattle.ac_base.specs.FirstReason.{first_reason}
 use Rattle.ac_chain.specs.Rows as chain
 use Rattle.ac_chain.specs.Rows.{Chained, index_of, IsLive, IsSound, name_at, name_before, next_name, prev_name}
 use Rattle.ac_chain.proofs.Cuts.{live_has, has_live}
 use Rattle.ac_chain.proofs.Chains.{index_at}
 use Rattle.ac_chain.proofs.Moves.{once_from}
-use Rattle.ac_base.specs.Rows.{names, values}
+use Rattle.ac_base.specs.Rows.{Row, names, values}
 use Rattle.ac_model.specs.Rows.{value_at}
 use Rattle.ac_model.specs.Objects.{Object, plain, length_of}
 use Rattle.ac_model.specs.Letters.{no_mark, mark_at, mark_of, is_among, judged_in, mark_in, place_at, is_no_mark, name_of, reason_if}
@@ -24,7 +24,9 @@ use Rattle.ac_model.specs.Calls.{Looking, Marks, Lends}
 use Rattle.ac_model.specs.Sequences as sequences
 use Rattle.ac_model.specs.Sequences.{mark_before}
 use Rattle.ac_list.specs.Put.{plains}
-use Rattle.ac_list.specs.State.{row_of, object_of, mark, needs_cursor, may_cursor, cursor_at, name_in}
+use Rattle.ac_model.specs.Cursors.{mark, needs_cursor, may_cursor, cursor_at, name_in}
+use Rattle.ac_base.specs.declared.reason.Reason.{Reason}
+use Rattle.ac_list.specs.State.{object_of}
 use Rattle.ac_list.proofs.Standing.{among_has, has_among, judged_by_name, may_by_name, stands, marked_at, place_live, value_live}
 
 pub bool_is : (b d : Bool) → (IsTrue b → IsTrue d) → (IsTrue d → IsTrue b) → b ≡ d
@@ -33,12 +35,12 @@ bool_is false true f g = g refl
 bool_is false false f g = refl
 
 module _ {X : Type 0} (g : GuardCounts) (l : Limit) (k : Chained X) (o : Object Name X) (view : object_of g l k ≡ o) where
-  -- a cursor with the object's own number is dead where the chain hasn't its name
-  pub judged : (object : ℕ) (a : Name) (b : Bool) → object ≡ g.number → (IsTrue b ↔ IsLive k a) → reason_if (not b) DeadCursor ≡ needs_cursor o (At object a)
-  judged object a b e live =
-      let same : b ≡ is_among (names (map row_of k.rows)) a =
-      bool_is b (is_among (names (map row_of k.rows)) a) (λ t. has_among a k.rows (live_has a k.rows (live.0 t))) (λ t. live.1 (has_live a k.rows (among_has a k.rows t))) in
-      sym (cond-true _ _ _ (eq-eqb object g.number e)) ∙ ap (judged_in g.number object) same ∙ sym (judged_by_name (object_of g l k) object a) ∙ ap (λ (p : Object Name X). needs_cursor p (At object a)) view
+  -- a cursor is judged by its number, and by whether the chain has its name
+  pub judged : (number object : ℕ) (a : Name) (b : Bool) (r : Option Reason) → number ≡ g.number → (IsTrue b ↔ IsLive k a) → r ≡ judged_in number object b → r ≡ needs_cursor o (At object a)
+  judged number object a b r e live is =
+      let same : b ≡ is_among (names k.rows) a =
+      bool_is b (is_among (names k.rows) a) (λ t. has_among a k.rows (live_has a k.rows (live.0 t))) (λ t. live.1 (has_live a k.rows (among_has a k.rows t))) in
+      is ∙ (λ i. judged_in (e i) object (same i)) ∙ sym (judged_by_name (object_of g l k) object a) ∙ ap (λ (p : Object Name X). needs_cursor p (At object a)) view
 
   pub live_needed : (c : Cursor) (a : Name) → a ≡ name_in c → needs_cursor o c ≡ None → IsLive k a
   live_needed c a e h = subst (λ n. IsLive k n) (sym e) (stands g l k c (ap (λ (p : Object Name X). needs_cursor p c) view ∙ h)).live
@@ -46,9 +48,9 @@ module _ {X : Type 0} (g : GuardCounts) (l : Limit) (k : Chained X) (o : Object 
   pub marks_at : (i : ℕ) (name : Option Name) (r : Cursor) → name ≡ name_at k.rows i → r ≡ cursor_at o.number name → Marks o r (mark_in (plain o) i)
   marks_at i name r n e =
       subst (λ (p : Object Name X). r ≡ cursor_at p.number name → Marks p r (mark_in (plain p) i)) view
-      (λ q. ap (mark_of g.number (names (map row_of k.rows))) (q ∙ ap (cursor_at g.number) n) ∙ marked_at g.number k.rows i) e
+      (λ q. ap (mark_of g.number (names k.rows)) (q ∙ ap (cursor_at g.number) n) ∙ marked_at g.number k.rows i) e
 
-  last_place : (rows : List (chain.Row X)) → name_before rows (length rows) ≡ name_at rows (length (plains rows) - 1)
+  last_place : (rows : List (Row Name X)) → name_before rows (length rows) ≡ name_at rows (length (plains rows) - 1)
   last_place [] = refl
   last_place (r ∷ rows) = let e : length rows ≡ length (plains (r ∷ rows)) - 1 = simp (length-map) (omega arith) in ap (name_at (r ∷ rows)) e
 
@@ -105,7 +107,7 @@ module _ {X : Type 0} (g : GuardCounts) (l : Limit) (k : Chained X) (o : Object 
             ∙ ap (λ (m : Name). value_at (plains k.rows) m.serial) (sym is) ∙ value_live k a s live ∙ sym v,
       )
 
-  slice_get-values : (rows : List (chain.Row X)) (i : ℕ) → slice_get (values (plains rows)) i ≡ option_map (λ (r : chain.Row X). r.value) (slice_get rows i)
+  slice_get-values : (rows : List (Row Name X)) (i : ℕ) → slice_get (values (plains rows)) i ≡ option_map (λ (r : Row Name X). r.value) (slice_get rows i)
   slice_get-values [] i = refl
   slice_get-values (r ∷ rows) zero = refl
   slice_get-values (r ∷ rows) (suc i) = slice_get-values rows i
@@ -117,21 +119,21 @@ module _ {X : Type 0} (g : GuardCounts) (l : Limit) (k : Chained X) (o : Object 
   value_there i a v s e is =
       let at = (index_at k.rows (once_from k.rows s.once) i a (sym e)).1 in
       subst (λ (p : Object Name X). slice_get (values (plain p).rows) i ≡ Some v) view
-      (slice_get-values k.rows i ∙ ap (λ j. option_map (λ (r : chain.Row X). r.value) (slice_get k.rows j)) (sym at) ∙ sym is)
+      (slice_get-values k.rows i ∙ ap (λ j. option_map (λ (r : Row Name X). r.value) (slice_get k.rows j)) (sym at) ∙ sym is)
 
-  some_rows : (rows : List (chain.Row X)) (i : ℕ) (a : Name) → Some a ≡ name_at rows i → (length (plains rows) == 0) ≡ false
+  some_rows : (rows : List (Row Name X)) (i : ℕ) (a : Name) → Some a ≡ name_at rows i → (length (plains rows) == 0) ≡ false
   some_rows [] i a e = absurd (let q : Some a ≡ None = e in cc)
   some_rows (r ∷ rows) i a e = ne_eqb (length (plains (r ∷ rows))) 0 (λ z. let q : suc (length (plains rows)) ≡ 0 = z in omega arith)
 
-  no_rows : (rows : List (chain.Row X)) → None ≡ name_at rows 0 → rows ≡ []
+  no_rows : (rows : List (Row Name X)) → None ≡ name_at rows 0 → rows ≡ []
   no_rows [] e = refl
   no_rows (r ∷ rows) e = absurd (let q : None ≡ Some r.name = e in cc)
 
-  no_rows_before : (rows : List (chain.Row X)) → None ≡ name_at rows (length (plains rows) - 1) → rows ≡ []
+  no_rows_before : (rows : List (Row Name X)) → None ≡ name_at rows (length (plains rows) - 1) → rows ≡ []
   no_rows_before [] e = refl
   no_rows_before (r ∷ rows) e = absurd (let at = last_named r rows in let q : None ≡ Some at.0 = e ∙ at.1 in cc)
     where
-      last_named : (r : chain.Row X) (rows : List (chain.Row X)) → (b : Name) × (name_at (r ∷ rows) (length (plains (r ∷ rows)) - 1) ≡ Some b)
+      last_named : (r : Row Name X) (rows : List (Row Name X)) → (b : Name) × (name_at (r ∷ rows) (length (plains (r ∷ rows)) - 1) ≡ Some b)
       last_named r [] = (r.name, refl)
       last_named r (q ∷ rows) = let one = last_named q rows in
           let e : length (plains (r ∷ q ∷ rows)) - 1 ≡ suc (length (plains (q ∷ rows)) - 1) = omega arith in
@@ -149,7 +151,7 @@ module _ {X : Type 0} (g : GuardCounts) (l : Limit) (k : Chained X) (o : Object 
       (rw some refl, subst (λ (p : Object Name X). slice_get (values (plain o).rows) (length_of (plain p) - 1) ≡ Some lent.now) view (value_there (length (plains k.rows) - 1) a lent.now s at v))
 
   is_empty : k.rows ≡ [] → (length_of (plain o) == 0) ≡ true
-  is_empty e = subst (λ (p : Object Name X). (length_of (plain p) == 0) ≡ true) view (ap (λ (rows : List (chain.Row X)). length (plains rows) == 0) e)
+  is_empty e = subst (λ (p : Object Name X). (length_of (plain p) == 0) ≡ true) view (ap (λ (rows : List (Row Name X)). length (plains rows) == 0) e)
 
   pub first_element_empty : None ≡ name_at k.rows 0 → (sequences.first_element_call (plain o)).reason ≡ Some Empty
   first_element_empty e = let none = is_empty (no_rows k.rows e) in rw none refl

@@ -7,14 +7,14 @@ use Rattle.std.proofs.lemmas.List.{length-map}
 use Rattle.std.proofs.Math.Seq.{drop-append_seam}
 use Rattle.ac_base.specs.declared.limit.Limit.{Limit}
 use Rattle.ac_base.specs.declared.name.Name.{Name}
-use Rattle.ac_cursor.specs.Guards.{GuardCounts}
+use Rattle.ac_base.specs.Guards.{GuardCounts}
 use Rattle.ac_chain.specs.Rows as chain
 use Rattle.ac_chain.specs.Rows.{Chained, place_of, name_at, IsLive, IsSound, IsFresh, inserted, reserved, index_of}
 use Rattle.ac_chain.specs.ChainFields.{first_or, HasName, IsOnce}
 use Rattle.ac_chain.proofs.Cuts.{insert-cut, live_has, has_live, HasName-right, HasName-cut, name_at-first}
 use Rattle.ac_chain.proofs.Linking.{first_has}
 use Rattle.ac_chain.proofs.Moves.{once_from}
-use Rattle.ac_base.specs.Rows.{Row, row}
+use Rattle.ac_base.specs.Rows.{names, Row, row}
 use Rattle.ac_model.specs.Rows.{fresh, merged}
 use Rattle.ac_model.specs.Objects.{Object, plain, length_of, contents, grown}
 use Rattle.ac_model.specs.Letters.{tampers_cursors, room}
@@ -36,14 +36,14 @@ use Rattle.ac_list.proofs.Moved.{Fits, room_fits, both_lengths}
 
 module _ {X : Type 0} (less : X → X → Bool) where
   -- rows before which a value goes, behind the ones that it isn't less than
-  record Parted (v : X) (rows : List (chain.Row X)) (place : Option Name) : Type 0 where
-    skipped : List (chain.Row X)
-    rest : List (chain.Row X)
+  record Parted (v : X) (rows : List (Row Name X)) (place : Option Name) : Type 0 where
+    skipped : List (Row Name X)
+    rest : List (Row Name X)
     is : rows ≡ skipped ++ rest
     at : place ≡ first_or rest None
     merges : (n : ℕ) (others : List (Row ℕ X)) → merged less (plains rows) (row n v ∷ others) ≡ plains skipped ++ row n v ∷ merged less (plains rest) others
 
-  parted : (v : X) (rows : List (chain.Row X)) (place : Option Name) → place ≡ found_in (is_behind less) v rows → Parted v rows place
+  parted : (v : X) (rows : List (Row Name X)) (place : Option Name) → place ≡ found_in (is_behind less) v rows → Parted v rows place
   parted v [] place e = record { skipped = []; rest = []; is = refl; at = e; merges = λ n others. refl }
   parted v (r ∷ rows) place e = elim (cases_Bool (less v r.value)) [
     | inl t ↦ record {
@@ -66,8 +66,8 @@ module _ {X : Type 0} (less : X → X → Bool) where
   pub record Merging (t0 s0 : Chained X) (place : Option Name) (t s : Chained X) : Type 0 where
     pub moved : List X
     pub leaving : Leaving s0 moved s
-    pub done : List (chain.Row X)
-    pub after : List (chain.Row X)
+    pub done : List (Row Name X)
+    pub after : List (Row Name X)
     pub is : t.rows ≡ done ++ after
     pub at : place ≡ first_or after None
     pub merges : merged less (plains t0.rows) (fresh t0.next_serial (values_in s0.rows)) ≡ plains done ++ merged less (plains after) (fresh t.next_serial (values_in s.rows))
@@ -114,10 +114,10 @@ module _ {X : Type 0} (less : X → X → Bool) where
         has_live a t.rows (subst (λ rows. HasName a rows) (sym m.is) (HasName-right a m.done m.after (subst (λ rows. HasName a rows) (sym k.is) (HasName-right a k.skipped k.rest (first_has k.rest a (sym k.at ∙ e))))))
 
     pub merging_more : (first : Name) (v : X) (s1 t1 : Chained X) (a : Name) (then : Option Name) → 0 < t.spare → Taken s first v s1 → then ≡ found_in (is_behind less) v (drop (place_of place t.rows) t.rows)
-        → IsFresh t a → t1 ≡ inserted t then (chain.row a v) → IsSound t1 → Merging t0 s0 then t1 s1
+        → IsFresh t a → t1 ≡ inserted t then (row a v) → IsSound t1 → Merging t0 s0 then t1 s1
     merging_more first v s1 t1 a then some tk found f e sound =
         let k = parted v m.after then (found ∙ ap (found_in (is_behind less) v) left_at) in
-        let r = chain.row a v in
+        let r = row a v in
         let front = m.done ++ k.skipped in
         let whole : t.rows ≡ front ++ k.rest = m.is ∙ ap (λ zs. m.done ++ zs) k.is ∙ sym (append_assoc m.done k.skipped k.rest) in
         let at : place_of then t.rows ≡ length front = ap (place_of then) whole ∙ place_cut then front k.rest (subst (λ rows. IsOnce rows) whole (once_from t.rows m.target.once)) k.at in
@@ -170,7 +170,7 @@ module _ {X : Type 0} (less : X → X → Bool) where
       let vs = values_in from.rows in
       let a = sym (length-plains now.rows) ∙ ap length f.rows ∙ length-merged less (plains c.rows) (fresh c.next_serial vs) in
       let b = length-plains c.rows in
-      let d = length-fresh c.next_serial vs ∙ length-map from.rows (λ (r : chain.Row X). r.value) in
+      let d = length-fresh c.next_serial vs ∙ length-map from.rows (λ (r : Row Name X). r.value) in
       omega arith
 
   -- what was merged after so many slots were reserved
@@ -198,4 +198,4 @@ module _ {X : Type 0} (less : X → X → Bool) where
         let is = source_is h m from p source in
         subst (λ (q : Object Name X). IsAfter q (object_of g l now) (grown (plain q) (merged less (plain q).rows (fresh (plain q).next (contents (plain p)))) (length_of (plain p)))) view
         (grown_after g l k now (merged less (plains k.rows) (fresh k.next_serial (contents (plain p)))) (length_of (plain p)) (f.rows ∙ ap (λ vs. merged less (plains k.rows) (fresh k.next_serial vs)) (sym is.0))
-        (f.next ∙ ap (λ n. k.next_serial + n) (length-map from.rows (λ (r : chain.Row X). r.value) ∙ sym is.1)) (λ a t lt. live_has a k.rows (f.names a (has_live a now.rows t) lt)))
+        (f.next ∙ ap (λ n. k.next_serial + n) (length-map from.rows (λ (r : Row Name X). r.value) ∙ sym is.1)) (λ a t lt. live_has a k.rows (f.names a (has_live a now.rows t) lt)))

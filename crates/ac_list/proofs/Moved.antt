@@ -9,14 +9,14 @@ use Rattle.ac_base.specs.declared.name.Name.{Name}
 use Rattle.ac_base.specs.declared.fault.Fault.{Fault}
 use Rattle.ac_base.specs.declared.cursor.Cursor.TheVariants.{At}
 use Rattle.ac_base.specs.declared.fault.NoMemory.{NoMemory}
-use Rattle.ac_cursor.specs.Guards.{GuardCounts}
+use Rattle.ac_base.specs.Guards.{GuardCounts}
 use Rattle.ac_base.specs.FirstReason.{first_reason}
 use Rattle.ac_base.specs.declared.cursor.Cursor.{Cursor}
 use Rattle.ac_base.specs.Growth.{pow8}
 use Rattle.ac_chain.specs.Rows as chain
 use Rattle.ac_chain.specs.Rows.{Chained, IsLive, IsSound, value_of, index_of, removed, cleared, next_name}
 use Rattle.ac_chain.proofs.Cuts.{cut, cut-row, live_has}
-use Rattle.ac_base.specs.Rows.{Row, names}
+use Rattle.ac_base.specs.Rows.{row, Row, names}
 use Rattle.ac_model.specs.Rows.{fresh, merged, value_at, put}
 use Rattle.ac_model.specs.Rows as model
 use Rattle.ac_base.specs.Limits.{is_past}
@@ -29,11 +29,14 @@ use Rattle.ac_model.specs.Lists as lists
 use Rattle.ac_model.specs.Lists.{one_value}
 use Rattle.ac_model.specs.Common as common
 use Rattle.ac_model.proofs.Reasons.{after_two, after_three, after_four, none_first, room_none}
-use Rattle.ac_list.specs.Put.{plains, IsPut, IsFirst, HasGrown, Grows, slots_of}
+use Rattle.ac_model.specs.Containers.{Grows, slots_of}
+use Rattle.ac_list.specs.Put.{plains, IsPut, IsFirst, HasGrown}
 use Rattle.ac_list.specs.Cut.{IsCut}
 use Rattle.ac_list.specs.Copy.{as_fault, cursor_of, IsRefilled}
 use Rattle.ac_list.specs.Searches.{values_in}
-use Rattle.ac_list.specs.State.{Listed, listed, row_of, object_of, IsList, may_cursor, needs_cursor, mark, place_in, name_in}
+use Rattle.ac_model.specs.Cursors.{may_cursor, needs_cursor, mark, place_in, name_in}
+use Rattle.ac_model.specs.Containers.{Container, container}
+use Rattle.ac_list.specs.State.{object_of, IsList}
 use Rattle.ac_list.proofs.Standing.{stands, marked_live, value_live}
 use Rattle.ac_list.proofs.Puts.{put_length}
 use Rattle.ac_list.proofs.Looks.{live_needed, mark_needed}
@@ -70,28 +73,28 @@ module _ {X : Type 0} where
       record { sound = sound; within_greatest = omega arith; is_limit = s.is_limit; has_slots = same ok ∙ s.has_slots }
 
   -- the slots of a list whose chain has more rows, and of one whose chain has fewer
-  pub more_slots : {G : Type 0} (g : GuardCounts) (l : Limit) (k now : Chained X) (o : Listed X) → listed (object_of g l k) k.spare ≡ o → (r : Result Done NoMemory) (d : Result Done Fault) → d ≡ as_fault r
-      → (G → length now.rows + now.spare ≤ max (length k.rows + k.spare) (pow8 (length now.rows))) → IfOk r (λ _. G) → IfErr r (λ _. now ≡ k) → Grows d o (listed (object_of g l now) now.spare)
-  more_slots {G} g l k now o view r d is most ok err = subst (λ q. Grows q o (listed (object_of g l now) now.spare)) (sym is) (by r ok err)
+  pub more_slots : {G : Type 0} (g : GuardCounts) (l : Limit) (k now : Chained X) (o : Container X) → container (object_of g l k) k.spare ≡ o → (r : Result Done NoMemory) (d : Result Done Fault) → d ≡ as_fault r
+      → (G → length now.rows + now.spare ≤ max (length k.rows + k.spare) (pow8 (length now.rows))) → IfOk r (λ _. G) → IfErr r (λ _. now ≡ k) → Grows d o (container (object_of g l now) now.spare)
+  more_slots {G} g l k now o view r d is most ok err = subst (λ q. Grows q o (container (object_of g l now) now.spare)) (sym is) (by r ok err)
     where
-      by : (r : Result Done NoMemory) → IfOk r (λ _. G) → IfErr r (λ _. now ≡ k) → Grows (as_fault r) o (listed (object_of g l now) now.spare)
+      by : (r : Result Done NoMemory) → IfOk r (λ _. G) → IfErr r (λ _. now ≡ k) → Grows (as_fault r) o (container (object_of g l now) now.spare)
       by (Ok x) ok err = grown_slots g l k now o view (most ok)
-      by (Err e) ok err = ap (λ (c : Chained X). slots_of (listed (object_of g l c) c.spare)) err ∙ ap slots_of view
+      by (Err e) ok err = ap (λ (c : Chained X). slots_of (container (object_of g l c) c.spare)) err ∙ ap slots_of view
 
-  pub one_slots : (g : GuardCounts) (l : Limit) (k now : Chained X) (o : Listed X) → listed (object_of g l k) k.spare ≡ o → (r : Result Name NoMemory) (d : Result Cursor Fault) (number : ℕ) → d ≡ cursor_of number r
-      → IfOk r (λ _. HasGrown k 1 now) → IfErr r (λ _. now ≡ k) → Grows d o (listed (object_of g l now) now.spare)
-  one_slots g l k now o view r d number is ok err = subst (λ q. Grows q o (listed (object_of g l now) now.spare)) (sym is) (by r ok err)
+  pub one_slots : (g : GuardCounts) (l : Limit) (k now : Chained X) (o : Container X) → container (object_of g l k) k.spare ≡ o → (r : Result Name NoMemory) (d : Result Cursor Fault) (number : ℕ) → d ≡ cursor_of number r
+      → IfOk r (λ _. HasGrown k 1 now) → IfErr r (λ _. now ≡ k) → Grows d o (container (object_of g l now) now.spare)
+  one_slots g l k now o view r d number is ok err = subst (λ q. Grows q o (container (object_of g l now) now.spare)) (sym is) (by r ok err)
     where
-      by : (r : Result Name NoMemory) → IfOk r (λ _. HasGrown k 1 now) → IfErr r (λ _. now ≡ k) → Grows (cursor_of number r) o (listed (object_of g l now) now.spare)
+      by : (r : Result Name NoMemory) → IfOk r (λ _. HasGrown k 1 now) → IfErr r (λ _. now ≡ k) → Grows (cursor_of number r) o (container (object_of g l now) now.spare)
       by (Ok x) ok err = grown_slots g l k now o view ok.most
-      by (Err e) ok err = ap (λ (c : Chained X). slots_of (listed (object_of g l c) c.spare)) err ∙ ap slots_of view
+      by (Err e) ok err = ap (λ (c : Chained X). slots_of (container (object_of g l c) c.spare)) err ∙ ap slots_of view
 
-  pub less_slots : {Q A : Type 0} (h : GuardCounts) (m : Limit) (from then : Chained X) (p : Listed X) → listed (object_of h m from) from.spare ≡ p → (r : Result A NoMemory) → (Q → length then.rows + then.spare ≡ length from.rows + from.spare)
-      → IfOk r (λ _. Q) → IfErr r (λ _. then ≡ from) → slots_of (listed (object_of h m then) then.spare) ≡ slots_of p
+  pub less_slots : {Q A : Type 0} (h : GuardCounts) (m : Limit) (from then : Chained X) (p : Container X) → container (object_of h m from) from.spare ≡ p → (r : Result A NoMemory) → (Q → length then.rows + then.spare ≡ length from.rows + from.spare)
+      → IfOk r (λ _. Q) → IfErr r (λ _. then ≡ from) → slots_of (container (object_of h m then) then.spare) ≡ slots_of p
   less_slots h m from then p view (Ok x) same ok err =
-      let a = length-map then.rows row_of in let b = length-map from.rows row_of in let sum = same ok in
-      subst (λ (q : Listed X). slots_of (listed (object_of h m then) then.spare) ≡ slots_of q) view (omega arith)
-  less_slots h m from then p view (Err e) same ok err = ap (λ (c : Chained X). slots_of (listed (object_of h m c) c.spare)) err ∙ ap slots_of view
+      let sum = same ok in
+      subst (λ (q : Container X). slots_of (container (object_of h m then) then.spare) ≡ slots_of q) view (omega arith)
+  less_slots h m from then p view (Err e) same ok err = ap (λ (c : Chained X). slots_of (container (object_of h m c) c.spare)) err ∙ ap slots_of view
 
   pub cleared_fewer : (from then : Chained X) → then ≡ cleared from → length then.rows ≤ length from.rows
   cleared_fewer from then e = let none = ap (λ (d : Chained X). length d.rows) e in omega arith
@@ -118,7 +121,7 @@ module _ {X : Type 0} where
   removed_slots from then a sound live sound1 e = (removed_cut from then a sound live e sound1).slots
 
   count_one : (from : Chained X) (a : Name) → IsLive from a → length (one_value (value_of from a)) ≡ 1
-  count_one from a live = let k = cut a from.rows (live_has a from.rows live) in ap (λ r. length (one_value (option_map (λ (q : chain.Row X). q.value) r))) (cut-row a from.rows k)
+  count_one from a live = let k = cut a from.rows (live_has a from.rows live) in ap (λ r. length (one_value (option_map (λ (q : Row Name X). q.value) r))) (cut-row a from.rows k)
 
   emptied_after : (h : GuardCounts) (m : Limit) (from then : Chained X) (p : Object Name X) → object_of h m from ≡ p → then ≡ cleared from → IsAfter p (object_of h m then) (with_rows (plain p) [])
   emptied_after h m from then p view e =

@@ -10,7 +10,7 @@ use Rattle.ac_chain.specs.Rows.{Chained, IsLive, IsSound, IsFresh, place_of, ins
 use Rattle.ac_chain.specs.ChainFields.{first_or, HasName, IsOnce}
 use Rattle.ac_chain.proofs.Cuts.{split, apart, index_of-cut, insert-cut, live_has, has_live, HasName-right, HasName-put}
 use Rattle.ac_chain.proofs.Moves.{once_from}
-use Rattle.ac_base.specs.Rows.{row}
+use Rattle.ac_base.specs.Rows.{Row, names, row}
 use Rattle.ac_model.specs.Rows.{fresh}
 use Rattle.ac_base.specs.Growth.{pow8}
 use Rattle.ac_base.proofs.Powers.{pow8-enough}
@@ -18,11 +18,11 @@ use Rattle.std.proofs.lemmas.Bool.{cond-true, cond-false, cases_lt, cases_eq, lt
 use Rattle.ac_list.specs.Put.{plains, IsPut, IsFirst, HasFirst, HasGrown}
 
 module _ {X : Type 0} where
-  pub plains-append : (xs ys : List (chain.Row X)) → plains (xs ++ ys) ≡ plains xs ++ plains ys
+  pub plains-append : (xs ys : List (Row Name X)) → plains (xs ++ ys) ≡ plains xs ++ plains ys
   plains-append [] ys = refl
   plains-append (x ∷ xs) ys = ap (λ zs. row x.name.serial x.value ∷ zs) (plains-append xs ys)
 
-  pub length-plains : (xs : List (chain.Row X)) → length (plains xs) ≡ length xs
+  pub length-plains : (xs : List (Row Name X)) → length (plains xs) ≡ length xs
   length-plains [] = refl
   length-plains (x ∷ xs) = ap suc (length-plains xs)
 
@@ -48,15 +48,15 @@ module _ {X : Type 0} where
         risen = e;
       }
 
-  pub place_cut : (place : Option Name) (xs ys : List (chain.Row X)) → IsOnce (xs ++ ys) → place ≡ first_or ys None → place_of place (xs ++ ys) ≡ length xs
+  pub place_cut : (place : Option Name) (xs ys : List (Row Name X)) → IsOnce (xs ++ ys) → place ≡ first_or ys None → place_of place (xs ++ ys) ≡ length xs
   place_cut place xs [] once e = ap (λ p. place_of p (xs ++ [])) e ∙ ap length (append-nil xs)
   place_cut place xs (y ∷ ys) once e = ap (λ p. place_of p (xs ++ y ∷ ys)) e ∙ index_of-cut xs y ys (λ t. apart xs (y ∷ ys) once y.name t (inl refl))
 
   -- one more was put
-  pub put_one : (rows : List (chain.Row X)) (next : ℕ) (place : Option Name) (vs : List X) (now then : Chained X) (a : Name) (v : X) → IsSound now → IsPut rows next place vs now
-      → IsFresh now a → then ≡ inserted now place (chain.row a v) → IsPut rows next place (vs ++ v ∷ []) then
+  pub put_one : (rows : List (Row Name X)) (next : ℕ) (place : Option Name) (vs : List X) (now then : Chained X) (a : Name) (v : X) → IsSound now → IsPut rows next place vs now
+      → IsFresh now a → then ≡ inserted now place (row a v) → IsPut rows next place (vs ++ v ∷ []) then
   put_one rows next place vs now then a v s p f e =
-      let r = chain.row a v in
+      let r = row a v in
       let left = p.before ++ p.more in
       let once : IsOnce (left ++ p.after) = subst (λ zs. IsOnce zs) p.are (once_from now.rows s.once) in
       let at : place_of place now.rows ≡ length left = ap (place_of place) p.are ∙ place_cut place left p.after once p.named in
@@ -86,7 +86,7 @@ module _ {X : Type 0} where
     pub sound : IsSound now
 
   pub putting_start : (from : Chained X) (place : Option Name) (first : X) (others : List X) (now : Chained X) (a : Name) → ((b : Name) → place ≡ Some b → IsLive from b) → IsSound from → 0 < from.spare
-      → IsFresh from a → now ≡ inserted from place (chain.row a first) → IsSound now → Putting from place (first ∷ reverse others) others now
+      → IsFresh from a → now ≡ inserted from place (row a first) → IsSound now → Putting from place (first ∷ reverse others) others now
   putting_start from place first others now a h s room f e t =
       let less : now.spare ≡ from.spare - 1 = ap (λ (d : Chained X). d.spare) e in
       record {
@@ -98,7 +98,7 @@ module _ {X : Type 0} where
       }
 
   pub putting_more : (from : Chained X) (place : Option Name) (all left rest : List X) (now then : Chained X) (a : Name) (v : X) → Putting from place all left now → left ≡ rest ++ v ∷ []
-      → 0 < now.spare → IsFresh now a → then ≡ inserted now place (chain.row a v) → IsSound then → Putting from place all rest then
+      → 0 < now.spare → IsFresh now a → then ≡ inserted now place (row a v) → IsSound then → Putting from place all rest then
   putting_more from place all left rest now then a v p split room f e t =
       let less : then.spare ≡ now.spare - 1 = ap (λ (d : Chained X). d.spare) e in
       let longer = length-append p.done (v ∷ []) in
@@ -127,16 +127,16 @@ module _ {X : Type 0} where
       subst (λ vs. IsPut from.rows from.next_serial place vs now) (sym (p.order ∙ ap (λ vs. p.done ++ reverse vs) none ∙ append-nil p.done)) p.put
 
   -- the place is still there
-  pub put_live : (rows : List (chain.Row X)) (next : ℕ) (place : Option Name) (vs : List X) (now : Chained X) → IsPut rows next place vs now → (a : Name) → place ≡ Some a → IsLive now a
+  pub put_live : (rows : List (Row Name X)) (next : ℕ) (place : Option Name) (vs : List X) (now : Chained X) → IsPut rows next place vs now → (a : Name) → place ≡ Some a → IsLive now a
   put_live rows next place vs now p a e =
       has_live a now.rows (subst (λ zs. HasName a zs) (sym p.are) (HasName-right a (p.before ++ p.more) p.after (first_has a p.after (sym p.named ∙ e))))
     where
-      first_has : (a : Name) (rows : List (chain.Row X)) → first_or rows None ≡ Some a → HasName a rows
+      first_has : (a : Name) (rows : List (Row Name X)) → first_or rows None ≡ Some a → HasName a rows
       first_has a [] e = absurd (let k : None ≡ Some a = e in cc)
       first_has a (r ∷ rows) e = inl (let k : Some r.name ≡ Some a = e in let n : a ≡ r.name = cc in n)
 
   -- so many more rows
-  pub put_length : (rows : List (chain.Row X)) (next : ℕ) (place : Option Name) (vs : List X) (now : Chained X) → IsPut rows next place vs now → length now.rows ≡ length rows + length vs
+  pub put_length : (rows : List (Row Name X)) (next : ℕ) (place : Option Name) (vs : List X) (now : Chained X) → IsPut rows next place vs now → length now.rows ≡ length rows + length vs
   put_length rows next place vs now p =
       let a = ap length p.are ∙ length-append (p.before ++ p.more) p.after in
       let b = length-append p.before p.more in
@@ -216,19 +216,19 @@ module _ {X : Type 0} where
       omega arith
 
   -- a row's name is live once it was put, and the other names stay live
-  pub live_new : (now then : Chained X) (place : Option Name) (b : Name) (v : X) → ((a : Name) → place ≡ Some a → IsLive now a) → then ≡ inserted now place (chain.row b v) → (IsLive then b) × ((a : Name) → IsLive now a → IsLive then a)
+  pub live_new : (now then : Chained X) (place : Option Name) (b : Name) (v : X) → ((a : Name) → place ≡ Some a → IsLive now a) → then ≡ inserted now place (row b v) → (IsLive then b) × ((a : Name) → IsLive now a → IsLive then a)
   live_new now then place b v h e =
       let s = split place now.rows (λ a q. live_has a now.rows (h a q)) in
-      let r = chain.row b v in
+      let r = row b v in
       let is : then.rows ≡ s.before ++ r ∷ s.after = ap (λ (d : Chained X). d.rows) e ∙ (λ i. insert (s.is i) (s.at i) r) ∙ insert-cut s.before r s.after in (
         has_live b then.rows (subst (λ rows. HasName b rows) (sym is) (HasName-right b s.before (r ∷ s.after) (inl refl))),
         λ a live. has_live a then.rows (subst (λ rows. HasName a rows) (sym is) (HasName-put a s.before r s.after (subst (λ rows. HasName a rows) s.is (live_has a now.rows live)))),
       )
 
-  pub first_start : (from now : Chained X) (place : Option Name) (a : Name) (v : X) → ((b : Name) → place ≡ Some b → IsLive from b) → IsFresh from a → now ≡ inserted from place (chain.row a v) → IsFirst from.next_serial now a
+  pub first_start : (from now : Chained X) (place : Option Name) (a : Name) (v : X) → ((b : Name) → place ≡ Some b → IsLive from b) → IsFresh from a → now ≡ inserted from place (row a v) → IsFirst from.next_serial now a
   first_start from now place a v h f e = record { serial = f.serial; live = (live_new from now place a v h e).0 }
 
-  pub first_more : (next : ℕ) (now then : Chained X) (place : Option Name) (a b : Name) (v : X) → ((d : Name) → place ≡ Some d → IsLive now d) → then ≡ inserted now place (chain.row b v) → IsFirst next now a → IsFirst next then a
+  pub first_more : (next : ℕ) (now then : Chained X) (place : Option Name) (a b : Name) (v : X) → ((d : Name) → place ≡ Some d → IsLive now d) → then ≡ inserted now place (row b v) → IsFirst next now a → IsFirst next then a
   first_more next now then place a b v h e f = record { serial = f.serial; live = (live_new now then place b v h e).1 a f.live }
 
   pub has_first : (n next : ℕ) (now : Chained X) (a : Name) → (n ≡ 0 → ⊥) → IsFirst next now a → HasFirst next n now (Some a)

@@ -17,9 +17,9 @@ use Rattle.ac_chain.specs.ChainFields.{HasName, IsOnce, last_or}
 use Rattle.ac_chain.proofs.Cuts.{apart, index_of-cut, name_before-cut, slice_get-cut, has_live, HasName-right}
 use Rattle.ac_chain.proofs.Chains.{index_at}
 use Rattle.ac_chain.proofs.Moves.{once_from}
-use Rattle.ac_cursor.specs.Guards.{GuardCounts}
+use Rattle.ac_base.specs.Guards.{GuardCounts}
 use Rattle.ac_base.specs.FirstReason.{first_reason}
-use Rattle.ac_base.specs.Rows.{values}
+use Rattle.ac_base.specs.Rows.{Row, row, values}
 use Rattle.ac_model.specs.Rows.{fresh}
 use Rattle.ac_base.specs.Limits.{is_past}
 use Rattle.ac_base.specs.declared.limit.TheConstants.{GREATEST_LENGTH}
@@ -39,31 +39,31 @@ use Rattle.ac_list.proofs.Deletes.{last_split, none_last}
 
 module _ {X : Type 0} where
   -- how many rows are left from the one with this name backwards
-  abbrev pub left : List (chain.Row X) → Option Name → ℕ
+  abbrev pub left : List (Row Name X) → Option Name → ℕ
   left rows None = 0
   left rows (Some a) = suc (index_of a rows)
 
   -- so far: the rows at the end are copied, the last one first
-  pub record Copying (rows : List (chain.Row X)) (place : Option Name) (made : List X) : Type 0 where
-    pub rest : List (chain.Row X)
-    pub done : List (chain.Row X)
+  pub record Copying (rows : List (Row Name X)) (place : Option Name) (made : List X) : Type 0 where
+    pub rest : List (Row Name X)
+    pub done : List (Row Name X)
     pub is : rows ≡ rest ++ done
     pub named : place ≡ name_before rest (length rest)
     pub copies : made ≡ reverse (values_in done)
 
-  pub copying_start : (rows : List (chain.Row X)) (place : Option Name) → place ≡ name_before rows (length rows) → Copying rows place []
+  pub copying_start : (rows : List (Row Name X)) (place : Option Name) → place ≡ name_before rows (length rows) → Copying rows place []
   copying_start rows place e = record { rest = rows; done = []; is = sym (append-nil rows); named = e; copies = refl }
 
   -- the row of the name at which the copying is
-  record AtRow (rows : List (chain.Row X)) (a : Name) (made : List X) : Type 0 where
-    before : List (chain.Row X)
-    at : chain.Row X
-    done : List (chain.Row X)
+  record AtRow (rows : List (Row Name X)) (a : Name) (made : List X) : Type 0 where
+    before : List (Row Name X)
+    at : Row Name X
+    done : List (Row Name X)
     is : rows ≡ before ++ at ∷ done
     named : a ≡ at.name
     copies : made ≡ reverse (values_in done)
 
-  at_row : (rows : List (chain.Row X)) (place : Option Name) (made : List X) (a : Name) → Copying rows place made → place ≡ Some a → AtRow rows a made
+  at_row : (rows : List (Row Name X)) (place : Option Name) (made : List X) (a : Name) → Copying rows place made → place ≡ Some a → AtRow rows a made
   at_row rows place made a c e =
       let s = last_split c.rest a (sym e ∙ c.named) in
       record { before = s.rest; at = s.last; done = c.done; is = c.is ∙ ap (λ xs. xs ++ c.done) s.is ∙ append_assoc s.rest (s.last ∷ []) c.done; named = s.named; copies = c.copies }
@@ -77,7 +77,7 @@ module _ {X : Type 0} where
       let r = at_row k.rows place made a c e in
       let once : IsOnce (r.before ++ r.at ∷ r.done) = subst (λ rows. IsOnce rows) r.is (once_from k.rows s.once) in
       let index : index_of a k.rows ≡ length r.before = (λ i. index_of (r.named i) (r.is i)) ∙ index_of-cut r.before r.at r.done (λ t. apart r.before (r.at ∷ r.done) once r.at.name t (inl refl)) in
-      let there : Some v ≡ Some r.at.value = value ∙ ap (option_map (λ (x : chain.Row X). x.value)) ((λ i. slice_get (r.is i) (index i)) ∙ slice_get-cut r.before r.at r.done) in
+      let there : Some v ≡ Some r.at.value = value ∙ ap (option_map (λ (x : Row Name X). x.value)) ((λ i. slice_get (r.is i) (index i)) ∙ slice_get-cut r.before r.at r.done) in
       let same : v ≡ r.at.value = cc in
       let whole : name_before r.before (length r.before) ≡ last_or None r.before = ap (λ rows. name_before rows (length r.before)) (sym (append-nil r.before)) ∙ name_before-cut r.before [] in
       record {
@@ -88,12 +88,12 @@ module _ {X : Type 0} where
         copies = (λ i. r.copies i ++ same i ∷ []) ∙ sym (reverse-append (r.at.value ∷ []) (values_in r.done));
       }
 
-  pub copying_end : (rows : List (chain.Row X)) (place : Option Name) (made : List X) → Copying rows place made → place ≡ None → made ≡ reverse (values_in rows)
+  pub copying_end : (rows : List (Row Name X)) (place : Option Name) (made : List X) → Copying rows place made → place ≡ None → made ≡ reverse (values_in rows)
   copying_end rows place made c e =
       let none = none_last c.rest (sym e ∙ c.named) in
       c.copies ∙ ap (λ xs. reverse (values_in xs)) (ap (λ xs. xs ++ c.done) (sym none) ∙ sym c.is)
 
-  left_before : (rows : List (chain.Row X)) → IsOnce rows → (n : ℕ) (o : Option Name) → o ≡ name_before rows n → left rows o ≤ n
+  left_before : (rows : List (Row Name X)) → IsOnce rows → (n : ℕ) (o : Option Name) → o ≡ name_before rows n → left rows o ≤ n
   left_before rows once zero o e = let none : left rows o ≡ 0 = ap (left rows) e in omega arith
   left_before rows once (suc i) None e = omega arith
   left_before rows once (suc i) (Some b) e = let at = (index_at rows once i b (sym e)).1 in omega arith
@@ -104,8 +104,8 @@ module _ {X : Type 0} where
       let more : left k.rows place ≡ suc (index_of a k.rows) = ap (left k.rows) e in omega arith
 
   -- so many values as the source has rows
-  count_copies : (values : List X) (rows : List (chain.Row X)) → values ≡ reverse (values_in rows) → length values ≡ length rows
-  count_copies values rows e = ap length e ∙ length-reverse (values_in rows) ∙ length-map rows (λ (r : chain.Row X). r.value)
+  count_copies : (values : List X) (rows : List (Row Name X)) → values ≡ reverse (values_in rows) → length values ≡ length rows
+  count_copies values rows e = ap length e ∙ length-reverse (values_in rows) ∙ length-map rows (λ (r : Row Name X). r.value)
 
   -- the slots that were reserved for the copies, and the chain once it was cleared
   pub record Ready (c e : Chained X) (count : ℕ) : Type 0 where
@@ -136,12 +136,12 @@ module _ {X : Type 0} where
       }
 
   -- the copies in place of the rows
-  pub record Refilled (c : Chained X) (source : List (chain.Row X)) (now : Chained X) : Type 0 where
+  pub record Refilled (c : Chained X) (source : List (Row Name X)) (now : Chained X) : Type 0 where
     pub refilled : IsRefilled c (values_in source) now
     pub slots : length source ≤ length c.rows + c.spare → length now.rows + now.spare ≡ length c.rows + c.spare
     pub grown : length now.rows + now.spare ≤ max (length c.rows + c.spare) (pow8 (length now.rows))
 
-  pub refilled : (c d e now : Chained X) (n : ℕ) (values : List X) (source : List (chain.Row X)) → d ≡ reserved c n → n ≡ length source - length c.rows → e ≡ cleared d → values ≡ reverse (values_in source)
+  pub refilled : (c d e now : Chained X) (n : ℕ) (values : List X) (source : List (Row Name X)) → d ≡ reserved c n → n ≡ length source - length c.rows → e ≡ cleared d → values ≡ reverse (values_in source)
       → IsPut e.rows e.next_serial None (reverse values) now → now.spare + length values ≡ e.spare → Refilled c source now
   refilled c d e now n values source is need clear copies p spare =
       let t = ready c d e n (length source) is need clear in
@@ -167,7 +167,7 @@ module _ {X : Type 0} where
           let after : q.after ≡ [] = nil_from_length q.after (omega arith) in
           ap plains (q.are ∙ (λ i. before i ++ q.more ++ after i) ∙ append-nil q.more) ∙ q.fresh_names
 
-  pub refill_fits : (c d e : Chained X) (n : ℕ) (values : List X) (source : List (chain.Row X)) → d ≡ reserved c n → n ≡ length source - length c.rows → e ≡ cleared d → values ≡ reverse (values_in source) → length values ≤ e.spare
+  pub refill_fits : (c d e : Chained X) (n : ℕ) (values : List X) (source : List (Row Name X)) → d ≡ reserved c n → n ≡ length source - length c.rows → e ≡ cleared d → values ≡ reverse (values_in source) → length values ≤ e.spare
   refill_fits c d e n values source is need clear copies = let enough = (ready c d e n (length source) is need clear).enough in let count = count_copies values source copies in omega arith
 
   -- where nothing was left to be taken out
@@ -177,15 +177,15 @@ module _ {X : Type 0} where
       let empty : values ≡ [] = e ∙ ap (λ vs. vs ++ []) (r ∙ ap (λ n. take n values) zero) in
       subst (λ vs. IsPut c.rows c.next_serial None (reverse vs) c) (sym empty) (put_none c None (λ a t. absurd (let k : None ≡ Some a = t in cc)))
 
-  values-plains : (rows : List (chain.Row X)) → values (plains rows) ≡ values_in rows
+  values-plains : (rows : List (Row Name X)) → values (plains rows) ≡ values_in rows
   values-plains [] = refl
   values-plains (r ∷ rows) = ap (λ vs. r.value ∷ vs) (values-plains rows)
 
-  refilled_length : (k now : Chained X) (source : List (chain.Row X)) → IsRefilled k (values_in source) now → length now.rows ≡ length source
+  refilled_length : (k now : Chained X) (source : List (Row Name X)) → IsRefilled k (values_in source) now → length now.rows ≡ length source
   refilled_length k now source f =
-      sym (length-plains now.rows) ∙ ap length f.rows ∙ length-fresh k.next_serial (values_in source) ∙ length-map source (λ (r : chain.Row X). r.value)
+      sym (length-plains now.rows) ∙ ap length f.rows ∙ length-fresh k.next_serial (values_in source) ∙ length-map source (λ (r : Row Name X). r.value)
 
-  pub refill_list : (l : Limit) (k now : Chained X) (source : List (chain.Row X)) (r : Result Done NoMemory) → IsList l k → length source ≤ GREATEST_LENGTH → is_past l (length source) ≡ false
+  pub refill_list : (l : Limit) (k now : Chained X) (source : List (Row Name X)) (r : Result Done NoMemory) → IsList l k → length source ≤ GREATEST_LENGTH → is_past l (length source) ≡ false
       → IfOk r (λ _. IsRefilled k (values_in source) now) → IfErr r (λ _. now ≡ k) → (length source ≤ length k.rows + k.spare → length now.rows + now.spare ≡ length k.rows + k.spare) → IsSound now → IsList l now
   refill_list l k now source (Err e) s few within ok err slots sound = subst (λ c. IsList l c) (sym err) s
   refill_list Unbounded k now source (Ok x) s few within ok err slots sound = let count = refilled_length k now source ok in record { sound = sound; within_greatest = omega arith; is_limit = tt; has_slots = tt }
@@ -209,7 +209,7 @@ module _ {X : Type 0} where
       → Changing Same (assign_call (plain o) (plain from)) o (object_of g l now) (as_fault r)
   refill_changes g l k now o view h m j from seen (Ok x) none ok err =
       let s = source_is h m j from seen in
-      let count : length (contents (plain from)) ≡ length_of (plain from) = ap length s.0 ∙ length-map j.rows (λ (r : chain.Row X). r.value) ∙ sym s.1 in
+      let count : length (contents (plain from)) ≡ length_of (plain from) = ap length s.0 ∙ length-map j.rows (λ (r : Row Name X). r.value) ∙ sym s.1 in
       (none, refill_after g l k now o (contents (plain from)) (length_of (plain from)) view count (subst (λ vs. IsRefilled k vs now) (sym s.0) ok), refl)
   refill_changes g l k now o view h m j from seen (Err e) none ok err = (refl, none, ap (object_of g l) err ∙ view)
 

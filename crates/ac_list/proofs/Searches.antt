@@ -1,85 +1,56 @@
 -- What a search over a chain's rows has found so far, and how a test of equality answers.
 use Rattle.std.proofs.Common.{◌≡◌, ◌-◌, ◌<◌, ◌&&◌, Bool, true, false, List, [], ◌∷◌, length, Option, Some, None, IsTrue, refl, sym, ap, ◌∙◌, subst, arith, eqb-true, eq-eqb}
 use Rattle.std.specs.Prelude.{◌↔◌}
-use Rattle.std.specs.Coded.{Coded}
 use Rattle.std.proofs.lemmas.Bool.{and_parts}
-use base.Stored.{Gv, gnil, gnum, gcons}
 use Rattle.ac_base.specs.declared.name.Name.{Name}
 use Rattle.ac_chain.specs.Rows as chain
 use Rattle.ac_chain.specs.Rows.{Chained, place_of, next_name, prev_name, IsLive, IsSound, value_of}
 use Rattle.ac_chain.proofs.Moves.{once_from}
-use Rattle.ac_list.specs.Searches.{same_code, same_by, IsEquality, found_in, count_to}
-use Rattle.ac_list.proofs.Looks.{bool_is}
+use Rattle.ac_list.specs.Searches.{found_in, count_to}
 use Rattle.ac_list.proofs.Walks.{Forward, Backward, ahead, behind, forward_end, backward_end, forward_left, backward_left}
-
-codes_same : (x y : Gv) → same_code x y ≡ true → x ≡ y
-unfolding same_code
-codes_same gnil gnil h = refl
-codes_same gnil (gnum n) h = cc
-codes_same gnil (gcons a b) h = cc
-codes_same (gnum m) gnil h = cc
-codes_same (gnum m) (gnum n) h = ap gnum (eqb-true m n h)
-codes_same (gnum m) (gcons a b) h = cc
-codes_same (gcons a b) gnil h = cc
-codes_same (gcons a b) (gnum n) h = cc
-codes_same (gcons a b) (gcons c d) h = let both = and_parts (same_code a c) (same_code b d) h in λ i. gcons (codes_same a c both.0 i) (codes_same b d both.1 i)
-
-code_itself : (x : Gv) → same_code x x ≡ true
-unfolding same_code
-code_itself gnil = refl
-code_itself (gnum n) = eq-eqb n n refl
-code_itself (gcons a b) = (λ i. code_itself a i && code_itself b i)
+use Rattle.ac_base.specs.Rows.{Row}
 
 module _ {T : Type 0} where
-  -- it says whether two elements are equal
-  pub same_is_equal : (coded : Coded T) → IsEquality (same_by coded)
-  unfolding same_by
-  same_is_equal coded x y = (λ t. coded.inj x y (codes_same (coded.code x) (coded.code y) t), λ e. ap (λ z. same_code (coded.code x) (coded.code z)) (sym e) ∙ code_itself (coded.code x))
-
-  -- and answers as the code's test does
-  pub same_is : (coded : Coded T) (x y : T) (b : Bool) → (IsTrue b ↔ (x ≡ y)) → same_by coded x y ≡ b
-  same_is coded x y b h = let eq = same_is_equal coded x y in bool_is (same_by coded x y) b (λ t. h.1 (eq.0 t)) (λ t. eq.1 (h.0 t))
-
   pub some_value : (v w : T) → Some v ≡ Some w → v ≡ w
   some_value v w e = cc
 
   -- so far nothing was found: what is left decides
-  pub record Searching (same : T → T → Bool) (e : T) (whole left : List (chain.Row T)) : Type 0 where
+  pub record Searching (same : T → T → Bool) (e : T) (whole left : List (Row Name T)) : Type 0 where
     pub found : found_in same e left ≡ found_in same e whole
 
-  pub search_start : (same : T → T → Bool) (e : T) (whole : List (chain.Row T)) → Searching same e whole whole
+  pub search_start : (same : T → T → Bool) (e : T) (whole : List (Row Name T)) → Searching same e whole whole
   search_start same e whole = record { found = refl }
 
-  pub first_found : (same : T → T → Bool) (e : T) (r : chain.Row T) (rest : List (chain.Row T)) → same r.value e ≡ true → found_in same e (r ∷ rest) ≡ Some r.name
+  pub first_found : (same : T → T → Bool) (e : T) (r : Row Name T) (rest : List (Row Name T)) → same r.value e ≡ true → found_in same e (r ∷ rest) ≡ Some r.name
   first_found same e r rest h = rw h refl
 
-  pub first_passed : (same : T → T → Bool) (e : T) (r : chain.Row T) (rest : List (chain.Row T)) → same r.value e ≡ false → found_in same e (r ∷ rest) ≡ found_in same e rest
+  pub first_passed : (same : T → T → Bool) (e : T) (r : Row Name T) (rest : List (Row Name T)) → same r.value e ≡ false → found_in same e (r ∷ rest) ≡ found_in same e rest
   first_passed same e r rest h = rw h refl
 
-  pub search_hit : (same : T → T → Bool) (e v : T) (whole left rest : List (chain.Row T)) (r : chain.Row T) (a : Name) → Searching same e whole left → left ≡ r ∷ rest → a ≡ r.name → Some v ≡ Some r.value → same v e ≡ true → Some a ≡ found_in same e whole
+  pub search_hit : (same : T → T → Bool) (e v : T) (whole left rest : List (Row Name T)) (r : Row Name T) (a : Name) → Searching same e whole left → left ≡ r ∷ rest → a ≡ r.name → Some v ≡ Some r.value → same v e ≡ true → Some a ≡ found_in same e whole
   search_hit same e v whole left rest r a s is named value hit =
       ap Some named ∙ sym (first_found same e r rest (ap (λ w. same w e) (sym (some_value v r.value value)) ∙ hit)) ∙ ap (found_in same e) (sym is) ∙ s.found
 
-  pub search_miss : (same : T → T → Bool) (e v : T) (whole left rest : List (chain.Row T)) (r : chain.Row T) → Searching same e whole left → left ≡ r ∷ rest → Some v ≡ Some r.value → same v e ≡ false → Searching same e whole rest
+  pub search_miss : (same : T → T → Bool) (e v : T) (whole left rest : List (Row Name T)) (r : Row Name T) → Searching same e whole left → left ≡ r ∷ rest → Some v ≡ Some r.value → same v e ≡ false → Searching same e whole rest
   search_miss same e v whole left rest r s is value miss = record {
     found = sym (first_passed same e r rest (ap (λ w. same w e) (sym (some_value v r.value value)) ∙ miss)) ∙ ap (found_in same e) (sym is) ∙ s.found;
   }
 
-  pub search_end : (same : T → T → Bool) (e : T) (whole left : List (chain.Row T)) → Searching same e whole left → left ≡ [] → None ≡ found_in same e whole
+  pub search_end : (same : T → T → Bool) (e : T) (whole left : List (Row Name T)) → Searching same e whole left → left ≡ [] → None ≡ found_in same e whole
   search_end same e whole left s none = ap (found_in same e) (sym none) ∙ s.found
 
   -- a search from a place on, and one back
-  pub record SearchingOn (c : Chained T) (same : T → T → Bool) (e : T) (whole : List (chain.Row T)) (place : Option Name) : Type 0 where
-    pub left : List (chain.Row T)
+  pub record SearchingOn (c : Chained T) (same : T → T → Bool) (e : T) (whole : List (Row Name T)) (place : Option Name) : Type 0 where
+    pub left : List (Row Name T)
     pub walk : Forward c place left
     pub searching : Searching same e whole left
 
-  pub record SearchingBack (c : Chained T) (same : T → T → Bool) (e : T) (whole : List (chain.Row T)) (place : Option Name) : Type 0 where
-    pub left : List (chain.Row T)
+  pub record SearchingBack (c : Chained T) (same : T → T → Bool) (e : T) (whole : List (Row Name T)) (place : Option Name) : Type 0 where
+    pub left : List (Row Name T)
     pub walk : Backward c place left
     pub searching : Searching same e whole left
 
-  module _ (c : Chained T) (sound : IsSound c) (same : T → T → Bool) (e : T) (whole : List (chain.Row T)) (a : Name) where
+  module _ (c : Chained T) (sound : IsSound c) (same : T → T → Bool) (e : T) (whole : List (Row Name T)) (a : Name) where
     pub on_live : SearchingOn c same e whole (Some a) → IsLive c a
     on_live s = (ahead c (once_from c.rows sound.once) a s.left s.walk).live
 
@@ -118,8 +89,8 @@ module _ {T : Type 0} where
         let len : length s.left ≡ length (k.row ∷ k.rest) = ap length k.is in
         omega arith
 
-  pub on_end : (c : Chained T) (same : T → T → Bool) (e : T) (whole : List (chain.Row T)) → SearchingOn c same e whole None → None ≡ found_in same e whole
+  pub on_end : (c : Chained T) (same : T → T → Bool) (e : T) (whole : List (Row Name T)) → SearchingOn c same e whole None → None ≡ found_in same e whole
   on_end c same e whole s = search_end same e whole s.left s.searching (forward_end c s.left s.walk)
 
-  pub back_end : (c : Chained T) (same : T → T → Bool) (e : T) (whole : List (chain.Row T)) → SearchingBack c same e whole None → None ≡ found_in same e whole
+  pub back_end : (c : Chained T) (same : T → T → Bool) (e : T) (whole : List (Row Name T)) → SearchingBack c same e whole None → None ≡ found_in same e whole
   back_end c same e whole s = search_end same e whole s.left s.searching (backward_end c s.left s.walk)

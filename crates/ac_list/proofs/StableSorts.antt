@@ -15,16 +15,6 @@ use Rattle.ac_model.specs.Rows.{sorted, is_ascending}
 use Rattle.ac_model.proofs.RowLaws.{sorted_ascends, sorted_stable}
 
 module _ {V : Type 0} (less : V → V → Bool) (order : IsWeakOrder less) where
-  weak_order : model.IsWeakOrder less
-  weak_order = record {
-    asymmetric = asymmetric order;
-    transitive = order.transitive;
-    level_transitive = λ v w x h k.
-        let p = and_parts (not (less v w)) (not (less w v)) h in
-        let q = and_parts (not (less w x)) (not (less x w)) k in
-        (order.ties_transitive v w x (not-true (less v w) p.0, not-true (less w v) p.1) (not-true (less w x) q.0, not-true (less x w) q.1)).0;
-  }
-
   -- the rows that are level with the value
   abbrev level : V → List (Row ℕ V) → List (Row ℕ V)
   level v rows = filter (λ (r : Row ℕ V). are_level less r.value v) rows
@@ -123,6 +113,6 @@ module _ {V : Type 0} (less : V → V → Bool) (order : IsWeakOrder less) where
         let none : xs ≡ [] = nil_from_length xs (sym (length_permutation xs [] same)) in
         ap (λ zs. sorted less (map of zs)) (sym none)
     sort_is xs (y ∷ ys) same up stable =
-        unique (map of (y ∷ ys)) (sorted less (map of xs)) (ascends (y ∷ ys) up) (sorted_ascends less weak_order (map of xs)) (λ v.
+        unique (map of (y ∷ ys)) (sorted less (map of xs)) (ascends (y ∷ ys) up) (sorted_ascends less order (map of xs)) (λ v.
         let q = put v y in
-        level_of v q (holds v y) (y ∷ ys) ∙ ap (map of) (stable q) ∙ sym (level_of v q (holds v y) xs) ∙ sym (sorted_stable less weak_order v (map of xs)))
+        level_of v q (holds v y) (y ∷ ys) ∙ ap (map of) (stable q) ∙ sym (level_of v q (holds v y) xs) ∙ sym (sorted_stable less order v (map of xs)))

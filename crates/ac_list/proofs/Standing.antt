@@ -7,7 +7,7 @@ use Rattle.ac_base.specs.declared.limit.Limit.{Limit}
 use Rattle.ac_base.specs.declared.name.Name.{Name}
 use Rattle.ac_base.specs.declared.cursor.Cursor.{Cursor}
 use Rattle.ac_base.specs.declared.cursor.Cursor.TheVariants.{NoElement, At}
-use Rattle.ac_cursor.specs.Guards.{GuardCounts}
+use Rattle.ac_base.specs.Guards.{GuardCounts}
 use Rattle.ac_pool.proofs.NameLaws.{same_name}
 use Rattle.ac_chain.specs.Rows as chain
 use Rattle.ac_chain.specs.Rows.{Chained, index_of, IsLive, IsSound, name_at}
@@ -19,7 +19,8 @@ use Rattle.ac_model.specs.Objects.{Object, plain_row}
 use Rattle.ac_model.specs.Letters.{mark_at, is_same_name, is_among, mark_of, judged_in, mark_for}
 use Rattle.ac_model.proofs.RowLaws.{at_its_place}
 use Rattle.ac_list.specs.Put.{plains}
-use Rattle.ac_list.specs.State.{row_of, object_of, needs_cursor, may_cursor, cursor_at, name_in}
+use Rattle.ac_model.specs.Cursors.{needs_cursor, may_cursor, cursor_at, name_in}
+use Rattle.ac_list.specs.State.{object_of}
 
 same_is : (a b : Name) → is_same_name a b ≡ true → a ≡ b
 same_is a b h = elim (cases_Bool (a.slot == b.slot)) [
@@ -41,17 +42,17 @@ judged_none number object is_there h = elim (cases_Bool (object == number)) [
 ]
 
 module _ {X : Type 0} where
-  pub among_has : (a : Name) (rows : List (chain.Row X)) → is_among (names (map row_of rows)) a ≡ true → HasName a rows
+  pub among_has : (a : Name) (rows : List (Row Name X)) → is_among (names rows) a ≡ true → HasName a rows
   among_has a [] h = absurd (true≢false (sym h))
   among_has a (r ∷ rows) h = elim (cases_Bool (is_same_name a r.name)) [
     | inl e ↦ inl (same_is a r.name e)
-    | inr n ↦ inr (among_has a rows (subst (λ t. (t || is_among (names (map row_of rows)) a) ≡ true) n h))
+    | inr n ↦ inr (among_has a rows (subst (λ t. (t || is_among (names rows) a) ≡ true) n h))
   ]
 
-  pub has_among : (a : Name) (rows : List (chain.Row X)) → HasName a rows → is_among (names (map row_of rows)) a ≡ true
+  pub has_among : (a : Name) (rows : List (Row Name X)) → HasName a rows → is_among (names rows) a ≡ true
   has_among a [] h = absurd h
   has_among a (r ∷ rows) h = elim h [
-    | inl e ↦ ap (λ t. t || is_among (names (map row_of rows)) a) (is_same a r.name e)
+    | inl e ↦ ap (λ t. t || is_among (names rows) a) (is_same a r.name e)
     | inr t ↦ ap (λ s. is_same_name a r.name || s) (has_among a rows t) ∙ or_true (is_same_name a r.name)
   ]
 
@@ -78,48 +79,48 @@ module _ {X : Type 0} where
   -- a cursor that isn't refused stands at a live name
   pub record Stands (number : ℕ) (c : Chained X) (cursor : Cursor) : Type 0 where
     pub live : IsLive c (name_in cursor)
-    pub marked : mark_of number (names (map row_of c.rows)) cursor ≡ mark_at number (name_in cursor).serial
+    pub marked : mark_of number (names c.rows) cursor ≡ mark_at number (name_in cursor).serial
     pub at : cursor ≡ At number (name_in cursor)
 
-  pub marked_live : (number : ℕ) (rows : List (chain.Row X)) (a : Name) → HasName a rows → mark_of number (names (map row_of rows)) (At number a) ≡ mark_at number a.serial
+  pub marked_live : (number : ℕ) (rows : List (Row Name X)) (a : Name) → HasName a rows → mark_of number (names rows) (At number a) ≡ mark_at number a.serial
   marked_live number rows a h = let t = has_among a rows h in let e = eq-eqb number number refl in simp (e, t)
 
   pub stands : (g : GuardCounts) (l : Limit) (c : Chained X) (cursor : Cursor) → needs_cursor (object_of g l c) cursor ≡ None → Stands g.number c cursor
   stands g l c NoElement h = absurd (let k : Some _ ≡ None = h in cc)
   stands g l c (At object a) h =
-      let both = judged_none g.number object (is_among (names (map row_of c.rows)) a) (sym (judged_by_name (object_of g l c) object a) ∙ h) in
+      let both = judged_none g.number object (is_among (names c.rows) a) (sym (judged_by_name (object_of g l c) object a) ∙ h) in
       let has = among_has a c.rows both.1 in
       record {
         live = has_live a c.rows has;
-        marked = ap (λ n. mark_of g.number (names (map row_of c.rows)) (At n a)) both.0 ∙ marked_live g.number c.rows a has;
+        marked = ap (λ n. mark_of g.number (names c.rows) (At n a)) both.0 ∙ marked_live g.number c.rows a has;
         at = ap (λ n. At n a) both.0;
       }
 
-  pub slice_get-plains : (rows : List (chain.Row X)) (i : ℕ) → slice_get (plains rows) i ≡ option_map (λ (r : chain.Row X). row r.name.serial r.value) (slice_get rows i)
+  pub slice_get-plains : (rows : List (Row Name X)) (i : ℕ) → slice_get (plains rows) i ≡ option_map (λ (r : Row Name X). row r.name.serial r.value) (slice_get rows i)
   slice_get-plains [] i = refl
   slice_get-plains (r ∷ rows) zero = refl
   slice_get-plains (r ∷ rows) (suc i) = slice_get-plains rows i
 
   -- the cursor at a place is the definitions' mark there
-  pub marked_at : (number : ℕ) (rows : List (chain.Row X)) (i : ℕ) → mark_of number (names (map row_of rows)) (cursor_at number (name_at rows i)) ≡ mark_for number (slice_get (plains rows) i)
+  pub marked_at : (number : ℕ) (rows : List (Row Name X)) (i : ℕ) → mark_of number (names rows) (cursor_at number (name_at rows i)) ≡ mark_for number (slice_get (plains rows) i)
   marked_at number rows i = with_row number rows i (slice_get rows i) refl ∙ ap (mark_for number) (sym (slice_get-plains rows i))
     where
-      with_row : (number : ℕ) (rows : List (chain.Row X)) (i : ℕ) (o : Option (chain.Row X)) → slice_get rows i ≡ o
-          → mark_of number (names (map row_of rows)) (cursor_at number (name_at rows i)) ≡ mark_for number (option_map (λ (r : chain.Row X). row r.name.serial r.value) (slice_get rows i))
+      with_row : (number : ℕ) (rows : List (Row Name X)) (i : ℕ) (o : Option (Row Name X)) → slice_get rows i ≡ o
+          → mark_of number (names rows) (cursor_at number (name_at rows i)) ≡ mark_for number (option_map (λ (r : Row Name X). row r.name.serial r.value) (slice_get rows i))
       with_row number rows i None e = rw e refl
       with_row number rows i (Some r) e =
-          let has : HasName r.name rows = name_at_has rows i r.name (ap (option_map (λ (x : chain.Row X). x.name)) e) in
+          let has : HasName r.name rows = name_at_has rows i r.name (ap (option_map (λ (x : Row Name X). x.name)) e) in
           rw e (marked_live number rows r.name has)
 
   -- no other row has the name's serial
-  unfoldable pub Alone : Name → List (chain.Row X) → Type 0
+  unfoldable pub Alone : Name → List (Row Name X) → Type 0
   Alone a rows = (b : Name) → HasName b rows → b.serial ≡ a.serial → b ≡ a
 
   pub alone : (c : Chained X) (a : Name) → IsSound c → IsLive c a → Alone a c.rows
   unfolding Alone
   alone c a s h b t e = s.serials b a (has_live b c.rows t) h e
 
-  pub place_is : (a : Name) (rows : List (chain.Row X)) → Alone a rows → place_of (plains rows) a.serial ≡ index_of a rows
+  pub place_is : (a : Name) (rows : List (Row Name X)) → Alone a rows → place_of (plains rows) a.serial ≡ index_of a rows
   unfolding Alone
   place_is a [] h = refl
   place_is a (r ∷ rows) h = elim (cases_eq r.name.serial a.serial) [
@@ -130,7 +131,7 @@ module _ {X : Type 0} where
   pub place_live : (c : Chained X) (a : Name) → IsSound c → IsLive c a → place_of (plains c.rows) a.serial ≡ index_of a c.rows
   place_live c a s h = place_is a c.rows (alone c a s h)
 
-  value_mapped : (o : Option (chain.Row X)) → option_map (λ (r : Row ℕ X). r.value) (option_map (λ (r : chain.Row X). row r.name.serial r.value) o) ≡ option_map (λ (r : chain.Row X). r.value) o
+  value_mapped : (o : Option (Row Name X)) → option_map (λ (r : Row ℕ X). r.value) (option_map (λ (r : Row Name X). row r.name.serial r.value) o) ≡ option_map (λ (r : Row Name X). r.value) o
   value_mapped None = refl
   value_mapped (Some r) = refl
 

@@ -9,34 +9,36 @@ use Rattle.ac_base.specs.declared.limit.Limit.{Limit}
 use Rattle.ac_base.specs.declared.limit.Limit.TheVariants.{Unbounded, Bounded}
 use Rattle.ac_base.specs.declared.name.Name.{Name}
 use Rattle.ac_base.specs.declared.cursor.Cursor.{Cursor}
-use Rattle.ac_cursor.specs.Guards.{GuardCounts}
+use Rattle.ac_base.specs.Guards.{GuardCounts}
 use Rattle.ac_chain.specs.Rows as chain
 use Rattle.ac_chain.specs.Rows.{Chained, index_of, IsLive, IsSound, values_swapped, values_exchanged}
 use Rattle.ac_chain.specs.ChainFields.{HasName, IsOnce}
 use Rattle.ac_chain.proofs.Cuts.{index_here, index_past, has_live, live_has, once_at}
 use Rattle.ac_chain.proofs.Moves.{once_from}
-use Rattle.ac_base.specs.Rows.{row, names}
+use Rattle.ac_base.specs.Rows.{Row, row, names}
 use Rattle.ac_model.specs.Rows.{with_value, with_some_value, with_exchanged_values}
 use Rattle.ac_model.specs.Objects.{Object, plain, with_rows}
 use Rattle.ac_model.specs.Letters.{is_among, name_of}
 use Rattle.ac_model.specs.Calls.{IsAfter}
 use Rattle.ac_list.specs.Put.{plains}
-use Rattle.ac_list.specs.State.{row_of, object_of, needs_cursor, mark, name_in, IsList, HasSlots}
+use Rattle.ac_model.specs.Cursors.{needs_cursor, mark, name_in}
+use Rattle.ac_model.specs.Containers.{HasSlots}
+use Rattle.ac_list.specs.State.{object_of, IsList}
 use Rattle.ac_list.proofs.Standing.{Alone, alone, has_among, value_live, stands}
 use Rattle.ac_list.proofs.Grows.{all_from}
 
 module _ {X : Type 0} where
   -- the rows with another value under the name
-  abbrev set : List (chain.Row X) → Name → X → List (chain.Row X)
-  set rows a w = slice_set rows (index_of a rows) (chain.row a w)
+  abbrev set : List (Row Name X) → Name → X → List (Row Name X)
+  set rows a w = slice_set rows (index_of a rows) (row a w)
 
-  set_here : (a : Name) (w : X) (r : chain.Row X) (rows : List (chain.Row X)) → r.name ≡ a → set (r ∷ rows) a w ≡ chain.row a w ∷ rows
-  set_here a w r rows e = ap (λ i. slice_set (r ∷ rows) i (chain.row a w)) (index_here a r rows (sym e))
+  set_here : (a : Name) (w : X) (r : Row Name X) (rows : List (Row Name X)) → r.name ≡ a → set (r ∷ rows) a w ≡ row a w ∷ rows
+  set_here a w r rows e = ap (λ i. slice_set (r ∷ rows) i (row a w)) (index_here a r rows (sym e))
 
-  set_past : (a : Name) (w : X) (r : chain.Row X) (rows : List (chain.Row X)) → r.name.serial ≢ a.serial → set (r ∷ rows) a w ≡ r ∷ set rows a w
-  set_past a w r rows n = ap (λ i. slice_set (r ∷ rows) i (chain.row a w)) (index_past a r rows (λ e. n (ap (λ (k : Name). k.serial) (sym e))))
+  set_past : (a : Name) (w : X) (r : Row Name X) (rows : List (Row Name X)) → r.name.serial ≢ a.serial → set (r ∷ rows) a w ≡ r ∷ set rows a w
+  set_past a w r rows n = ap (λ i. slice_set (r ∷ rows) i (row a w)) (index_past a r rows (λ e. n (ap (λ (k : Name). k.serial) (sym e))))
 
-  set_has : (a : Name) (w : X) (rows : List (chain.Row X)) → Alone a rows → (b : Name) → HasName b (set rows a w) → HasName b rows
+  set_has : (a : Name) (w : X) (rows : List (Row Name X)) → Alone a rows → (b : Name) → HasName b (set rows a w) → HasName b rows
   unfolding Alone
   set_has a w [] h b t = t
   set_has a w (r ∷ rows) h b t = elim (cases_eq r.name.serial a.serial) [
@@ -44,7 +46,7 @@ module _ {X : Type 0} where
     | inr n ↦ elim (subst (λ zs. HasName b zs) (set_past a w r rows n) t) [ inl q ↦ inl q | inr q ↦ inr (set_has a w rows (λ d s. h d (inr s)) b q) ]
   ]
 
-  set_once : (a : Name) (w : X) (rows : List (chain.Row X)) → Alone a rows → IsOnce rows → IsOnce (set rows a w)
+  set_once : (a : Name) (w : X) (rows : List (Row Name X)) → Alone a rows → IsOnce rows → IsOnce (set rows a w)
   unfolding Alone
   set_once a w [] h once = once
   set_once a w (r ∷ rows) h once = elim (cases_eq r.name.serial a.serial) [
@@ -52,17 +54,17 @@ module _ {X : Type 0} where
     | inr n ↦ subst (λ zs. IsOnce zs) (sym (set_past a w r rows n)) ((λ t. once.0 (set_has a w rows (λ d s. h d (inr s)) r.name t)), set_once a w rows (λ d s. h d (inr s)) once.1)
   ]
 
-  set_alone : (a b : Name) (w : X) (rows : List (chain.Row X)) → Alone a rows → Alone b rows → Alone b (set rows a w)
+  set_alone : (a b : Name) (w : X) (rows : List (Row Name X)) → Alone a rows → Alone b rows → Alone b (set rows a w)
   unfolding Alone
   set_alone a b w rows h k = λ d t. k d (set_has a w rows h d t)
 
-  others : (s : ℕ) (w : X) (rows : List (chain.Row X)) → ((b : Name) → HasName b rows → b.serial ≢ s) → with_value (plains rows) s w ≡ plains rows
+  others : (s : ℕ) (w : X) (rows : List (Row Name X)) → ((b : Name) → HasName b rows → b.serial ≢ s) → with_value (plains rows) s w ≡ plains rows
   others s w [] h = refl
   others s w (r ∷ rows) h =
       let here : (if r.name.serial == s then row s w else row r.name.serial r.value) ≡ row r.name.serial r.value = cond-false _ _ _ (ne_eqb r.name.serial s (h r.name (inl refl))) in
       λ i. here i ∷ others s w rows (λ b t. h b (inr t)) i
 
-  set_value : (a : Name) (w : X) (rows : List (chain.Row X)) → Alone a rows → IsOnce rows → plains (set rows a w) ≡ with_value (plains rows) a.serial w
+  set_value : (a : Name) (w : X) (rows : List (Row Name X)) → Alone a rows → IsOnce rows → plains (set rows a w) ≡ with_value (plains rows) a.serial w
   unfolding Alone
   set_value a w [] h once = refl
   set_value a w (r ∷ rows) h once = elim (cases_eq r.name.serial a.serial) [
@@ -77,7 +79,7 @@ module _ {X : Type 0} where
         ap plains (set_past a w r rows n) ∙ (λ i. sym here i ∷ rest i)
   ]
 
-  value_there : (rows : List (chain.Row X)) (i : ℕ) → i < length rows → option_map (λ (r : chain.Row X). r.value) (slice_get rows i) ≢ None
+  value_there : (rows : List (Row Name X)) (i : ℕ) → i < length rows → option_map (λ (r : Row Name X). r.value) (slice_get rows i) ≢ None
   value_there [] i h = absurd (omega arith)
   value_there (r ∷ rows) zero h = λ e. none-some r.value (sym e)
   value_there (r ∷ rows) (suc i) h = value_there rows i (omega arith)
@@ -92,7 +94,7 @@ module _ {X : Type 0} where
       record {
         plainly = ap (λ rows. record { number = g.number; limit = l; capacity = None; next = k.next_serial; rows = rows; cursor_guards = g.cursor_guards; element_guards = g.element_guards })
             (second ∙ ap (λ rows. with_value rows b.serial x) first);
-        slots = all_from (λ name. name.serial < k.next_serial → IsTrue (is_among (names (map row_of k.rows)) name)) (set (set k.rows a y) b x)
+        slots = all_from (λ name. name.serial < k.next_serial → IsTrue (is_among (names k.rows) name)) (set (set k.rows a y) b x)
             (λ d t lt. has_among d k.rows (set_has a y k.rows ha d (set_has b x (set k.rows a y) (set_alone a b y k.rows ha hb) d t)));
       }
 
@@ -122,7 +124,7 @@ module _ {X : Type 0} where
   set_list l k a w s live =
       let ha = alone k a s.sound live in
       let back = λ (b : Name) (t : IsLive (chain.with_value k a w) b). has_live b k.rows (set_has a w k.rows ha b (live_has b (set k.rows a w) t)) in
-      let count = length-set k.rows (index_of a k.rows) (chain.row a w) in
+      let count = length-set k.rows (index_of a k.rows) (row a w) in
       let few = s.sound.few in
       let within = s.within_greatest in
       record {
@@ -141,7 +143,7 @@ module _ {X : Type 0} where
     where
       slots_kept : (l : Limit) → HasSlots l (length k.rows) k.spare → HasSlots l (length (chain.with_value k a w).rows) (chain.with_value k a w).spare
       slots_kept Unbounded h = tt
-      slots_kept (Bounded most) h = ap (λ n. n + k.spare) (length-set k.rows (index_of a k.rows) (chain.row a w)) ∙ h
+      slots_kept (Bounded most) h = ap (λ n. n + k.spare) (length-set k.rows (index_of a k.rows) (row a w)) ∙ h
 
   pub set_after : (g : GuardCounts) (l : Limit) (k now : Chained X) (o : Object Name X) → object_of g l k ≡ o → IsSound k → (c : Cursor) (a : Name) (w : X) → a ≡ name_in c
       → needs_cursor o c ≡ None → now ≡ chain.with_value k a w → IsAfter o (object_of g l now) (with_rows (plain o) (with_value (plain o).rows (name_of (mark o c)) w))
@@ -157,5 +159,5 @@ module _ {X : Type 0} where
           subst (λ (d : Chained X). IsAfter (object_of g l k) (object_of g l d) (with_rows (plain (object_of g l k)) (with_value (plains k.rows) (name_of (mark (object_of g l k) c)) w))) (sym e) (record {
             plainly = ap (λ rows. record { number = g.number; limit = l; capacity = None; next = k.next_serial; rows = rows; cursor_guards = g.cursor_guards; element_guards = g.element_guards })
                 (set_value a w k.rows ha (once_from k.rows s.once) ∙ ap (λ n. with_value (plains k.rows) n w) (sym named));
-            slots = all_from (λ name. name.serial < k.next_serial → IsTrue (is_among (names (map row_of k.rows)) name)) (set k.rows a w) (λ d t lt. has_among d k.rows (set_has a w k.rows ha d t));
+            slots = all_from (λ name. name.serial < k.next_serial → IsTrue (is_among (names k.rows) name)) (set k.rows a w) (λ d t lt. has_among d k.rows (set_has a w k.rows ha d t));
           })

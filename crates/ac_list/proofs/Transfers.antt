@@ -16,6 +16,7 @@ use Rattle.ac_list.proofs.Puts.{put_none, put_one, put_length, put_live, first_s
 use Rattle.ac_list.proofs.Refills.{Refilled, refilled}
 use Rattle.ac_list.proofs.Walks.{ahead, forward_first}
 use Rattle.ac_list.proofs.Searches.{some_value}
+use Rattle.ac_base.specs.Rows.{Row, row}
 
 module _ {X : Type 0} where
   -- so far: these values are gone from the source, the first one first
@@ -30,7 +31,7 @@ module _ {X : Type 0} where
 
   -- the source without its first row
   pub record Taken (s : Chained X) (first : Name) (v : X) (s1 : Chained X) : Type 0 where
-    pub row : chain.Row X
+    pub row : Row Name X
     pub is : s.rows ≡ row ∷ s1.rows
     pub value : row.value ≡ v
     pub removed : s1 ≡ removed s first
@@ -64,17 +65,17 @@ module _ {X : Type 0} where
         sound = t.sound;
       }
 
-  count_values : (rows : List (chain.Row X)) → length (values_in rows) ≡ length rows
-  count_values rows = length-map rows (λ (r : chain.Row X). r.value)
+  count_values : (rows : List (Row Name X)) → length (values_in rows) ≡ length rows
+  count_values rows = length-map rows (λ (r : Row Name X). r.value)
 
   pub leaving_count : (s0 s : Chained X) (moved : List X) → Leaving s0 moved s → length s0.rows ≡ length moved + length s.rows
   leaving_count s0 s moved m = sym (count_values s0.rows) ∙ ap length m.order ∙ length-append moved (values_in s.rows) ∙ ap (λ n. length moved + n) (count_values s.rows)
 
-  pub none_left : (rows : List (chain.Row X)) → None ≡ name_at rows 0 → rows ≡ []
+  pub none_left : (rows : List (Row Name X)) → None ≡ name_at rows 0 → rows ≡ []
   none_left [] e = refl
   none_left (r ∷ rows) e = absurd (none-some r.name e)
 
-  pub some_left : (rows : List (chain.Row X)) (first : Name) → Some first ≡ name_at rows 0 → 0 < length rows
+  pub some_left : (rows : List (Row Name X)) (first : Name) → Some first ≡ name_at rows 0 → 0 < length rows
   some_left [] first e = absurd (none-some first (sym e))
   some_left (r ∷ rows) first e = omega arith
 
@@ -113,7 +114,7 @@ module _ {X : Type 0} where
     pub moving_serials : (first : Name) → Some first ≡ name_at s.rows 0 → t0.next_serial + length s0.rows < 2 ^ 64 → t.next_serial < 2 ^ 64 - 1
     moving_serials first e h = let count = leaving_count s0 s m.moved m.leaving in let some = some_left s.rows first e in let risen = m.put.risen in omega arith
 
-    pub moving_more : (first : Name) (v : X) (s1 t1 : Chained X) (a : Name) → 0 < t.spare → Taken s first v s1 → IsFresh t a → t1 ≡ inserted t place (chain.row a v) → IsSound t1 → Moving t0 place s0 t1 s1
+    pub moving_more : (first : Name) (v : X) (s1 t1 : Chained X) (a : Name) → 0 < t.spare → Taken s first v s1 → IsFresh t a → t1 ≡ inserted t place (row a v) → IsSound t1 → Moving t0 place s0 t1 s1
     moving_more first v s1 t1 a some tk fresh_name et sound =
         let put = put_one t0.rows t0.next_serial place m.moved t t1 a v m.target m.put fresh_name et in
         let here = moving_length in
@@ -154,7 +155,7 @@ module _ {X : Type 0} where
     pub grown : HasGrown c 1 now
 
   pub one_moved : (c d now : Chained X) (place : Option Name) (value : Option X) (a : Name) (v : X) → d ≡ reserved c 1 → ForSome place (IsLive c) → IsSound d → Some v ≡ value → IsFresh d a
-      → now ≡ inserted d place (chain.row a v) → OneMoved c place (one_value value) a now
+      → now ≡ inserted d place (row a v) → OneMoved c place (one_value value) a now
   one_moved c d now place value a v is live sound ev fresh_name e =
       let there = reserved_live c d 1 place is live in
       let from = reserved_enough c d 1 is in

@@ -6,7 +6,7 @@ use Rattle.std.proofs.lemmas.List.{length-map}
 use Rattle.ac_base.specs.declared.limit.Limit.{Limit}
 use Rattle.ac_base.specs.declared.limit.Limit.TheVariants.{Unbounded, Bounded}
 use Rattle.ac_base.specs.declared.name.Name.{Name}
-use Rattle.ac_cursor.specs.Guards.{GuardCounts}
+use Rattle.ac_base.specs.Guards.{GuardCounts}
 use Rattle.ac_chain.specs.Rows as chain
 use Rattle.ac_chain.specs.Rows.{Chained}
 use Rattle.ac_chain.specs.ChainFields.{HasName, IsOnce}
@@ -15,11 +15,13 @@ use Rattle.ac_chain.proofs.Moves.{once_from}
 use Rattle.ac_base.specs.Limits.{is_past}
 use Rattle.ac_model.specs.Objects.{Object, plain, times, IsValid}
 use Rattle.ac_list.specs.Put.{plains}
-use Rattle.ac_list.specs.State.{row_of, object_of, IsList, HasSlots}
+use Rattle.ac_model.specs.Containers.{HasSlots}
+use Rattle.ac_list.specs.State.{object_of, IsList}
 use Rattle.ac_list.proofs.Puts.{length-plains}
+use Rattle.ac_base.specs.Rows.{Row}
 
 module _ {X : Type 0} where
-  times_none : (s : ℕ) (rows : List (chain.Row X)) → ((a : Name) → HasName a rows → a.serial ≢ s) → times s (plains rows) ≡ 0
+  times_none : (s : ℕ) (rows : List (Row Name X)) → ((a : Name) → HasName a rows → a.serial ≢ s) → times s (plains rows) ≡ 0
   times_none s [] h = refl
   times_none s (r ∷ rows) h =
       let here : (if r.name.serial == s then 1 else 0) ≡ 0 = cond-false (r.name.serial == s) 1 0 (ne_eqb r.name.serial s (h r.name (inl refl))) in
@@ -29,7 +31,7 @@ module _ {X : Type 0} where
       here_and : {m n : ℕ} → m ≡ 0 → n ≡ 0 → m + n ≡ 0
       here_and e f = omega arith
 
-  times_once : (s : ℕ) (rows : List (chain.Row X)) → IsOnce rows → ((a b : Name) → HasName a rows → HasName b rows → a.serial ≡ b.serial → a ≡ b) → times s (plains rows) ≤ 1
+  times_once : (s : ℕ) (rows : List (Row Name X)) → IsOnce rows → ((a b : Name) → HasName a rows → HasName b rows → a.serial ≡ b.serial → a ≡ b) → times s (plains rows) ≤ 1
   times_once s [] once same = omega arith
   times_once s (r ∷ rows) once same = elim (cases_eq r.name.serial s) [
     | inl e ↦ at_most 1 0 (cond-true (r.name.serial == s) 1 0 (eq-eqb r.name.serial s e)) (le_of_eq (times_none s rows (λ a t q. once.0 (subst (λ n. HasName n rows) (same a r.name (inr t) (inl refl) (q ∙ sym e)) t)))) (omega arith)
@@ -55,6 +57,6 @@ module _ {X : Type 0} where
     capacity_fits = tt;
   })
 
-  pub has_slots : (l : Limit) (k : Chained X) → IsList l k → HasSlots l (length (map row_of k.rows)) k.spare
+  pub has_slots : (l : Limit) (k : Chained X) → IsList l k → HasSlots l (length k.rows) k.spare
   has_slots Unbounded k s = tt
-  has_slots (Bounded most) k s = let count = length-map k.rows row_of in let sum = s.has_slots in omega arith
+  has_slots (Bounded most) k s = s.has_slots

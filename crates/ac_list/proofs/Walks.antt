@@ -17,14 +17,14 @@ same_name a b e = cc
 
 module _ {X : Type 0} where
   -- a walk forward at a place: these rows are left
-  pub record Forward (c : Chained X) (place : Option Name) (left : List (Row X)) : Type 0 where
-    pub before : List (Row X)
+  pub record Forward (c : Chained X) (place : Option Name) (left : List (Row Name X)) : Type 0 where
+    pub before : List (Row Name X)
     pub is : c.rows ≡ before ++ left
     pub at : place ≡ first_or left None
 
   -- and one back
-  pub record Backward (c : Chained X) (place : Option Name) (left : List (Row X)) : Type 0 where
-    pub after : List (Row X)
+  pub record Backward (c : Chained X) (place : Option Name) (left : List (Row Name X)) : Type 0 where
+    pub after : List (Row Name X)
     pub is : c.rows ≡ reverse left ++ after
     pub at : place ≡ first_or left None
 
@@ -37,7 +37,7 @@ module _ {X : Type 0} where
   pub forward_first : (c : Chained X) (place : Option Name) → place ≡ name_at c.rows 0 → Forward c place c.rows
   forward_first c place e = record { before = []; is = refl; at = e ∙ name_at-first c.rows }
 
-  cut_at : (c : Chained X) → IsOnce c.rows → (a : Name) (before : List (Row X)) (r : Row X) (after : List (Row X)) → c.rows ≡ before ++ r ∷ after → a ≡ r.name → Cut a c.rows
+  cut_at : (c : Chained X) → IsOnce c.rows → (a : Name) (before : List (Row Name X)) (r : Row Name X) (after : List (Row Name X)) → c.rows ≡ before ++ r ∷ after → a ≡ r.name → Cut a c.rows
   cut_at c once a before r after is e =
       let once_cut : IsOnce (before ++ r ∷ after) = subst (λ zs. IsOnce zs) is once in
       record {
@@ -50,16 +50,16 @@ module _ {X : Type 0} where
       }
 
   -- the row at the place of a walk forward, and the walk behind it
-  pub record Ahead (c : Chained X) (a : Name) (left : List (Row X)) : Type 0 where
-    pub row : Row X
-    pub rest : List (Row X)
+  pub record Ahead (c : Chained X) (a : Name) (left : List (Row Name X)) : Type 0 where
+    pub row : Row Name X
+    pub rest : List (Row Name X)
     pub is : left ≡ row ∷ rest
     pub named : a ≡ row.name
     pub value : value_of c a ≡ Some row.value
     pub live : IsLive c a
     pub next : Forward c (next_name c a) rest
 
-  pub ahead : (c : Chained X) → IsOnce c.rows → (a : Name) (left : List (Row X)) → Forward c (Some a) left → Ahead c a left
+  pub ahead : (c : Chained X) → IsOnce c.rows → (a : Name) (left : List (Row Name X)) → Forward c (Some a) left → Ahead c a left
   unfolding cut_at
   ahead c once a [] f = absurd (none-some a (sym f.at))
   ahead c once a (r ∷ rest) f =
@@ -70,17 +70,17 @@ module _ {X : Type 0} where
         rest = rest;
         is = refl;
         named = same;
-        value = ap (option_map (λ (q : Row X). q.value)) (cut-row a c.rows k);
+        value = ap (option_map (λ (q : Row Name X). q.value)) (cut-row a c.rows k);
         live = has_live a c.rows (subst (λ zs. HasName a zs) (sym f.is) (HasName-right a f.before (r ∷ rest) (inl same)));
         next = record { before = f.before ++ r ∷ []; is = f.is ∙ sym (append_assoc f.before (r ∷ []) rest); at = next_name-cut c a k };
       }
 
-  pub forward_end : (c : Chained X) (left : List (Row X)) → Forward c None left → left ≡ []
+  pub forward_end : (c : Chained X) (left : List (Row Name X)) → Forward c None left → left ≡ []
   forward_end c [] f = refl
   forward_end c (r ∷ rest) f = absurd (none-some r.name f.at)
 
   -- how many rows are left
-  pub forward_left : (c : Chained X) (place : Option Name) (left : List (Row X)) → IsOnce c.rows → Forward c place left → length c.rows - place_of place c.rows ≡ length left
+  pub forward_left : (c : Chained X) (place : Option Name) (left : List (Row Name X)) → IsOnce c.rows → Forward c place left → length c.rows - place_of place c.rows ≡ length left
   unfolding cut_at
   forward_left c place [] once f = let e : place_of place c.rows ≡ length c.rows = ap (λ p. place_of p c.rows) f.at in let none : length c.rows - length c.rows ≡ 0 = omega arith in ap (λ n. length c.rows - n) e ∙ none
   forward_left c place (r ∷ rest) once f =
@@ -91,23 +91,23 @@ module _ {X : Type 0} where
       omega arith
 
   -- the row at the place of a walk back, and the walk before it
-  pub record Behind (c : Chained X) (a : Name) (left : List (Row X)) : Type 0 where
-    pub row : Row X
-    pub rest : List (Row X)
+  pub record Behind (c : Chained X) (a : Name) (left : List (Row Name X)) : Type 0 where
+    pub row : Row Name X
+    pub rest : List (Row Name X)
     pub is : left ≡ row ∷ rest
     pub named : a ≡ row.name
     pub value : value_of c a ≡ Some row.value
     pub live : IsLive c a
     pub next : Backward c (prev_name c a) rest
 
-  reverse-cons : (r : Row X) (rest after : List (Row X)) → reverse (r ∷ rest) ++ after ≡ reverse rest ++ r ∷ after
+  reverse-cons : (r : Row Name X) (rest after : List (Row Name X)) → reverse (r ∷ rest) ++ after ≡ reverse rest ++ r ∷ after
   reverse-cons r rest after = ap (λ zs. zs ++ after) (reverse-append (r ∷ []) rest) ∙ append_assoc (reverse rest) (r ∷ []) after
 
-  last_reverse : (rows : List (Row X)) → last_or None (reverse rows) ≡ first_or rows None
+  last_reverse : (rows : List (Row Name X)) → last_or None (reverse rows) ≡ first_or rows None
   last_reverse [] = refl
   last_reverse (r ∷ rows) = ap (last_or None) (reverse-append (r ∷ []) rows) ∙ last_or-append None (reverse rows) (r ∷ [])
 
-  pub behind : (c : Chained X) → IsOnce c.rows → (a : Name) (left : List (Row X)) → Backward c (Some a) left → Behind c a left
+  pub behind : (c : Chained X) → IsOnce c.rows → (a : Name) (left : List (Row Name X)) → Backward c (Some a) left → Behind c a left
   unfolding cut_at
   behind c once a [] f = absurd (none-some a (sym f.at))
   behind c once a (r ∷ rest) f =
@@ -119,16 +119,16 @@ module _ {X : Type 0} where
         rest = rest;
         is = refl;
         named = same;
-        value = ap (option_map (λ (q : Row X). q.value)) (cut-row a c.rows k);
+        value = ap (option_map (λ (q : Row Name X). q.value)) (cut-row a c.rows k);
         live = has_live a c.rows (subst (λ zs. HasName a zs) (sym is) (HasName-right a (reverse rest) (r ∷ f.after) (inl same)));
         next = record { after = r ∷ f.after; is = is; at = (λ i. name_before (is i) (k.place i)) ∙ name_before-cut (reverse rest) (r ∷ f.after) ∙ last_reverse rest };
       }
 
-  pub backward_end : (c : Chained X) (left : List (Row X)) → Backward c None left → left ≡ []
+  pub backward_end : (c : Chained X) (left : List (Row Name X)) → Backward c None left → left ≡ []
   backward_end c [] f = refl
   backward_end c (r ∷ rest) f = absurd (none-some r.name f.at)
 
-  pub backward_left : (c : Chained X) (place : Option Name) (left : List (Row X)) → IsOnce c.rows → Backward c place left → count_to place c.rows ≡ length left
+  pub backward_left : (c : Chained X) (place : Option Name) (left : List (Row Name X)) → IsOnce c.rows → Backward c place left → count_to place c.rows ≡ length left
   unfolding cut_at
   backward_left c place [] once f = ap (λ p. count_to p c.rows) f.at
   backward_left c place (r ∷ rest) once f =

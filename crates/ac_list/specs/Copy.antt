@@ -10,7 +10,7 @@ use Rattle.ac_chain.specs.Rows.{Chained}
 use Rattle.ac_model.specs.Rows.{fresh}
 use Rattle.ac_model.specs.Objects.{Object, plain}
 use Rattle.ac_model.specs.Calls.{Call, Done}
-use Rattle.ac_list.specs.State.{Listed}
+use Rattle.ac_model.specs.Containers.{Container}
 use Rattle.ac_list.specs.Put.{plains}
 
 -- want of memory as a fault
@@ -30,7 +30,7 @@ module _ {X : Type 0} where
     pub next : now.next_serial ≡ c.next_serial + length vs
 
   -- Ok, no reason and the object that the call means; or the first reason; or want of memory, where the call may take some, and no reason
-  abbrev pub Making : Call (Object ℕ X) Done → Result (Listed X) Fault → Type 0
+  abbrev pub Making : Call (Object ℕ X) Done → Result (Container X) Fault → Type 0
   Making c (Ok made) = (c.reason ≡ None) × (plain made.object ≡ c.after)
   Making c (Err (fault.Raised reason)) = c.reason ≡ Some reason
   Making c (Err fault.NoMemory) = IsTrue c.memory × (c.reason ≡ None)

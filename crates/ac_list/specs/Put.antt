@@ -8,7 +8,7 @@ use Rattle.ac_chain.specs.Rows as chain
 use Rattle.ac_chain.specs.Rows.{Chained, IsLive, place_of}
 use Rattle.ac_chain.specs.ChainFields.{first_or}
 use Rattle.ac_model.specs.Rows as model
-use Rattle.ac_base.specs.Rows.{Row, names}
+use Rattle.ac_base.specs.Rows.{row, Row, names}
 use Rattle.ac_model.specs.Rows.{fresh}
 use Rattle.ac_base.specs.Limits.{is_past, numbers_end}
 use Rattle.ac_base.specs.declared.limit.TheConstants.{GREATEST_LENGTH}
@@ -16,28 +16,23 @@ use Rattle.ac_model.specs.Objects.{Object, plain_row, plain, length_of}
 use Rattle.ac_model.specs.Letters.{Mark, no_mark, is_among, has_room}
 use Rattle.ac_model.specs.Calls.{Call, call, Done}
 use Rattle.ac_model.specs.Sequences.{with_new, first_new}
-use Rattle.ac_list.specs.State.{Listed, row_of}
+use Rattle.ac_model.specs.Cursors.{spot}
 
 -- the answer let go
 abbrev pub done : {A : Type 0} → Result A Fault → Result Done Fault
 done (Ok x) = Ok tt
 done (Err e) = Err e
 
--- the cursor of the first of so many, and this one where there is none
-abbrev pub cursor_of_first : ℕ → Cursor → Cursor → Cursor
-cursor_of_first zero first none = none
-cursor_of_first (suc count) first none = first
-
 module _ {X : Type 0} where
   -- the chain's rows as the definitions see them
-  abbrev pub plains : List (chain.Row X) → List (Row ℕ X)
-  plains rows = map plain_row (map row_of rows)
+  abbrev pub plains : List (Row Name X) → List (Row ℕ X)
+  plains rows = map plain_row rows
 
   -- of these rows and this next serial, the chain with the values as new rows before the place
-  pub record IsPut (rows : List (chain.Row X)) (next : ℕ) (place : Option Name) (vs : List X) (now : Chained X) : Type 0 where
-    pub before : List (chain.Row X)
-    pub more : List (chain.Row X)
-    pub after : List (chain.Row X)
+  pub record IsPut (rows : List (Row Name X)) (next : ℕ) (place : Option Name) (vs : List X) (now : Chained X) : Type 0 where
+    pub before : List (Row Name X)
+    pub more : List (Row Name X)
+    pub after : List (Row Name X)
     pub were : rows ≡ before ++ after
     pub are : now.rows ≡ before ++ more ++ after
     pub at : place_of place rows ≡ length before
@@ -60,23 +55,6 @@ module _ {X : Type 0} where
   HasFirst next zero now first = first ≡ None
   HasFirst next (suc count) now None = ⊥
   HasFirst next (suc count) now (Some a) = IsFirst next now a
-
-  -- the slots of a list
-  abbrev pub slots_of : Listed X → ℕ
-  slots_of l = length_of l.object + l.spare
-
-  -- a call that adds elements leaves no more slots than there were, or than the least 8 * 2 ^ k with room for all elements; one that fails leaves the slots as they were
-  abbrev pub Grows : {A : Type 0} → Result A Fault → Listed X → Listed X → Type 0
-  Grows (Ok x) old new = slots_of new ≤ max (slots_of old) (pow8 (length_of new.object))
-  Grows (Err e) old new = slots_of new ≡ slots_of old
-
-  -- the place before a name of the object, and the end
-  abbrev pub spot : Object Name X → Option Name → ℕ
-  spot o None = length_of (plain o)
-  spot o (Some a) = model.place_of (plain o).rows a.serial
-
-  abbrev pub IsNamed : Object Name X → Name → Type 0
-  IsNamed o a = IsTrue (is_among (names o.rows) a)
 
   -- an object that takes so many more
   pub record Takes (o : Object Name X) (n : ℕ) : Type 0 where

@@ -4,7 +4,6 @@
 mod cut;
 mod list;
 mod put;
-mod reasons;
 mod refill;
 
 pub use list::List;

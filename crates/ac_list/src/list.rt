@@ -1,10 +1,12 @@
 //! The list. A contract sees its object, with the slots of its names, and how many elements more it takes without memory.
 ghost use Rattle.std.specs.Prelude.{◌≡◌, ◌∷◌, [], ℕ, ◌+◌, ◌≤◌, None, pos, IfOk, IfErr, OnErr, IsOk, length, false, refl};
 ghost use Rattle.ac_base.specs.Limits.{IsLimit};
-ghost use Rattle.ac_list.specs.State.{HasSlots, first_spare, with_guards, guards_of, mark, needs_cursor, may_cursor, cursor_at, name_in, place_in};
-ghost use Rattle.ac_list.specs.Searches.{IsEquality, same_by};
+ghost use Rattle.ac_model.specs.Cursors.{mark, needs_cursor, may_cursor, cursor_at, name_in, place_in};
+ghost use Rattle.ac_model.specs.Containers.{HasSlots, first_spare, with_guards, guards_of};
 ghost use Rattle.std.specs.Option.{ForSome};
-ghost use Rattle.ac_list.specs.Put.{IsNamed, Takes, Grows, put_call, done, cursor_of_first, spot};
+ghost use Rattle.ac_model.specs.Cursors.{IsNamed, cursor_of_first, spot};
+ghost use Rattle.ac_model.specs.Containers.{Grows};
+ghost use Rattle.ac_list.specs.Put.{Takes, put_call, done};
 ghost use Rattle.ac_model.specs.Letters.{tampers_cursors, tampers_elements, place_at};
 ghost use Rattle.ac_model.specs.Sequences.{room_for_copies};
 ghost use Rattle.ac_base.specs.FirstReason.{first_reason};
@@ -24,10 +26,10 @@ mod transfers;
 mod values;
 
 use crate::put::put_copies;
-use crate::reasons::{count_of, in_range, names_spent, too_long, too_many};
 use ac_base::{Elem, Fault, Limit, Name, Reason};
 use ac_chain::Chain;
 use ac_cursor::{Class, Cursor, GuardKey, GuardKind, Guarded, Guards, Tag, first_reason};
+use ac_model::{count_of, cursor_at, cursor_of_first, in_range, judge, name_in, place_in, room};
 use std::alloc::Global;
 use std::marker::Model;
 
@@ -41,13 +43,14 @@ pub struct List<T> {
 }
 
 impl<T> Model for List<T> {
-    ghost use Rattle.ac_list.specs.State.{Listed, listed, listed_code, object_of, IsList};
+    ghost use Rattle.ac_model.specs.Containers.{Container, container, container_code};
+    ghost use Rattle.ac_list.specs.State.{object_of, IsList};
 
-    ghost Value = { Listed T };
+    ghost Value = { Container T };
 
-    ghost coded = { listed_code T.code };
+    ghost coded = { container_code T.code };
 
-    ghost view = { λ l. listed (object_of l.guards l.limit l.chain) l.chain.spare };
+    ghost view = { λ l. container (object_of l.guards l.limit l.chain) l.chain.spare };
 
     ghost invariant = { λ l. IsList l.limit l.chain };
 }
@@ -83,7 +86,6 @@ impl<T> List<T> {
         ensures valid { IsValid (plain self.now.object) }
         ensures limit { IsLimit self.now.object.limit }
         ensures slots { HasSlots self.now.object.limit (length_of self.now.object) self.now.spare }
-        ensures equality { IsEquality (same_by T.row.coded) }
     {
         let _chain = &self.chain;
     }
@@ -230,26 +232,13 @@ impl<T> List<T> {
     fn judge(&self, object: u64, name: Name) -> Option<Reason>
         ensures { result ≡ needs_cursor self.now.object (Cursor.At object name) }
     {
-        if object != self.guards.number() {
-            return Some(Reason::ForeignCursor);
-        }
-        if self.chain.is_live(name) {
-            None
-        } else {
-            Some(Reason::DeadCursor)
-        }
+        judge(self.guards.number(), object, self.chain.is_live(name))
     }
 
     fn cursor_at(&self, name: Option<Name>) -> Cursor
         ensures { result ≡ cursor_at self.now.object.number name }
     {
-        match name {
-            None => Cursor::NoElement,
-            Some(name) => Cursor::At {
-                object: self.guards.number(),
-                name,
-            },
-        }
+        cursor_at(self.guards.number(), name)
     }
 }
 
@@ -259,31 +248,6 @@ fn done(put: Result<Cursor, Fault>) -> Result<(), Fault>
     match put {
         Ok(_) => Ok(()),
         Err(fault) => Err(fault),
-    }
-}
-
-/// The cursor of the first of so many, and this one where there is none.
-fn cursor_of_first(count: u64, first: Cursor, none: Cursor) -> Cursor
-    ensures { result ≡ cursor_of_first count first none }
-{
-    if count == 0 { none } else { first }
-}
-
-fn place_in(c: Cursor) -> Option<Name>
-    ensures { result ≡ place_in c }
-{
-    match c {
-        Cursor::NoElement => None,
-        Cursor::At { object: _, name } => Some(name),
-    }
-}
-
-fn name_in(c: Cursor) -> Name
-    ensures { result ≡ name_in c }
-{
-    match c {
-        Cursor::NoElement => Name { slot: 0, serial: 0 },
-        Cursor::At { object: _, name } => name,
     }
 }
 
@@ -418,9 +382,7 @@ impl<T: Elem> List<T> {
             self.guards.forbids(Class::Cursors),
             place,
             in_range(n),
-            too_long(length),
-            too_many(self.limit, length),
-            names_spent(self.chain.next_serial(), more),
+            room(self.limit, self.chain.next_serial(), length, more),
         ])
     }
 

@@ -4,7 +4,7 @@ use Rattle.ac_base.specs.declared.limit.Limit.{Limit}
 use Rattle.ac_base.specs.declared.limit.Limit.TheVariants.{Unbounded, Bounded}
 use Rattle.ac_base.specs.declared.reason.Reason.TheVariants.{CapacityFull}
 use Rattle.ac_base.specs.declared.guard.GuardKind.{GuardKind}
-use Rattle.ac_base.specs.declared.guard.GuardKind.TheVariants as kind
+use Rattle.ac_base.specs.Guards.{GuardCounts, one_more, one_less, raised_kind}
 use Rattle.ac_base.specs.FirstReason.{first_reason}
 use Rattle.ac_model.specs.Rows.{fresh}
 use Rattle.ac_base.specs.Limits.{is_past}
@@ -93,14 +93,17 @@ copy_call o number capacity =
     (copied o number capacity)
     tt
 
+-- the object with other counts of guards
+abbrev pub under_guards : {V : Type 0} → Object ℕ V → GuardCounts → Object ℕ V
+under_guards o guards = record o { cursor_guards = guards.cursor_guards; element_guards = guards.element_guards }
+
+abbrev pub guards_on : {V : Type 0} → Object ℕ V → GuardCounts
+guards_on o = record { number = o.number; cursor_guards = o.cursor_guards; element_guards = o.element_guards }
+
 -- a guard is held: a set has cursor guards alone
 abbrev pub hold_call : {V : Type 0} → Bool → GuardKind → Object ℕ V → Object ℕ V
-hold_call is_set kind.Cursors o = record o { cursor_guards = o.cursor_guards + 1 }
-hold_call true kind.Elements o = record o { cursor_guards = o.cursor_guards + 1 }
-hold_call false kind.Elements o = record o { element_guards = o.element_guards + 1 }
+hold_call is_set kind o = under_guards o (one_more (raised_kind is_set kind) (guards_on o))
 
 -- and released
 abbrev pub release_call : {V : Type 0} → Bool → GuardKind → Object ℕ V → Object ℕ V
-release_call is_set kind.Cursors o = record o { cursor_guards = o.cursor_guards - 1 }
-release_call true kind.Elements o = record o { cursor_guards = o.cursor_guards - 1 }
-release_call false kind.Elements o = record o { element_guards = o.element_guards - 1 }
+release_call is_set kind o = under_guards o (one_less (raised_kind is_set kind) (guards_on o))

@@ -3,6 +3,7 @@ use Rattle.std.specs.Prelude.{◌==◌, ◌+◌, ◌-◌, ℕ, ℤ, pos, negsuc,
 use Rattle.std.specs.List.{list_any}
 use Rattle.ac_base.specs.declared.reason.Reason.{Reason}
 use Rattle.ac_base.specs.declared.reason.Reason.TheVariants.{NoElement, ForeignCursor, DeadCursor, IndexRange, LengthRange, CapacityFull, NamesSpent}
+use Rattle.ac_base.specs.declared.limit.Limit.{Limit}
 use Rattle.ac_base.specs.declared.limit.Limit.TheVariants.{Unbounded, Bounded}
 use Rattle.ac_base.specs.declared.name.Name.{Name}
 use Rattle.ac_base.specs.declared.cursor.Cursor.{Cursor}
@@ -114,13 +115,16 @@ index_in index last = reason_if (not (is_index index last)) IndexRange
 abbrev pub place_of_index : ℤ → ℕ
 place_of_index index = count_of index - 1
 
--- a new length, and so many new names
-abbrev pub room : {V : Type 0} → Object ℕ V → ℕ → ℕ → List (Option Reason)
-room o length more =
+-- a new length, and so many new names, under a limit and from the next name on
+abbrev pub room_in : Limit → ℕ → ℕ → ℕ → List (Option Reason)
+room_in limit next length more =
     reason_if (nat_lt GREATEST_LENGTH length) LengthRange
-    ∷ reason_if (is_past o.limit length) CapacityFull
-    ∷ reason_if (nat_lt numbers_end (o.next + more)) NamesSpent
+    ∷ reason_if (is_past limit length) CapacityFull
+    ∷ reason_if (nat_lt numbers_end (next + more)) NamesSpent
     ∷ []
+
+abbrev pub room : {V : Type 0} → Object ℕ V → ℕ → ℕ → List (Option Reason)
+room o length more = room_in o.limit o.next length more
 
 -- one more element
 abbrev pub room_for_one : {V : Type 0} → Object ℕ V → List (Option Reason)

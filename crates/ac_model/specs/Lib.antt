@@ -2,6 +2,9 @@ pub mod Rows
 pub mod Objects
 pub mod Letters
 pub mod Calls
+pub mod Containers
+pub mod Cursors
+pub mod Forms
 pub mod Common
 pub mod Sequences
 pub mod Lists

@@ -1,7 +1,8 @@
-//! What every container call means: definitions alone, in `specs/`. The functions here have empty bodies.
-//! Their contracts are laws of the definitions and worked examples, so that the check proves them.
+//! What every container call means: definitions in `specs/`, and as code the reasons that are tests of numbers.
+//! Functions with empty bodies are laws of the definitions and worked examples, which the check proves.
 #![tactic(auto)]
 
+mod cursors;
 pub mod holder_examples;
 pub mod keyed_validity;
 pub mod list_examples;
@@ -9,9 +10,15 @@ pub mod map_examples;
 pub mod order_examples;
 pub mod plain_validity;
 pub mod queue_examples;
+mod refusals;
 pub mod row_laws;
 pub mod set_examples;
 pub mod tree_examples;
 pub mod tree_validity;
 pub mod validity;
 pub mod vector_examples;
+
+pub use cursors::{cursor_at, cursor_of_first, name_in, place_in};
+pub use refusals::{
+    allowed, count_of, in_range, index_in, judge, limit_of_copy, reason_if, room, too_many, too_small,
+};

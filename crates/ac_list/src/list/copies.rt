@@ -1,7 +1,7 @@
 //! Copies of a list, and the calls of a list with itself.
 ghost use Rattle.std.specs.Prelude.{◌≡◌, ◌∷◌, [], ◌≤◌, ◌&&◌, not, max, nat_lt, IfOk};
 ghost use Rattle.ac_base.specs.Growth.{pow8};
-ghost use Rattle.ac_list.specs.Put.{Grows, slots_of};
+ghost use Rattle.ac_model.specs.Containers.{Grows, slots_of};
 ghost use Rattle.ac_list.specs.Copy.{Making, as_fault};
 ghost use Rattle.ac_base.specs.FirstReason.{first_reason};
 ghost use Rattle.ac_base.specs.declared.limit.TheConstants.{GREATEST_LENGTH};
@@ -10,13 +10,12 @@ ghost use Rattle.ac_model.specs.Letters.{tampers_cursors, room, reason_if};
 ghost use Rattle.ac_model.specs.Calls.{Changing, Same};
 ghost use Rattle.ac_model.specs.Common as common;
 ghost use Rattle.ac_model.specs.Sequences as sequences;
-ghost use Rattle.ac_model.specs.Common.{limit_of_copy};
 
 use super::List;
-use crate::reasons::{names_spent, reason_if, too_long, too_many};
 use crate::refill::refill;
 use ac_base::{Elem, Fault, Limit, NoMemory, Reason};
 use ac_cursor::{Class, Tag, first_reason};
+use ac_model::{limit_of_copy, reason_if, room, too_small};
 use std::alloc::Global;
 
 impl<T: Elem> List<T> {
@@ -52,9 +51,7 @@ impl<T: Elem> List<T> {
     {
         first_reason(&[
             self.guards.forbids(Class::Cursors),
-            too_long(length),
-            too_many(self.limit, length),
-            names_spent(self.chain.next_serial(), length),
+            room(self.limit, self.chain.next_serial(), length, length),
         ])
     }
 }
@@ -65,22 +62,6 @@ pub(crate) fn as_fault(filled: Result<(), NoMemory>) -> Result<(), Fault>
     match filled {
         Ok(()) => Ok(()),
         Err(_) => Err(Fault::NoMemory),
-    }
-}
-
-/// A capacity that is asked for, and too small.
-fn too_small(capacity: u64, length: u64) -> Option<Reason>
-    ensures { result ≡ reason_if (nat_lt 0 capacity && nat_lt capacity length) Reason.CapacityFull }
-{
-    reason_if(capacity > 0 && capacity < length, Reason::CapacityFull)
-}
-
-fn limit_of_copy(limit: Limit, capacity: u64, length: u64) -> Limit
-    ensures { result ≡ limit_of_copy limit capacity length }
-{
-    match limit {
-        Limit::Unbounded => Limit::Unbounded,
-        Limit::Bounded(_) => Limit::Bounded(if capacity == 0 { length } else { capacity }),
     }
 }
 

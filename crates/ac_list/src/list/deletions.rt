@@ -1,17 +1,17 @@
 //! Elements that are deleted.
 ghost use Rattle.std.specs.Prelude.{◌≡◌, ◌∷◌, [], ◌+◌, OnErr};
-ghost use Rattle.ac_list.specs.State.{mark, needs_cursor};
+ghost use Rattle.ac_model.specs.Cursors.{mark, needs_cursor};
 ghost use Rattle.ac_base.specs.FirstReason.{first_reason};
 ghost use Rattle.ac_model.specs.Objects.{plain, length_of};
 ghost use Rattle.ac_model.specs.Letters.{tampers_cursors, in_range};
 ghost use Rattle.ac_model.specs.Calls.{Changing, Same, Marks};
 ghost use Rattle.ac_model.specs.Sequences as sequences;
 
-use super::{List, place_in};
+use super::List;
 use crate::cut::{remove_from, remove_last};
-use crate::reasons::{count_of, in_range};
 use ac_base::{Fault, Reason};
 use ac_cursor::{Class, Cursor, first_reason};
+use ac_model::{count_of, in_range, place_in};
 
 impl<T: Drop> List<T> {
     /// Delete (A.18.3): at most so many elements from the cursor on, which becomes No_Element.

@@ -1,15 +1,16 @@
 //! Elements that move within a list with their names.
 ghost use Rattle.std.specs.Prelude.{◌≡◌, ◌∷◌, []};
-ghost use Rattle.ac_list.specs.State.{mark, needs_cursor, may_cursor};
+ghost use Rattle.ac_model.specs.Cursors.{mark, needs_cursor, may_cursor};
 ghost use Rattle.ac_model.specs.Letters.{tampers_cursors};
 ghost use Rattle.ac_base.specs.FirstReason.{first_reason};
 ghost use Rattle.ac_model.specs.Objects.{plain};
 ghost use Rattle.ac_model.specs.Calls.{Changing, Same, Marks};
 ghost use Rattle.ac_model.specs.Lists as lists;
 
-use super::{List, name_in, place_in};
+use super::List;
 use ac_base::{Fault, Reason};
 use ac_cursor::{Class, Cursor, first_reason};
+use ac_model::{name_in, place_in};
 
 impl<T> List<T> {
     /// Swap_Links (A.18.3): the two elements change places, and each takes its name with it.

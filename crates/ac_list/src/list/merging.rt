@@ -3,7 +3,8 @@ ghost use Rattle.std.specs.Prelude.{◌≡◌, ◌+◌, ◌^◌, ◌<◌, ◌≤
 ghost use Rattle.std.specs.Option.{ForSome};
 ghost use Rattle.ac_chain.specs.Rows.{IsLive, IsSound, cleared, place_of};
 ghost use Rattle.ac_list.specs.Merging.{IsMerged, is_behind};
-ghost use Rattle.ac_list.specs.Put.{HasGrown, Grows, slots_of};
+ghost use Rattle.ac_model.specs.Containers.{Grows, slots_of};
+ghost use Rattle.ac_list.specs.Put.{HasGrown};
 ghost use Rattle.ac_list.specs.Searches.{found_in, values_in};
 ghost use Rattle.ac_model.specs.Objects.{plain};
 ghost use Rattle.ac_model.specs.Calls.{ChangingBoth, Same, both};
@@ -11,10 +12,10 @@ ghost use Rattle.ac_model.specs.Sequences as sequences;
 
 use super::List;
 use super::copies::as_fault;
-use crate::reasons::{names_spent, too_long, too_many};
 use ac_base::{Fault, Name, NoMemory, Rank, Reason, precedes};
 use ac_chain::Chain;
 use ac_cursor::{Class, first_reason};
+use ac_model::room;
 
 /// The first place from this one on that the value goes before: level values stay in front.
 fn place_for<T: Rank>(chain: &Chain<T>, from: Option<Name>, value: &T) -> Option<Name>
@@ -93,9 +94,7 @@ impl<T: Rank> List<T> {
         first_reason(&[
             self.guards.forbids(Class::Cursors),
             source.guards.forbids(Class::Cursors),
-            too_long(length),
-            too_many(self.limit, length),
-            names_spent(self.chain.next_serial(), more),
+            room(self.limit, self.chain.next_serial(), length, more),
         ])
     }
 }

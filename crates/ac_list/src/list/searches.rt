@@ -2,8 +2,8 @@
 ghost use Rattle.std.specs.Prelude.{◌≡◌, drop, reverse, take};
 ghost use Rattle.std.specs.Option.{ForSome};
 ghost use Rattle.ac_chain.specs.Rows.{IsLive, IsSound, name_at, place_of};
-ghost use Rattle.ac_list.specs.State.{mark};
-ghost use Rattle.ac_list.specs.Searches.{same_by, found_in, count_to, start_of, end_of, values_in};
+ghost use Rattle.ac_model.specs.Cursors.{mark};
+ghost use Rattle.ac_list.specs.Searches.{found_in, count_to, start_of, end_of, values_in};
 ghost use Rattle.ac_model.specs.Objects.{plain};
 ghost use Rattle.ac_model.specs.Calls.{Looking, Marks};
 ghost use Rattle.ac_model.specs.Rows.{is_ascending};
@@ -18,7 +18,7 @@ use ac_cursor::Cursor;
 fn found_from<T: Elem>(chain: &Chain<T>, e: &T, from: Option<Name>) -> Option<Name>
     requires from { ForSome from (IsLive chain.now) }
     requires sound { IsSound chain.now }
-    ensures { result ≡ found_in (same_by T.row.coded) e.now (drop (place_of from chain.now.rows) chain.now.rows) }
+    ensures { result ≡ found_in T.is_same e.now (drop (place_of from chain.now.rows) chain.now.rows) }
 {
     let mut place = from;
     while let Some(name) = place {
@@ -34,7 +34,7 @@ fn found_from<T: Elem>(chain: &Chain<T>, e: &T, from: Option<Name>) -> Option<Na
 fn found_back<T: Elem>(chain: &Chain<T>, e: &T, from: Option<Name>) -> Option<Name>
     requires from { ForSome from (IsLive chain.now) }
     requires sound { IsSound chain.now }
-    ensures { result ≡ found_in (same_by T.row.coded) e.now (reverse (take (count_to from chain.now.rows) chain.now.rows)) }
+    ensures { result ≡ found_in T.is_same e.now (reverse (take (count_to from chain.now.rows) chain.now.rows)) }
 {
     let mut place = from;
     while let Some(name) = place {
@@ -48,7 +48,7 @@ fn found_back<T: Elem>(chain: &Chain<T>, e: &T, from: Option<Name>) -> Option<Na
 
 /// The values of the two chains are equal, one by one.
 fn are_equal<T: Elem>(left: &Chain<T>, right: &Chain<T>) -> bool
-    ensures { result ≡ sequences.are_equal (same_by T.row.coded) (values_in left.now.rows) (values_in right.now.rows) }
+    ensures { result ≡ sequences.are_equal T.is_same (values_in left.now.rows) (values_in right.now.rows) }
 {
     if left.len() != right.len() {
         return false;
@@ -105,7 +105,7 @@ fn end_of<T>(chain: &Chain<T>, b: Cursor) -> Option<Name>
 impl<T: Elem> List<T> {
     /// Find (A.18.3): from the cursor on, or from the first element where it is No_Element.
     pub fn find(&self, e: &T, b: Cursor) -> Result<Cursor, Fault>
-        ensures { Looking (Marks self.now.object) (sequences.find_call (same_by T.row.coded) (plain self.now.object) e.now (mark self.now.object b)) result }
+        ensures { Looking (Marks self.now.object) (sequences.find_call T.is_same (plain self.now.object) e.now (mark self.now.object b)) result }
     {
         match self.may(b) {
             Some(reason) => Err(Fault::Raised(reason)),
@@ -118,7 +118,7 @@ impl<T: Elem> List<T> {
 
     /// Reverse_Find (A.18.3): back from the cursor, or from the last element where it is No_Element.
     pub fn reverse_find(&self, e: &T, b: Cursor) -> Result<Cursor, Fault>
-        ensures { Looking (Marks self.now.object) (sequences.reverse_find_call (same_by T.row.coded) (plain self.now.object) e.now (mark self.now.object b)) result }
+        ensures { Looking (Marks self.now.object) (sequences.reverse_find_call T.is_same (plain self.now.object) e.now (mark self.now.object b)) result }
     {
         match self.may(b) {
             Some(reason) => Err(Fault::Raised(reason)),
@@ -131,7 +131,7 @@ impl<T: Elem> List<T> {
 
     /// Contains (A.18.3).
     pub fn contains(&self, e: &T) -> bool
-        ensures { result ≡ sequences.contains_call (same_by T.row.coded) (plain self.now.object) e.now }
+        ensures { result ≡ sequences.contains_call T.is_same (plain self.now.object) e.now }
     {
         let first = self.chain.first();
         found_from(&self.chain, e, first).is_some()
@@ -139,7 +139,7 @@ impl<T: Elem> List<T> {
 
     /// "=" (A.18.3).
     pub fn equal(&self, other: &List<T>) -> bool
-        ensures { result ≡ sequences.equal_call (same_by T.row.coded) (plain self.now.object) (plain other.now.object) }
+        ensures { result ≡ sequences.equal_call T.is_same (plain self.now.object) (plain other.now.object) }
     {
         are_equal(&self.chain, &other.chain)
     }

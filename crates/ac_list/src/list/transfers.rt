@@ -4,20 +4,21 @@ ghost use Rattle.std.specs.Option.{ForSome};
 ghost use Rattle.ac_chain.specs.Rows.{IsLive, IsSound, cleared, removed, value_of};
 ghost use Rattle.ac_base.specs.Growth.{pow8};
 ghost use Rattle.ac_list.specs.Copy.{IsRefilled, cursor_of};
-ghost use Rattle.ac_list.specs.Put.{IsPut, IsFirst, HasGrown, Grows, slots_of};
+ghost use Rattle.ac_model.specs.Containers.{Grows, slots_of};
+ghost use Rattle.ac_list.specs.Put.{IsPut, IsFirst, HasGrown};
 ghost use Rattle.ac_list.specs.Searches.{values_in};
-ghost use Rattle.ac_list.specs.State.{mark};
+ghost use Rattle.ac_model.specs.Cursors.{mark};
 ghost use Rattle.ac_model.specs.Objects.{plain};
 ghost use Rattle.ac_model.specs.Calls.{ChangingBoth, Same, Marks, both};
 ghost use Rattle.ac_model.specs.Common as common;
 ghost use Rattle.ac_model.specs.Lists as lists;
 
 use super::copies::as_fault;
-use super::{List, name_in, place_in};
-use crate::reasons::{names_spent, too_long, too_many};
+use super::List;
 use ac_base::{Fault, Name, NoMemory, Reason};
 use ac_chain::Chain;
 use ac_cursor::{Class, Cursor, first_reason};
+use ac_model::{name_in, place_in, room};
 
 /// Moves the values before the place, the first one first.
 fn move_each<T>(target: &mut Chain<T>, place: Option<Name>, source: &mut Chain<T>)
@@ -141,9 +142,7 @@ impl<T: Drop> List<T> {
         first_reason(&[
             self.guards.forbids(Class::Cursors),
             source.guards.forbids(Class::Cursors),
-            too_long(length),
-            too_many(self.limit, length),
-            names_spent(self.chain.next_serial(), length),
+            room(self.limit, self.chain.next_serial(), length, length),
         ])
     }
 }
@@ -171,9 +170,7 @@ impl<T> List<T> {
             self.guards.forbids(Class::Cursors),
             source.guards.forbids(Class::Cursors),
             self.may(b),
-            too_long(length),
-            too_many(self.limit, length),
-            names_spent(self.chain.next_serial(), more),
+            room(self.limit, self.chain.next_serial(), length, more),
         ])
     }
 
@@ -218,9 +215,7 @@ impl<T> List<T> {
             source.guards.forbids(Class::Cursors),
             self.may(b),
             source.needs(q),
-            too_long(length),
-            too_many(self.limit, length),
-            names_spent(self.chain.next_serial(), 1),
+            room(self.limit, self.chain.next_serial(), length, 1),
         ])
     }
 }

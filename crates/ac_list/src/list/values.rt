@@ -1,6 +1,6 @@
 //! Another value under a name that stays.
 ghost use Rattle.std.specs.Prelude.{◌≡◌, ◌∷◌, [], None};
-ghost use Rattle.ac_list.specs.State.{mark, needs_cursor};
+ghost use Rattle.ac_model.specs.Cursors.{mark, needs_cursor};
 ghost use Rattle.ac_base.specs.FirstReason.{first_reason};
 ghost use Rattle.ac_model.specs.Rows.{with_value};
 ghost use Rattle.ac_model.specs.Objects.{plain, with_rows};
@@ -8,9 +8,10 @@ ghost use Rattle.ac_model.specs.Letters.{tampers_elements, name_of};
 ghost use Rattle.ac_model.specs.Calls.{Changing, IsAfter, Same};
 ghost use Rattle.ac_model.specs.Sequences as sequences;
 
-use super::{List, name_in};
+use super::List;
 use ac_base::{Fault, Reason};
 use ac_cursor::{Class, Cursor, first_reason};
+use ac_model::name_in;
 
 impl<T: Drop> List<T> {
     /// Replace_Element (A.18.3).

@@ -1,9 +1,10 @@
 use Rattle.std.proofs.Common.{◌∷◌, [], refl, sym, ap, ◌∙◌, to_z-of_z, w64}
 use Rattle.ac_base.specs.FirstReason.{first_reason}
-use Rattle.ac_cursor.proofs.FirstReason.{none_found}
+use Rattle.ac_base.proofs.FirstReason.{none_found}
 use Rattle.ac_model.specs.Letters.{tampers_cursors, in_range, count_of}
 use Rattle.ac_model.specs.Objects.{plain}
-use Rattle.ac_list.specs.State.{Listed, needs_cursor}
+use Rattle.ac_model.specs.Cursors.{needs_cursor}
+use Rattle.ac_model.specs.Containers.{Container}
 use Rattle.ac_list.proofs.Deletes.{cursor_place, cut_at}
 use Rattle.ac_list.proofs.list.List.delete.Goals as goal
 
@@ -12,11 +13,11 @@ remove_from-requires-clause-place g c =
     let i = c.self.inside in let o = c.args.self.now.object in
     let reason = ap (λ n. first_reason (tampers_cursors (plain o) ∷ needs_cursor o c.args.q.now ∷ in_range n ∷ [])) (sym (to_z-of_z {w = w64} {z = c.args.n} c.ranges.n)) ∙ sym c.in-None.ensures in
     let none = none_found (tampers_cursors (plain o) ∷ needs_cursor o c.args.q.now ∷ in_range c.args.n ∷ []) reason in
-    (cursor_place i.guards i.limit i.chain o (ap (λ (x : Listed _). x.object) c.self.view_is) c.self.invariant.sound c.args.q.now c.place_in.result c.place_in.ensures none.1.0).0
+    (cursor_place i.guards i.limit i.chain o (ap (λ (x : Container _). x.object) c.self.view_is) c.self.invariant.sound c.args.q.now c.place_in.result c.place_in.ensures none.1.0).0
 
 pub returns-in-None-clause-changed : goal.returns-in-None-clause-changed
 returns-in-None-clause-changed g c =
-    let i = c.self.inside in let o = c.args.self.now.object in let view = ap (λ (x : Listed _). x.object) c.self.view_is in
+    let i = c.self.inside in let o = c.args.self.now.object in let view = ap (λ (x : Container _). x.object) c.self.view_is in
     let same = to_z-of_z {w = w64} {z = c.args.n} c.ranges.n in
     let reason = ap (λ n. first_reason (tampers_cursors (plain o) ∷ needs_cursor o c.args.q.now ∷ in_range n ∷ [])) (sym same) ∙ sym c.in-None.ensures in
     let none = none_found (tampers_cursors (plain o) ∷ needs_cursor o c.args.q.now ∷ in_range c.args.n ∷ []) reason in (

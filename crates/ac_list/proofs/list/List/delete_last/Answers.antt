@@ -2,13 +2,13 @@ use Rattle.std.proofs.Common.{◌∷◌, [], refl, sym, ap, ◌∙◌, to_z-of_z
 use Rattle.ac_base.specs.FirstReason.{first_reason}
 use Rattle.ac_model.specs.Letters.{tampers_cursors, in_range, count_of}
 use Rattle.ac_model.specs.Objects.{plain}
-use Rattle.ac_list.specs.State.{Listed}
+use Rattle.ac_model.specs.Containers.{Container}
 use Rattle.ac_list.proofs.Deletes.{last_place, cut_at}
 use Rattle.ac_list.proofs.list.List.delete_last.Goals as goal
 
 pub returns-in-None-clause-changed : goal.returns-in-None-clause-changed
 returns-in-None-clause-changed g c =
-    let i = c.self.inside in let o = c.args.self.now.object in let view = ap (λ (x : Listed _). x.object) c.self.view_is in
+    let i = c.self.inside in let o = c.args.self.now.object in let view = ap (λ (x : Container _). x.object) c.self.view_is in
     let same = to_z-of_z {w = w64} {z = c.args.n} c.ranges.n in
     let count = c.count_of.ensures ∙ ap count_of same in (
       ap (λ n. first_reason (tampers_cursors (plain o) ∷ in_range n ∷ [])) (sym same) ∙ sym c.in-None.ensures,

@@ -2,7 +2,7 @@ use Rattle.std.proofs.Common.{subst, to_z, of_z, to_z-of_z, w64}
 use Rattle.ac_model.specs.Objects.{plain}
 use Rattle.ac_model.specs.Calls.{Changing, Same, Marks}
 use Rattle.ac_model.specs.Sequences as sequences
-use Rattle.ac_list.specs.State.{mark}
+use Rattle.ac_model.specs.Cursors.{mark}
 use Rattle.ac_list.proofs.Grows.{unanswered}
 use Rattle.ac_list.proofs.list.List.insert.Goals as goal
 

@@ -1,19 +1,15 @@
 use Rattle.std.proofs.Common.{ap, subst}
 use Rattle.ac_model.specs.Objects.{length_of}
 use Rattle.ac_base.specs.Limits.{IsLimit}
-use Rattle.ac_list.specs.State.{Listed, HasSlots}
+use Rattle.ac_model.specs.Containers.{Container, HasSlots}
 use Rattle.ac_list.proofs.Valid.{valid, has_slots}
-use Rattle.ac_list.proofs.Searches.{same_is_equal}
 use Rattle.ac_list.proofs.list.List.law.Goals as goal
 
 pub returns-clause-valid : goal.returns-clause-valid
-returns-clause-valid g c = let i = c.self.inside in valid i.guards i.limit i.chain c.args.self.now.object (ap (λ (x : Listed _). x.object) c.self.view_is) c.self.invariant
+returns-clause-valid g c = let i = c.self.inside in valid i.guards i.limit i.chain c.args.self.now.object (ap (λ (x : Container _). x.object) c.self.view_is) c.self.invariant
 
 pub returns-clause-limit : goal.returns-clause-limit
-returns-clause-limit g c = let i = c.self.inside in subst (λ (x : Listed _). IsLimit x.object.limit) c.self.view_is c.self.invariant.is_limit
+returns-clause-limit g c = let i = c.self.inside in subst (λ (x : Container _). IsLimit x.object.limit) c.self.view_is c.self.invariant.is_limit
 
 pub returns-clause-slots : goal.returns-clause-slots
-returns-clause-slots g c = let i = c.self.inside in subst (λ (x : Listed _). HasSlots x.object.limit (length_of x.object) x.spare) c.self.view_is (has_slots i.limit i.chain c.self.invariant)
-
-pub returns-clause-equality : goal.returns-clause-equality
-returns-clause-equality g c = same_is_equal g.row.T.coded
+returns-clause-slots g c = let i = c.self.inside in subst (λ (x : Container _). HasSlots x.object.limit (length_of x.object) x.spare) c.self.view_is (has_slots i.limit i.chain c.self.invariant)

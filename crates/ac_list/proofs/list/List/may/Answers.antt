@@ -1,5 +1,5 @@
 use Rattle.std.proofs.Common.{◌≡◌, subst, sym, ◌∙◌}
-use Rattle.ac_list.specs.State.{may_cursor}
+use Rattle.ac_model.specs.Cursors.{may_cursor}
 use Rattle.ac_list.proofs.Standing.{may_by_name}
 use Rattle.ac_list.proofs.list.List.may.Goals as goal
 

@@ -1,14 +1,14 @@
 use Rattle.std.proofs.Common.{refl, sym, ap, ◌∙◌}
 use Rattle.ac_model.specs.Objects.{plain}
 use Rattle.ac_model.specs.Common as common
-use Rattle.ac_list.specs.State.{Listed}
+use Rattle.ac_model.specs.Containers.{Container}
 use Rattle.ac_list.proofs.Refills.{refill_list}
 use Rattle.ac_list.proofs.Moved.{list_less, cleared_fewer, cleared_slots, more_slots, less_slots, transferred, emptied, move_fits, moved}
 use Rattle.ac_list.proofs.list.List.move_from.Goals as goal
 
 pub invariant_of-self : goal.invariant_of-self
 invariant_of-self g c =
-    let i = c.self.inside in let j = c.source.inside in let o = c.args.self.now.object in let p = c.args.source.now.object in let view = ap (λ (x : Listed _). x.object) c.self.view_is in let seen = ap (λ (x : Listed _). x.object) c.source.view_is in
+    let i = c.self.inside in let j = c.source.inside in let o = c.args.self.now.object in let p = c.args.source.now.object in let view = ap (λ (x : Container _). x.object) c.self.view_is in let seen = ap (λ (x : Container _). x.object) c.source.view_is in
     let f = move_fits i.guards j.guards i.limit j.limit i.chain j.chain o p view seen (sym c.in-None.is ∙ c.refuses_move.ensures) in let t = c.move_all in
     refill_list i.limit i.chain t.new.target j.chain.rows t.result c.self.invariant f.few f.within t.ensures.put t.ensures.refused_target t.ensures.slots t.ensures.target
 
@@ -19,7 +19,7 @@ invariant_of-source g c =
 
 pub returns-in-None-clause-changed : goal.returns-in-None-clause-changed
 returns-in-None-clause-changed g c =
-    let i = c.self.inside in let j = c.source.inside in let o = c.args.self.now.object in let p = c.args.source.now.object in let view = ap (λ (x : Listed _). x.object) c.self.view_is in let seen = ap (λ (x : Listed _). x.object) c.source.view_is in
+    let i = c.self.inside in let j = c.source.inside in let o = c.args.self.now.object in let p = c.args.source.now.object in let view = ap (λ (x : Container _). x.object) c.self.view_is in let seen = ap (λ (x : Container _). x.object) c.source.view_is in
     let t = c.move_all in let none = (sym c.in-None.is ∙ c.refuses_move.ensures) in
     transferred i.guards j.guards i.limit j.limit i.chain j.chain o p view seen t.new.target t.new.source (common.move_from_call (plain o) (plain p)) t.result c.as_fault.result c.as_fault.ensures refl none
     (moved i.guards j.guards i.limit j.limit i.chain j.chain o p view seen t.new.target) (emptied i.guards j.guards i.limit j.limit i.chain j.chain o p view seen t.new.source) t.ensures.put t.ensures.cleared t.ensures.refused_target t.ensures.refused_source

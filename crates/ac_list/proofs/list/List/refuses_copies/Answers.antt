@@ -1,5 +1,5 @@
 use Rattle.std.proofs.Common.{ap, ◌∙◌, to_z-of_z, w64}
-use Rattle.ac_list.specs.State.{Listed}
+use Rattle.ac_model.specs.Containers.{Container}
 use Rattle.ac_model.specs.Letters.{count_of, in_range}
 use Rattle.ac_list.proofs.Grows.{refused}
 use Rattle.ac_list.proofs.list.List.refuses_copies.Goals as goal
@@ -7,6 +7,6 @@ use Rattle.ac_list.proofs.list.List.refuses_copies.Goals as goal
 pub returns : goal.returns
 returns g c =
     let i = c.self.inside in
-    refused i.guards i.limit i.chain c.args.self.now.object (ap (λ (x : Listed _). x.object) c.self.view_is) c.args.n c.count_of-more.result c.len.result c.next_serial.result c.args.place c.first_reason.result
-    c.forbids.result c.in_range.result c.too_long.result c.too_many.result c.names_spent.result (c.count_of-more.ensures ∙ ap count_of (to_z-of_z {w = w64} {z = c.args.n} c.ranges.n)) c.len.ensures.count c.next_serial.ensures.serial c.forbids.ensures (c.in_range.ensures ∙ ap in_range (to_z-of_z {w = w64} {z = c.args.n} c.ranges.n))
-    c.too_long.ensures c.too_many.ensures c.names_spent.ensures c.first_reason.ensures
+    refused i.guards i.limit i.chain c.args.self.now.object (ap (λ (x : Container _). x.object) c.self.view_is) c.args.n c.count_of-more.result c.len.result c.next_serial.result c.args.place c.first_reason.result
+    c.forbids.result c.in_range.result c.room.result (c.count_of-more.ensures ∙ ap count_of (to_z-of_z {w = w64} {z = c.args.n} c.ranges.n)) c.len.ensures.count c.next_serial.ensures.serial c.forbids.ensures
+    (c.in_range.ensures ∙ ap in_range (to_z-of_z {w = w64} {z = c.args.n} c.ranges.n)) c.room.ensures c.first_reason.ensures

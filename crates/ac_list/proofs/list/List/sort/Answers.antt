@@ -3,7 +3,7 @@ use Rattle.ac_base.specs.FirstReason.{first_reason}
 use Rattle.ac_chain.specs.Rows.{IsOrderOf}
 use Rattle.ac_model.specs.Objects.{Object, plain}
 use Rattle.ac_model.specs.Letters.{tampers_cursors}
-use Rattle.ac_list.specs.State.{Listed}
+use Rattle.ac_model.specs.Containers.{Container}
 use Rattle.ac_list.proofs.Sorts.{order_of, list_sorted, sorted_after}
 use Rattle.ac_list.proofs.list.List.sort.Goals as goal
 
@@ -20,8 +20,8 @@ invariant_of-self g c =
 pub returns-in-Ok-clause-changed : goal.returns-in-Ok-clause-changed
 returns-in-Ok-clause-changed g c =
     let i = c.self.inside in let o = c.args.self.now.object in (
-      subst (λ (p : Object _ _). first_reason (tampers_cursors (plain p) ∷ []) ≡ None) (ap (λ (x : Listed _). x.object) c.self.view_is) (ap (λ q. first_reason (q ∷ [])) (sym c.forbids.ensures ∙ c.in-None.is)),
-      sorted_after g.T.Rank.is_less i.guards i.limit i.chain c.relink.new.self o (ap (λ (x : Listed _). x.object) c.self.view_is) c.self.invariant.sound c.in-Ok.order.items c.in-Ok.ensures
+      subst (λ (p : Object _ _). first_reason (tampers_cursors (plain p) ∷ []) ≡ None) (ap (λ (x : Container _). x.object) c.self.view_is) (ap (λ q. first_reason (q ∷ [])) (sym c.forbids.ensures ∙ c.in-None.is)),
+      sorted_after g.T.Rank.is_less i.guards i.limit i.chain c.relink.new.self o (ap (λ (x : Container _). x.object) c.self.view_is) c.self.invariant.sound c.in-Ok.order.items c.in-Ok.ensures
           c.relink.ensures.sound (c.relink.ensures.names ∙ c.deref.ensures.value) c.relink.ensures.same,
       refl,
     )

@@ -1,0 +1,38 @@
+-- What a library call's contract says, in short forms: the call's definition, over the container before and after it, and its answer.
+use Rattle.std.specs.Prelude.{◌≡◌, ℕ, OnErr, Option, Some, None, Result, Ok, Err}
+use Rattle.ac_base.specs.declared.cursor.Cursor.{Cursor}
+use Rattle.ac_base.specs.declared.fault.Fault.{Fault}
+use Rattle.ac_base.specs.declared.fault.Fault.TheVariants as fault
+use Rattle.ac_base.specs.declared.name.Name.{Name}
+use Rattle.ac_base.specs.declared.reason.Reason.{Reason}
+use Rattle.ac_model.specs.Objects.{Object, plain}
+use Rattle.ac_model.specs.Letters.{Mark}
+use Rattle.ac_model.specs.Calls.{Call, Look, Both, both, Changing, ChangingBoth, Looking, Marks, Done}
+use Rattle.ac_model.specs.Containers.{Container}
+
+-- refused for the reason, if there is one
+abbrev pub allowed : Option Reason → Result Done Fault
+allowed None = Ok tt
+allowed (Some reason) = Err (fault.Raised reason)
+
+module _ {V X A : Type 0} where
+  -- the call does what it means to the container; `Answers` says how its answer is the meaning's
+  abbrev pub Does : (X → A → Type 0) → (Object ℕ V → Call (Object ℕ V) A) → Container V → Container V → Result X Fault → Type 0
+  Does Answers call old new result = Changing Answers (call (plain old.object)) old.object new.object result
+
+  -- to a target and a source
+  abbrev pub DoesBoth : (X → A → Type 0) → (Object ℕ V → Object ℕ V → Call (Both (Object ℕ V)) A)
+      → Both (Container V) → Both (Container V) → Result X Fault → Type 0
+  DoesBoth Answers call old new result =
+      ChangingBoth Answers (call (plain old.target.object) (plain old.source.object))
+      (both old.target.object old.source.object) (both new.target.object new.source.object) result
+
+  -- it only looks
+  abbrev pub Looks : (X → A → Type 0) → (Object ℕ V → Look A) → Container V → Result X Fault → Type 0
+  Looks Answers call now result = Looking Answers (call (plain now.object)) result
+
+module _ {V X : Type 0} where
+  -- the call does what it means to the container, and sets its cursor variable
+  pub record Sets (call : Object ℕ V → Call (Object ℕ V) Mark) (old new : Container V) (variable_old variable_new : Cursor) (result : Result X Fault) : Type 0 where
+    pub does : Does (λ _ mark. Marks new.object variable_new mark) call old new result
+    pub kept : OnErr result (variable_new ≡ variable_old)
