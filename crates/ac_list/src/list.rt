@@ -1,7 +1,7 @@
 //! The list. A contract sees its object, with the slots of its names, and how many elements more it takes without memory.
 ghost use Rattle.std.specs.Prelude.{◌≡◌, ◌∷◌, [], ℕ, ◌+◌, ◌≤◌, None, pos, IfOk, IfErr, OnErr, IsOk, length, false, refl};
 ghost use Rattle.ac_base.specs.Limits.{IsLimit};
-ghost use Rattle.ac_model.specs.Cursors.{mark, needs_cursor, may_cursor, cursor_at, name_in, place_in};
+ghost use Rattle.ac_model.specs.Cursors.{needs_cursor, may_cursor, cursor_at, name_in, place_in};
 ghost use Rattle.ac_model.specs.Containers.{HasSlots, first_spare, with_guards, guards_of};
 ghost use Rattle.std.specs.Option.{ForSome};
 ghost use Rattle.ac_model.specs.Cursors.{IsNamed, cursor_of_first, spot};
@@ -11,7 +11,8 @@ ghost use Rattle.ac_model.specs.Letters.{tampers_cursors, tampers_elements, plac
 ghost use Rattle.ac_model.specs.Sequences.{room_for_copies};
 ghost use Rattle.ac_base.specs.FirstReason.{first_reason};
 ghost use Rattle.ac_model.specs.Objects.{IsValid, empty_object, plain, length_of};
-ghost use Rattle.ac_model.specs.Calls.{Changing, Looking, Same, Lends, Marks};
+ghost use Rattle.ac_model.specs.Calls.{Same, Lends, Marks};
+ghost use Rattle.ac_model.specs.Forms.{Does, Looks, Sets, seen_by};
 ghost use Rattle.ac_model.specs.Common as common;
 ghost use Rattle.ac_model.specs.Sequences as sequences;
 ghost use Rattle.ac_model.specs.Lists as lists;
@@ -29,7 +30,9 @@ use crate::put::put_copies;
 use ac_base::{Elem, Fault, Limit, Name, Reason};
 use ac_chain::Chain;
 use ac_cursor::{Class, Cursor, GuardKey, GuardKind, Guarded, Guards, Tag, first_reason};
-use ac_model::{count_of, cursor_at, cursor_of_first, in_range, judge, name_in, place_in, room};
+use ac_model::{
+    allowed, count_of, cursor_at, cursor_of_first, in_range, judge, name_in, place_in, room,
+};
 use std::alloc::Global;
 use std::marker::Model;
 
@@ -134,7 +137,7 @@ impl<T> List<T> {
 impl<T> List<T> {
     /// Has_Element (A.18.3): false for a cursor of another list, and for one whose element is gone.
     pub fn has_element(&self, c: Cursor) -> bool
-        ensures { result ≡ common.has_element_call (plain self.now.object) (mark self.now.object c) }
+        ensures { result ≡ common.has_element_call (plain self.now.object) (seen_by self.now c) }
     {
         self.needs(c).is_none()
     }
@@ -155,33 +158,29 @@ impl<T> List<T> {
 
     /// Next (A.18.3).
     pub fn next(&self, b: Cursor) -> Result<Cursor, Fault>
-        ensures { Looking (Marks self.now.object) (sequences.next_call (plain self.now.object) (mark self.now.object b)) result }
+        ensures { Looks (Marks self.now.object) (λ o. sequences.next_call o (seen_by self.now b)) self.now result }
     {
         if b == Cursor::NoElement {
             return Ok(Cursor::NoElement);
         }
-        match self.needs(b) {
-            Some(reason) => Err(Fault::Raised(reason)),
-            None => Ok(self.cursor_at(self.chain.next(name_in(b)))),
-        }
+        allowed(self.needs(b))?;
+        Ok(self.cursor_at(self.chain.next(name_in(b))))
     }
 
     /// Previous (A.18.3).
     pub fn previous(&self, b: Cursor) -> Result<Cursor, Fault>
-        ensures { Looking (Marks self.now.object) (sequences.previous_call (plain self.now.object) (mark self.now.object b)) result }
+        ensures { Looks (Marks self.now.object) (λ o. sequences.previous_call o (seen_by self.now b)) self.now result }
     {
         if b == Cursor::NoElement {
             return Ok(Cursor::NoElement);
         }
-        match self.needs(b) {
-            Some(reason) => Err(Fault::Raised(reason)),
-            None => Ok(self.cursor_at(self.chain.prev(name_in(b)))),
-        }
+        allowed(self.needs(b))?;
+        Ok(self.cursor_at(self.chain.prev(name_in(b))))
     }
 
     /// First_Element (A.18.3).
     pub fn first_element(&self) -> Result<&T, Fault>
-        ensures { Looking Lends (sequences.first_element_call (plain self.now.object)) result }
+        ensures { Looks Lends sequences.first_element_call self.now result }
     {
         match self.chain.first() {
             Some(name) => Ok(self.chain.at(name)),
@@ -191,7 +190,7 @@ impl<T> List<T> {
 
     /// Last_Element (A.18.3).
     pub fn last_element(&self) -> Result<&T, Fault>
-        ensures { Looking Lends (sequences.last_element_call (plain self.now.object)) result }
+        ensures { Looks Lends sequences.last_element_call self.now result }
     {
         match self.chain.last() {
             Some(name) => Ok(self.chain.at(name)),
@@ -201,12 +200,10 @@ impl<T> List<T> {
 
     /// Element (A.18.3).
     pub fn element(&self, c: Cursor) -> Result<&T, Fault>
-        ensures { Looking Lends (sequences.element_call (plain self.now.object) (mark self.now.object c)) result }
+        ensures { Looks Lends (λ o. sequences.element_call o (seen_by self.now c)) self.now result }
     {
-        match self.needs(c) {
-            Some(reason) => Err(Fault::Raised(reason)),
-            None => Ok(self.chain.at(name_in(c))),
-        }
+        allowed(self.needs(c))?;
+        Ok(self.chain.at(name_in(c)))
     }
 
     /// Why a cursor that must designate an element is refused.
@@ -254,32 +251,24 @@ fn done(put: Result<Cursor, Fault>) -> Result<(), Fault>
 impl<T> List<T> {
     /// Reverse_Elements (A.18.3): the elements with their names.
     pub fn reverse_elements(&mut self) -> Result<(), Fault>
-        ensures changed { Changing Same (lists.reverse_elements_call (plain self.old.object)) self.old.object self.new.object result }
+        ensures changed { Does Same lists.reverse_elements_call self.old self.new result }
         ensures spare { self.new.spare ≡ self.old.spare }
     {
-        match self.guards.forbids(Class::Cursors) {
-            Some(reason) => Err(Fault::Raised(reason)),
-            None => {
-                self.chain.reverse();
-                Ok(())
-            }
-        }
+        allowed(self.guards.forbids(Class::Cursors))?;
+        self.chain.reverse();
+        Ok(())
     }
 }
 
 impl<T> List<T> {
     /// Swap (A.18.3): the two elements change places, and each name keeps its place.
     pub fn swap(&mut self, first: Cursor, second: Cursor) -> Result<(), Fault>
-        ensures changed { Changing Same (sequences.swap_call (plain self.old.object) (mark self.old.object first) (mark self.old.object second)) self.old.object self.new.object result }
+        ensures changed { Does Same (λ o. sequences.swap_call o (seen_by self.old first) (seen_by self.old second)) self.old self.new result }
         ensures spare { self.new.spare ≡ self.old.spare }
     {
-        match self.refuses_swap(first, second) {
-            Some(reason) => Err(Fault::Raised(reason)),
-            None => {
-                self.chain.swap_values(name_in(first), name_in(second));
-                Ok(())
-            }
-        }
+        allowed(self.refuses_swap(first, second))?;
+        self.chain.swap_values(name_in(first), name_in(second));
+        Ok(())
     }
 
     /// Why a swap is refused.
@@ -297,48 +286,38 @@ impl<T> List<T> {
 impl<T: Drop> List<T> {
     /// Clear (A.18.3).
     pub fn clear(&mut self) -> Result<(), Fault>
-        ensures changed { Changing Same (common.clear_call (plain self.old.object)) self.old.object self.new.object result }
+        ensures changed { Does Same common.clear_call self.old self.new result }
         ensures slots { length_of self.new.object + self.new.spare ≡ length_of self.old.object + self.old.spare }
     {
-        match self.guards.forbids(Class::Cursors) {
-            Some(reason) => Err(Fault::Raised(reason)),
-            None => {
-                self.chain.clear();
-                Ok(())
-            }
-        }
+        allowed(self.guards.forbids(Class::Cursors))?;
+        self.chain.clear();
+        Ok(())
     }
 }
 
 impl<T: Elem> List<T> {
     /// Append (A.18.3): so many copies at the end.
     pub fn append(&mut self, e: T, n: i64) -> Result<(), Fault>
-        ensures changed { Changing Same (sequences.append_call (plain self.old.object) e n) self.old.object self.new.object result }
+        ensures changed { Does Same (λ o. sequences.append_call o e n) self.old self.new result }
         ensures slots { Grows result self.old self.new }
     {
-        match self.refuses_copies(None, n) {
-            None => done(self.put(None, e, count_of(n))),
-            Some(reason) => Err(Fault::Raised(reason)),
-        }
+        allowed(self.refuses_copies(None, n))?;
+        done(self.put(None, e, count_of(n)))
     }
 
     /// Prepend (A.18.3): so many copies at the front.
     pub fn prepend(&mut self, e: T, n: i64) -> Result<(), Fault>
-        ensures changed { Changing Same (sequences.prepend_call (plain self.old.object) e n) self.old.object self.new.object result }
+        ensures changed { Does Same (λ o. sequences.prepend_call o e n) self.old self.new result }
         ensures slots { Grows result self.old self.new }
     {
-        match self.refuses_copies(None, n) {
-            Some(reason) => Err(Fault::Raised(reason)),
-            None => {
-                let first = self.chain.first();
-                done(self.put(first, e, count_of(n)))
-            }
-        }
+        allowed(self.refuses_copies(None, n))?;
+        let first = self.chain.first();
+        done(self.put(first, e, count_of(n)))
     }
 
     /// Insert (A.18.3): so many copies before the cursor, where No_Element is the end.
     pub fn insert(&mut self, b: Cursor, e: T, n: i64) -> Result<(), Fault>
-        ensures changed { Changing Same (sequences.insert_call (plain self.old.object) (mark self.old.object b) e n) self.old.object self.new.object result }
+        ensures changed { Does Same (λ o. sequences.insert_call o (seen_by self.old b) e n) self.old self.new result }
         ensures slots { Grows result self.old self.new }
     {
         let mut first = b;
@@ -347,26 +326,21 @@ impl<T: Elem> List<T> {
 
     /// Insert with a position (A.18.3): the same, and the variable is set to the first copy, or to the cursor where there is none.
     pub fn insert_pos(&mut self, b: Cursor, e: T, p: &mut Cursor, n: i64) -> Result<(), Fault>
-        ensures changed { Changing (λ _ m. Marks self.new.object p.new m) (sequences.insert_pos_call (plain self.old.object) (mark self.old.object b) e n) self.old.object self.new.object result }
-        ensures kept { OnErr result (p.new ≡ p.old) }
+        ensures changed { Sets (λ o. sequences.insert_pos_call o (seen_by self.old b) e n) self.old p.old self.new p.new result }
         ensures slots { Grows result self.old self.new }
     {
-        match self.refuses_copies(self.may(b), n) {
-            Some(reason) => Err(Fault::Raised(reason)),
-            None => {
-                let count = count_of(n);
-                let first = self.put(self.place_before(b), e, count)?;
-                *p = cursor_of_first(count, first, b);
-                Ok(())
-            }
-        }
+        allowed(self.refuses_copies(self.may(b), n))?;
+        let count = count_of(n);
+        let first = self.put(self.place_before(b), e, count)?;
+        *p = cursor_of_first(count, first, b);
+        Ok(())
     }
 
     /// The place before the cursor.
     fn place_before(&self, b: Cursor) -> Option<Name>
         requires { may_cursor self.now.object b ≡ None }
         ensures named { ForSome result (IsNamed self.now.object) }
-        ensures spot { spot self.now.object result ≡ place_at (plain self.now.object).rows (mark self.now.object b) }
+        ensures spot { spot self.now.object result ≡ place_at (plain self.now.object).rows (seen_by self.now b) }
     {
         let _chain = &self.chain;
         place_in(b)
@@ -390,7 +364,7 @@ impl<T: Elem> List<T> {
     fn put(&mut self, place: Option<Name>, e: T, n: u64) -> Result<Cursor, Fault>
         requires place { ForSome place (IsNamed self.old.object) }
         requires room { Takes self.old.object n }
-        ensures changed { Changing (Marks self.new.object) (put_call self.old.object place e n) self.old.object self.new.object result }
+        ensures changed { Does (Marks self.new.object) (λ o. put_call self.old.object place e n) self.old self.new result }
         ensures none { n ≡ 0 → self.new ≡ self.old }
         ensures slots { Grows result self.old self.new }
     {

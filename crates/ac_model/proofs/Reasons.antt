@@ -10,6 +10,9 @@ use Rattle.ac_base.specs.declared.limit.TheConstants.{GREATEST_LENGTH}
 use Rattle.ac_model.specs.Objects.{Object}
 use Rattle.ac_model.specs.Rows.{is_named}
 use Rattle.ac_model.specs.Letters.{Mark, no_mark, mark_at, stale_mark, reason_if, room, judged_in, needs, name_of, in_range, count_of}
+use Rattle.ac_base.specs.declared.fault.Fault.{Fault}
+use Rattle.ac_model.specs.Forms.{allowed}
+use Rattle.std.specs.Prelude.{Result, Ok, Err, OnErr}
 
 pub earlier_none : (a b : Option Reason) → earlier a b ≡ None → (a ≡ None) × (b ≡ None)
 earlier_none None b h = (refl, h)
@@ -67,3 +70,17 @@ needs_none o (stale_mark object) h = let e : false ≡ true = judged_none o.numb
 pub in_range_none : (count : ℤ) → in_range count ≡ None → count_of count ≤ GREATEST_LENGTH
 in_range_none (pos n) h = grind (arith, nat_tests)
 in_range_none (negsuc n) h = cc
+
+-- a call that was allowed has no reason
+pub allowed_none : (refusal : Option Reason) → Ok tt ≡ allowed refusal → refusal ≡ None
+allowed_none None h = refl
+allowed_none (Some reason) h = cc
+
+pub passed : (refusal reason : Option Reason) → Ok tt ≡ allowed refusal → refusal ≡ reason → None ≡ reason
+passed None reason h is = is
+passed (Some found) reason h is = cc
+
+-- what holds anyway holds where a call fails
+pub on_err : {X E : Type 0} {P : Type 0} (result : Result X E) → P → OnErr result P
+on_err (Ok x) holds = tt
+on_err (Err e) holds = holds

@@ -8,6 +8,7 @@ use Rattle.ac_base.specs.Rows.{Row, names, values}
 use Rattle.ac_base.specs.WeakOrders.{asymmetric, level_transitive}
 use Rattle.ac_base.specs.Order.{are_level, IsWeakOrder}
 use Rattle.ac_model.specs.Rows.{fresh, cut, put, place_of, named, row_by, sorted, sorted_in, is_ascending, merged, merged_in, HasRowsOf}
+use Rattle.ac_model.specs.Sequences.{are_equal}
 
 pub cut_of_put : {V : Type 0} (rows : List (Row ℕ V)) (place : ℕ) (more : List (Row ℕ V)) → place ≤ length rows → cut (put rows place more) place (length more) ≡ rows
 cut_of_put rows zero more h = rw zero-add (drop-append_seam more rows)
@@ -175,3 +176,8 @@ pub sorted_stable : {V : Type 0} (less : V → V → Bool) → IsWeakOrder less 
 sorted_stable less order v [] = refl
 sorted_stable less order v (r ∷ rows) =
     sorted_in_stable less order v r (sorted less rows) ∙ ap (λ xs. cond (are_level less r.value v) (r ∷ xs) xs) (sorted_stable less order v rows)
+
+-- values are equal to themselves
+pub equal_to_itself : {V : Type 0} (same : V → V → Bool) → ((v : V) → same v v ≡ true) → (vs : List V) → are_equal same vs vs ≡ true
+equal_to_itself same itself [] = refl
+equal_to_itself same itself (v ∷ vs) = rw (itself v) (equal_to_itself same itself vs)

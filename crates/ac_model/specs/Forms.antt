@@ -3,12 +3,12 @@ use Rattle.std.specs.Prelude.{◌≡◌, ℕ, OnErr, Option, Some, None, Result,
 use Rattle.ac_base.specs.declared.cursor.Cursor.{Cursor}
 use Rattle.ac_base.specs.declared.fault.Fault.{Fault}
 use Rattle.ac_base.specs.declared.fault.Fault.TheVariants as fault
-use Rattle.ac_base.specs.declared.name.Name.{Name}
 use Rattle.ac_base.specs.declared.reason.Reason.{Reason}
 use Rattle.ac_model.specs.Objects.{Object, plain}
 use Rattle.ac_model.specs.Letters.{Mark}
 use Rattle.ac_model.specs.Calls.{Call, Look, Both, both, Changing, ChangingBoth, Looking, Marks, Done}
 use Rattle.ac_model.specs.Containers.{Container}
+use Rattle.ac_model.specs.Cursors.{mark}
 
 -- refused for the reason, if there is one
 abbrev pub allowed : Option Reason → Result Done Fault
@@ -31,8 +31,18 @@ module _ {V X A : Type 0} where
   abbrev pub Looks : (X → A → Type 0) → (Object ℕ V → Look A) → Container V → Result X Fault → Type 0
   Looks Answers call now result = Looking Answers (call (plain now.object)) result
 
+-- what the cursor means to the container
+abbrev pub seen_by : {V : Type 0} → Container V → Cursor → Mark
+seen_by c cursor = mark c.object cursor
+
 module _ {V X : Type 0} where
-  -- the call does what it means to the container, and sets its cursor variable
-  pub record Sets (call : Object ℕ V → Call (Object ℕ V) Mark) (old new : Container V) (variable_old variable_new : Cursor) (result : Result X Fault) : Type 0 where
-    pub does : Does (λ _ mark. Marks new.object variable_new mark) call old new result
-    pub kept : OnErr result (variable_new ≡ variable_old)
+  -- the call does what it means to the container and sets its cursor variable, which keeps its value where the call fails
+  abbrev pub Sets : (Object ℕ V → Call (Object ℕ V) Mark) → Container V → Cursor → Container V → Cursor → Result X Fault → Type 0
+  Sets call old variable_old new variable_new result =
+      Does (λ _ mark. Marks new.object variable_new mark) call old new result × OnErr result (variable_new ≡ variable_old)
+
+  -- the same of a target and a source: the variable is set to a cursor of the target
+  abbrev pub SetsBoth : (Object ℕ V → Object ℕ V → Call (Both (Object ℕ V)) Mark)
+      → Both (Container V) → Cursor → Both (Container V) → Cursor → Result X Fault → Type 0
+  SetsBoth call old variable_old new variable_new result =
+      DoesBoth (λ _ mark. Marks new.target.object variable_new mark) call old new result × OnErr result (variable_new ≡ variable_old)

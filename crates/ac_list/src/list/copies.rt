@@ -7,7 +7,8 @@ ghost use Rattle.ac_base.specs.FirstReason.{first_reason};
 ghost use Rattle.ac_base.specs.declared.limit.TheConstants.{GREATEST_LENGTH};
 ghost use Rattle.ac_model.specs.Objects.{plain, length_of};
 ghost use Rattle.ac_model.specs.Letters.{tampers_cursors, room, reason_if};
-ghost use Rattle.ac_model.specs.Calls.{Changing, Same};
+ghost use Rattle.ac_model.specs.Calls.{Same};
+ghost use Rattle.ac_model.specs.Forms.{Does};
 ghost use Rattle.ac_model.specs.Common as common;
 ghost use Rattle.ac_model.specs.Sequences as sequences;
 
@@ -15,7 +16,7 @@ use super::List;
 use crate::refill::refill;
 use ac_base::{Elem, Fault, Limit, NoMemory, Reason};
 use ac_cursor::{Class, Tag, first_reason};
-use ac_model::{limit_of_copy, reason_if, room, too_small};
+use ac_model::{allowed, limit_of_copy, reason_if, room, too_small};
 use std::alloc::Global;
 
 impl<T: Elem> List<T> {
@@ -36,13 +37,11 @@ impl<T: Elem> List<T> {
 
     /// Assign (A.18.3): copies of the source's elements take the place of the elements.
     pub fn assign(&mut self, source: &List<T>) -> Result<(), Fault>
-        ensures changed { Changing Same (common.assign_call (plain self.old.object) (plain source.now.object)) self.old.object self.new.object result }
+        ensures changed { Does Same (λ o. common.assign_call o (plain source.now.object)) self.old self.new result }
         ensures slots { Grows result self.old self.new }
     {
-        match self.refuses_refill(source.chain.len()) {
-            Some(reason) => Err(Fault::Raised(reason)),
-            None => as_fault(refill(&mut self.chain, &source.chain, self.alloc)),
-        }
+        allowed(self.refuses_refill(source.chain.len()))?;
+        as_fault(refill(&mut self.chain, &source.chain, self.alloc))
     }
 
     /// Why so many elements in place of the old ones are refused.
@@ -68,18 +67,15 @@ pub(crate) fn as_fault(filled: Result<(), NoMemory>) -> Result<(), Fault>
 impl<T> List<T> {
     /// Assign (A.18.3) of a list to itself.
     pub fn assign_self(&mut self) -> Result<(), Fault>
-        ensures changed { Changing Same (common.assign_self_call (plain self.old.object)) self.old.object self.new.object result }
+        ensures changed { Does Same common.assign_self_call self.old self.new result }
         ensures same { self.new ≡ self.old }
     {
-        match self.guards.forbids(Class::Cursors) {
-            Some(reason) => Err(Fault::Raised(reason)),
-            None => Ok(()),
-        }
+        allowed(self.guards.forbids(Class::Cursors))
     }
 
     /// Move (A.18.3) of a list to itself.
     pub fn move_from_self(&mut self) -> Result<(), Fault>
-        ensures changed { Changing Same (common.move_from_self_call (plain self.old.object)) self.old.object self.new.object result }
+        ensures changed { Does Same common.move_from_self_call self.old self.new result }
         ensures same { self.new ≡ self.old }
     {
         self.assign_self()
@@ -87,13 +83,10 @@ impl<T> List<T> {
 
     /// Merge (A.18.3) of a list with itself: refused where the list isn't empty.
     pub fn merge_self(&mut self) -> Result<(), Fault>
-        ensures changed { Changing Same (sequences.merge_self_call (plain self.old.object)) self.old.object self.new.object result }
+        ensures changed { Does Same sequences.merge_self_call self.old self.new result }
         ensures same { self.new ≡ self.old }
     {
-        match self.refuses_merge_self() {
-            Some(reason) => Err(Fault::Raised(reason)),
-            None => Ok(()),
-        }
+        allowed(self.refuses_merge_self())
     }
 
     fn refuses_merge_self(&self) -> Option<Reason>

@@ -1,62 +1,50 @@
 //! Elements that are deleted.
 ghost use Rattle.std.specs.Prelude.{◌≡◌, ◌∷◌, [], ◌+◌, OnErr};
-ghost use Rattle.ac_model.specs.Cursors.{mark, needs_cursor};
+ghost use Rattle.ac_model.specs.Cursors.{needs_cursor};
 ghost use Rattle.ac_base.specs.FirstReason.{first_reason};
 ghost use Rattle.ac_model.specs.Objects.{plain, length_of};
 ghost use Rattle.ac_model.specs.Letters.{tampers_cursors, in_range};
-ghost use Rattle.ac_model.specs.Calls.{Changing, Same, Marks};
+ghost use Rattle.ac_model.specs.Calls.{Same};
+ghost use Rattle.ac_model.specs.Forms.{Does, Sets, seen_by};
 ghost use Rattle.ac_model.specs.Sequences as sequences;
 
 use super::List;
 use crate::cut::{remove_from, remove_last};
 use ac_base::{Fault, Reason};
 use ac_cursor::{Class, Cursor, first_reason};
-use ac_model::{count_of, in_range, place_in};
+use ac_model::{allowed, count_of, in_range, place_in};
 
 impl<T: Drop> List<T> {
     /// Delete (A.18.3): at most so many elements from the cursor on, which becomes No_Element.
     pub fn delete(&mut self, q: &mut Cursor, n: i64) -> Result<(), Fault>
-        ensures changed { Changing (λ _ m. Marks self.new.object q.new m) (sequences.delete_call (plain self.old.object) (mark self.old.object q.old) n) self.old.object self.new.object result }
-        ensures kept { OnErr result (q.new ≡ q.old) }
+        ensures changed { Sets (λ o. sequences.delete_call o (seen_by self.old q.old) n) self.old q.old self.new q.new result }
         ensures slots { length_of self.new.object + self.new.spare ≡ length_of self.old.object + self.old.spare }
     {
-        match self.refuses_deletion(*q, n) {
-            Some(reason) => Err(Fault::Raised(reason)),
-            None => {
-                remove_from(&mut self.chain, place_in(*q), count_of(n));
-                *q = Cursor::NoElement;
-                Ok(())
-            }
-        }
+        allowed(self.refuses_deletion(*q, n))?;
+        remove_from(&mut self.chain, place_in(*q), count_of(n));
+        *q = Cursor::NoElement;
+        Ok(())
     }
 
     /// Delete_First (A.18.3): at most so many elements from the first on.
     pub fn delete_first(&mut self, n: i64) -> Result<(), Fault>
-        ensures changed { Changing Same (sequences.delete_first_call (plain self.old.object) n) self.old.object self.new.object result }
+        ensures changed { Does Same (λ o. sequences.delete_first_call o n) self.old self.new result }
         ensures slots { length_of self.new.object + self.new.spare ≡ length_of self.old.object + self.old.spare }
     {
-        match self.refuses_count(n) {
-            Some(reason) => Err(Fault::Raised(reason)),
-            None => {
-                let first = self.chain.first();
-                remove_from(&mut self.chain, first, count_of(n));
-                Ok(())
-            }
-        }
+        allowed(self.refuses_count(n))?;
+        let first = self.chain.first();
+        remove_from(&mut self.chain, first, count_of(n));
+        Ok(())
     }
 
     /// Delete_Last (A.18.3): at most so many elements at the end.
     pub fn delete_last(&mut self, n: i64) -> Result<(), Fault>
-        ensures changed { Changing Same (sequences.delete_last_call (plain self.old.object) n) self.old.object self.new.object result }
+        ensures changed { Does Same (λ o. sequences.delete_last_call o n) self.old self.new result }
         ensures slots { length_of self.new.object + self.new.spare ≡ length_of self.old.object + self.old.spare }
     {
-        match self.refuses_count(n) {
-            Some(reason) => Err(Fault::Raised(reason)),
-            None => {
-                remove_last(&mut self.chain, count_of(n));
-                Ok(())
-            }
-        }
+        allowed(self.refuses_count(n))?;
+        remove_last(&mut self.chain, count_of(n));
+        Ok(())
     }
 
     /// Why a deletion from the cursor on is refused.

@@ -4,61 +4,52 @@ ghost use Rattle.ac_model.specs.Cursors.{mark, needs_cursor, may_cursor};
 ghost use Rattle.ac_model.specs.Letters.{tampers_cursors};
 ghost use Rattle.ac_base.specs.FirstReason.{first_reason};
 ghost use Rattle.ac_model.specs.Objects.{plain};
-ghost use Rattle.ac_model.specs.Calls.{Changing, Same, Marks};
+ghost use Rattle.ac_model.specs.Calls.{Same, Marks};
+ghost use Rattle.ac_model.specs.Forms.{Does, Sets, seen_by};
 ghost use Rattle.ac_model.specs.Lists as lists;
 
 use super::List;
 use ac_base::{Fault, Reason};
 use ac_cursor::{Class, Cursor, first_reason};
-use ac_model::{name_in, place_in};
+use ac_model::{allowed, name_in, place_in};
 
 impl<T> List<T> {
     /// Swap_Links (A.18.3): the two elements change places, and each takes its name with it.
     pub fn swap_links(&mut self, first: Cursor, second: Cursor) -> Result<(), Fault>
-        ensures changed { Changing Same (lists.swap_links_call (plain self.old.object) (mark self.old.object first) (mark self.old.object second)) self.old.object self.new.object result }
+        ensures changed { Does Same (λ o. lists.swap_links_call o (seen_by self.old first) (seen_by self.old second)) self.old self.new result }
         ensures spare { self.new.spare ≡ self.old.spare }
     {
-        match self.refuses_swap_links(first, second) {
-            Some(reason) => Err(Fault::Raised(reason)),
-            None => {
-                self.chain.swap_links(name_in(first), name_in(second));
-                Ok(())
-            }
-        }
+        allowed(self.refuses_swap_links(first, second))?;
+        self.chain.swap_links(name_in(first), name_in(second));
+        Ok(())
     }
 
     /// Splice (A.18.3) of an element of the list itself: it goes before the cursor, where No_Element is the end.
     pub fn splice_within(&mut self, b: Cursor, c: Cursor) -> Result<(), Fault>
         ensures kept { mark self.new.object c ≡ mark self.old.object c }
-        ensures changed { Changing Same (lists.splice_within_call (plain self.old.object) (mark self.old.object b) (mark self.old.object c)) self.old.object self.new.object result }
+        ensures changed { Does Same (λ o. lists.splice_within_call o (seen_by self.old b) (seen_by self.old c)) self.old self.new result }
         ensures spare { self.new.spare ≡ self.old.spare }
     {
-        match self.refuses_splice(b, c) {
-            Some(reason) => Err(Fault::Raised(reason)),
-            None => {
-                self.chain.move_before(place_in(b), name_in(c));
-                Ok(())
-            }
-        }
+        allowed(self.refuses_splice(b, c))?;
+        self.chain.move_before(place_in(b), name_in(c));
+        Ok(())
     }
 
     /// Splice (A.18.3) of a list into itself: nothing changes.
     pub fn splice_self(&mut self, b: Cursor) -> Result<(), Fault>
-        ensures changed { Changing Same (lists.splice_self_call (plain self.old.object) (mark self.old.object b)) self.old.object self.new.object result }
+        ensures changed { Does Same (λ o. lists.splice_self_call o (seen_by self.old b)) self.old self.new result }
         ensures same { self.new ≡ self.old }
     {
-        match first_reason(&[self.guards.forbids(Class::Cursors), self.may(b)]) {
-            Some(reason) => Err(Fault::Raised(reason)),
-            None => Ok(()),
-        }
+        allowed(first_reason(&[self.guards.forbids(Class::Cursors), self.may(b)]))
     }
 
     /// As `splice_within`, with a variable for the element, which keeps its value.
-    pub fn splice_one_self(&mut self, b: Cursor, q: Cursor) -> Result<(), Fault>
-        ensures changed { Changing (λ _ m. Marks self.new.object q m) (lists.splice_one_self_call (plain self.old.object) (mark self.old.object b) (mark self.old.object q)) self.old.object self.new.object result }
+    pub fn splice_one_self(&mut self, b: Cursor, q: &mut Cursor) -> Result<(), Fault>
+        ensures changed { Sets (λ o. lists.splice_one_self_call o (seen_by self.old b) (seen_by self.old q.old)) self.old q.old self.new q.new result }
         ensures spare { self.new.spare ≡ self.old.spare }
+        ensures same { q.new ≡ q.old }
     {
-        self.splice_within(b, q)
+        self.splice_within(b, *q)
     }
 
     /// Why an exchange of links is refused.

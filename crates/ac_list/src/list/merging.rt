@@ -7,7 +7,8 @@ ghost use Rattle.ac_model.specs.Containers.{Grows, slots_of};
 ghost use Rattle.ac_list.specs.Put.{HasGrown};
 ghost use Rattle.ac_list.specs.Searches.{found_in, values_in};
 ghost use Rattle.ac_model.specs.Objects.{plain};
-ghost use Rattle.ac_model.specs.Calls.{ChangingBoth, Same, both};
+ghost use Rattle.ac_model.specs.Calls.{Same, both};
+ghost use Rattle.ac_model.specs.Forms.{DoesBoth};
 ghost use Rattle.ac_model.specs.Sequences as sequences;
 
 use super::List;
@@ -15,7 +16,7 @@ use super::copies::as_fault;
 use ac_base::{Fault, Name, NoMemory, Rank, Reason, precedes};
 use ac_chain::Chain;
 use ac_cursor::{Class, first_reason};
-use ac_model::room;
+use ac_model::{allowed, room};
 
 /// The first place from this one on that the value goes before: level values stay in front.
 fn place_for<T: Rank>(chain: &Chain<T>, from: Option<Name>, value: &T) -> Option<Name>
@@ -75,14 +76,12 @@ fn merge_all<T: Rank>(target: &mut Chain<T>, source: &mut Chain<T>) -> Result<()
 impl<T: Rank> List<T> {
     /// Merge (A.18.3) of another list: each time the smaller of the two first elements, and this list's where neither is smaller.
     pub fn merge(&mut self, source: &mut List<T>) -> Result<(), Fault>
-        ensures changed { ChangingBoth Same (sequences.merge_call T.is_less (plain self.old.object) (plain source.old.object)) (both self.old.object source.old.object) (both self.new.object source.new.object) result }
+        ensures changed { DoesBoth Same (sequences.merge_call T.is_less) (both self.old source.old) (both self.new source.new) result }
         ensures slots { Grows result self.old self.new }
         ensures source { slots_of source.new ≡ slots_of source.old }
     {
-        match self.refuses_merge(source) {
-            Some(reason) => Err(Fault::Raised(reason)),
-            None => as_fault(merge_all(&mut self.chain, &mut source.chain)),
-        }
+        allowed(self.refuses_merge(source))?;
+        as_fault(merge_all(&mut self.chain, &mut source.chain))
     }
 
     /// Why a merge is refused.

@@ -5,13 +5,15 @@ ghost use Rattle.ac_base.specs.Rows.{names};
 ghost use Rattle.ac_chain.specs.Rows.{IsSound};
 ghost use Rattle.ac_list.specs.Sorting.{row_at, IsSortedOrder};
 ghost use Rattle.ac_model.specs.Objects.{plain};
-ghost use Rattle.ac_model.specs.Calls.{Changing, Same};
+ghost use Rattle.ac_model.specs.Calls.{Same};
+ghost use Rattle.ac_model.specs.Forms.{Does};
 ghost use Rattle.ac_model.specs.Lists as lists;
 
 use super::List;
 use ac_base::{Fault, Name, NoMemory, Rank, precedes};
 use ac_chain::Chain;
 use ac_cursor::Class;
+use ac_model::allowed;
 use std::alloc::Global;
 use std::cmp::Ordering;
 
@@ -76,18 +78,12 @@ fn sorted_names<T: Rank>(chain: &Chain<T>, alloc: Global) -> Result<Vec<Name>, N
 impl<T: Rank> List<T> {
     /// Sort (A.18.3): elements of which neither is less stay in their order, and each takes its name with it.
     pub fn sort(&mut self) -> Result<(), Fault>
-        ensures changed { Changing Same (lists.sort_call T.is_less (plain self.old.object)) self.old.object self.new.object result }
+        ensures changed { Does Same (lists.sort_call T.is_less) self.old self.new result }
         ensures spare { self.new.spare ≡ self.old.spare }
     {
-        match self.guards.forbids(Class::Cursors) {
-            Some(reason) => Err(Fault::Raised(reason)),
-            None => match sorted_names(&self.chain, self.alloc) {
-                Ok(order) => {
-                    self.chain.relink(&order);
-                    Ok(())
-                }
-                Err(_) => Err(Fault::NoMemory),
-            },
-        }
+        allowed(self.guards.forbids(Class::Cursors))?;
+        let order = sorted_names(&self.chain, self.alloc)?;
+        self.chain.relink(&order);
+        Ok(())
     }
 }

@@ -2,10 +2,10 @@
 ghost use Rattle.std.specs.Prelude.{◌≡◌, drop, reverse, take};
 ghost use Rattle.std.specs.Option.{ForSome};
 ghost use Rattle.ac_chain.specs.Rows.{IsLive, IsSound, name_at, place_of};
-ghost use Rattle.ac_model.specs.Cursors.{mark};
 ghost use Rattle.ac_list.specs.Searches.{found_in, count_to, start_of, end_of, values_in};
 ghost use Rattle.ac_model.specs.Objects.{plain};
-ghost use Rattle.ac_model.specs.Calls.{Looking, Marks};
+ghost use Rattle.ac_model.specs.Calls.{Marks};
+ghost use Rattle.ac_model.specs.Forms.{Looks, seen_by};
 ghost use Rattle.ac_model.specs.Rows.{is_ascending};
 ghost use Rattle.ac_model.specs.Sequences as sequences;
 
@@ -13,6 +13,7 @@ use super::List;
 use ac_base::{Elem, Fault, Name, Rank, precedes};
 use ac_chain::Chain;
 use ac_cursor::Cursor;
+use ac_model::allowed;
 
 /// The first name from this one on under which an equal value stands.
 fn found_from<T: Elem>(chain: &Chain<T>, e: &T, from: Option<Name>) -> Option<Name>
@@ -105,28 +106,20 @@ fn end_of<T>(chain: &Chain<T>, b: Cursor) -> Option<Name>
 impl<T: Elem> List<T> {
     /// Find (A.18.3): from the cursor on, or from the first element where it is No_Element.
     pub fn find(&self, e: &T, b: Cursor) -> Result<Cursor, Fault>
-        ensures { Looking (Marks self.now.object) (sequences.find_call T.is_same (plain self.now.object) e.now (mark self.now.object b)) result }
+        ensures { Looks (Marks self.now.object) (λ o. sequences.find_call T.is_same o e.now (seen_by self.now b)) self.now result }
     {
-        match self.may(b) {
-            Some(reason) => Err(Fault::Raised(reason)),
-            None => {
-                let start = start_of(&self.chain, b);
-                Ok(self.cursor_at(found_from(&self.chain, e, start)))
-            }
-        }
+        allowed(self.may(b))?;
+        let start = start_of(&self.chain, b);
+        Ok(self.cursor_at(found_from(&self.chain, e, start)))
     }
 
     /// Reverse_Find (A.18.3): back from the cursor, or from the last element where it is No_Element.
     pub fn reverse_find(&self, e: &T, b: Cursor) -> Result<Cursor, Fault>
-        ensures { Looking (Marks self.now.object) (sequences.reverse_find_call T.is_same (plain self.now.object) e.now (mark self.now.object b)) result }
+        ensures { Looks (Marks self.now.object) (λ o. sequences.reverse_find_call T.is_same o e.now (seen_by self.now b)) self.now result }
     {
-        match self.may(b) {
-            Some(reason) => Err(Fault::Raised(reason)),
-            None => {
-                let end = end_of(&self.chain, b);
-                Ok(self.cursor_at(found_back(&self.chain, e, end)))
-            }
-        }
+        allowed(self.may(b))?;
+        let end = end_of(&self.chain, b);
+        Ok(self.cursor_at(found_back(&self.chain, e, end)))
     }
 
     /// Contains (A.18.3).
@@ -142,6 +135,13 @@ impl<T: Elem> List<T> {
         ensures { result ≡ sequences.equal_call T.is_same (plain self.now.object) (plain other.now.object) }
     {
         are_equal(&self.chain, &other.chain)
+    }
+
+    /// "=" (A.18.3) of a list with itself, in constant time.
+    pub fn equal_self(&self) -> bool
+        ensures { result ≡ sequences.equal_call T.is_same (plain self.now.object) (plain self.now.object) }
+    {
+        true
     }
 }
 

@@ -7,18 +7,18 @@ ghost use Rattle.ac_list.specs.Copy.{IsRefilled, cursor_of};
 ghost use Rattle.ac_model.specs.Containers.{Grows, slots_of};
 ghost use Rattle.ac_list.specs.Put.{IsPut, IsFirst, HasGrown};
 ghost use Rattle.ac_list.specs.Searches.{values_in};
-ghost use Rattle.ac_model.specs.Cursors.{mark};
 ghost use Rattle.ac_model.specs.Objects.{plain};
-ghost use Rattle.ac_model.specs.Calls.{ChangingBoth, Same, Marks, both};
+ghost use Rattle.ac_model.specs.Calls.{Same, Marks, both};
+ghost use Rattle.ac_model.specs.Forms.{DoesBoth, SetsBoth, seen_by};
 ghost use Rattle.ac_model.specs.Common as common;
 ghost use Rattle.ac_model.specs.Lists as lists;
 
-use super::copies::as_fault;
 use super::List;
+use super::copies::as_fault;
 use ac_base::{Fault, Name, NoMemory, Reason};
 use ac_chain::Chain;
 use ac_cursor::{Class, Cursor, first_reason};
-use ac_model::{name_in, place_in, room};
+use ac_model::{allowed, name_in, place_in, room};
 
 /// Moves the values before the place, the first one first.
 fn move_each<T>(target: &mut Chain<T>, place: Option<Name>, source: &mut Chain<T>)
@@ -124,14 +124,12 @@ fn cursor_of(object: u64, name: Result<Name, NoMemory>) -> Result<Cursor, Fault>
 impl<T: Drop> List<T> {
     /// Move (A.18.3): the source's elements, under new names, in place of those that were here.
     pub fn move_from(&mut self, source: &mut List<T>) -> Result<(), Fault>
-        ensures changed { ChangingBoth Same (common.move_from_call (plain self.old.object) (plain source.old.object)) (both self.old.object source.old.object) (both self.new.object source.new.object) result }
+        ensures changed { DoesBoth Same common.move_from_call (both self.old source.old) (both self.new source.new) result }
         ensures slots { Grows result self.old self.new }
         ensures source { slots_of source.new ≡ slots_of source.old }
     {
-        match self.refuses_move(source) {
-            Some(reason) => Err(Fault::Raised(reason)),
-            None => as_fault(move_all(&mut self.chain, &mut source.chain)),
-        }
+        allowed(self.refuses_move(source))?;
+        as_fault(move_all(&mut self.chain, &mut source.chain))
     }
 
     /// Why a move is refused.
@@ -150,19 +148,17 @@ impl<T: Drop> List<T> {
 impl<T> List<T> {
     /// Splice (A.18.3) of another list: its elements go before the cursor, where No_Element is the end.
     pub fn splice(&mut self, b: Cursor, source: &mut List<T>) -> Result<(), Fault>
-        ensures changed { ChangingBoth Same (lists.splice_call (plain self.old.object) (mark self.old.object b) (plain source.old.object)) (both self.old.object source.old.object) (both self.new.object source.new.object) result }
+        ensures changed { DoesBoth Same (λ o s. lists.splice_call o (seen_by self.old b) s) (both self.old source.old) (both self.new source.new) result }
         ensures slots { Grows result self.old self.new }
         ensures source { slots_of source.new ≡ slots_of source.old }
     {
-        match self.refuses_splice_of_all(b, source) {
-            Some(reason) => Err(Fault::Raised(reason)),
-            None => as_fault(move_before(&mut self.chain, place_in(b), &mut source.chain)),
-        }
+        allowed(self.refuses_splice_of_all(b, source))?;
+        as_fault(move_before(&mut self.chain, place_in(b), &mut source.chain))
     }
 
     /// Why a splice of another list is refused.
     fn refuses_splice_of_all(&self, b: Cursor, source: &List<T>) -> Option<Reason>
-        ensures { result ≡ (lists.splice_call (plain self.now.object) (mark self.now.object b) (plain source.now.object)).reason }
+        ensures { result ≡ (lists.splice_call (plain self.now.object) (seen_by self.now b) (plain source.now.object)).reason }
     {
         let more = source.chain.len();
         let length = self.chain.len() + more;
@@ -181,8 +177,7 @@ impl<T> List<T> {
         source: &mut List<T>,
         q: &mut Cursor,
     ) -> Result<(), Fault>
-        ensures changed { ChangingBoth (λ _ m. Marks self.new.object q.new m) (lists.splice_one_call (plain self.old.object) (mark self.old.object b) (plain source.old.object) (mark source.old.object q.old)) (both self.old.object source.old.object) (both self.new.object source.new.object) result }
-        ensures kept { OnErr result (q.new ≡ q.old) }
+        ensures changed { SetsBoth (λ o s. lists.splice_one_call o (seen_by self.old b) s (seen_by source.old q.old)) (both self.old source.old) q.old (both self.new source.new) q.new result }
         ensures slots { Grows result self.old self.new }
         ensures source { slots_of source.new ≡ slots_of source.old }
     {
@@ -192,22 +187,18 @@ impl<T> List<T> {
 
     /// As `splice_one`, with the element's new cursor as the answer.
     fn take_one(&mut self, b: Cursor, source: &mut List<T>, q: Cursor) -> Result<Cursor, Fault>
-        ensures changed { ChangingBoth (Marks self.new.object) (lists.splice_one_call (plain self.old.object) (mark self.old.object b) (plain source.old.object) (mark source.old.object q)) (both self.old.object source.old.object) (both self.new.object source.new.object) result }
+        ensures changed { DoesBoth (Marks self.new.object) (λ o s. lists.splice_one_call o (seen_by self.old b) s (seen_by source.old q)) (both self.old source.old) (both self.new source.new) result }
         ensures slots { Grows result self.old self.new }
         ensures source { slots_of source.new ≡ slots_of source.old }
     {
-        match self.refuses_splice_of_one(b, source, q) {
-            Some(reason) => Err(Fault::Raised(reason)),
-            None => {
-                let name = move_one(&mut self.chain, place_in(b), &mut source.chain, name_in(q));
-                cursor_of(self.guards.number(), name)
-            }
-        }
+        allowed(self.refuses_splice_of_one(b, source, q))?;
+        let name = move_one(&mut self.chain, place_in(b), &mut source.chain, name_in(q));
+        cursor_of(self.guards.number(), name)
     }
 
     /// Why a splice of one element of another list is refused.
     fn refuses_splice_of_one(&self, b: Cursor, source: &List<T>, q: Cursor) -> Option<Reason>
-        ensures { result ≡ (lists.splice_one_call (plain self.now.object) (mark self.now.object b) (plain source.now.object) (mark source.now.object q)).reason }
+        ensures { result ≡ (lists.splice_one_call (plain self.now.object) (seen_by self.now b) (plain source.now.object) (seen_by source.now q)).reason }
     {
         let length = self.chain.len() + 1;
         first_reason(&[

@@ -1,45 +1,38 @@
 //! Another value under a name that stays.
 ghost use Rattle.std.specs.Prelude.{◌≡◌, ◌∷◌, [], None};
-ghost use Rattle.ac_model.specs.Cursors.{mark, needs_cursor};
+ghost use Rattle.ac_model.specs.Cursors.{needs_cursor};
 ghost use Rattle.ac_base.specs.FirstReason.{first_reason};
 ghost use Rattle.ac_model.specs.Rows.{with_value};
 ghost use Rattle.ac_model.specs.Objects.{plain, with_rows};
 ghost use Rattle.ac_model.specs.Letters.{tampers_elements, name_of};
-ghost use Rattle.ac_model.specs.Calls.{Changing, IsAfter, Same};
+ghost use Rattle.ac_model.specs.Calls.{IsAfter, Same};
+ghost use Rattle.ac_model.specs.Forms.{Does, seen_by};
 ghost use Rattle.ac_model.specs.Sequences as sequences;
 
 use super::List;
 use ac_base::{Fault, Reason};
 use ac_cursor::{Class, Cursor, first_reason};
-use ac_model::name_in;
+use ac_model::{allowed, name_in};
 
 impl<T: Drop> List<T> {
     /// Replace_Element (A.18.3).
     pub fn replace_element(&mut self, c: Cursor, e: T) -> Result<(), Fault>
-        ensures changed { Changing Same (sequences.replace_element_call (plain self.old.object) (mark self.old.object c) e) self.old.object self.new.object result }
+        ensures changed { Does Same (λ o. sequences.replace_element_call o (seen_by self.old c) e) self.old self.new result }
         ensures spare { self.new.spare ≡ self.old.spare }
     {
-        match self.refuses_replacement(c) {
-            Some(reason) => Err(Fault::Raised(reason)),
-            None => {
-                self.set_value(c, e);
-                Ok(())
-            }
-        }
+        allowed(self.refuses_replacement(c))?;
+        self.set_value(c, e);
+        Ok(())
     }
 
     /// A write through a name that a view or a loop gives for the element (A.18.3): no tampering check.
     pub fn write(&mut self, c: Cursor, e: T) -> Result<(), Fault>
-        ensures changed { Changing Same (sequences.write_call (plain self.old.object) (mark self.old.object c) e) self.old.object self.new.object result }
+        ensures changed { Does Same (λ o. sequences.write_call o (seen_by self.old c) e) self.old self.new result }
         ensures spare { self.new.spare ≡ self.old.spare }
     {
-        match self.needs(c) {
-            Some(reason) => Err(Fault::Raised(reason)),
-            None => {
-                self.set_value(c, e);
-                Ok(())
-            }
-        }
+        allowed(self.needs(c))?;
+        self.set_value(c, e);
+        Ok(())
     }
 
     /// Why a replacement is refused.
@@ -51,7 +44,7 @@ impl<T: Drop> List<T> {
 
     fn set_value(&mut self, c: Cursor, e: T)
         requires { needs_cursor self.old.object c ≡ None }
-        ensures written { IsAfter self.old.object self.new.object (with_rows (plain self.old.object) (with_value (plain self.old.object).rows (name_of (mark self.old.object c)) e)) }
+        ensures written { IsAfter self.old.object self.new.object (with_rows (plain self.old.object) (with_value (plain self.old.object).rows (name_of (seen_by self.old c)) e)) }
         ensures spare { self.new.spare ≡ self.old.spare }
     {
         *self.chain.at_mut(name_in(c)) = e;

@@ -1,13 +1,14 @@
 use Rattle.std.proofs.Common.{sym, ap}
 use Rattle.ac_model.specs.Containers.{Container}
 use Rattle.ac_list.proofs.Looks.{live_needed, next_looks}
+use Rattle.ac_model.proofs.Reasons.{passed}
 use Rattle.ac_list.proofs.list.List.next.Goals as goal
 
 pub next-requires : goal.next-requires
 next-requires g c =
-    let i = c.self.inside in live_needed i.guards i.limit i.chain c.args.self.now.object (ap (λ (x : Container _). x.object) c.self.view_is) c.args.b c.name_in.result c.name_in.ensures (sym c.in-None.ensures)
+    let i = c.self.inside in live_needed i.guards i.limit i.chain c.args.self.now.object (ap (λ (x : Container _). x.object) c.self.view_is) c.args.b c.name_in.result c.name_in.ensures (sym (passed _ _ c.in_ok-allowed.ensures c.needs.ensures))
 
-pub returns-in-None : goal.returns-in-None
-returns-in-None g c =
+pub returns : goal.returns
+returns g c =
     let i = c.self.inside in next_looks i.guards i.limit i.chain c.args.self.now.object (ap (λ (x : Container _). x.object) c.self.view_is) c.self.invariant.sound c.args.b c.name_in.result c.next.result c.cursor_at.result
-    (sym c.in-None.ensures) c.name_in.ensures c.next.ensures.name c.cursor_at.ensures
+    (sym (passed _ _ c.in_ok-allowed.ensures c.needs.ensures)) c.name_in.ensures c.next.ensures.name c.cursor_at.ensures

@@ -7,6 +7,7 @@ use Rattle.ac_model.specs.Sequences.{room_for_copies}
 use Rattle.ac_model.specs.Containers.{Container}
 use Rattle.ac_list.specs.Put.{Takes}
 use Rattle.ac_list.proofs.Grows.{takes_from, copies_done, done_slots, first_spot}
+use Rattle.ac_model.proofs.Reasons.{passed}
 use Rattle.ac_list.proofs.list.List.prepend.Goals as goal
 
 pub put-requires-clause-place : goal.put-requires-clause-place
@@ -14,13 +15,13 @@ put-requires-clause-place g c =
     let i = c.self.inside in (first_spot i.guards i.limit i.chain c.args.self.now.object (ap (λ (x : Container _). x.object) c.self.view_is) c.self.invariant.sound c.first-first.result c.first-first.ensures.name).0
 
 pub put-requires-clause-room : goal.put-requires-clause-room
-put-requires-clause-room g c = let o = c.args.self.now.object in subst (λ m. Takes o m) (sym (c.count_of.ensures ∙ ap count_of (to_z-of_z {w = w64} {z = c.args.n} c.ranges.n))) (takes_from o None c.args.n (c.in-None.ensures ∙ ap (λ m. first_reason (tampers_cursors (plain c.args.self.now.object) ∷ None ∷ room_for_copies (plain c.args.self.now.object) m)) (to_z-of_z {w = w64} {z = c.args.n} c.ranges.n)))
+put-requires-clause-room g c = let o = c.args.self.now.object in subst (λ m. Takes o m) (sym (c.count_of.ensures ∙ ap count_of (to_z-of_z {w = w64} {z = c.args.n} c.ranges.n))) (takes_from o None c.args.n ((passed _ _ c.in_ok-allowed.ensures c.refuses_copies.ensures) ∙ ap (λ m. first_reason (tampers_cursors (plain c.args.self.now.object) ∷ None ∷ room_for_copies (plain c.args.self.now.object) m)) (to_z-of_z {w = w64} {z = c.args.n} c.ranges.n)))
 
-pub returns-in-None-clause-changed : goal.returns-in-None-clause-changed
-returns-in-None-clause-changed g c =
+pub returns-clause-changed : goal.returns-clause-changed
+returns-clause-changed g c =
     let o = c.args.self.now.object in let i = c.self.inside in
     let at = (first_spot i.guards i.limit i.chain o (ap (λ (x : Container _). x.object) c.self.view_is) c.self.invariant.sound c.first-first.result c.first-first.ensures.name).1 in
-    copies_done o c.put.new.self.object c.first-first.result 0 c.count_of.result c.args.n c.args.e c.put.result c.done.result (sequences.prepend_call (plain o) c.args.e c.args.n).reason at (c.count_of.ensures ∙ ap count_of (to_z-of_z {w = w64} {z = c.args.n} c.ranges.n)) (sym (c.in-None.ensures ∙ ap (λ m. first_reason (tampers_cursors (plain c.args.self.now.object) ∷ None ∷ room_for_copies (plain c.args.self.now.object) m)) (to_z-of_z {w = w64} {z = c.args.n} c.ranges.n))) c.put.ensures.changed c.done.ensures
+    copies_done o c.put.new.self.object c.first-first.result 0 c.count_of.result c.args.n c.args.e c.put.result c.done.result (sequences.prepend_call (plain o) c.args.e c.args.n).reason at (c.count_of.ensures ∙ ap count_of (to_z-of_z {w = w64} {z = c.args.n} c.ranges.n)) (sym ((passed _ _ c.in_ok-allowed.ensures c.refuses_copies.ensures) ∙ ap (λ m. first_reason (tampers_cursors (plain c.args.self.now.object) ∷ None ∷ room_for_copies (plain c.args.self.now.object) m)) (to_z-of_z {w = w64} {z = c.args.n} c.ranges.n))) c.put.ensures.changed c.done.ensures
 
-pub returns-in-None-clause-slots : goal.returns-in-None-clause-slots
-returns-in-None-clause-slots g c = done_slots c.put.result c.done.result c.args.self.now c.put.new.self c.done.ensures c.put.ensures.slots
+pub returns-clause-slots : goal.returns-clause-slots
+returns-clause-slots g c = done_slots c.put.result c.done.result c.args.self.now c.put.new.self c.done.ensures c.put.ensures.slots
