@@ -2,3 +2,9 @@ pub mod ChainFields
 pub mod ChainLends
 pub mod LinksLends
 pub mod Rows
+pub mod Put
+pub mod Cut
+pub mod Refill
+pub mod Search
+pub mod Sorting
+pub mod Merging

@@ -22,6 +22,10 @@ module _ {X : Type 0} where
   abbrev pub chained_code : Coded X → Coded (Chained X)
   chained_code x = code_by (List (Row Name X) × (ℕ × ℕ)) (coded× (coded_list (row_code x)) (coded× coded_ℕ coded_ℕ)) (λ c. (c.rows, (c.next_serial, c.spare))) (λ p. chained p.0 p.1.0 p.1.1) (λ _. refl)
 
+  -- how many slots there are, with and without a row
+  abbrev pub slots_in : Chained X → ℕ
+  slots_in c = length c.rows + c.spare
+
   -- the place of the name's row, or the number of rows where there is none
   abbrev pub index_of : Name → List (Row Name X) → ℕ
   index_of a [] = 0

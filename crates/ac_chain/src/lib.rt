@@ -1,12 +1,27 @@
 //! A chain: values in a row under names, each linked with the one before and the one after it, in the slots of a pool.
+//! Beside its calls stand those that put, take out, move, sort, merge and look for many values.
 #![tactic(auto)]
 
 mod chain;
+mod cut;
 mod links;
+mod merge;
+mod put;
+mod refilling;
+mod search;
+mod sort;
+mod transfer;
 
 pub use chain::Chain;
+pub use cut::{remove_from, remove_last};
 #[doc(hidden)]
 pub use links::{Links, Node};
+pub use merge::merge_all;
+pub use put::{put_copies, put_each};
+pub use refilling::refill;
+pub use search::{are_equal, end_of, found_back, found_from, is_ascending, start_of};
+pub use sort::sorted_names;
+pub use transfer::{move_all, move_before, move_one};
 
 #[cfg(test)]
 mod tests;

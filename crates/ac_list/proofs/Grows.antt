@@ -36,18 +36,16 @@ use Rattle.ac_model.specs.Sequences.{with_new, first_new, room_for_copies, copie
 use Rattle.ac_model.proofs.Reasons.{after_two, none_first, none_others, room_none}
 use Rattle.ac_model.specs.Cursors.{spot, IsNamed}
 use Rattle.ac_model.specs.Containers.{Grows, slots_of}
-use Rattle.ac_list.specs.Put.{plains, IsPut, HasFirst, Takes, put_call, done}
+use Rattle.ac_model.specs.Objects.{plains}
+use Rattle.ac_chain.specs.Put.{IsPut, HasFirst}
+use Rattle.ac_list.specs.Put.{Takes, put_call, done}
 use Rattle.ac_model.specs.Cursors.{may_cursor, mark, place_in, cursor_at}
 use Rattle.ac_model.specs.Containers.{Container, container}
 use Rattle.ac_list.specs.State.{object_of, IsList}
-use Rattle.ac_list.proofs.Standing.{among_has, has_among, place_live, stands, may_by_name, marked_live}
-use Rattle.ac_list.proofs.Puts.{plains-append, length-plains, put_length}
-
-pub accepted : {V X A : Type 0} (Answers : X → A → Type 0) (memory : _) (reason : Option Reason) (after : Object ℕ V) (answer : A) (old new : Object Name V) (r : Result X Fault) → reason ≡ None
-    → Changing Answers (call memory None after answer) old new r → Changing Answers (call memory reason after answer) old new r
-accepted Answers memory reason after answer old new (Ok x) e h = (e, h.1, h.2)
-accepted Answers memory reason after answer old new (Err (fault.Raised q)) e h = absurd (let k : None ≡ Some q = h.0 in cc)
-accepted Answers memory reason after answer old new (Err fault.NoMemory) e h = (h.0, e, h.2)
+use Rattle.ac_chain.proofs.Marks.{among_has, has_among, place_live, may_by_name, marked_live}
+use Rattle.ac_list.proofs.Standing.{stands}
+use Rattle.ac_chain.proofs.Puts.{plains-append, length-plains, put_length}
+use Rattle.ac_chain.proofs.Grows.{accepted, no_capacity, all_from, put_cut, put_kept, past_end, plains-reverse, reverse_has}
 
 -- the answer is let go
 pub done_changes : {V X A : Type 0} (Answers : X → A → Type 0) (memory : _) (reason : Option Reason) (after : Object ℕ V) (answer : A) (old new : Object Name V) (r : Result X Fault)
@@ -62,16 +60,6 @@ done_grows (Err e) old new h = h
 
 pub done_slots : {V A : Type 0} (r : Result A Fault) (d : Result Done Fault) (old new : Container V) → d ≡ done r → Grows r old new → Grows d old new
 done_slots r d old new e h = subst (λ q. Grows q old new) (sym e) (done_grows r old new h)
-
--- of a call that answers by a variable, without the variable
-pub unanswered : {V A : Type 0} (Answers : Done → A → Type 0) (c : Call (Object ℕ V) A) (old new : Object Name V) (r : Result Done Fault) → Changing Answers c old new r → Changing Same (call c.memory c.reason c.after tt) old new r
-unanswered Answers c old new (Ok x) h = (h.0, h.1, refl)
-unanswered Answers c old new (Err (fault.Raised q)) h = h
-unanswered Answers c old new (Err fault.NoMemory) h = h
-
-pub no_capacity : (l : Limit) (n : ℕ) → capacity_after l None n ≡ None
-no_capacity Unbounded n = refl
-no_capacity (Bounded most) n = refl
 
 module _ {X : Type 0} where
   -- of a list that takes so many more, the chain does too
@@ -105,27 +93,6 @@ module _ {X : Type 0} where
   list_after l k now n place e (Ok x) s few within ok err slots sound =
       list_grown {A = Option Name} l k now n (Ok x) s few within (put_length k.rows k.next_serial place (replicate n e) now ok ∙ ap (λ m. length k.rows + m) (length-replicate n e)) err slots sound
 
-  pub all_from : (P : Name → Type 0) (rows : List (Row Name X)) → ((a : Name) → HasName a rows → P a) → All P (names rows)
-  all_from P [] h i d lt = absurd (omega arith)
-  all_from P (r ∷ rows) h zero d lt = h r.name (inl refl)
-  all_from P (r ∷ rows) h (suc i) d lt = all_from P rows (λ a t. h a (inr t)) i d (omega arith)
-
-  pub more_serials : (a : Name) (next : ℕ) (vs : List X) (more : List (Row Name X)) → plains more ≡ fresh next vs → HasName a more → next ≤ a.serial
-  more_serials a next vs [] e h = absurd h
-  more_serials a next [] (r ∷ more) e h = absurd (cc)
-  more_serials a next (v ∷ vs) (r ∷ more) e h =
-      let first : row r.name.serial r.value ≡ row next v = cc in
-      let others : plains more ≡ fresh (next + 1) vs = cc in
-      let serial : r.name.serial ≡ next = ap (λ (q : Row ℕ X). q.name) first in
-      elim h [
-        | inl same ↦ let s : a.serial ≡ r.name.serial = ap (λ (n : Name). n.serial) same in omega arith
-        | inr t ↦ let later = more_serials a (next + 1) vs more others t in omega arith
-      ]
-
-  pub put_cut : (xs ys zs : List (Row ℕ X)) → put (xs ++ ys) (length xs) zs ≡ xs ++ zs ++ ys
-  put_cut [] ys zs = refl
-  put_cut (x ∷ xs) ys zs = ap (λ rows. x ∷ rows) (put_cut xs ys zs)
-
   spot_is : (g : GuardCounts) (l : Limit) (k : Chained X) (place : Option Name) → IsSound k → ForSome place (IsLive k) → spot (object_of g l k) place ≡ place_of place k.rows
   spot_is g l k None s h = length-plains k.rows
   spot_is g l k (Some a) s h = place_live k a s (h a refl)
@@ -155,15 +122,6 @@ module _ {X : Type 0} where
     };
     slots = all_from (λ name. name.serial < k.next_serial → IsTrue (is_among (names k.rows) name)) now.rows (λ a t lt. has_among a k.rows (kept a t lt));
   }
-
-  put_kept : (rows : List (Row Name X)) (next : ℕ) (place : Option Name) (vs : List X) (now : Chained X) → IsPut rows next place vs now → (a : Name) → HasName a now.rows → a.serial < next → HasName a rows
-  put_kept rows next place vs now p a t lt = elim (HasName-either a (p.before ++ p.more) p.after (subst (λ zs. HasName a zs) p.are t)) [
-    | inl left ↦ elim (HasName-either a p.before p.more left) [
-      | inl b ↦ subst (λ zs. HasName a zs) (sym p.were) (HasName-left a p.before p.after b)
-      | inr m ↦ absurd (let high = more_serials a next vs p.more p.fresh_names m in omega arith)
-    ]
-    | inr right ↦ subst (λ zs. HasName a zs) (sym p.were) (HasName-right a p.before p.after right)
-  ]
 
   pub put_after : (g : GuardCounts) (l : Limit) (k now : Chained X) (n : ℕ) (place : Option Name) (vs : List X) → length vs ≡ n → IsSound k → ForSome place (IsLive k) → IsPut k.rows k.next_serial place vs now
       → IsAfter (object_of g l k) (object_of g l now) (with_new (plain (object_of g l k)) (spot (object_of g l k) place) vs n)
@@ -224,13 +182,6 @@ module _ {X : Type 0} where
             place_live k r.name s (has_live r.name k.rows h) ∙ ap (index_of r.name) is ∙ index_here r.name r rows refl,
           )
 
-  -- no row has the name that a cursor at no element has
-  pub past_end : (rows : List (Row Name X)) → ((a : Name) → HasName a rows → 0 < a.serial) → model.place_of (plains rows) 0 ≡ length (plains rows)
-  past_end [] h = refl
-  past_end (r ∷ rows) h =
-      let some = h r.name (inl refl) in
-      cond-false _ _ _ (ne_eqb r.name.serial 0 (λ e. omega arith)) ∙ ap suc (past_end rows (λ a t. h a (inr t)))
-
   pub insert_spot : (g : GuardCounts) (l : Limit) (k : Chained X) (o : Object Name X) → object_of g l k ≡ o → IsSound k → (b : Cursor) → may_cursor o b ≡ None
       → (ForSome (place_in b) (IsNamed o)) × (spot o (place_in b) ≡ place_at (plain o).rows (mark o b))
   insert_spot g l k o view s b h =
@@ -254,9 +205,6 @@ module _ {X : Type 0} where
       e ∙ (λ i. earlier (et i) (earlier place (earlier (ea i) ((with_none_later r ∙ er ∙ (λ j. first_reason (room_in l (en j) (sum j) (em j)))) i))))
       ∙ ap (λ (p : Object Name X). first_reason (tampers_cursors (plain p) ∷ place ∷ room_for_copies (plain p) n)) view
 
-  pub place_none : (o : Object Name X) (place : Option Reason) (n : _) → first_reason (tampers_cursors (plain o) ∷ place ∷ room_for_copies (plain o) n) ≡ None → place ≡ None
-  place_none o place n h = none_first place (room_for_copies (plain o) n) (none_others (tampers_cursors (plain o)) (place ∷ room_for_copies (plain o) n) h)
-
   pub copies_changed : (o new : Object Name X) (place : Option Name) (at m : ℕ) (n : _) (e : X) (r : Result Cursor Fault) (reason : Option Reason) → spot o place ≡ at → m ≡ count_of n → reason ≡ None
       → Changing (Marks new) (put_call o place e m) o new r → Changing (Marks new) (call (copies_take_memory (plain o) n) reason (with_copies (plain o) at e n) (first_new (plain o) no_mark (count_of n))) o new r
   copies_changed o new place at m n e r reason spot_at count none h =
@@ -270,18 +218,6 @@ module _ {X : Type 0} where
       subst (λ q. Changing Same (call (copies_take_memory (plain o) n) reason (with_copies (plain o) at e n) tt) o new q) (sym is)
       (done_changes (Marks new) (copies_take_memory (plain o) n) reason (with_copies (plain o) at e n) (first_new (plain o) no_mark (count_of n)) o new r
       (copies_changed o new place at m n e r reason spot_at count none h))
-
-  pub plains-reverse : (rows : List (Row Name X)) → plains (reverse rows) ≡ reverse (plains rows)
-  plains-reverse [] = refl
-  plains-reverse (r ∷ rows) =
-      ap plains (reverse-append (r ∷ []) rows) ∙ plains-append (reverse rows) (r ∷ []) ∙ ap (λ zs. zs ++ plains (r ∷ [])) (plains-reverse rows) ∙ sym (reverse-append (plains (r ∷ [])) (plains rows))
-
-  pub reverse_has : (a : Name) (rows : List (Row Name X)) → HasName a (reverse rows) → HasName a rows
-  reverse_has a [] h = h
-  reverse_has a (r ∷ rows) h = elim (HasName-either a (reverse rows) (r ∷ []) (subst (λ zs. HasName a zs) (reverse-append (r ∷ []) rows) h)) [
-    | inl t ↦ inr (reverse_has a rows t)
-    | inr e ↦ elim e [ inl same ↦ inl same | inr none ↦ absurd none ]
-  ]
 
   pub reversed_after : (g : GuardCounts) (l : Limit) (k now : Chained X) (o : Object Name X) → object_of g l k ≡ o → now ≡ reversed k → IsAfter o (object_of g l now) (with_rows (plain o) (reverse (plain o).rows))
   reversed_after g l k now o view e =

@@ -23,16 +23,13 @@ use Rattle.ac_model.specs.Letters.{no_mark, mark_at, mark_of, is_among, judged_i
 use Rattle.ac_model.specs.Calls.{Looking, Marks, Lends}
 use Rattle.ac_model.specs.Sequences as sequences
 use Rattle.ac_model.specs.Sequences.{mark_before}
-use Rattle.ac_list.specs.Put.{plains}
+use Rattle.ac_model.specs.Objects.{plains}
 use Rattle.ac_model.specs.Cursors.{mark, needs_cursor, may_cursor, cursor_at, name_in}
 use Rattle.ac_base.specs.declared.reason.Reason.{Reason}
 use Rattle.ac_list.specs.State.{object_of}
-use Rattle.ac_list.proofs.Standing.{among_has, has_among, judged_by_name, may_by_name, stands, marked_at, place_live, value_live}
-
-pub bool_is : (b d : Bool) → (IsTrue b → IsTrue d) → (IsTrue d → IsTrue b) → b ≡ d
-bool_is true d f g = sym (f refl)
-bool_is false true f g = g refl
-bool_is false false f g = refl
+use Rattle.ac_chain.proofs.Marks.{among_has, has_among, judged_by_name, may_by_name, marked_at, place_live, value_live}
+use Rattle.ac_list.proofs.Standing.{stands}
+use Rattle.ac_chain.proofs.Looks.{bool_is}
 
 module _ {X : Type 0} (g : GuardCounts) (l : Limit) (k : Chained X) (o : Object Name X) (view : object_of g l k ≡ o) where
   -- a cursor is judged by its number, and by whether the chain has its name

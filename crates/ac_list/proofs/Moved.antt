@@ -30,27 +30,24 @@ use Rattle.ac_model.specs.Lists.{one_value}
 use Rattle.ac_model.specs.Common as common
 use Rattle.ac_model.proofs.Reasons.{after_two, after_three, after_four, none_first, room_none}
 use Rattle.ac_model.specs.Containers.{Grows, slots_of}
-use Rattle.ac_list.specs.Put.{plains, IsPut, IsFirst, HasGrown}
-use Rattle.ac_list.specs.Cut.{IsCut}
-use Rattle.ac_list.specs.Copy.{as_fault, cursor_of, IsRefilled}
-use Rattle.ac_list.specs.Searches.{values_in}
+use Rattle.ac_model.specs.Objects.{plains}
+use Rattle.ac_chain.specs.Put.{IsPut, IsFirst, HasGrown}
+use Rattle.ac_chain.specs.Cut.{IsCut}
+use Rattle.ac_model.specs.Forms.{as_fault, cursor_of}
+use Rattle.ac_chain.specs.Refill.{IsRefilled}
+use Rattle.ac_base.specs.Rows.{values}
 use Rattle.ac_model.specs.Cursors.{may_cursor, needs_cursor, mark, place_in, name_in}
 use Rattle.ac_model.specs.Containers.{Container, container}
 use Rattle.ac_list.specs.State.{object_of, IsList}
-use Rattle.ac_list.proofs.Standing.{stands, marked_live, value_live}
-use Rattle.ac_list.proofs.Puts.{put_length}
+use Rattle.ac_chain.proofs.Marks.{marked_live, value_live}
+use Rattle.ac_list.proofs.Standing.{stands}
 use Rattle.ac_list.proofs.Looks.{live_needed, mark_needed}
 use Rattle.ac_list.proofs.Grows.{list_grown, put_after, insert_spot, named_live, grown_slots}
 use Rattle.ac_list.proofs.Refills.{source_is, refill_after}
-use Rattle.ac_list.proofs.Deletes.{cutting_start, cutting_more, cutting_end, cut_after, cursor_place}
+use Rattle.ac_list.proofs.Deletes.{cut_after, cursor_place}
+use Rattle.ac_chain.proofs.Moved.{Fits, removed_cut, count_one}
 
 module _ {X : Type 0} where
-  -- a chain's list has room for this length, and for so many new names
-  pub record Fits (l : Limit) (k : Chained X) (len n : ℕ) : Type 0 where
-    pub few : len ≤ GREATEST_LENGTH
-    pub within : is_past l len ≡ false
-    pub unspent : k.next_serial + n < 2 ^ 64
-
   pub room_fits : (g : GuardCounts) (l : Limit) (k : Chained X) (o : Object Name X) → object_of g l k ≡ o → (length more len n : ℕ) → length ≡ len → more ≡ n → first_reason (room (plain o) length more) ≡ None → Fits l k len n
   room_fits g l k o view length more len n e f none =
       let has = room_none (plain (object_of g l k)) len n ((λ i. first_reason (room (plain (view i)) (sym e i) (sym f i))) ∙ none) in
@@ -96,33 +93,6 @@ module _ {X : Type 0} where
       subst (λ (q : Container X). slots_of (container (object_of h m then) then.spare) ≡ slots_of q) view (omega arith)
   less_slots h m from then p view (Err e) same ok err = ap (λ (c : Chained X). slots_of (container (object_of h m c) c.spare)) err ∙ ap slots_of view
 
-  pub cleared_fewer : (from then : Chained X) → then ≡ cleared from → length then.rows ≤ length from.rows
-  cleared_fewer from then e = let none = ap (λ (d : Chained X). length d.rows) e in omega arith
-
-  pub cleared_slots : (from then : Chained X) → then ≡ cleared from → length then.rows + then.spare ≡ length from.rows + from.spare
-  cleared_slots from then e = let none = ap (λ (d : Chained X). length d.rows) e in let spare = ap (λ (d : Chained X). d.spare) e in omega arith
-
-  pub removed_cut : (from then : Chained X) (a : Name) → IsSound from → IsLive from a → then ≡ removed from a → IsSound then → IsCut from (index_of a from.rows) 1 then
-  removed_cut from then a sound live e sound1 =
-      let start = cutting_start from (Some a) (λ b q. subst (λ n. IsLive from n) (same a b q) live) sound in
-      let one = cutting_more from (index_of a from.rows) 0 (Some a) (next_name from a) from then a start refl refl e sound1 in
-      cutting_end from (index_of a from.rows) 1 1 (next_name from a) then one (omega arith) (λ n. absurd (n refl))
-    where
-      same : (a b : Name) → Some a ≡ Some b → a ≡ b
-      same a b e = cc
-
-  pub removed_fewer : (from then : Chained X) (a : Name) → IsSound from → IsLive from a → IsSound then → then ≡ removed from a → length then.rows ≤ length from.rows
-  removed_fewer from then a sound live sound1 e =
-      let slots = (removed_cut from then a sound live e sound1).slots in
-      let spare : then.spare ≡ from.spare + 1 = ap (λ (d : Chained X). d.spare) e in
-      omega arith
-
-  pub removed_slots : (from then : Chained X) (a : Name) → IsSound from → IsLive from a → IsSound then → then ≡ removed from a → length then.rows + then.spare ≡ length from.rows + from.spare
-  removed_slots from then a sound live sound1 e = (removed_cut from then a sound live e sound1).slots
-
-  count_one : (from : Chained X) (a : Name) → IsLive from a → length (one_value (value_of from a)) ≡ 1
-  count_one from a live = let k = cut a from.rows (live_has a from.rows live) in ap (λ r. length (one_value (option_map (λ (q : Row Name X). q.value) r))) (cut-row a from.rows k)
-
   emptied_after : (h : GuardCounts) (m : Limit) (from then : Chained X) (p : Object Name X) → object_of h m from ≡ p → then ≡ cleared from → IsAfter p (object_of h m then) (with_rows (plain p) [])
   emptied_after h m from then p view e =
       subst (λ (q : Object Name X). IsAfter q (object_of h m then) (with_rows (plain q) [])) view
@@ -139,9 +109,6 @@ module _ {X : Type 0} where
           let there = insert_spot g l k (object_of g l k) refl s b none in
           subst (λ i. IsAfter (object_of g l k) (object_of g l now) (with_new (plain (object_of g l k)) i vs n)) there.1
           (put_after g l k now n (place_in b) vs count s (named_live g l k (object_of g l k) refl (place_in b) there.0) (subst (λ q. IsPut k.rows k.next_serial q vs now) is p))
-
-  pub one_length : (k now from : Chained X) (place : Option Name) (a : Name) → IsLive from a → IsPut k.rows k.next_serial place (one_value (value_of from a)) now → length now.rows ≡ length k.rows + 1
-  one_length k now from place a live p = put_length k.rows k.next_serial place (one_value (value_of from a)) now p ∙ ap (λ n. length k.rows + n) (count_one from a live)
 
   -- a cursor that isn't refused stands at a place of the chain
   pub placed_live : (g : GuardCounts) (l : Limit) (k : Chained X) (o : Object Name X) → object_of g l k ≡ o → IsSound k → (b : Cursor) (place : Option Name) → place ≡ place_in b → may_cursor o b ≡ None → ForSome place (IsLive k)
@@ -174,7 +141,7 @@ module _ {X : Type 0} (g h : GuardCounts) (l m : Limit) (k from : Chained X) (o 
       let n = length_of (plain p) in let count = (source_is h m from p source).1 in
       room_fits g l k o view n n (length from.rows) (length from.rows) count count (after_two (tampers_cursors (plain o)) (tampers_cursors (plain p)) (room (plain o) n n) (sym e))
 
-  pub moved : (now : Chained X) → IsRefilled k (values_in from.rows) now → IsAfter o (object_of g l now) (common.move_from_call (plain o) (plain p)).after.target
+  pub moved : (now : Chained X) → IsRefilled k (values from.rows) now → IsAfter o (object_of g l now) (common.move_from_call (plain o) (plain p)).after.target
   moved now f = refill_after g l k now o (contents (plain p)) (length_of (plain p)) view count_contents (subst (λ vs. IsRefilled k vs now) (sym (source_is h m from p source).0) f)
 
   -- Splice of all elements
@@ -191,7 +158,7 @@ module _ {X : Type 0} (g h : GuardCounts) (l m : Limit) (k from : Chained X) (o 
         fits = room_fits g l k o view all n (length k.rows + length from.rows) (length from.rows) both_lengths (source_is h m from p source).1 (after_three t u (may_cursor o b) r (sym e));
       }
 
-  pub spliced : (now : Chained X) (b : Cursor) (place : Option Name) → IsSound k → None ≡ (lists.splice_call (plain o) (mark o b) (plain p)).reason → place ≡ place_in b → IsPut k.rows k.next_serial place (values_in from.rows) now
+  pub spliced : (now : Chained X) (b : Cursor) (place : Option Name) → IsSound k → None ≡ (lists.splice_call (plain o) (mark o b) (plain p)).reason → place ≡ place_in b → IsPut k.rows k.next_serial place (values from.rows) now
       → IsAfter o (object_of g l now) (lists.splice_call (plain o) (mark o b) (plain p)).after.target
   spliced now b place s e is put =
       placed_after g l k now o view s b place (contents (plain p)) (length_of (plain p)) count_contents is (splice_fits b e).place (subst (λ vs. IsPut k.rows k.next_serial place vs now) (sym (source_is h m from p source).0) put)

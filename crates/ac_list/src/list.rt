@@ -26,9 +26,8 @@ mod searches;
 mod transfers;
 mod values;
 
-use crate::put::put_copies;
 use ac_base::{Elem, Fault, Limit, Name, Reason};
-use ac_chain::Chain;
+use ac_chain::{Chain, put_copies};
 use ac_cursor::{Class, Cursor, GuardKey, GuardKind, Guarded, Guards, Tag, first_reason};
 use ac_model::{
     allowed, count_of, cursor_at, cursor_of_first, in_range, judge, name_in, place_in, room,

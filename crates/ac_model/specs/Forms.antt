@@ -1,8 +1,11 @@
 -- What a library call's contract says, in short forms: the call's definition, over the container before and after it, and its answer.
-use Rattle.std.specs.Prelude.{◌≡◌, ℕ, OnErr, Option, Some, None, Result, Ok, Err}
+use Rattle.std.specs.Prelude.{◌≡◌, ℕ, IsTrue, OnErr, Option, Some, None, Result, Ok, Err}
 use Rattle.ac_base.specs.declared.cursor.Cursor.{Cursor}
 use Rattle.ac_base.specs.declared.fault.Fault.{Fault}
 use Rattle.ac_base.specs.declared.fault.Fault.TheVariants as fault
+use Rattle.ac_base.specs.declared.cursor.Cursor.TheVariants.{At}
+use Rattle.ac_base.specs.declared.fault.NoMemory.{NoMemory}
+use Rattle.ac_base.specs.declared.name.Name.{Name}
 use Rattle.ac_base.specs.declared.reason.Reason.{Reason}
 use Rattle.ac_model.specs.Objects.{Object, plain}
 use Rattle.ac_model.specs.Letters.{Mark}
@@ -14,6 +17,22 @@ use Rattle.ac_model.specs.Cursors.{mark}
 abbrev pub allowed : Option Reason → Result Done Fault
 allowed None = Ok tt
 allowed (Some reason) = Err (fault.Raised reason)
+
+-- want of memory as a fault
+abbrev pub as_fault : Result Done NoMemory → Result Done Fault
+as_fault (Ok x) = Ok x
+as_fault (Err e) = Err fault.NoMemory
+
+-- a new name as a cursor of the object with this number
+abbrev pub cursor_of : ℕ → Result Name NoMemory → Result Cursor Fault
+cursor_of number (Ok name) = Ok (At number name)
+cursor_of number (Err e) = Err fault.NoMemory
+
+-- a call that makes a container: Ok, no reason and the object that it means; or the first reason; or want of memory, where it may take some, and no reason
+abbrev pub Makes : {V : Type 0} → Call (Object ℕ V) Done → Result (Container V) Fault → Type 0
+Makes c (Ok made) = (c.reason ≡ None) × (plain made.object ≡ c.after)
+Makes c (Err (fault.Raised reason)) = c.reason ≡ Some reason
+Makes c (Err fault.NoMemory) = IsTrue c.memory × (c.reason ≡ None)
 
 module _ {V X A : Type 0} where
   -- the call does what it means to the container; `Answers` says how its answer is the meaning's

@@ -24,6 +24,10 @@ pub record Object (N V : Type 0) : Type 0 where
 abbrev pub plain_row : {V : Type 0} → Row Name V → Row ℕ V
 plain_row r = row r.name.serial r.value
 
+-- the rows without their slots
+abbrev pub plains : {V : Type 0} → List (Row Name V) → List (Row ℕ V)
+plains rows = map plain_row rows
+
 -- the object without the slots of its names
 abbrev pub plain : {V : Type 0} → Object Name V → Object ℕ V
 plain o = record {

@@ -20,5 +20,5 @@ pub mod vector_examples;
 
 pub use cursors::{cursor_at, cursor_of_first, name_in, place_in};
 pub use refusals::{
-    allowed, count_of, in_range, index_in, judge, limit_of_copy, reason_if, room, too_many, too_small,
+    allowed, as_fault, count_of, cursor_of, in_range, index_in, judge, limit_of_copy, reason_if, room, too_many, too_small,
 };

@@ -3,11 +3,12 @@ ghost use Rattle.std.specs.Prelude.{◌≡◌, ◌+◌, ◌&&◌, nat_lt, None, 
 ghost use Rattle.ac_base.specs.FirstReason.{first_reason};
 ghost use Rattle.ac_base.specs.Limits.{is_past, numbers_end};
 ghost use Rattle.ac_model.specs.Common as common;
+ghost use Rattle.ac_model.specs.Forms as forms;
 ghost use Rattle.ac_model.specs.Forms.{allowed};
 ghost use Rattle.ac_model.specs.Letters as letters;
 ghost use Rattle.ac_model.specs.Letters.{judged_in};
 
-use ac_base::{Fault, GREATEST_LENGTH, Limit, Reason, first_reason};
+use ac_base::{Cursor, Fault, GREATEST_LENGTH, Limit, Name, NoMemory, Reason, first_reason};
 
 /// The reason, where the test is passed.
 pub fn reason_if(test: bool, reason: Reason) -> Option<Reason>
@@ -109,5 +110,25 @@ pub fn limit_of_copy(limit: Limit, capacity: u64, length: u64) -> Limit
     match limit {
         Limit::Unbounded => Limit::Unbounded,
         Limit::Bounded(_) => Limit::Bounded(if capacity == 0 { length } else { capacity }),
+    }
+}
+
+/// Want of memory as a fault.
+pub fn as_fault(made: Result<(), NoMemory>) -> Result<(), Fault>
+    ensures { result ≡ forms.as_fault made }
+{
+    match made {
+        Ok(()) => Ok(()),
+        Err(_) => Err(Fault::NoMemory),
+    }
+}
+
+/// The cursor at a new name of the object with this number.
+pub fn cursor_of(object: u64, name: Result<Name, NoMemory>) -> Result<Cursor, Fault>
+    ensures { result ≡ forms.cursor_of object name }
+{
+    match name {
+        Ok(name) => Ok(Cursor::At { object, name }),
+        Err(_) => Err(Fault::NoMemory),
     }
 }

@@ -2,7 +2,7 @@
 ghost use Rattle.std.specs.Prelude.{◌≡◌, ◌∷◌, [], ◌≤◌, ◌&&◌, not, max, nat_lt, IfOk};
 ghost use Rattle.ac_base.specs.Growth.{pow8};
 ghost use Rattle.ac_model.specs.Containers.{Grows, slots_of};
-ghost use Rattle.ac_list.specs.Copy.{Making, as_fault};
+ghost use Rattle.ac_model.specs.Forms.{Makes, as_fault};
 ghost use Rattle.ac_base.specs.FirstReason.{first_reason};
 ghost use Rattle.ac_base.specs.declared.limit.TheConstants.{GREATEST_LENGTH};
 ghost use Rattle.ac_model.specs.Objects.{plain, length_of};
@@ -13,17 +13,17 @@ ghost use Rattle.ac_model.specs.Common as common;
 ghost use Rattle.ac_model.specs.Sequences as sequences;
 
 use super::List;
-use crate::refill::refill;
-use ac_base::{Elem, Fault, Limit, NoMemory, Reason};
+use ac_base::{Elem, Fault, Limit, Reason};
+use ac_chain::refill;
 use ac_cursor::{Class, Tag, first_reason};
-use ac_model::{allowed, limit_of_copy, reason_if, room, too_small};
+use ac_model::{allowed, as_fault, limit_of_copy, reason_if, room, too_small};
 use std::alloc::Global;
 
 impl<T: Elem> List<T> {
     /// Copy (A.18.3): a list of its own number with copies of the elements. A bounded one's limit is the capacity, or the length where that is 0.
     pub fn copy(&self, alloc: Global, tag: Tag, capacity: u64) -> Result<List<T>, Fault>
         requires { capacity ≤ GREATEST_LENGTH }
-        ensures made { Making (common.copy_call (plain self.now.object) tag capacity) result }
+        ensures made { Makes (common.copy_call (plain self.now.object) tag capacity) result }
         ensures slots { self.now.object.limit ≡ Limit.Unbounded → IfOk result (λ made. slots_of made ≤ pow8 (max (length_of self.now.object) capacity)) }
     {
         let length = self.chain.len();
@@ -52,15 +52,6 @@ impl<T: Elem> List<T> {
             self.guards.forbids(Class::Cursors),
             room(self.limit, self.chain.next_serial(), length, length),
         ])
-    }
-}
-
-pub(crate) fn as_fault(filled: Result<(), NoMemory>) -> Result<(), Fault>
-    ensures { result ≡ as_fault filled }
-{
-    match filled {
-        Ok(()) => Ok(()),
-        Err(_) => Err(Fault::NoMemory),
     }
 }
 

@@ -9,8 +9,8 @@ ghost use Rattle.ac_model.specs.Forms.{Does, Sets, seen_by};
 ghost use Rattle.ac_model.specs.Sequences as sequences;
 
 use super::List;
-use crate::cut::{remove_from, remove_last};
 use ac_base::{Fault, Reason};
+use ac_chain::{remove_from, remove_last};
 use ac_cursor::{Class, Cursor, first_reason};
 use ac_model::{allowed, count_of, in_range, place_in};
 

@@ -4,7 +4,7 @@ ghost use Rattle.ac_model.specs.Cursors.{mark, needs_cursor, may_cursor};
 ghost use Rattle.ac_model.specs.Letters.{tampers_cursors};
 ghost use Rattle.ac_base.specs.FirstReason.{first_reason};
 ghost use Rattle.ac_model.specs.Objects.{plain};
-ghost use Rattle.ac_model.specs.Calls.{Same, Marks};
+ghost use Rattle.ac_model.specs.Calls.{Same};
 ghost use Rattle.ac_model.specs.Forms.{Does, Sets, seen_by};
 ghost use Rattle.ac_model.specs.Lists as lists;
 

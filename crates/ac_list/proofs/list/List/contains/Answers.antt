@@ -1,6 +1,7 @@
 use Rattle.std.proofs.Common.{ap}
 use Rattle.ac_model.specs.Containers.{Container}
-use Rattle.ac_list.proofs.Finds.{first_live, contains_is}
+use Rattle.ac_chain.proofs.Finds.{first_live}
+use Rattle.ac_list.proofs.Finds.{contains_is}
 use Rattle.ac_list.proofs.list.List.contains.Goals as goal
 
 pub found_from-requires-clause-from : goal.found_from-requires-clause-from

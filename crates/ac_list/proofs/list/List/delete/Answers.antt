@@ -21,9 +21,12 @@ returns-clause-changed g c =
     let i = c.self.inside in let o = c.args.self.now.object in let view = ap (λ (x : Container _). x.object) c.self.view_is in
     let same = to_z-of_z {w = w64} {z = c.args.n} c.ranges.n in
     let reason = ap (λ n. first_reason (tampers_cursors (plain o) ∷ needs_cursor o c.args.q.now ∷ in_range n ∷ [])) (sym same) ∙ sym (passed _ _ c.in_ok-allowed.ensures c.refuses_deletion.ensures) in
-    let none = none_found (tampers_cursors (plain o) ∷ needs_cursor o c.args.q.now ∷ in_range c.args.n ∷ []) reason in ((
-      reason,
-      cut_at i.guards i.limit i.chain c.remove_from.new.chain o view _ _ c.count_of.result (count_of c.args.n)
-          (cursor_place i.guards i.limit i.chain o view c.self.invariant.sound c.args.q.now c.place_in.result c.place_in.ensures none.1.0).1 (c.count_of.ensures ∙ ap count_of same) c.remove_from.ensures.cut,
-      refl,
-    ), tt)
+    let none = none_found (tampers_cursors (plain o) ∷ needs_cursor o c.args.q.now ∷ in_range c.args.n ∷ []) reason in (
+      (
+        reason,
+        cut_at i.guards i.limit i.chain c.remove_from.new.chain o view _ _ c.count_of.result (count_of c.args.n)
+            (cursor_place i.guards i.limit i.chain o view c.self.invariant.sound c.args.q.now c.place_in.result c.place_in.ensures none.1.0).1 (c.count_of.ensures ∙ ap count_of same) c.remove_from.ensures.cut,
+        refl,
+      ),
+      tt,
+    )

@@ -4,7 +4,8 @@ use Rattle.ac_model.specs.Letters.{tampers_cursors, in_range, count_of}
 use Rattle.ac_model.specs.Objects.{plain}
 use Rattle.ac_model.specs.Containers.{Container}
 use Rattle.ac_list.proofs.Looks.{live_name}
-use Rattle.ac_list.proofs.Deletes.{first_place, cut_at}
+use Rattle.ac_chain.proofs.Deletes.{first_place}
+use Rattle.ac_list.proofs.Deletes.{cut_at}
 use Rattle.ac_model.proofs.Reasons.{passed}
 use Rattle.ac_list.proofs.list.List.delete_first.Goals as goal
 

@@ -4,7 +4,8 @@ use Rattle.ac_model.specs.Objects.{plain}
 use Rattle.ac_model.specs.Letters.{count_of, tampers_cursors}
 use Rattle.ac_model.specs.Sequences.{room_for_copies}
 use Rattle.ac_list.specs.Put.{Takes}
-use Rattle.ac_list.proofs.Grows.{takes_from, place_none}
+use Rattle.ac_chain.proofs.Grows.{place_none}
+use Rattle.ac_list.proofs.Grows.{takes_from}
 use Rattle.ac_model.proofs.Reasons.{passed}
 use Rattle.ac_list.proofs.list.List.insert_pos.Goals as goal
 

@@ -1,6 +1,6 @@
 use Rattle.std.proofs.Common.{◌≡◌, subst, sym, ◌∙◌}
 use Rattle.ac_model.specs.Cursors.{may_cursor}
-use Rattle.ac_list.proofs.Standing.{may_by_name}
+use Rattle.ac_chain.proofs.Marks.{may_by_name}
 use Rattle.ac_list.proofs.list.List.may.Goals as goal
 
 pub returns-in-At : goal.returns-in-At

@@ -2,8 +2,10 @@ use Rattle.std.proofs.Common.{refl, sym, ap, ◌∙◌, length}
 use Rattle.ac_model.specs.Objects.{plain}
 use Rattle.ac_model.specs.Sequences as sequences
 use Rattle.ac_model.specs.Containers.{Container}
-use Rattle.ac_list.proofs.Moved.{list_more, list_less, cleared_fewer, cleared_slots, more_slots, less_slots, transferred, emptied}
-use Rattle.ac_list.proofs.Merges.{merge_fits, merged_length, merged_after}
+use Rattle.ac_chain.proofs.Moved.{cleared_fewer, cleared_slots}
+use Rattle.ac_list.proofs.Moved.{list_more, list_less, more_slots, less_slots, transferred, emptied}
+use Rattle.ac_chain.proofs.Merges.{merged_length}
+use Rattle.ac_list.proofs.Merges.{merge_fits, merged_after}
 use Rattle.ac_model.proofs.Reasons.{passed}
 use Rattle.ac_list.proofs.list.List.merge.Goals as goal
 

@@ -3,7 +3,8 @@ use Rattle.ac_model.specs.Objects.{plain}
 use Rattle.ac_model.specs.Common as common
 use Rattle.ac_model.specs.Containers.{Container}
 use Rattle.ac_list.proofs.Refills.{refill_list}
-use Rattle.ac_list.proofs.Moved.{list_less, cleared_fewer, cleared_slots, more_slots, less_slots, transferred, emptied, move_fits, moved}
+use Rattle.ac_chain.proofs.Moved.{cleared_fewer, cleared_slots}
+use Rattle.ac_list.proofs.Moved.{list_less, more_slots, less_slots, transferred, emptied, move_fits, moved}
 use Rattle.ac_model.proofs.Reasons.{passed}
 use Rattle.ac_list.proofs.list.List.move_from.Goals as goal
 

@@ -3,8 +3,9 @@ use Rattle.ac_model.specs.Objects.{plain}
 use Rattle.ac_model.specs.Lists as lists
 use Rattle.ac_model.specs.Cursors.{mark}
 use Rattle.ac_model.specs.Containers.{Container}
-use Rattle.ac_list.proofs.Transfers.{put_all_length}
-use Rattle.ac_list.proofs.Moved.{list_more, list_less, cleared_fewer, cleared_slots, more_slots, less_slots, placed_live, transferred, emptied, splice_fits, spliced}
+use Rattle.ac_chain.proofs.Transfers.{put_all_length}
+use Rattle.ac_chain.proofs.Moved.{cleared_fewer, cleared_slots}
+use Rattle.ac_list.proofs.Moved.{list_more, list_less, more_slots, less_slots, placed_live, transferred, emptied, splice_fits, spliced}
 use Rattle.ac_model.proofs.Reasons.{passed}
 use Rattle.ac_list.proofs.list.List.splice.Goals as goal
 

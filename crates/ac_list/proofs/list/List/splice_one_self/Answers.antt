@@ -1,6 +1,6 @@
 use Rattle.std.proofs.Common.{refl}
 use Rattle.ac_model.proofs.Reasons.{on_err}
-use Rattle.ac_list.proofs.Links.{position_kept}
+use Rattle.ac_chain.proofs.Relinked.{position_kept}
 use Rattle.ac_list.proofs.list.List.splice_one_self.Goals as goal
 
 pub returns-clause-changed : goal.returns-clause-changed

@@ -1,7 +1,8 @@
 use Rattle.std.proofs.Common.{sym, ap, ◌∙◌}
 use Rattle.ac_model.specs.Containers.{Container}
 use Rattle.ac_list.proofs.Looks.{live_needed}
-use Rattle.ac_list.proofs.Moved.{list_more, list_less, less_slots, one_fits, one_length, removed_fewer, removed_slots, placed_live, one_slots, one_spliced}
+use Rattle.ac_chain.proofs.Moved.{one_length, removed_fewer, removed_slots}
+use Rattle.ac_list.proofs.Moved.{list_more, list_less, less_slots, one_fits, placed_live, one_slots, one_spliced}
 use Rattle.ac_model.proofs.Reasons.{passed}
 use Rattle.ac_list.proofs.list.List.take_one.Goals as goal
 

@@ -1,0 +1,10 @@
+use Rattle.std.proofs.Common.{◌-◌, length}
+use Rattle.ac_chain.specs.Rows.{index_of}
+use Rattle.ac_chain.proofs.Compares.{Ascending}
+use Rattle.ac_chain.proofs.search.is_ascending.Given as goal
+
+abbrev pub invariant-loop-name : goal.invariant-loop-name
+invariant-loop-name g l = Ascending g.T.Rank.is_less l.fn.chain l.before
+
+abbrev pub decreases-loop-name : goal.decreases-loop-name
+decreases-loop-name g l = length l.fn.chain.rows - index_of l.before l.fn.chain.rows

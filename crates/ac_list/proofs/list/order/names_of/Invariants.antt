@@ -1,7 +1,0 @@
-use Rattle.std.proofs.Common.{◌≡◌, map, take}
-use Rattle.ac_base.specs.Rows.{names}
-use Rattle.ac_list.specs.Sorting.{row_at}
-use Rattle.ac_list.proofs.list.order.names_of.Given as goal
-
-abbrev pub invariant-loop-row : goal.invariant-loop-row
-invariant-loop-row g l = l.made.items ≡ names (map row_at (take l.row-index l.rows))

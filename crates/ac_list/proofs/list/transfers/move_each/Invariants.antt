@@ -1,9 +1,0 @@
-use Rattle.std.proofs.Common.{length}
-use Rattle.ac_list.proofs.Transfers.{Moving}
-use Rattle.ac_list.proofs.list.transfers.move_each.Given as goal
-
-abbrev pub invariant-loop-first : goal.invariant-loop-first
-invariant-loop-first g l = Moving l.fn.target l.fn.place l.fn.source l.target l.source
-
-abbrev pub decreases-loop-first : goal.decreases-loop-first
-decreases-loop-first g l = length l.source.rows

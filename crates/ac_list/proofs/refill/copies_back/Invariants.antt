@@ -1,8 +1,0 @@
-use Rattle.ac_list.proofs.Refills.{Copying, left}
-use Rattle.ac_list.proofs.refill.copies_back.Given as goal
-
-abbrev pub invariant-loop-place : goal.invariant-loop-place
-invariant-loop-place g l = Copying l.chain.rows l.place l.made.items
-
-abbrev pub decreases-loop-place : goal.decreases-loop-place
-decreases-loop-place g l = left l.chain.rows l.place
