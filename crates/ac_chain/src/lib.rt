@@ -22,6 +22,3 @@ pub use refilling::refill;
 pub use search::{are_equal, end_of, found_back, found_from, is_ascending, start_of};
 pub use sort::sorted_names;
 pub use transfer::{move_all, move_before, move_one};
-
-#[cfg(test)]
-mod tests;

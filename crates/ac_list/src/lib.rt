@@ -4,6 +4,3 @@
 mod list;
 
 pub use list::List;
-
-#[cfg(test)]
-mod tests;

@@ -1,6 +1,6 @@
-use super::*;
 use ac_base::{Fault, Limit, Reason, Text};
 use ac_cursor::{Cursor, GuardKind, Guarded, Tag, TagMint};
+use ac_list::List;
 use std::alloc::Global;
 use std::process::Abort;
 use std::test::Fail;
@@ -292,4 +292,62 @@ fn a_search_compares_texts(rt: HostRuntime) {
     let wanted = text(&rt, rt.alloc(), b"ash");
     assert!(rt; list.reverse_find(&wanted, Cursor::NoElement) == Ok(list.last()));
     assert!(rt; list.find(&wanted, Cursor::NoElement) == Ok(list.first()));
+}
+
+#[test]
+fn two_elements_change_places(rt: HostRuntime) {
+    let mut list = list(&rt, rt.alloc(), 1, Limit::Unbounded);
+    assert!(rt; list.append(10, 1).is_ok());
+    assert!(rt; list.append(20, 1).is_ok());
+    let (first, last) = (list.first(), list.last());
+    assert!(rt; list.swap(first, last).is_ok());
+    assert!(rt; holds(&list, &[20, 10]));
+    assert_eq!(rt; element(&list, first), Some(20));
+    assert_eq!(rt; list.previous(last).ok(), Some(first));
+    assert_eq!(rt; list.previous(first).ok(), Some(Cursor::NoElement));
+}
+
+#[test]
+fn a_write_is_no_tampering(rt: HostRuntime) {
+    let mut list = list(&rt, rt.alloc(), 1, Limit::Unbounded);
+    assert!(rt; list.append(10, 1).is_ok());
+    let key = list.hold(GuardKind::Elements);
+    let c = list.first();
+    assert_eq!(rt;
+        list.replace_element(c, 20),
+        Err(Fault::Raised(Reason::ElementTampering))
+    );
+    assert!(rt; list.write(c, 30).is_ok());
+    list.release(key);
+    assert!(rt; holds(&list, &[30]));
+}
+
+#[test]
+fn a_list_with_itself_is_left_as_it_is(rt: HostRuntime) {
+    let mut list = list(&rt, rt.alloc(), 1, Limit::Unbounded);
+    assert!(rt; list.append(10, 1).is_ok());
+    assert!(rt; list.append(20, 1).is_ok());
+    let first = list.first();
+    assert!(rt; list.assign_self().is_ok());
+    assert!(rt; list.move_from_self().is_ok());
+    assert!(rt; list.splice_self(first).is_ok());
+    assert!(rt; list.equal_self());
+    assert_eq!(rt;
+        list.merge_self(),
+        Err(Fault::Raised(Reason::SameContainer))
+    );
+    assert!(rt; holds(&list, &[10, 20]));
+    assert_eq!(rt; element(&list, first), Some(10));
+}
+
+#[test]
+fn a_splice_of_one_within_the_list_keeps_the_variable(rt: HostRuntime) {
+    let mut list = list(&rt, rt.alloc(), 1, Limit::Unbounded);
+    assert!(rt; list.append(10, 1).is_ok());
+    assert!(rt; list.append(20, 1).is_ok());
+    let (first, last) = (list.first(), list.last());
+    let mut position = last;
+    assert!(rt; list.splice_one_self(first, &mut position).is_ok());
+    assert!(rt; position == last);
+    assert!(rt; holds(&list, &[20, 10]));
 }

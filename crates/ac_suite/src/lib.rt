@@ -1,0 +1,8 @@
+//! Tests over the public calls of the other crates: worked rows, and each call that takes memory where there is enough of it.
+//! They stand here so that no crate of many functions is proved a second time with its tests.
+#![tactic(auto)]
+
+#[cfg(test)]
+mod chains;
+#[cfg(test)]
+mod lists;
