@@ -6,7 +6,7 @@ use Rattle.std.specs.FinMap as map
 use Rattle.ac_base.specs.declared.name.Name.{Name}
 use Rattle.ac_pool.specs.Names.{name_cmp}
 use Rattle.ac_pool.specs.PoolFields.{name_at, entries_from, entries_in, empty_count}
-use Rattle.ac_pool.proofs.Labelled.{within}
+use Rattle.ac_pool.proofs.Cells.{within}
 use Rattle.ac_pool.proofs.NameLaws.{same_name, name_cmp_total, get-insert_same, get-insert_other, get-remove_same, get-remove_other, same_names}
 
 other_slot : (a b : Name) → a.slot ≢ b.slot → a ≢ b

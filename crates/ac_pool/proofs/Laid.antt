@@ -1,13 +1,8 @@
 -- A slot is found in its chunk, and a write there is a write to the list of all cells.
-use Rattle.std.proofs.Common.{◌≡◌, ℕ, zero, suc, ◌+◌, ◌-◌, ◌<◌, ◌≤◌, ◌^◌, List, [], ◌∷◌, ◌++◌, length, set, get_or, take, map, refl, sym, ap, ◌∙◌, subst, inl, inr, arith, length-append, length-set}
-use Rattle.std.proofs.lemmas.Bool.{cases_lt}
-use Rattle.std.proofs.lemmas.List.{length-map, get_or_append_left, get_or-append-add, set-append_left, set-append_right, get_or_default, take-append-le, get_or_push, map_push, append-nil, append_assoc, take_all}
+use Rattle.std.proofs.Common.{◌≡◌, ℕ, zero, suc, ◌+◌, ◌-◌, ◌<◌, List, [], ◌∷◌, ◌++◌, length, set, get_or, take, map, refl, sym, ap, ◌∙◌, subst, arith, length-append, length-set}
+use Rattle.std.proofs.lemmas.List.{length-map, get_or_append_left, get_or-append-add, set-append_left, set-append_right, get_or_default, map_push, append-nil, append_assoc}
 use Rattle.ac_pool.specs.declared.slots.Place.{Place}
 use Rattle.ac_pool.specs.Slots.{all_cells, total, IsAt, IsLaid}
-
-pub total-append : (ms ns : List ℕ) → total (ms ++ ns) ≡ total ms + total ns
-total-append [] ns = omega arith
-total-append (m ∷ ms) ns = omega (arith, total-append ms ns)
 
 module _ {X : Type 0} where
   abbrev sizes : List (List X) → List ℕ
@@ -52,16 +47,19 @@ module _ {X : Type 0} where
   size_at (cs ∷ chunks) zero = refl
   size_at (cs ∷ chunks) (suc k) = size_at chunks k
 
+  pub size_of_read : (chunks : List (List X)) (k : ℕ) (cs : List X) → k < length chunks → cs ≡ get_or chunks k cs → length cs ≡ get_or (sizes chunks) k 0
+  size_of_read chunks k cs lt is = ap length (is ∙ get_or_default chunks k cs [] lt) ∙ sym (size_at chunks k)
+
   -- the chunk cs at the place p, which has the slot i
   module _ (chunks : List (List X)) (p : Place) (i : ℕ) (at : IsAt (sizes chunks) p i) where
     pub chunk_within : p.chunk < length chunks
-    chunk_within = omega (arith, length-map chunks (λ cells. length cells), at.chunk)
+    chunk_within = omega (arith, length-map chunks (λ cells. length cells), at.reaches.chunk)
 
     offset : i ≡ total (take p.chunk (sizes chunks)) + (i - p.start)
-    offset = omega (arith, at.start, at.above)
+    offset = omega (arith, at.reaches.start, at.above)
 
     short : i - p.start < get_or (sizes chunks) p.chunk 0
-    short = omega (arith, at.above, at.below)
+    short = omega (arith, at.above, at.reaches.below)
 
     module _ (cs : List X) (is : cs ≡ get_or chunks p.chunk cs) where
       chunk_is : cs ≡ get_or chunks p.chunk []
@@ -79,32 +77,9 @@ module _ {X : Type 0} where
       pub sizes-write : (c : X) → sizes (set chunks p.chunk (set cs (i - p.start) c)) ≡ sizes chunks
       sizes-write c = ap (λ l. sizes (set chunks p.chunk (set l (i - p.start) c))) chunk_is ∙ same_sizes chunks p.chunk (i - p.start) c
 
-pub found : (ns : List ℕ) (places : List Place) (n i : ℕ) (p : Place) → IsLaid ns places n → i < n → p ≡ get_or places i p → IsAt ns p i
-found ns places n i p h lt is = subst (λ q. IsAt ns q i) (sym is) (h.placed i p lt)
+module _ {X : Type 0} (chunks : List (List X)) (places : List Place) (n i : ℕ) (h : IsLaid (sizes chunks) places n) where
+  pub IsLaid-all : (cs : List (List X)) (ps : List Place) → cs ≡ chunks → ps ≡ places → IsLaid (sizes cs) ps (total (sizes cs))
+  IsLaid-all cs ps e f = rw (e, f) (subst (λ m. IsLaid (sizes chunks) places m) h.count h)
 
--- a chunk more
-IsAt-push : (ns : List ℕ) (m : ℕ) (p : Place) (i : ℕ) → IsAt ns p i → IsAt (ns ++ m ∷ []) p i
-IsAt-push ns m p i h = record {
-  chunk = omega (arith, length-append ns (m ∷ []), h.chunk);
-  start = h.start ∙ ap total (sym (take-append-le p.chunk ns (m ∷ []) (omega (arith, h.chunk))));
-  above = h.above;
-  below = let same : get_or (ns ++ m ∷ []) p.chunk 0 ≡ get_or ns p.chunk 0 = get_or_append_left ns (m ∷ []) 0 p.chunk h.chunk in omega (arith, h.below);
-}
-
-pub IsLaid-push : (ns : List ℕ) (places news : List Place) (n m : ℕ) (p : Place) → IsLaid ns places n → 0 < m → n + m ≤ 2 ^ 30 → p.chunk ≡ length ns → p.start ≡ n → length news ≡ n + m
-    → ((i : ℕ) (d : Place) → i < n → get_or news i d ≡ get_or places i d) → ((i : ℕ) (d : Place) → n ≤ i → i < n + m → get_or news i d ≡ p) → IsLaid (ns ++ m ∷ []) news (n + m)
-IsLaid-push ns places news n m p h more fits chunk start long old new = record {
-  count = omega (arith, total-append ns (m ∷ []), h.count);
-  room = omega (arith, long);
-  chunks = omega (arith, length-append ns (m ∷ []), h.chunks);
-  few = fits;
-  placed = λ i d lt. elim (cases_lt i n) [
-    | inl less ↦ subst (λ q. IsAt (ns ++ m ∷ []) q i) (sym (old i d less)) (IsAt-push ns m _ i (h.placed i d less))
-    | inr le ↦ subst (λ q. IsAt (ns ++ m ∷ []) q i) (sym (new i d le lt)) (record {
-      chunk = omega (arith, length-append ns (m ∷ []), chunk);
-      start = start ∙ h.count ∙ ap total (sym (take_all p.chunk ns (omega (arith, chunk))) ∙ sym (take-append-le p.chunk ns (m ∷ []) (omega (arith, chunk))));
-      above = omega (arith, start);
-      below = let size : get_or (ns ++ m ∷ []) p.chunk 0 ≡ m = ap (λ k. get_or (ns ++ m ∷ []) k 0) chunk ∙ get_or_push ns m 0 (length ns) refl in omega (arith, start);
-    })
-  ];
-}
+  pub slot_within : (cs : List (List X)) → cs ≡ chunks → i < length (all_cells chunks) → i < total (sizes cs)
+  slot_within cs e lt = rw e (omega (arith, length-all_cells chunks))

@@ -1,9 +1,7 @@
+pub mod Cells
 pub mod ContentsLaws
-pub mod Crosses
 pub mod Entries
-pub mod Labelled
 pub mod Laid
-pub mod Memory
 pub mod NameLaws
+pub mod Placed
 pub mod Pooled
-pub mod Sharing

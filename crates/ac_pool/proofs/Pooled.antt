@@ -5,10 +5,10 @@ use Rattle.std.proofs.lemmas.List.{length-replicate, get_or_past, get_or_read, s
 use Rattle.std.proofs.lemmas.Option.{same_Some}
 use Rattle.std.specs.FinMap as map
 use Rattle.ac_base.specs.declared.name.Name.{Name}
-use Rattle.ac_pool.specs.Chunk.{serial_in, serial_at}
+use Rattle.ac_pool.specs.Cell.{serial_of}
 use Rattle.ac_pool.specs.Contents.{contents, IsLive, live_count, slot_count, IsFresh, IsSound}
 use Rattle.ac_pool.specs.PoolFields.{name_at, entries_in, empty_count, IsPool}
-use Rattle.ac_pool.proofs.Labelled.{within}
+use Rattle.ac_pool.proofs.Cells.{within}
 use Rattle.ac_pool.proofs.NameLaws.{same_name}
 use Rattle.ac_pool.proofs.Entries.{value_in, value_in_same, kept_of_value, get-entries_in, len-entries_in, entries_in-some, get_grown}
 
@@ -55,9 +55,9 @@ module _ {X : Type 0} where
   empty_count_below (None ∷ cells) (suc i) e h = omega (arith, empty_count_below cells i e h)
   empty_count_below (Some d ∷ cells) (suc i) e h = omega (arith, empty_count_below cells i e h)
 
-  value_some : (c : Option (ℕ × X)) (s : ℕ) → serial_in c ≢ 0 → serial_in c ≡ s → IsSome (value_in c s)
-  value_some None s some is = absurd (some refl)
-  value_some (Some e) s some is = ap is_some (value_in_same e s is)
+  value_some : (c : Option (ℕ × X)) (s : ℕ) → serial_of c ≡ Some s → IsSome (value_in c s)
+  value_some None s is = cc
+  value_some (Some e) s is = ap is_some (value_in_same e s (same_Some e.0 s is))
 
   module _ (cells : List (Option (ℕ × X))) (i : ℕ) (e : ℕ × X) (lt : i < length cells) where
     -- the cell k, after the cell i got the value e
@@ -219,11 +219,14 @@ module _ {X : Type 0} where
         pub live_cell : (q : Name) → IsLive (contents (entries_in cells) next n) q → (x : X) × (get_or cells q.slot None ≡ Some (q.serial, x))
         live_cell q live = kept_of_value (get_or cells q.slot None) q.serial (ap is_some (sym (get-entries_in cells q)) ∙ live)
 
-        pub live_serial : (q : Name) → IsLive (contents (entries_in cells) next n) q → (q.slot < length cells) × (serial_at cells q.slot ≡ q.serial) × (0 < q.serial)
-        live_serial q live = let x = live_cell q live in (within cells q.slot (q.serial, x.0) x.1, ap serial_in x.1, (h.issued q.slot (q.serial, x.0) x.1).0)
+        pub live_serial : (q : Name) → IsLive (contents (entries_in cells) next n) q → serial_of (get_or cells q.slot None) ≡ Some q.serial
+        live_serial q live = ap serial_of (live_cell q live).1
 
-        pub live_from : (q : Name) → serial_at cells q.slot ≢ 0 → serial_at cells q.slot ≡ q.serial → IsLive (contents (entries_in cells) next n) q
-        live_from q some is = ap is_some (get-entries_in cells q) ∙ value_some (get_or cells q.slot None) q.serial some is
+        pub live_from : (q : Name) → serial_of (get_or cells q.slot None) ≡ Some q.serial → IsLive (contents (entries_in cells) next n) q
+        live_from q is = ap is_some (get-entries_in cells q) ∙ value_some (get_or cells q.slot None) q.serial is
+
+        pub none_live : (slot : ℕ) → serial_of (get_or cells slot None) ≡ None → (q : Name) → IsLive (contents (entries_in cells) next n) q → q.slot ≢ slot
+        none_live slot empty q live at = let no : None ≡ Some q.serial = sym empty ∙ (ap (λ k. serial_of (get_or cells k None)) (sym at) ∙ live_serial q live) in cc
 
         pub live_count-cells : live_count (contents (entries_in cells) next n) + n ≡ length cells
         live_count-cells = omega (arith, h.count, len-entries_in cells)

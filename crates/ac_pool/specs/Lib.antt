@@ -1,11 +1,8 @@
-pub mod Chunk
-pub mod ChunkFields
+pub mod Cell
+pub mod CellLends
 pub mod ChunkLends
 pub mod Contents
-pub mod Lends
 pub mod Names
-pub mod Ownership
-pub mod Places
 pub mod PoolFields
 pub mod PoolLends
 pub mod Put

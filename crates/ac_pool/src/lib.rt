@@ -1,14 +1,11 @@
 //! A pool of values under names: slots in chunks that never move, used again under fresh serials.
 #![tactic(auto)]
 
-mod cells;
 mod chunk;
 mod growth;
 mod pool;
 mod slots;
 
-#[doc(hidden)]
-pub use cells::{Base, Cells, Deed};
 #[doc(hidden)]
 pub use chunk::Chunk;
 pub use pool::{Pool, PutFault};

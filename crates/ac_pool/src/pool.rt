@@ -141,12 +141,10 @@ impl<T> Pool<T> {
         ensures live { IsTrue result ↔ IsLive self.now name }
         ensures sound { IsSound self.now }
     {
-        let slot = name.slot as usize;
-        if slot >= self.slots.len() {
-            return false;
+        match self.slots.serial(name.slot as usize) {
+            Some(serial) => serial == name.serial,
+            None => false,
         }
-        let serial = self.slots.serial(slot);
-        serial != 0 && serial == name.serial
     }
 
     /// The value under the name, or `None` where the name is not live.
@@ -267,8 +265,7 @@ impl<T: Drop> Pool<T> {
         requires { slot < slot_count self.old }
         ensures { Vacates self.old self.new slot × IsSound self.new }
     {
-        let serial = self.slots.serial(slot);
-        if serial != 0 {
+        if let Some(serial) = self.slots.serial(slot) {
             let _value = self.take(Name {
                 slot: slot as u32,
                 serial,

@@ -1,11 +1,11 @@
 use Rattle.std.proofs.Common.{◌≡◌, set, get_or, Some, None, refl, sym, ap, ◌∙◌, subst, get_or-set_other}
 use Rattle.ac_base.specs.declared.name.Name.{Name}
-use Rattle.ac_pool.specs.Chunk.{serial_in}
+use Rattle.ac_pool.specs.Cell.{serial_in}
 use Rattle.ac_pool.specs.Contents.{contents, value_of, IsLive, swapped, IsSound}
 use Rattle.ac_pool.specs.PoolFields.{entries_in, IsPool}
 use Rattle.ac_pool.proofs.ContentsLaws.{swapped_live}
 use Rattle.ac_pool.proofs.Entries.{value_in, value_in_same, get-entries_in}
-use Rattle.ac_pool.proofs.Pooled.{sound, live_cell, live_serial, exchanged_cells, exchanged_is, IsPool-exchanged, entries_in-exchanged}
+use Rattle.ac_pool.proofs.Pooled.{sound, live_cell, exchanged_cells, exchanged_is, IsPool-exchanged, entries_in-exchanged}
 use Rattle.ac_pool.proofs.pool.Pool.exchange.Goals as goal
 
 pub take-at_a-requires : goal.take-at_a-requires
@@ -19,18 +19,6 @@ take-at_b-requires g c =
     let a = c.self.inside in let h = c.self.invariant in let la : IsLive (contents (entries_in a.slots) a.next_serial a.spare) c.args.a = subst (λ x. IsLive x c.args.a) (sym c.self.view_is) c.requires.live.0 in let lb : IsLive (contents (entries_in a.slots) a.next_serial a.spare) c.args.b = subst (λ x. IsLive x c.args.b) (sym c.self.view_is) c.requires.live.1 in
     let ka = live_cell a.slots a.free.items a.spare a.next_serial h c.args.a la in let kb = live_cell a.slots a.free.items a.spare a.next_serial h c.args.b lb in let i = c.args.a.slot in let j = c.args.b.slot in let s = c.args.a.serial in let t = c.args.b.serial in let apart = c.requires.apart in
     ((t, kb.0), ap (λ l. get_or l j None) c.take-at_a.ensures.cells ∙ get_or-set_other a.slots i j None None (λ e. apart (sym e)) ∙ kb.1)
-
-pub put-requires-clause-above : goal.put-requires-clause-above
-put-requires-clause-above g c =
-    let a = c.self.inside in let h = c.self.invariant in let la : IsLive (contents (entries_in a.slots) a.next_serial a.spare) c.args.a = subst (λ x. IsLive x c.args.a) (sym c.self.view_is) c.requires.live.0 in let lb : IsLive (contents (entries_in a.slots) a.next_serial a.spare) c.args.b = subst (λ x. IsLive x c.args.b) (sym c.self.view_is) c.requires.live.1 in
-    let ka = live_cell a.slots a.free.items a.spare a.next_serial h c.args.a la in let kb = live_cell a.slots a.free.items a.spare a.next_serial h c.args.b lb in let i = c.args.a.slot in let j = c.args.b.slot in let s = c.args.a.serial in let t = c.args.b.serial in let apart = c.requires.apart in
-    (live_serial a.slots a.free.items a.spare a.next_serial h c.args.a la).2
-
-pub put-requires-2-clause-above : goal.put-requires-2-clause-above
-put-requires-2-clause-above g c =
-    let a = c.self.inside in let h = c.self.invariant in let la : IsLive (contents (entries_in a.slots) a.next_serial a.spare) c.args.a = subst (λ x. IsLive x c.args.a) (sym c.self.view_is) c.requires.live.0 in let lb : IsLive (contents (entries_in a.slots) a.next_serial a.spare) c.args.b = subst (λ x. IsLive x c.args.b) (sym c.self.view_is) c.requires.live.1 in
-    let ka = live_cell a.slots a.free.items a.spare a.next_serial h c.args.a la in let kb = live_cell a.slots a.free.items a.spare a.next_serial h c.args.b lb in let i = c.args.a.slot in let j = c.args.b.slot in let s = c.args.a.serial in let t = c.args.b.serial in let apart = c.requires.apart in
-    (live_serial a.slots a.free.items a.spare a.next_serial h c.args.b lb).2
 
 pub invariant_of-self : goal.invariant_of-self
 invariant_of-self g c =

@@ -1,5 +1,5 @@
 use Rattle.std.proofs.Common.{◌≡◌, ℕ, Some, sym, ap, ◌∙◌, subst}
-use Rattle.ac_pool.specs.Chunk.{serial_in, serial_at}
+use Rattle.ac_pool.specs.Cell.{serial_in, serial_at}
 use Rattle.ac_pool.specs.Contents.{contents, value_of, IsLive}
 use Rattle.ac_pool.specs.PoolFields.{entries_in}
 use Rattle.ac_pool.proofs.Entries.{value_in, value_in_same, get-entries_in}

@@ -1,9 +1,9 @@
 use Rattle.std.proofs.Common.{◌≡◌, ℕ, set, Some, sym, ap, ◌∙◌, subst, inl}
 use Rattle.std.proofs.lemmas.Option.{same_Some}
-use Rattle.ac_pool.specs.Chunk.{serial_in, serial_at}
+use Rattle.ac_pool.specs.Cell.{serial_in, serial_at}
 use Rattle.ac_pool.specs.Contents.{contents, value_of, IsLive, with_value}
 use Rattle.ac_pool.specs.PoolFields.{entries_in}
-use Rattle.ac_pool.proofs.Labelled.{within}
+use Rattle.ac_pool.proofs.Cells.{within}
 use Rattle.ac_pool.proofs.Entries.{value_in, value_in_same, get-entries_in, entries_in-some}
 use Rattle.ac_pool.proofs.Pooled.{live_cell, IsPool-write}
 use Rattle.ac_pool.proofs.pool.Pool.get_mut.Goals as goal

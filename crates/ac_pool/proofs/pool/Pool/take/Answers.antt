@@ -1,5 +1,5 @@
 use Rattle.std.proofs.Common.{◌≡◌, ℕ, ◌+◌, set, Some, sym, ap, ◌∙◌, subst, arith}
-use Rattle.ac_pool.specs.Chunk.{serial_in, serial_at}
+use Rattle.ac_pool.specs.Cell.{serial_in, serial_at}
 use Rattle.ac_pool.specs.Contents.{contents, value_of, IsLive, taken, IsSound}
 use Rattle.ac_pool.specs.PoolFields.{entries_in}
 use Rattle.ac_pool.proofs.ContentsLaws.{taken_live}
