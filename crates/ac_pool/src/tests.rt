@@ -90,6 +90,25 @@ fn reserved_slots_take_values(rt: HostRuntime) -> Result<(), Fail> {
     Ok(())
 }
 
+#[test]
+fn each_slot_has_its_name(rt: HostRuntime) -> Result<(), Fail> {
+    let mut pool = Pool::with_slots(rt.alloc(), 5).ok().ok_or("no memory")?;
+    assert!(rt; pool.name_in(0).is_none());
+    for v in 0..100u64 {
+        put(&rt, &mut pool, v);
+    }
+    assert_eq!(rt; pool.slots(), 128);
+    for slot in 0..130 {
+        if let Some(name) = pool.name_in(slot) {
+            assert_eq!(rt; name.slot, slot);
+            assert_eq!(rt; pool.take(name), Some(name.serial - 1));
+            assert!(rt; pool.name_in(slot).is_none());
+        }
+    }
+    assert_eq!(rt; pool.live(), 0);
+    Ok(())
+}
+
 struct Counted<'a> {
     drops: &'a Cell<u64>,
 }
