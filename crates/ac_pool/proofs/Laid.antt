@@ -1,8 +1,9 @@
 -- A slot is found in its chunk, and a write there is a write to the list of all cells.
 use Rattle.std.proofs.Common.{◌≡◌, ℕ, zero, suc, ◌+◌, ◌-◌, ◌<◌, List, [], ◌∷◌, ◌++◌, length, set, get_or, take, map, refl, sym, ap, ◌∙◌, subst, arith, length-append, length-set}
 use Rattle.std.proofs.lemmas.List.{length-map, get_or_append_left, get_or-append-add, set-append_left, set-append_right, get_or_default, map_push, append-nil, append_assoc}
+use Rattle.ac_pool.specs.declared.slots.Level.{Level}
 use Rattle.ac_pool.specs.declared.slots.Place.{Place}
-use Rattle.ac_pool.specs.Slots.{all_cells, total, IsAt, IsLaid}
+use Rattle.ac_pool.specs.Slots.{all_cells, total, IsAt, IsIndexed, IsLaid, Finds}
 
 module _ {X : Type 0} where
   abbrev sizes : List (List X) → List ℕ
@@ -47,19 +48,16 @@ module _ {X : Type 0} where
   size_at (cs ∷ chunks) zero = refl
   size_at (cs ∷ chunks) (suc k) = size_at chunks k
 
-  pub size_of_read : (chunks : List (List X)) (k : ℕ) (cs : List X) → k < length chunks → cs ≡ get_or chunks k cs → length cs ≡ get_or (sizes chunks) k 0
-  size_of_read chunks k cs lt is = ap length (is ∙ get_or_default chunks k cs [] lt) ∙ sym (size_at chunks k)
-
   -- the chunk cs at the place p, which has the slot i
   module _ (chunks : List (List X)) (p : Place) (i : ℕ) (at : IsAt (sizes chunks) p i) where
     pub chunk_within : p.chunk < length chunks
-    chunk_within = omega (arith, length-map chunks (λ cells. length cells), at.reaches.chunk)
+    chunk_within = omega (arith, length-map chunks (λ cells. length cells), at.chunk)
 
     offset : i ≡ total (take p.chunk (sizes chunks)) + (i - p.start)
-    offset = omega (arith, at.reaches.start, at.above)
+    offset = omega (arith, at.start, at.above)
 
     short : i - p.start < get_or (sizes chunks) p.chunk 0
-    short = omega (arith, at.above, at.reaches.below)
+    short = omega (arith, at.above, at.below)
 
     module _ (cs : List X) (is : cs ≡ get_or chunks p.chunk cs) where
       chunk_is : cs ≡ get_or chunks p.chunk []
@@ -77,9 +75,9 @@ module _ {X : Type 0} where
       pub sizes-write : (c : X) → sizes (set chunks p.chunk (set cs (i - p.start) c)) ≡ sizes chunks
       sizes-write c = ap (λ l. sizes (set chunks p.chunk (set l (i - p.start) c))) chunk_is ∙ same_sizes chunks p.chunk (i - p.start) c
 
-module _ {X : Type 0} (chunks : List (List X)) (places : List Place) (n i : ℕ) (h : IsLaid (sizes chunks) places n) where
-  pub IsLaid-all : (cs : List (List X)) (ps : List Place) → cs ≡ chunks → ps ≡ places → IsLaid (sizes cs) ps (total (sizes cs))
-  IsLaid-all cs ps e f = rw (e, f) (subst (λ m. IsLaid (sizes chunks) places m) h.count h)
-
-  pub slot_within : (cs : List (List X)) → cs ≡ chunks → i < length (all_cells chunks) → i < total (sizes cs)
-  slot_within cs e lt = rw e (omega (arith, length-all_cells chunks))
+pub Finds-laid : {X : Type 0} (chunks : List (List X)) (levels : List Level) (newest n i : ℕ) → IsLaid (sizes chunks) levels newest n → i < length (all_cells chunks) → Finds (sizes chunks) levels i
+Finds-laid chunks levels newest n i h lt = record {
+  within = omega (arith, length-all_cells chunks);
+  few = omega (arith, h.count, h.few);
+  indexed = subst (λ m. IsIndexed (sizes chunks) levels m) h.count h.indexed;
+}

@@ -2,9 +2,11 @@
 use Rattle.std.proofs.Common.{◌≡◌, ℕ, zero, suc, ◌+◌, ◌-◌, ◌<◌, ◌≤◌, ◌^◌, List, [], ◌∷◌, ◌++◌, length, get_or, take, refl, sym, ap, ◌∙◌, subst, inl, inr, arith, length-append}
 use Rattle.std.proofs.Math.Pow.{pow_mono}
 use Rattle.std.proofs.lemmas.Bool.{cases_lt}
+use Rattle.std.proofs.lemmas.Nat.{pow_pos}
 use Rattle.std.proofs.lemmas.List.{get_or_append_left, take-append-le, get_or_push, take_all}
+use Rattle.ac_pool.specs.declared.slots.Level.{Level}
 use Rattle.ac_pool.specs.declared.slots.Place.{Place}
-use Rattle.ac_pool.specs.Slots.{total, IsLevel, Reaches, IsIndexed, IsLaid}
+use Rattle.ac_pool.specs.Slots.{total, IsEven, IsLevel, IsAt, Holds, IsIndexed, IsLaid}
 
 -- a later slot is on no lower level
 pub level_mono : (a b i j : ℕ) → IsLevel a i → IsLevel b j → i ≤ j → a ≤ b
@@ -28,48 +30,60 @@ total-take_suc [] k h = absurd (omega arith)
 total-take_suc (n ∷ ns) zero h = omega arith
 total-take_suc (n ∷ ns) (suc k) h = omega (arith, total-take_suc ns k (omega arith))
 
-first_start : (ns : List ℕ) (k i s : ℕ) → s ≡ total (take k ns) → i < s → 0 < k
-first_start ns zero i s e less = absurd (omega arith)
-first_start ns (suc k) i s e less = omega arith
+some_size : (ns : List ℕ) → 0 < total ns → 0 < length ns
+some_size [] h = h
+some_size (n ∷ ns) h = omega arith
 
-module _ (ns : List ℕ) (p : Place) (i : ℕ) (h : Reaches ns p i) (before : i < p.start) where
-  pub some_before : 0 < p.chunk
-  some_before = first_start ns p.chunk i p.start h.start before
-
-  pub start_before : p.start ≡ total (take (p.chunk - 1) ns) + get_or ns (p.chunk - 1) 0
-  start_before =
-      let more = some_before in let one : p.chunk ≡ suc (p.chunk - 1) = omega arith in
-      h.start ∙ ap (λ k. total (take k ns)) one ∙ total-take_suc ns (p.chunk - 1) (omega (arith, h.chunk))
-
-  pub Reaches-before : (q : Place) (size : ℕ) → size ≡ get_or ns (p.chunk - 1) 0 → q.chunk ≡ p.chunk - 1 → q.start ≡ p.start - size → Reaches ns q i
-  Reaches-before q size s c e =
-      let first = start_before in let start : q.start ≡ total (take (p.chunk - 1) ns) = omega arith in record {
-        chunk = omega (arith, h.chunk);
-        start = start ∙ ap (λ k. total (take k ns)) (sym c);
-        below = let same : get_or ns q.chunk 0 ≡ get_or ns (p.chunk - 1) 0 = ap (λ k. get_or ns k 0) c in omega (arith, first, same, e, s);
-      }
+total-last : (ns : List ℕ) → 0 < length ns → total (take (length ns - 1) ns) + get_or ns (length ns - 1) 0 ≡ total ns
+total-last ns some =
+    let all : suc (length ns - 1) ≡ length ns = omega arith in
+    sym (total-take_suc ns (length ns - 1) (omega arith)) ∙ ap (λ k. total (take k ns)) all ∙ ap total (take_all (length ns) ns (omega arith))
 
 -- a chunk of m slots more
-Reaches-push : (ns : List ℕ) (m : ℕ) (p : Place) (i : ℕ) → Reaches ns p i → Reaches (ns ++ m ∷ []) p i
-Reaches-push ns m p i h = record {
-  chunk = omega (arith, length-append ns (m ∷ []), h.chunk);
-  start = h.start ∙ ap total (sym (take-append-le p.chunk ns (m ∷ []) (omega (arith, h.chunk))));
-  below = let same : get_or (ns ++ m ∷ []) p.chunk 0 ≡ get_or ns p.chunk 0 = get_or_append_left ns (m ∷ []) 0 p.chunk h.chunk in omega (arith, h.below);
-}
+module _ (ns : List ℕ) (m : ℕ) where
+  take_old : (k : ℕ) → k ≤ length ns → take k (ns ++ m ∷ []) ≡ take k ns
+  take_old k le = take-append-le k ns (m ∷ []) le
 
-Reaches-last : (ns : List ℕ) (m : ℕ) (p : Place) (i : ℕ) → p.chunk ≡ length ns → p.start ≡ total ns → i < p.start + m → Reaches (ns ++ m ∷ []) p i
-Reaches-last ns m p i chunk start less = record {
-  chunk = omega (arith, length-append ns (m ∷ []), chunk);
-  start = start ∙ ap total (sym (take_all p.chunk ns (omega (arith, chunk))) ∙ sym (take-append-le p.chunk ns (m ∷ []) (omega (arith, chunk))));
-  below = let size : get_or (ns ++ m ∷ []) p.chunk 0 ≡ m = ap (λ k. get_or (ns ++ m ∷ []) k 0) chunk ∙ get_or_push ns m 0 (length ns) refl in omega arith;
-}
+  IsAt-push : (p : Place) (i : ℕ) → IsAt ns p i → IsAt (ns ++ m ∷ []) p i
+  IsAt-push p i h = record {
+    chunk = omega (arith, length-append ns (m ∷ []), h.chunk);
+    start = h.start ∙ ap total (sym (take_old p.chunk (omega (arith, h.chunk))));
+    above = h.above;
+    below = let same : get_or (ns ++ m ∷ []) p.chunk 0 ≡ get_or ns p.chunk 0 = get_or_append_left ns (m ∷ []) 0 p.chunk h.chunk in omega (arith, h.below);
+  }
 
--- more places, of which the first ones are the same
-pub IsIndexed-more : (ns : List ℕ) (places news : List Place) (n : ℕ) → IsIndexed ns places n → ((i m : ℕ) → i < n → IsLevel m i → m < length news)
-    → ((k : ℕ) (d : Place) → k < length places → k < length news → get_or news k d ≡ get_or places k d) → IsIndexed ns news n
-IsIndexed-more ns places news n h within same = record {
+  Holds-push : (l : Level) (i : ℕ) → Holds ns l i → Holds (ns ++ m ∷ []) l i
+  Holds-push l i h = record {
+    last = λ le. IsAt-push l.last i (h.last le);
+    before = λ less. ((h.before less).0, IsAt-push _ i (h.before less).1);
+  }
+
+  IsAt-last : (p : Place) (i : ℕ) → p.chunk ≡ length ns → p.start ≡ total ns → p.start ≤ i → i < p.start + m → IsAt (ns ++ m ∷ []) p i
+  IsAt-last p i chunk start le less = record {
+    chunk = omega (arith, length-append ns (m ∷ []), chunk);
+    start = start ∙ ap total (sym (take_all p.chunk ns (omega (arith, chunk))) ∙ sym (take_old p.chunk (omega (arith, chunk))));
+    above = le;
+    below = let size : get_or (ns ++ m ∷ []) p.chunk 0 ≡ m = ap (λ k. get_or (ns ++ m ∷ []) k 0) chunk ∙ get_or_push ns m 0 (length ns) refl in omega arith;
+  }
+
+IsAt-newest : (ns : List ℕ) (newest i k : ℕ) → newest ≡ total (take (length ns - 1) ns) → newest ≤ i → i < total ns → k ≡ length ns → (0 < k) × IsAt ns (record { chunk = k - 1; start = newest }) i
+IsAt-newest ns newest i k is le less e =
+    let some = some_size ns (omega arith) in let one : k - 1 ≡ length ns - 1 = omega arith in (
+      omega arith,
+      record {
+        chunk = omega arith;
+        start = is ∙ ap (λ j. total (take j ns)) (sym one);
+        above = le;
+        below = let size : get_or ns (k - 1) 0 ≡ get_or ns (length ns - 1) 0 = ap (λ j. get_or ns j 0) one in omega (arith, total-last ns some);
+      },
+    )
+
+-- more levels, of which the first ones are the same
+pub IsIndexed-more : (ns : List ℕ) (levels news : List Level) (n : ℕ) → IsIndexed ns levels n → ((i m : ℕ) → i < n → IsLevel m i → m < length news)
+    → ((k : ℕ) (d : Level) → k < length levels → k < length news → get_or news k d ≡ get_or levels k d) → IsIndexed ns news n
+IsIndexed-more ns levels news n h within same = record {
   within = within;
-  reached = λ i m d less on. subst (λ p. Reaches ns p i) (sym (same m d (h.within i m less on) (within i m less on))) (h.reached i m d less on);
+  held = λ i m d less on. subst (λ l. Holds ns l i) (sym (same m d (h.within i m less on) (within i m less on))) (h.held i m d less on);
 }
 
 early_below : (first n : ℕ) → IsLevel first n → (i k : ℕ) → IsLevel k i → k < first → i < n
@@ -78,21 +92,43 @@ early_below first n from i k on lower = elim (cases_lt i n) [
   | inr late ↦ absurd (omega (arith, level_mono first k n i from on late))
 ]
 
--- the slots from n on lie in a new chunk, which is the place of all levels from that of n on
-pub IsLaid-push : (ns : List ℕ) (places news : List Place) (n m first last : ℕ) (p : Place) → IsLaid ns places n → 0 < m → n + m ≤ 2 ^ 30 → p.chunk ≡ length ns → p.start ≡ n
-    → IsLevel first n → IsLevel last (n + (m - 1)) → length news ≡ last + 1
-    → ((k : ℕ) (d : Place) → k < first → k < length places → get_or news k d ≡ get_or places k d)
-    → ((k : ℕ) (d : Place) → first ≤ k → k < length news → get_or news k d ≡ p) → IsLaid (ns ++ m ∷ []) news (n + m)
-IsLaid-push ns places news n m first last p h more fits chunk start from to long old new =
-    let within : (i k : ℕ) → i < n + m → IsLevel k i → k < length news = λ i k less on. omega (arith, level_mono k last i (n + (m - 1)) on to (omega arith)) in record {
-      count = omega (arith, total-append ns (m ∷ []), h.count);
-      few = fits;
-      indexed = record {
-        within = within;
-        reached = λ i k d less on. elim (cases_lt k first) [
-          | inl lower ↦ let early = early_below first n from i k on lower in
-              subst (λ q. Reaches (ns ++ m ∷ []) q i) (sym (old k d lower (h.indexed.within i k early on))) (Reaches-push ns m _ i (h.indexed.reached i k d early on))
-          | inr upper ↦ subst (λ q. Reaches (ns ++ m ∷ []) q i) (sym (new k d upper (within i k less on))) (Reaches-last ns m p i chunk (start ∙ h.count) (omega arith))
-        ];
-      };
-    }
+room_after : (n m : ℕ) → 0 < m → IsEven n m → (k : ℕ) → IsLevel k (n + m) → n < 2 ^ k
+room_after n m more e k on = elim e.even [
+  | inl none ↦ omega (arith, pow_pos k)
+  | inr power ↦ elim (cases_lt k power.0) [
+    | inl less ↦ let up : 2 ^ suc k ≤ 2 ^ power.0 = pow_mono {i = suc k} {j = power.0} (omega arith) in absurd (omega (arith, on.high, power.1))
+    | inr le ↦ let up : 2 ^ power.0 ≤ 2 ^ k = pow_mono {i = power.0} {j = k} le in omega (arith, power.1)
+  ]
+]
+
+-- the slots from n on lie in a new chunk, which is the last one of all levels from that of n on
+module _ (ns : List ℕ) (levels news : List Level) (newest n m first top : ℕ) (l : Level) (h : IsLaid ns levels newest n) (more : 0 < m) (from : IsLevel first n) where
+  Holds-new : l.last.chunk ≡ length ns → l.last.start ≡ n → l.before ≡ newest → (i k : ℕ) → i < n + m → IsLevel k i → first ≤ k → Holds (ns ++ m ∷ []) l i
+  Holds-new chunk start before i k less on upper = record {
+    last = λ le. IsAt-last ns m l.last i chunk (start ∙ h.count) le (omega arith);
+    before = λ early.
+        let same : k ≡ first = omega (arith, level_mono k first i n on from (omega arith)) in
+        let low : 2 ^ k ≡ 2 ^ first = ap (λ j. 2 ^ j) same in
+        let at = IsAt-newest ns l.before i l.last.chunk (before ∙ h.newest_is) (omega (arith, h.room first from, on.low, before)) (omega (arith, h.count)) chunk in
+        (at.0, IsAt-push ns m _ i at.1);
+  }
+
+  pub IsLaid-push : IsEven n m → n + m ≤ 2 ^ 30 → l.last.chunk ≡ length ns → l.last.start ≡ n → l.before ≡ newest → IsLevel top (n + (m - 1)) → length news ≡ top + 1
+      → ((k : ℕ) (d : Level) → k < first → k < length levels → get_or news k d ≡ get_or levels k d)
+      → ((k : ℕ) (d : Level) → first ≤ k → k < length news → get_or news k d ≡ l) → IsLaid (ns ++ m ∷ []) news n (n + m)
+  IsLaid-push even fits chunk start before to long old new =
+      let within : (i k : ℕ) → i < n + m → IsLevel k i → k < length news = λ i k less on. omega (arith, level_mono k top i (n + (m - 1)) on to (omega arith)) in
+      let size : length (ns ++ m ∷ []) - 1 ≡ length ns = omega (arith, length-append ns (m ∷ [])) in record {
+        count = omega (arith, total-append ns (m ∷ []), h.count);
+        few = fits;
+        indexed = record {
+          within = within;
+          held = λ i k d less on. elim (cases_lt k first) [
+            | inl lower ↦ let early = early_below first n from i k on lower in
+                subst (λ a. Holds (ns ++ m ∷ []) a i) (sym (old k d lower (h.indexed.within i k early on))) (Holds-push ns m _ i (h.indexed.held i k d early on))
+            | inr upper ↦ subst (λ a. Holds (ns ++ m ∷ []) a i) (sym (new k d upper (within i k less on))) (Holds-new chunk start before i k less on upper)
+          ];
+        };
+        newest_is = h.count ∙ ap total (sym (take_all (length ns) ns (omega arith)) ∙ sym (take_old ns m (length ns) (omega arith))) ∙ ap (λ k. total (take k (ns ++ m ∷ []))) (sym size);
+        room = room_after n m more even;
+      }

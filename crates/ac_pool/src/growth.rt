@@ -6,6 +6,7 @@ ghost use Rattle.ac_base.specs.Growth.{pow8};
 pub(crate) fn least_slots(wanted: usize) -> usize
     requires { wanted ≤ 2 ^ 30 }
     ensures slots { result ≡ pow8 wanted }
+    ensures power { (k : ℕ) × (result ≡ 2 ^ k) }
     ensures bounds { (wanted ≤ result) × (result ≤ 2 ^ 30) }
 {
     let mut slots: usize = 8;

@@ -3,7 +3,7 @@ ghost use Rattle.std.specs.Prelude.{◌≡◌, ℕ, ◌+◌, ◌^◌, ◌<◌, �
 ghost use Rattle.std.specs.Borrow.{sem};
 ghost use Rattle.ac_pool.specs.Cell.{serial_in, serial_of, serial_at, IsFull, IsKept};
 ghost use Rattle.ac_pool.specs.CellLends.{lends_kept};
-ghost use Rattle.ac_pool.specs.Slots.{total, IsLevel, IsAt, IsLaid};
+ghost use Rattle.ac_pool.specs.Slots.{IsEven, IsLevel, IsAt, Finds};
 
 use crate::chunk::Chunk;
 use std::alloc::{AllocError, Global};
@@ -16,35 +16,44 @@ pub struct Place {
     start: usize,
 }
 
+/// Where the slots of a level lie: in the last chunk that reaches into it, or in the one before, which begins with the slot `before`.
+#[derive(Clone, Copy)]
+pub struct Level {
+    last: Place,
+    before: usize,
+}
+
 /// The level of a slot. Level `m` begins with the slot `2^m - 1`, so that there are at most 31.
-fn level(slot: usize) -> usize
+fn level_of(slot: usize) -> usize
     requires { slot < 2 ^ 30 }
     ensures { IsLevel result slot }
 {
     (slot + 1).ilog2() as usize
 }
 
-/// Finds the chunk of a slot. Where each growth at least doubles the slots, it is the place of the slot's level or the one before.
-fn place_of<T>(chunks: &[Chunk<T>], places: &[Place], slot: usize) -> Place
-    requires within { slot < total (map length chunks.now) }
-    requires laid { IsLaid (map length chunks.now) places.now (total (map length chunks.now)) }
-    ensures { IsAt (map length chunks.now) result slot }
+/// The chunk of a slot. It is found without a branch, so that reads of one slot in a row find it once.
+fn place_of(levels: &[Level], slot: usize) -> Place
+    requires { (sizes : List ℕ) × Finds sizes levels.now slot }
+    ensures { (sizes : List ℕ) → Finds sizes levels.now slot → IsAt sizes result slot }
 {
-    let mut place = places[level(slot)];
-    while slot < place.start {
-        place.chunk -= 1;
-        place.start -= chunks[place.chunk].len();
+    let level = levels[level_of(slot)];
+    if slot < level.last.start {
+        Place {
+            chunk: level.last.chunk - 1,
+            start: level.before,
+        }
+    } else {
+        level.last
     }
-    place
 }
 
-/// Makes `place` that of each level from `level` on.
-fn point_from(places: &mut [Place], level: usize, place: Place)
-    ensures below { (k : ℕ) (d : Place) → k < level → slice_index_or places.new k d ≡ slice_index_or places.old k d }
-    ensures above { (k : ℕ) (d : Place) → level ≤ k → k < length places.old → slice_index_or places.new k d ≡ place }
+/// Makes `level` that of each number from `from` on.
+fn set_from(levels: &mut [Level], from: usize, level: Level)
+    ensures below { (k : ℕ) (d : Level) → k < from → slice_index_or levels.new k d ≡ slice_index_or levels.old k d }
+    ensures above { (k : ℕ) (d : Level) → from ≤ k → k < length levels.old → slice_index_or levels.new k d ≡ level }
 {
-    for k in level..places.len() {
-        places[k] = place;
+    for k in from..levels.len() {
+        levels[k] = level;
     }
 }
 
@@ -72,8 +81,9 @@ fn kept_mut<T>(cell: &mut Option<(u64, T)>) -> &mut T
 #[derive(Drop)]
 pub struct Slots<T> {
     chunks: Vec<Chunk<T>>,
-    // The last chunk of each level.
-    places: Vec<Place>,
+    levels: Vec<Level>,
+    // The first slot of the newest chunk.
+    newest: usize,
     len: usize,
 }
 
@@ -89,7 +99,7 @@ impl<T> Model for Slots<T> {
 
     ghost view = { λ s. all_cells s.chunks.items };
 
-    ghost invariant = { λ s. IsLaid (map length s.chunks.items) s.places.items s.len };
+    ghost invariant = { λ s. IsLaid (map length s.chunks.items) s.levels.items s.newest s.len };
 }
 
 impl<T> Slots<T> {
@@ -100,28 +110,35 @@ impl<T> Slots<T> {
     {
         Slots {
             chunks: Vec::new(alloc),
-            places: Vec::new(alloc),
+            levels: Vec::new(alloc),
+            newest: 0,
             len: 0,
         }
     }
 
     /// Adds a chunk of empty cells. No cell moves.
     pub(crate) fn grow(&mut self, by: usize) -> Result<(), AllocError>
-        requires { (0 < by) × (length self.old + by ≤ 2 ^ 30) }
+        requires some { 0 < by }
+        requires few { length self.old + by ≤ 2 ^ 30 }
+        requires even { IsEven (length self.old) by }
         ensures ok { OnOk result (self.new ≡ self.old ++ replicate by None) }
         ensures err { OnErr result (self.new ≡ self.old) }
     {
         let alloc = *self.chunks.allocator();
-        let place = Place {
-            chunk: self.chunks.len(),
-            start: self.len,
+        let level = Level {
+            last: Place {
+                chunk: self.chunks.len(),
+                start: self.len,
+            },
+            before: self.newest,
         };
-        let last = level(self.len + (by - 1));
+        let top = level_of(self.len + (by - 1));
         self.chunks.reserve(1)?;
-        self.places.resize(last + 1, place)?;
+        self.levels.resize(top + 1, level)?;
         let chunk = Chunk::new(alloc, by)?;
         self.chunks.push_reserved(chunk);
-        point_from(self.places.as_mut_slice(), level(self.len), place);
+        set_from(self.levels.as_mut_slice(), level_of(self.len), level);
+        self.newest = self.len;
         self.len += by;
         Ok(())
     }
@@ -137,7 +154,7 @@ impl<T> Slots<T> {
         requires { slot < length self.now }
         ensures { result.now ≡ get_or self.now slot None }
     {
-        let place = place_of(self.chunks.as_slice(), self.places.as_slice(), slot);
+        let place = place_of(self.levels.as_slice(), slot);
         let chunk = &self.chunks[place.chunk];
         chunk.cell(slot - place.start)
     }
@@ -147,7 +164,7 @@ impl<T> Slots<T> {
         ensures* writes_back { sem 𝓛 (lends_slot T.row self.entry slot result) }
         ensures value { result.now ≡ get_or self.old slot None }
     {
-        let place = place_of(self.chunks.as_slice(), self.places.as_slice(), slot);
+        let place = place_of(self.levels.as_slice(), slot);
         let chunk = &mut self.chunks[place.chunk];
         chunk.cell_mut(slot - place.start)
     }

@@ -1,30 +1,20 @@
-use Rattle.std.proofs.Common.{◌≡◌, ◌-◌, ◌<◌, length, map, get_or, arith, refl}
-use Rattle.std.proofs.lemmas.List.{length-map}
-use Rattle.ac_pool.proofs.Laid.{size_of_read}
-use Rattle.ac_pool.proofs.Placed.{level_below, start_before, Reaches-before}
+use Rattle.std.proofs.Common.{◌<◌, ◌^◌, arith}
+use Rattle.ac_pool.proofs.Placed.{level_below}
 use Rattle.ac_pool.proofs.slots.place_of.Goals as goal
 
-pub offset_bounds-places-level : goal.offset_bounds-places-level
-offset_bounds-places-level g c =
-    let low = level_below c.level.result c.args.slot c.level.ensures (omega (arith, c.requires.within, c.requires.laid.few)) in record { fits = omega arith }
+pub offset_bounds-levels-level_of : goal.offset_bounds-levels-level_of
+offset_bounds-levels-level_of c =
+    let f = c.requires.1 in let small : c.args.slot < 2 ^ 30 = omega (arith, f.within, f.few) in
+    let low = level_below c.level_of.result c.args.slot c.level_of.ensures small in record { fits = omega arith }
 
-pub bounds-places-level : goal.bounds-places-level
-bounds-places-level g c = c.requires.laid.indexed.within c.args.slot c.level.result c.requires.within c.level.ensures
+pub bounds-levels-level_of : goal.bounds-levels-level_of
+bounds-levels-level_of c = let f = c.requires.1 in f.indexed.within c.args.slot c.level_of.result f.within c.level_of.ensures
 
-pub loop-place-init : goal.loop-place-init
-loop-place-init g c = c.requires.laid.indexed.reached c.args.slot c.level.result _ c.requires.within c.level.ensures
+pub overflow_sub-result : goal.overflow_sub-result
+overflow_sub-result c = let f = c.requires.1 in ((f.indexed.held c.args.slot c.level_of.result _ f.within c.level_of.ensures).before c.if-slot-level.true).0
 
-pub overflow_sub-place-in-loop-place : goal.overflow_sub-place-in-loop-place
-overflow_sub-place-in-loop-place g c =
-    let sizes = map length c.args.chunks.now in let p = c.loop-place.place in let h = c.loop-place.invariant in let before = c.loop-place-test.true in
-    let lt : p.chunk - 1 < length c.args.chunks.now = omega (arith, h.chunk, length-map c.args.chunks.now length) in
-    let size = size_of_read c.args.chunks.now (p.chunk - 1) c.index-chunks-place.result lt c.index-chunks-place.is in
-    omega (arith, start_before sizes p c.args.slot h before, size, c.len.ensures)
+pub returns-then-slot-level : goal.returns-then-slot-level
+returns-then-slot-level c = λ sizes f. ((f.indexed.held c.args.slot c.level_of.result _ f.within c.level_of.ensures).before c.if-slot-level.true).1
 
-pub loop-place-preserved : goal.loop-place-preserved
-loop-place-preserved g c =
-    let sizes = map length c.args.chunks.now in let p = c.loop-place.place in let h = c.loop-place.invariant in let before = c.loop-place-test.true in
-    let lt : p.chunk - 1 < length c.args.chunks.now = omega (arith, h.chunk, length-map c.args.chunks.now length) in
-    let size = size_of_read c.args.chunks.now (p.chunk - 1) c.index-chunks-place.result lt c.index-chunks-place.is in
-    let same : c.len.result ≡ get_or sizes (p.chunk - 1) 0 = omega (arith, size, c.len.ensures) in
-    Reaches-before sizes p c.args.slot h before _ c.len.result same refl refl
+pub returns-else-slot-level : goal.returns-else-slot-level
+returns-else-slot-level c = λ sizes f. (f.indexed.held c.args.slot c.level_of.result _ f.within c.level_of.ensures).last c.if-slot-level.false
