@@ -1,5 +1,7 @@
 -- The chunk of a slot is found from its level, and a growth keeps it so.
-use Rattle.std.proofs.Common.{◌≡◌, ℕ, zero, suc, ◌+◌, ◌-◌, ◌<◌, ◌≤◌, ◌^◌, List, [], ◌∷◌, ◌++◌, length, get_or, take, refl, sym, ap, ◌∙◌, subst, inl, inr, arith, length-append}
+use Rattle.std.proofs.Common.{◌≡◌, Bool, true, false, nat_lt, ℕ, zero, suc, ◌+◌, ◌-◌, ◌*◌, ◌<◌, ◌≤◌, ◌^◌, List, [], ◌∷◌, ◌++◌, length, get_or, take, refl, sym, ap, ◌∙◌, subst, inl, inr, arith, length-append}
+use borrow.Author.Tests.{ltb-true, ltb-false}
+use mir.Val.{bool_byte}
 use Rattle.std.proofs.Math.Pow.{pow_mono}
 use Rattle.std.proofs.lemmas.Bool.{cases_lt}
 use Rattle.std.proofs.lemmas.Nat.{pow_pos}
@@ -55,7 +57,7 @@ module _ (ns : List ℕ) (m : ℕ) where
   Holds-push : (l : Level) (i : ℕ) → Holds ns l i → Holds (ns ++ m ∷ []) l i
   Holds-push l i h = record {
     last = λ le. IsAt-push l.last i (h.last le);
-    before = λ less. ((h.before less).0, IsAt-push _ i (h.before less).1);
+    before = λ less. let b = h.before less in (b.0, b.1, IsAt-push _ i b.2);
   }
 
   IsAt-last : (p : Place) (i : ℕ) → p.chunk ≡ length ns → p.start ≡ total ns → p.start ≤ i → i < p.start + m → IsAt (ns ++ m ∷ []) p i
@@ -66,17 +68,44 @@ module _ (ns : List ℕ) (m : ℕ) where
     below = let size : get_or (ns ++ m ∷ []) p.chunk 0 ≡ m = ap (λ k. get_or (ns ++ m ∷ []) k 0) chunk ∙ get_or_push ns m 0 (length ns) refl in omega arith;
   }
 
-IsAt-newest : (ns : List ℕ) (newest i k : ℕ) → newest ≡ total (take (length ns - 1) ns) → newest ≤ i → i < total ns → k ≡ length ns → (0 < k) × IsAt ns (record { chunk = k - 1; start = newest }) i
-IsAt-newest ns newest i k is le less e =
-    let some = some_size ns (omega arith) in let one : k - 1 ≡ length ns - 1 = omega arith in (
-      omega arith,
-      record {
-        chunk = omega arith;
-        start = is ∙ ap (λ j. total (take j ns)) (sym one);
-        above = le;
-        below = let size : get_or ns (k - 1) 0 ≡ get_or ns (length ns - 1) 0 = ap (λ j. get_or ns j 0) one in omega (arith, total-last ns some);
-      },
-    )
+IsAt-newest : (ns : List ℕ) (newest i k s : ℕ) → newest ≡ total (take (length ns - 1) ns) → newest ≤ i → i < total ns → k ≡ length ns → s ≡ newest → (0 < k) × IsAt ns (record { chunk = k - 1; start = s }) i
+IsAt-newest ns newest i k s is le less e f =
+    let some = some_size ns (omega arith) in let one : k - 1 ≡ length ns - 1 = omega arith in (omega arith, record {
+      chunk = omega arith;
+      start = f ∙ is ∙ ap (λ j. total (take j ns)) (sym one);
+      above = omega arith;
+      below = let size : get_or ns (k - 1) 0 ≡ get_or ns (length ns - 1) 0 = ap (λ j. get_or ns j 0) one in omega (arith, total-last ns some);
+    })
+
+IsAt-same : (ns : List ℕ) (p q : Place) (i : ℕ) → p.chunk ≡ q.chunk → p.start ≡ q.start → IsAt ns p i → IsAt ns q i
+IsAt-same ns p q i c e h = record {
+  chunk = omega (arith, h.chunk);
+  start = sym e ∙ h.start ∙ ap (λ k. total (take k ns)) c;
+  above = omega (arith, h.above);
+  below = let size : get_or ns p.chunk 0 ≡ get_or ns q.chunk 0 = ap (λ k. get_or ns k 0) c in omega (arith, h.below);
+}
+
+-- the chunk of a slot, by a test that counts as 0 or 1
+pub record IsFound (ns : List ℕ) (l : Level) (i back : ℕ) : Type 0 where
+  pub chunk : back ≤ l.last.chunk
+  pub start : back * l.step ≤ l.last.start
+  pub at : IsAt ns (record { chunk = l.last.chunk - back; start = l.last.start - back * l.step }) i
+
+IsFound-by : (ns : List ℕ) (l : Level) (i : ℕ) → Holds ns l i → (b : Bool) → nat_lt i l.last.start ≡ b → IsFound ns l i (bool_byte b)
+IsFound-by ns l i h true e =
+    let b = h.before (ltb-true i l.last.start e) in record {
+      chunk = b.0;
+      start = omega (arith, b.1);
+      at = IsAt-same ns (record { chunk = l.last.chunk - 1; start = l.last.start - l.step }) _ i refl (omega arith) b.2;
+    }
+IsFound-by ns l i h false e = record {
+  chunk = omega arith;
+  start = omega arith;
+  at = IsAt-same ns l.last _ i (omega arith) (omega arith) (h.last (ltb-false i l.last.start e));
+}
+
+pub found : (ns : List ℕ) (l : Level) (i : ℕ) → Holds ns l i → IsFound ns l i (bool_byte (nat_lt i l.last.start))
+found ns l i h = IsFound-by ns l i h (nat_lt i l.last.start) refl
 
 -- more levels, of which the first ones are the same
 pub IsIndexed-more : (ns : List ℕ) (levels news : List Level) (n : ℕ) → IsIndexed ns levels n → ((i m : ℕ) → i < n → IsLevel m i → m < length news)
@@ -103,20 +132,21 @@ room_after n m more e k on = elim e.even [
 
 -- the slots from n on lie in a new chunk, which is the last one of all levels from that of n on
 module _ (ns : List ℕ) (levels news : List Level) (newest n m first top : ℕ) (l : Level) (h : IsLaid ns levels newest n) (more : 0 < m) (from : IsLevel first n) where
-  Holds-new : l.last.chunk ≡ length ns → l.last.start ≡ n → l.before ≡ newest → (i k : ℕ) → i < n + m → IsLevel k i → first ≤ k → Holds (ns ++ m ∷ []) l i
-  Holds-new chunk start before i k less on upper = record {
+  Holds-new : l.last.chunk ≡ length ns → l.last.start ≡ n → l.step ≡ n - newest → (i k : ℕ) → i < n + m → IsLevel k i → first ≤ k → Holds (ns ++ m ∷ []) l i
+  Holds-new chunk start step i k less on upper = record {
     last = λ le. IsAt-last ns m l.last i chunk (start ∙ h.count) le (omega arith);
     before = λ early.
         let same : k ≡ first = omega (arith, level_mono k first i n on from (omega arith)) in
         let low : 2 ^ k ≡ 2 ^ first = ap (λ j. 2 ^ j) same in
-        let at = IsAt-newest ns l.before i l.last.chunk (before ∙ h.newest_is) (omega (arith, h.room first from, on.low, before)) (omega (arith, h.count)) chunk in
-        (at.0, IsAt-push ns m _ i at.1);
+        let room = h.room first from in
+        let at = IsAt-newest ns newest i l.last.chunk (l.last.start - l.step) h.newest_is (omega (arith, on.low)) (omega (arith, h.count)) chunk (omega (arith, from.low)) in
+        (at.0, omega arith, IsAt-push ns m _ i at.1);
   }
 
-  pub IsLaid-push : IsEven n m → n + m ≤ 2 ^ 30 → l.last.chunk ≡ length ns → l.last.start ≡ n → l.before ≡ newest → IsLevel top (n + (m - 1)) → length news ≡ top + 1
+  pub IsLaid-push : IsEven n m → n + m ≤ 2 ^ 30 → l.last.chunk ≡ length ns → l.last.start ≡ n → l.step ≡ n - newest → IsLevel top (n + (m - 1)) → length news ≡ top + 1
       → ((k : ℕ) (d : Level) → k < first → k < length levels → get_or news k d ≡ get_or levels k d)
       → ((k : ℕ) (d : Level) → first ≤ k → k < length news → get_or news k d ≡ l) → IsLaid (ns ++ m ∷ []) news n (n + m)
-  IsLaid-push even fits chunk start before to long old new =
+  IsLaid-push even fits chunk start step to long old new =
       let within : (i k : ℕ) → i < n + m → IsLevel k i → k < length news = λ i k less on. omega (arith, level_mono k top i (n + (m - 1)) on to (omega arith)) in
       let size : length (ns ++ m ∷ []) - 1 ≡ length ns = omega (arith, length-append ns (m ∷ [])) in record {
         count = omega (arith, total-append ns (m ∷ []), h.count);
@@ -126,7 +156,7 @@ module _ (ns : List ℕ) (levels news : List Level) (newest n m first top : ℕ)
           held = λ i k d less on. elim (cases_lt k first) [
             | inl lower ↦ let early = early_below first n from i k on lower in
                 subst (λ a. Holds (ns ++ m ∷ []) a i) (sym (old k d lower (h.indexed.within i k early on))) (Holds-push ns m _ i (h.indexed.held i k d early on))
-            | inr upper ↦ subst (λ a. Holds (ns ++ m ∷ []) a i) (sym (new k d upper (within i k less on))) (Holds-new chunk start before i k less on upper)
+            | inr upper ↦ subst (λ a. Holds (ns ++ m ∷ []) a i) (sym (new k d upper (within i k less on))) (Holds-new chunk start step i k less on upper)
           ];
         };
         newest_is = h.count ∙ ap total (sym (take_all (length ns) ns (omega arith)) ∙ sym (take_old ns m (length ns) (omega arith))) ∙ ap (λ k. total (take k (ns ++ m ∷ []))) (sym size);

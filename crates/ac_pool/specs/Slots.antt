@@ -31,7 +31,7 @@ pub record IsAt (sizes : List ℕ) (place : Place) (i : ℕ) : Type 0 where
 -- the slot i lies in the last chunk of the level, or in the one before it
 pub record Holds (sizes : List ℕ) (level : Level) (i : ℕ) : Type 0 where
   pub last : level.last.start ≤ i → IsAt sizes level.last i
-  pub before : i < level.last.start → (0 < level.last.chunk) × IsAt sizes (record { chunk = level.last.chunk - 1; start = level.before }) i
+  pub before : i < level.last.start → (0 < level.last.chunk) × (level.step ≤ level.last.start) × IsAt sizes (record { chunk = level.last.chunk - 1; start = level.last.start - level.step }) i
 
 -- each of the n slots is held by its level
 pub record IsIndexed (sizes : List ℕ) (levels : List Level) (n : ℕ) : Type 0 where

@@ -16,11 +16,11 @@ pub struct Place {
     start: usize,
 }
 
-/// Where the slots of a level lie: in the last chunk that reaches into it, or in the one before, which begins with the slot `before`.
+/// Where the slots of a level lie: in the last chunk that reaches into it, or in the one before, which begins so many slots earlier.
 #[derive(Clone, Copy)]
 pub struct Level {
     last: Place,
-    before: usize,
+    step: usize,
 }
 
 /// The level of a slot. Level `m` begins with the slot `2^m - 1`, so that there are at most 31.
@@ -37,13 +37,10 @@ fn place_of(levels: &[Level], slot: usize) -> Place
     ensures { (sizes : List ℕ) → Finds sizes levels.now slot → IsAt sizes result slot }
 {
     let level = levels[level_of(slot)];
-    if slot < level.last.start {
-        Place {
-            chunk: level.last.chunk - 1,
-            start: level.before,
-        }
-    } else {
-        level.last
+    let back = (slot < level.last.start) as usize;
+    Place {
+        chunk: level.last.chunk - back,
+        start: level.last.start - back * level.step,
     }
 }
 
@@ -125,19 +122,20 @@ impl<T> Slots<T> {
         ensures err { OnErr result (self.new ≡ self.old) }
     {
         let alloc = *self.chunks.allocator();
+        let first = level_of(self.len);
         let level = Level {
             last: Place {
                 chunk: self.chunks.len(),
                 start: self.len,
             },
-            before: self.newest,
+            step: self.len - self.newest,
         };
         let top = level_of(self.len + (by - 1));
         self.chunks.reserve(1)?;
         self.levels.resize(top + 1, level)?;
         let chunk = Chunk::new(alloc, by)?;
         self.chunks.push_reserved(chunk);
-        set_from(self.levels.as_mut_slice(), level_of(self.len), level);
+        set_from(self.levels.as_mut_slice(), first, level);
         self.newest = self.len;
         self.len += by;
         Ok(())

@@ -1,5 +1,5 @@
 use Rattle.std.proofs.Common.{◌<◌, ◌^◌, arith}
-use Rattle.ac_pool.proofs.Placed.{level_below}
+use Rattle.ac_pool.proofs.Placed.{level_below, found}
 use Rattle.ac_pool.proofs.slots.place_of.Goals as goal
 
 pub offset_bounds-levels-level_of : goal.offset_bounds-levels-level_of
@@ -11,10 +11,10 @@ pub bounds-levels-level_of : goal.bounds-levels-level_of
 bounds-levels-level_of c = let f = c.requires.1 in f.indexed.within c.args.slot c.level_of.result f.within c.level_of.ensures
 
 pub overflow_sub-result : goal.overflow_sub-result
-overflow_sub-result c = let f = c.requires.1 in ((f.indexed.held c.args.slot c.level_of.result _ f.within c.level_of.ensures).before c.if-slot-level.true).0
+overflow_sub-result c = let f = c.requires.1 in (found c.requires.0 _ c.args.slot (f.indexed.held c.args.slot c.level_of.result _ f.within c.level_of.ensures)).chunk
 
-pub returns-then-slot-level : goal.returns-then-slot-level
-returns-then-slot-level c = λ sizes f. ((f.indexed.held c.args.slot c.level_of.result _ f.within c.level_of.ensures).before c.if-slot-level.true).1
+pub overflow_sub-result-2 : goal.overflow_sub-result-2
+overflow_sub-result-2 c = let f = c.requires.1 in (found c.requires.0 _ c.args.slot (f.indexed.held c.args.slot c.level_of.result _ f.within c.level_of.ensures)).start
 
-pub returns-else-slot-level : goal.returns-else-slot-level
-returns-else-slot-level c = λ sizes f. (f.indexed.held c.args.slot c.level_of.result _ f.within c.level_of.ensures).last c.if-slot-level.false
+pub returns : goal.returns
+returns c = λ sizes f. (found sizes _ c.args.slot (f.indexed.held c.args.slot c.level_of.result _ f.within c.level_of.ensures)).at

@@ -29,8 +29,8 @@ invariant_of-self-in_err-chunk g c =
           (λ k d old new. e.by_index.0 k d (omega (arith, e.len)) (omega arith));
     })
 
-pub level_of-requires : goal.level_of-requires
-level_of-requires g c =
+pub level_of-first-requires : goal.level_of-first-requires
+level_of-first-requires g c =
     let a = c.self.inside in let fits : length (all_cells a.chunks.items) + c.args.by ≤ 2 ^ 30 = rw c.self.view_is c.requires.few in
     omega (arith, length-all_cells a.chunks.items, c.self.invariant.count, c.requires.some)
 
@@ -38,19 +38,22 @@ pub invariant_of-self-2 : goal.invariant_of-self-2
 invariant_of-self-2 g c =
     let a = c.self.inside in let h = c.self.invariant in let n = a.len in let by = c.args.by in let chunks = a.chunks.items in let cs = c.in_ok-chunk.chunk in
     let e = c.in_ok-resize.ensures in let s = c.as_mut_slice.ensures in let f = c.set_from.ensures in let v = c.resize.new.self in let ws = c.set_from.new.levels in
-    let first = c.level_of.result in let top = c.level_of-top.result in
+    let first = c.level_of-first.result in let top = c.level_of-top.result in
     let fits : length (all_cells chunks) + by ≤ 2 ^ 30 = rw c.self.view_is c.requires.few in
     let whole : n ≡ length (all_cells chunks) = omega (arith, length-all_cells chunks, h.count) in
     let even : IsEven n by = subst (λ m. IsEven m by) (sym whole) (rw c.self.view_is c.requires.even) in
     let pushed : c.push_reserved.new.self.items ≡ chunks ++ cs ∷ [] = c.push_reserved.ensures.items ∙ ap (λ l. l ++ cs ∷ []) c.in_ok-reserve.ensures.items in
     let size : length cs ≡ by = ap length c.in_ok-chunk.ensures ∙ length-replicate by None in
     let long : length ws ≡ v.len = omega (arith, c.set_from.auto.levels, s.len) in
-    let up : first ≤ top = level_mono first top n (n + (by - 1)) c.level_of.ensures c.level_of-top.ensures (omega arith) in
-    let level : Level = record { last = record { chunk = c.len.result; start = n }; before = a.newest } in
-    let laid : IsLaid (map length chunks ++ by ∷ []) ws n (n + by) = IsLaid-push (map length chunks) a.levels.items ws a.newest n by first top level h c.requires.some c.level_of.ensures even (omega arith)
+    let up : first ≤ top = level_mono first top n (n + (by - 1)) c.level_of-first.ensures c.level_of-top.ensures (omega arith) in
+    let level : Level = record { last = record { chunk = c.len.result; start = n }; step = n - a.newest } in
+    let laid : IsLaid (map length chunks ++ by ∷ []) ws n (n + by) = IsLaid-push (map length chunks) a.levels.items ws a.newest n by first top level h c.requires.some c.level_of-first.ensures even (omega arith)
     (omega (arith, c.len.ensures, length-map chunks length)) refl refl c.level_of-top.ensures (omega (arith, e.len))
     (λ k d lower old. f.below k d lower ∙ ap (λ l. get_or l k d) s.value ∙ e.by_index.0 k d (omega arith) (omega arith))
     (λ k d upper less. f.above k d upper (omega (arith, c.set_from.auto.levels))) in
     let sized : IsLaid (map length c.push_reserved.new.self.items) ws n (n + by) =
     subst (λ ns. IsLaid ns ws n (n + by)) (sym (ap (map length) pushed ∙ sizes_push chunks cs ∙ ap (λ m. map length chunks ++ m ∷ []) size)) laid in
     subst (λ l. IsLaid (map length c.push_reserved.new.self.items) l n (n + by)) (sym (with_items_is v ws long)) sized
+
+pub overflow_sub-level : goal.overflow_sub-level
+overflow_sub-level g c = omega (arith, c.self.invariant.room c.level_of-first.result c.level_of-first.ensures, c.level_of-first.ensures.low)
