@@ -6,7 +6,7 @@ use Rattle.std.specs.Result.{IsErrAnd}
 use Rattle.ac_syntax.specs.Code.{Head}
 use Rattle.ac_syntax.specs.Items.{opens, item_line}
 use Rattle.ac_syntax.specs.declared.refusal.RefusalKind.{RefusalKind}
-use Rattle.ac_script.specs.declared.fault.ScriptFault.{ScriptFault}
+use Rattle.ac_syntax.specs.declared.fault.ScriptFault.{ScriptFault}
 use Rattle.ac_check.specs.Scopes.{Scope, Standing, standing}
 use Rattle.ac_check.specs.Faults.{capacity}
 use Rattle.ac_check.specs.Walks.{Outcome, goes_on, refused, step, outcome, behind, fault_with, StopsAs}

@@ -7,8 +7,8 @@ use Rattle.ac_syntax.specs.declared.stmt.Stmt.{Stmt}
 use Rattle.ac_syntax.specs.declared.stmt.Stmt.TheVariants.{Call, Set, Sum, Loop, View, Stable, Declare}
 use Rattle.ac_syntax.specs.declared.refusal.RefusalKind.{RefusalKind}
 use Rattle.ac_syntax.specs.declared.refusal.RefusalKind.TheVariants.{Limit, UnknownName, WrongType, Twice}
-use Rattle.ac_script.specs.declared.fault.ScriptFault.{ScriptFault}
-use Rattle.ac_script.specs.declared.fault.ScriptFault.TheVariants.{Refused}
+use Rattle.ac_syntax.specs.declared.fault.ScriptFault.{ScriptFault}
+use Rattle.ac_syntax.specs.declared.fault.ScriptFault.TheVariants.{Refused}
 use Rattle.ac_check.specs.Scopes.{Scope, Standing}
 use Rattle.ac_check.specs.Rules.{is_well_typed}
 use Rattle.ac_check.specs.Faults.{used, declared, capacity, is_in_scope, is_twice, is_crowded, most_room}

@@ -1,12 +1,11 @@
 //! Scripts that can run.
 ghost use Rattle.std.specs.Prelude.{◌≡◌, ℕ, Err, IfOk, OnOk};
 ghost use Rattle.ac_syntax.specs.declared.refusal.RefusalKind.{RefusalKind};
-ghost use Rattle.ac_script.specs.declared.fault.ScriptFault.TheVariants.{Refused};
+ghost use Rattle.ac_syntax.specs.declared.fault.ScriptFault.TheVariants.{Refused};
 ghost use Rattle.ac_check.specs.Faults.{IsChecked, IsFirstFault};
 
 use crate::walk::walk_script;
-use ac_script::ScriptFault;
-use ac_syntax::Script;
+use ac_syntax::{Script, ScriptFault};
 use std::alloc::Global;
 use std::marker::Model;
 

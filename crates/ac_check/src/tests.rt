@@ -1,8 +1,8 @@
 use super::*;
 use ac_base::Value;
-use ac_script::ScriptFault;
 use ac_syntax::{
-    Arg, Args, Decl, Decls, ElemKind, Ident, Kind, RefusalKind, Script, Stmt, Stmts, TypeDef,
+    Arg, Args, Decl, Decls, ElemKind, Ident, Kind, RefusalKind, Script, ScriptFault, Stmt, Stmts,
+    TypeDef,
 };
 use std::alloc::{AllocError, Global};
 use std::test::Fail;

@@ -5,7 +5,7 @@ ghost use Rattle.ac_syntax.specs.Code.{stop};
 ghost use Rattle.ac_syntax.specs.Items.{declares};
 ghost use Rattle.ac_syntax.specs.Statements.{before};
 ghost use Rattle.ac_syntax.specs.declared.refusal.RefusalKind.{RefusalKind};
-ghost use Rattle.ac_script.specs.declared.fault.ScriptFault.TheVariants.{Refused};
+ghost use Rattle.ac_syntax.specs.declared.fault.ScriptFault.TheVariants.{Refused};
 ghost use Rattle.ac_check.specs.Scopes as scopes;
 ghost use Rattle.ac_check.specs.Scopes.{entry, a_value, element_of, is_written_in, object_of, with_entry, with_decls, standing, standing_decls, standings_from, standings, decl_entry};
 ghost use Rattle.ac_check.specs.Faults.{is_in_scope, AreFaultless, IsFirstFault, IsChecked};
@@ -17,8 +17,7 @@ use crate::faults::{decl_capacity, decl_fault, decl_line, decl_name, stmt_fault,
 use crate::meaning::Meaning;
 use crate::scope::Scope;
 use ac_base::NoMemory;
-use ac_script::ScriptFault;
-use ac_syntax::{Decl, Ident, RefusalKind, Script, Stmt, Stmts, ViewKind};
+use ac_syntax::{Decl, Ident, RefusalKind, Script, ScriptFault, Stmt, Stmts, ViewKind};
 use std::alloc::Global;
 
 /// Takes a name in, if it is known what it stands for.

@@ -3,7 +3,6 @@ mod Strings
 mod Within
 pub mod LineFeeds
 pub mod Pages
-pub mod StatementSizes
 pub mod PageTexts
 mod Spelled
 mod Cases

@@ -16,8 +16,8 @@ use Rattle.ac_syntax.specs.Refusals.{Spells, begins_none, past_limit, HasNoBadTo
 use Rattle.ac_syntax.proofs.Withins.{begun_none_bad}
 use Rattle.ac_syntax.proofs.Orders.{script_found}
 use Rattle.ac_syntax.proofs.OneRefusal.{one_refusal, spelled_or_refused}
-use Rattle.ac_script.specs.declared.fault.ScriptFault.{ScriptFault}
-use Rattle.ac_script.specs.declared.fault.ScriptFault.TheVariants.{Refused, NoMemory}
+use Rattle.ac_syntax.specs.declared.fault.ScriptFault.{ScriptFault}
+use Rattle.ac_syntax.specs.declared.fault.ScriptFault.TheVariants.{Refused, NoMemory}
 use Rattle.ac_script.specs.Behind.{StandWithin}
 use Rattle.ac_script.specs.Readings.{AreWhole, EndEarly, HasBad}
 use Rattle.ac_script.specs.Answers.{IsAnswer, IsCut, EndPast}

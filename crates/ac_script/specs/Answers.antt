@@ -5,8 +5,8 @@ use Rattle.ac_syntax.specs.declared.script.Script.{Script}
 use Rattle.ac_syntax.specs.Tokens.{tokens, cut_of}
 use Rattle.ac_syntax.specs.Limits.{is_past_limit, AreWithinLimits}
 use Rattle.ac_syntax.specs.Refusals.{Spells, IsFirstRefusal}
-use Rattle.ac_script.specs.declared.fault.ScriptFault.{ScriptFault}
-use Rattle.ac_script.specs.declared.fault.ScriptFault.TheVariants.{Refused, NoMemory}
+use Rattle.ac_syntax.specs.declared.fault.ScriptFault.{ScriptFault}
+use Rattle.ac_syntax.specs.declared.fault.ScriptFault.TheVariants.{Refused, NoMemory}
 
 -- the text spells the script, or is refused there and so, unless memory ran out
 abbrev pub IsAnswer : List ℕ → Result Script ScriptFault → Type 0

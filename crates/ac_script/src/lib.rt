@@ -6,7 +6,6 @@ mod build;
 mod command;
 mod cut;
 mod declaration;
-mod fault;
 mod head;
 mod item;
 mod item_reader;
@@ -23,10 +22,9 @@ mod stage;
 mod stop;
 
 pub use ac_syntax::{
-    Arg, Args, Decl, Decls, ElemKind, Ident, Idents, Kind, RefusalKind, Script, Stmt, Stmts,
-    TypeDef, ViewKind,
+    Arg, Args, Decl, Decls, ElemKind, Ident, Idents, Kind, RefusalKind, Script, ScriptFault, Stmt,
+    Stmts, TypeDef, ViewKind,
 };
-pub use fault::ScriptFault;
 pub use law::{each_text, items_read, one_script};
 pub use parser::parse;
 pub use printer::print;

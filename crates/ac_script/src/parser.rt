@@ -8,8 +8,8 @@ ghost use Rattle.ac_syntax.specs.Tokens.{tokens};
 ghost use Rattle.ac_syntax.specs.Canonical.{is_written};
 ghost use Rattle.ac_syntax.specs.Limits.{AreWithinLimits};
 ghost use Rattle.ac_syntax.specs.Refusals.{Spells, IsFirstRefusal};
-ghost use Rattle.ac_script.specs.declared.fault.ScriptFault.TheVariants.{Refused};
-ghost use Rattle.ac_script.specs.declared.fault.ScriptFault.TheVariants as fault;
+ghost use Rattle.ac_syntax.specs.declared.fault.ScriptFault.TheVariants.{Refused};
+ghost use Rattle.ac_syntax.specs.declared.fault.ScriptFault.TheVariants as fault;
 ghost use Rattle.ac_script.specs.Answers.{IsAnswer, IsCut, EndPast};
 
 #[cfg(test)]
@@ -17,11 +17,10 @@ mod tests;
 
 use crate::build::build;
 use crate::cut::{CutText, cut};
-use crate::fault::ScriptFault;
 use crate::limits::within;
 use crate::reading::{Reading, read};
 use ac_base::NoMemory;
-use ac_syntax::{Placed, RefusalKind, Script};
+use ac_syntax::{Placed, RefusalKind, Script, ScriptFault};
 use std::alloc::Global;
 
 fn refused(line: u64, kind: RefusalKind) -> ScriptFault

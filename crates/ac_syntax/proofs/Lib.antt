@@ -1,4 +1,5 @@
 pub mod Derivations
+pub mod StatementSizes
 pub mod Withins
 pub mod FirstFaults
 pub mod FirstWords

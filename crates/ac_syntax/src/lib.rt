@@ -3,6 +3,7 @@
 
 mod arg;
 mod decl;
+mod fault;
 mod ident;
 mod kind;
 mod law;
@@ -17,6 +18,7 @@ mod view_kind;
 
 pub use arg::{Arg, Args};
 pub use decl::{Decl, Decls};
+pub use fault::ScriptFault;
 pub use ident::{Ident, Idents};
 pub use kind::{ElemKind, Kind};
 pub use law::{

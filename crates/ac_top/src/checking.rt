@@ -4,7 +4,7 @@ ghost use Rattle.ac_io.specs.Outside.{Rose};
 ghost use Rattle.ac_syntax.specs.declared.refusal.RefusalKind.{RefusalKind};
 ghost use Rattle.ac_syntax.specs.declared.script.Script.{Script};
 ghost use Rattle.ac_syntax.specs.Refusals.{Spells, IsFirstRefusal};
-ghost use Rattle.ac_script.specs.declared.fault.ScriptFault.TheVariants.{Refused as RefusedAt};
+ghost use Rattle.ac_syntax.specs.declared.fault.ScriptFault.TheVariants.{Refused as RefusedAt};
 ghost use Rattle.ac_check.specs.Faults.{IsChecked};
 ghost use Rattle.ac_top.specs.Meaning.{Meaning};
 ghost use Rattle.ac_top.specs.Checking.{IsCheckMeaning, IsFaulty, canonical, refused_at};

@@ -2,7 +2,7 @@ use Rattle.std.proofs.Common.{◌≡◌, arith, ap, get_or}
 use Rattle.ac_syntax.specs.Code.{stop, code_size}
 use Rattle.ac_syntax.specs.Statements.{before}
 use Rattle.ac_syntax.specs.declared.stmt.Stmt.{Stmt}
-use Rattle.ac_script.proofs.StatementSizes.{size_among}
+use Rattle.ac_syntax.proofs.StatementSizes.{size_among}
 use Rattle.ac_script.proofs.printer.+statements.Goals as goal
 
 pub put_statements-put_statement-requires : goal.put_statements-put_statement-requires

@@ -4,7 +4,7 @@ use Rattle.ac_syntax.specs.Code.{Code, code_size, stop}
 use Rattle.ac_syntax.specs.Statements.{before, code_of}
 use Rattle.ac_syntax.specs.declared.stmt.Stmt.{Stmt}
 use Rattle.ac_syntax.specs.declared.stmt.Stmt.TheVariants.{Declare}
-use Rattle.ac_script.proofs.StatementSizes.{size_among}
+use Rattle.ac_syntax.proofs.StatementSizes.{size_among}
 use Rattle.ac_check.specs.Scopes.{Scope, with_decls, Standing, standings_from}
 use Rattle.ac_check.specs.Walks.{outcome}
 use Rattle.ac_check.proofs.Outcomes.{passed_on, next_item, gone_on, stopped}

@@ -1,8 +1,8 @@
 ghost use Rattle.std.specs.Prelude.{◌≡◌};
-ghost use Rattle.ac_script.specs.declared.fault.ScriptFault.TheVariants as fault;
+ghost use Rattle.ac_syntax.specs.declared.fault.ScriptFault.TheVariants as fault;
 
+use crate::refusal::RefusalKind;
 use ac_base::NoMemory;
-use ac_syntax::RefusalKind;
 
 /// Why no script was made of a text, or a script isn't taken.
 #[derive(Clone, Copy, Debug, PartialEq, Eq)]
