@@ -81,6 +81,34 @@ abbrev pub EndsComment : Type 0
 EndsComment = cut_of (lines (codes "A -- b" ∷ codes "C" ∷ []))
     ≡ record { placed = on_line 1 (token.Word (codes "a")) ∷ on_line 2 (token.Word (codes "c")) ∷ []; malformed = None }
 
+-- a tab is white space, and so is a CR right before LF
+
+abbrev pub TakesTab : Type 0
+TakesTab = cut_of (9 ∷ codes "A" ++ 9 ∷ codes ";")
+    ≡ record { placed = on_line 1 (token.Word (codes "a")) ∷ on_line 1 (token.Mark Semicolon) ∷ []; malformed = None }
+
+abbrev pub TakesReturnBeforeLineFeed : Type 0
+TakesReturnBeforeLineFeed = cut_of (codes "A" ++ 13 ∷ 10 ∷ codes ";")
+    ≡ record { placed = on_line 1 (token.Word (codes "a")) ∷ on_line 2 (token.Mark Semicolon) ∷ []; malformed = None }
+
+-- elsewhere a CR may stand in a comment alone, and a tab in no string
+
+abbrev pub RefusesLoneReturn : Type 0
+RefusesLoneReturn = cut_of (10 ∷ codes "A" ++ 13 ∷ codes ";") ≡ record { placed = on_line 2 (token.Word (codes "a")) ∷ []; malformed = Some 2 }
+
+abbrev pub RefusesReturnTwice : Type 0
+RefusesReturnTwice = cut_of (13 ∷ 10 ∷ 13 ∷ 13 ∷ 10 ∷ []) ≡ record { placed = []; malformed = Some 2 }
+
+abbrev pub RefusesLastReturn : Type 0
+RefusesLastReturn = cut_of (codes "A" ++ 13 ∷ []) ≡ record { placed = on_line 1 (token.Word (codes "a")) ∷ []; malformed = Some 1 }
+
+abbrev pub TakesReturnInComment : Type 0
+TakesReturnInComment = cut_of (codes "A--" ++ 13 ∷ codes "b" ++ 10 ∷ codes ";")
+    ≡ record { placed = on_line 1 (token.Word (codes "a")) ∷ on_line 2 (token.Mark Semicolon) ∷ []; malformed = None }
+
+abbrev pub RefusesTabInString : Type 0
+RefusesTabInString = cut_of (34 ∷ 9 ∷ 34 ∷ []) ≡ record { placed = []; malformed = Some 1 }
+
 -- a letter right after a number
 abbrev pub RefusesLetterAfterNumber : Type 0
 RefusesLetterAfterNumber = cut_of (codes "12a") ≡ record { placed = []; malformed = Some 1 }

@@ -14,4 +14,5 @@ pub mod Examples
 pub mod Starts
 pub mod RefusalExamples
 pub mod FormExamples
+pub mod WordExamples
 pub mod Order

@@ -13,6 +13,8 @@ ghost use Rattle.ac_syntax.specs.Refusals.{Spells, IsFirstRefusal};
 ghost use Rattle.ac_syntax.specs.declared.refusal.RefusalKind.{RefusalKind};
 ghost use Rattle.ac_syntax.specs.Starts.{starts_script};
 ghost use Rattle.ac_syntax.specs.Examples.{SpellsLoosely, WritesStrictly, SpellsNested, WritesNested, ReadsDoubledQuote, RefusesOpenString, EndsComment, RefusesLetterAfterNumber, WritesNothing, TakesDepth16, RefusesDepth17};
+ghost use Rattle.ac_syntax.specs.Examples.{TakesTab, TakesReturnBeforeLineFeed, RefusesLoneReturn, RefusesReturnTwice, RefusesLastReturn, TakesReturnInComment, RefusesTabInString};
+ghost use Rattle.ac_syntax.specs.WordExamples.{ReservesWords, LeavesWords};
 ghost use Rattle.ac_syntax.specs.FormExamples.{SpellsEveryForm, WritesEveryForm, IsEveryFormWell, SpellsMinusZero, WritesZero, NeedsCursor, NeedsRisingLines};
 ghost use Rattle.ac_syntax.specs.RefusalExamples.{TakesName64, RefusesName65, TakesString1000, RefusesString1001, TakesLeast, TakesCounting, RefusesPastGreatest, RefusesLessTooMuch, RefusesTooRoomy, RefusesMalformed, RefusesMarkFirst, RefusesTasks, RefusesOpenBlock, RefusesOpenHead};
 
@@ -73,6 +75,23 @@ pub fn examples()
     ensures nothing { WritesNothing }
     ensures depth_16 { TakesDepth16 }
     ensures depth_17 { RefusesDepth17 }
+{}
+
+/// Tabs and CRs, where they are white space and where they are malformed, worked out by hand.
+pub fn blanks()
+    ensures tab { TakesTab }
+    ensures return_before_line_feed { TakesReturnBeforeLineFeed }
+    ensures lone_return { RefusesLoneReturn }
+    ensures return_twice { RefusesReturnTwice }
+    ensures last_return { RefusesLastReturn }
+    ensures return_in_comment { TakesReturnInComment }
+    ensures tab_in_string { RefusesTabInString }
+{}
+
+/// Each reserved word, and words near them, worked out by hand.
+pub fn words()
+    ensures reserved { ReservesWords }
+    ensures others { LeavesWords }
 {}
 
 /// Each form of the grammar, and what is or isn't well formed, worked out by hand.
