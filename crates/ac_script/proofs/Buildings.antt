@@ -55,9 +55,6 @@ of_decls : (decls : List Decl) (d : Decl) → of_level (decls ++ d ∷ []) false
 of_decls decls d =
     append-nil (map declares (decls ++ d ∷ [])) ∙ map-append declares decls (d ∷ []) ∙ ap (λ is. is ++ declares d ∷ []) (sym (append-nil (map declares decls)))
 
-of_begun : (decls : List Decl) → of_level decls true [] ≡ of_level decls false [] ++ begins ∷ []
-of_begun decls = ap (λ is. is ++ begins ∷ []) (sym (append-nil (map declares decls)))
-
 of_stmts : (decls : List Decl) (begun : Bool) (stmts : List Stmt) (s : Stmt) (c : Code) → before s stop ≡ c → of_level decls begun (stmts ++ s ∷ []) ≡ of_level decls begun stmts ++ items c
 of_stmts decls begun stmts s c e =
     ap (λ is. map declares decls ++ (begun_items begun ++ is)) (items_more stmts s c e)
@@ -134,16 +131,6 @@ module _ (old new : Building) (context next : Context) (built : IsBuilding old c
       at heading staged e = absurd (none-some next e)
       at running staged e = reached running e (subst (λ around. Nests around new.level) (sym turned) (nests_same (reverse old.around.items) old.level new.level decls begun staged))
 
-  begun_step : new.level.decls ≡ old.level.decls → new.level.begun ≡ true → new.level.stmts ≡ old.level.stmts
-      → (stage : Stage) → IsStaged stage (reverse old.around.items) old.level → next_after context.blocks stage begins ≡ Some next → Step begins old new next
-  begun_step decls begun stmts listing staged e = absurd (none-some next e)
-  begun_step decls begun stmts heading staged e =
-      let no_stmts : new.level.stmts.items ≡ [] = ap (λ (v : Vec Stmt Global). v.items) stmts ∙ staged.empty in (
-        all_items (begins ∷ []) (ap (λ (v : Vec Decl Global). of_level v.items new.level.begun new.level.stmts.items) decls ∙ rw (begun, no_stmts, staged.empty, staged.unbegun) (of_begun old.level.decls.items)),
-        reached running e (subst (λ around. Nests around new.level) (sym (turned ∙ staged.is)) (subst (λ b. Suits b new.level) (sym staged.declares) begun, staged.nests)),
-      )
-  begun_step decls begun stmts running staged e = absurd (none-some next e)
-
 pub declared_adds : (old new : Building) (d : Decl) → new.around ≡ old.around → new.level.decls.items ≡ old.level.decls.items ++ d ∷ [] → new.level.begun ≡ old.level.begun → new.level.stmts ≡ old.level.stmts
     → Adds (declares d) old new
 declared_adds old new d around decls begun stmts context next built e = declared_step old new context next built around d decls begun stmts context.stage built.staged e
@@ -151,9 +138,6 @@ declared_adds old new d around decls begun stmts context next built e = declared
 pub ran_adds : (old new : Building) (simple : Simple) (s : Stmt) → before s stop ≡ one simple stop → new.around ≡ old.around → new.level.decls ≡ old.level.decls → new.level.begun ≡ old.level.begun
     → new.level.stmts.items ≡ old.level.stmts.items ++ s ∷ [] → Adds (commands simple) old new
 ran_adds old new simple s is around decls begun stmts context next built e = ran_step old new context next built around simple s is decls begun stmts context.stage built.staged e
-
-pub begun_adds : (old new : Building) → new.around ≡ old.around → new.level.decls ≡ old.level.decls → new.level.begun ≡ true → new.level.stmts ≡ old.level.stmts → Adds begins old new
-begun_adds old new around decls begun stmts context next built e = begun_step old new context next built around decls begun stmts context.stage built.staged e
 
 -- a list with one item more, the other way round
 turned_more : (xs : List Enclosing) (e : Enclosing) → reverse (xs ++ e ∷ []) ≡ e ∷ reverse xs
@@ -287,18 +271,6 @@ module _ (old new : Building) (context next : Context) (built : IsBuilding old c
 pub left_adds : (old new : Building) (e : Enclosing) (s : Stmt) (l : Bool) → old.around.items ≡ new.around.items ++ e ∷ [] → new.level.decls ≡ e.level.decls → new.level.begun ≡ e.level.begun
     → new.level.stmts.items ≡ e.level.stmts.items ++ s ∷ [] → before s stop ≡ block (full_head e.head old.level.decls.items) (code_of old.level.stmts.items) stop → Adds (closes l) old new
 left_adds old new e s l around decls begun stmts is context next built q = left_step old new context next built e s around decls begun stmts is l context.stage built.staged q
-
--- a building without an enclosing block never leaves one
-pub none_to_leave : (old new : Building) (l : Bool) → old.around.items ≡ [] → Adds (closes l) old new
-none_to_leave old new l none context next built q = absurd (at context.stage q)
-  where
-    no_blocks : context.blocks ≡ []
-    no_blocks = built.blocks ∙ ap (λ around. loops (reverse around)) none
-
-    at : (stage : Stage) → next_after context.blocks stage (closes l) ≡ Some next → ⊥
-    at listing q = none-some next (ap (left_behind l) (sym no_blocks) ∙ q)
-    at heading q = none-some next q
-    at running q = none-some next (ap (left_behind l) (sym no_blocks) ∙ q)
 
 -- the item that comes next, with what the others lead to
 pub goes_on : (context last : Context) (item : Item) (others : List Item) → context_after context (item ∷ others) ≡ Some last

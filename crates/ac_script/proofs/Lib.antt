@@ -23,4 +23,5 @@ mod Fits
 mod Written
 mod Readings
 pub mod Refusals
+mod Refused
 pub mod EachText

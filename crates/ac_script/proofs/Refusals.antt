@@ -100,10 +100,10 @@ malformed_first text placed line cut within begins =
     first_bad line Syntax (malformed_piece line (subst HasNoBadToken (sym cut.placed_is) (no_bad placed begins within)) cut.malformed_is)
 
 -- the last of some tokens
-record Last (placed : List Placed) : Type 0 where
-  before : List Placed
-  last : Placed
-  whole : placed ≡ before ++ last ∷ []
+pub record Last (placed : List Placed) : Type 0 where
+  pub before : List Placed
+  pub last : Placed
+  pub whole : placed ≡ before ++ last ∷ []
 
 last_of : (p : Placed) (placed : List Placed) → Last (p ∷ placed)
 last_of p [] = record { before = []; last = p; whole = refl }
@@ -115,7 +115,7 @@ some_last : (placed : List Placed) → EndEarly placed → Last placed
 some_last [] early = absurd (early.none (record { decls = []; stmts = stop }) refl)
 some_last (p ∷ placed) early = last_of p placed
 
-ended : (text : List ℕ) (placed : List Placed) → IsCut text placed None → AreWithinLimits (tokens placed) → EndEarly placed → (last : Last placed)
+pub ended : (text : List ℕ) (placed : List Placed) → IsCut text placed None → AreWithinLimits (tokens placed) → EndEarly placed → (last : Last placed)
     → IsFirstRefusal text last.last.line Syntax
 ended text placed cut within early last =
     ends_early last.before last.last (cut.placed_is ∙ last.whole) cut.malformed_is

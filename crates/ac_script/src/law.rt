@@ -8,6 +8,7 @@ ghost use Rattle.ac_syntax.specs.Order.{Stage};
 ghost use Rattle.ac_syntax.specs.Refusals.{Spells, IsFirstRefusal};
 ghost use Rattle.ac_script.specs.ItemReader.{item, innermost_of};
 ghost use Rattle.ac_script.specs.ExactItems.{ReadsItems};
+ghost use Rattle.ac_script.specs.RefusalExamples.{RefusesMarkFirst, RefusesTasks, RefusesOpenHead, RefusesOpenBlock, RefusesBareEnd, RefusesLateDeclaration};
 
 /// In each context the items that may come are read, and reading stops at the first token with which none begins.
 pub fn items_read()
@@ -22,4 +23,14 @@ pub fn one_script()
 /// Each text spells a script, or has a first refusal.
 pub fn each_text()
     ensures { (text : List ℕ) → ((script : Script) × Spells script text) ⊎ ((line : ℕ) × (kind : RefusalKind) × IsFirstRefusal text line kind) }
+{}
+
+/// Texts that no script begins with or is, worked out by hand.
+pub fn refused_texts()
+    ensures mark_first { RefusesMarkFirst }
+    ensures tasks { RefusesTasks }
+    ensures open_head { RefusesOpenHead }
+    ensures open_block { RefusesOpenBlock }
+    ensures bare_end { RefusesBareEnd }
+    ensures late_declaration { RefusesLateDeclaration }
 {}

@@ -25,6 +25,6 @@ pub use ac_syntax::{
     Arg, Args, Decl, Decls, ElemKind, Ident, Idents, Kind, RefusalKind, Script, ScriptFault, Stmt,
     Stmts, TypeDef, ViewKind,
 };
-pub use law::{each_text, items_read, one_script};
+pub use law::{each_text, items_read, one_script, refused_texts};
 pub use parser::parse;
 pub use printer::print;

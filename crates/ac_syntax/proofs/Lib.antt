@@ -2,9 +2,7 @@ pub mod Derivations
 pub mod StatementSizes
 pub mod Withins
 pub mod FirstFaults
-pub mod FirstWords
 pub mod ItemsAlone
-pub mod Blocks
 pub mod OneRefusal
 pub mod Orders
 pub mod Fronts

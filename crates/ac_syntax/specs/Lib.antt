@@ -11,7 +11,6 @@ pub mod Limits
 pub mod Refusals
 pub mod Canonical
 pub mod Examples
-pub mod Starts
 pub mod RefusalExamples
 pub mod FormExamples
 pub mod WordExamples

@@ -1,13 +1,13 @@
 -- Texts that are refused, with the line and the kind, worked out by hand.
 use Rattle.std.specs.Prelude.{◌^◌, ℕ, pos, neg_ℤ, replicate, codes, false, true, List, [], ◌∷◌, ◌++◌, Some, None}
-use Rattle.ac_syntax.specs.Code.{Code, call_at, set_at, sum_at, loop_at, stop, one, block}
+use Rattle.ac_syntax.specs.Code.{Code, call_at, set_at, sum_at, stop, one}
 use Rattle.ac_base.specs.declared.value.Value.TheVariants as value
 use Rattle.ac_syntax.specs.declared.arg.Arg.TheVariants.{Lit}
 use Rattle.ac_syntax.specs.declared.decl.Decl.TheVariants.{Object, IntVar}
 use Rattle.ac_syntax.specs.declared.refusal.RefusalKind.TheVariants.{Syntax, Limit}
 use Rattle.ac_syntax.specs.declared.script.Script.{Script}
 use Rattle.ac_syntax.specs.Refusals.{Spells, IsFirstRefusal}
-use Rattle.ac_syntax.specs.Examples.{lines, a_list, with_list, two_lines}
+use Rattle.ac_syntax.specs.Examples.{lines, a_list, with_list}
 
 -- behind the lines of a list, on line 2
 abbrev pub on_list : List ℕ → List ℕ
@@ -85,28 +85,3 @@ appended = with_list (one (call_at 2 None (codes "a") (codes "append") (Lit (val
 
 abbrev pub RefusesMalformed : Type 0
 RefusesMalformed = IsFirstRefusal (on_list (codes "a.append (12a);")) 2 Syntax
-
--- what no script begins with; the number behind it is past the limit too
-
-abbrev pub RefusesMarkFirst : Type 0
-RefusesMarkFirst = IsFirstRefusal (codes ") 99999999999999999999;") 1 Syntax
-
-abbrev pub RefusesTasks : Type 0
-RefusesTasks = IsFirstRefusal (lines ([] ∷ codes "tasks end tasks;" ∷ [])) 2 Syntax
-
--- a block that doesn't end, with these commands
-
-abbrev pub looping : Code → Script
-looping body = two_lines (block (loop_at 3 (codes "c") false false (codes "a")) body stop)
-
-abbrev pub printing : Code
-printing = one (call_at 4 None (codes "a") (codes "print") []) stop
-
-abbrev pub open_block : List (List ℕ) → List ℕ
-open_block body = lines (codes "type L is list (integer);" ∷ codes "A : L;" ∷ codes "for C in A loop" ∷ body)
-
-abbrev pub RefusesOpenHead : Type 0
-RefusesOpenHead = IsFirstRefusal (open_block []) 3 Syntax
-
-abbrev pub RefusesOpenBlock : Type 0
-RefusesOpenBlock = IsFirstRefusal (open_block (codes "A.Print;" ∷ [] ∷ [])) 4 Syntax

@@ -1,39 +1,24 @@
 //! What holds of the language itself, whatever reads it.
-ghost use Rattle.std.specs.Prelude.{◌≡◌, ℕ, List, ◌∷◌, ◌++◌, true, count_by, Some, None, IsTrue};
+ghost use Rattle.std.specs.Prelude.{◌≡◌, ℕ, List, ◌++◌, Some, None, IsTrue};
 ghost use Rattle.std.specs.List.{list_all};
-ghost use Rattle.ac_syntax.specs.declared.token.Placed.{Placed};
 ghost use Rattle.ac_syntax.specs.declared.script.Script.{Script};
-ghost use Rattle.ac_syntax.specs.Grammar.{Derives};
 ghost use Rattle.ac_syntax.specs.Items.{Item, script_items};
-ghost use Rattle.ac_syntax.specs.Limits.{is_word_of, block_words, end_words};
-ghost use Rattle.ac_syntax.specs.Tokens.{tokens, cut_of};
+ghost use Rattle.ac_syntax.specs.Tokens.{cut_of};
 ghost use Rattle.ac_syntax.specs.Canonical.{canonical_text, canonical_placed, canonical_tokens, is_written, IsWellFormed};
 ghost use Rattle.ac_syntax.specs.Order.{Context, context_after, at_front, IsEnd};
 ghost use Rattle.ac_syntax.specs.Refusals.{Spells, IsFirstRefusal};
 ghost use Rattle.ac_syntax.specs.declared.refusal.RefusalKind.{RefusalKind};
-ghost use Rattle.ac_syntax.specs.Starts.{starts_script};
 ghost use Rattle.ac_syntax.specs.Examples.{SpellsLoosely, WritesStrictly, SpellsNested, WritesNested, ReadsDoubledQuote, RefusesOpenString, EndsComment, RefusesLetterAfterNumber, WritesNothing, TakesDepth16, RefusesDepth17};
 ghost use Rattle.ac_syntax.specs.Examples.{TakesTab, TakesReturnBeforeLineFeed, RefusesLoneReturn, RefusesReturnTwice, RefusesLastReturn, TakesReturnInComment, RefusesTabInString};
 ghost use Rattle.ac_syntax.specs.WordExamples.{ReservesWords, LeavesWords};
 ghost use Rattle.ac_syntax.specs.FormExamples.{SpellsEveryForm, WritesEveryForm, IsEveryFormWell, SpellsMinusZero, WritesZero, NeedsCursor, NeedsRisingLines};
-ghost use Rattle.ac_syntax.specs.RefusalExamples.{TakesName64, RefusesName65, TakesString1000, RefusesString1001, TakesLeast, TakesCounting, RefusesPastGreatest, RefusesLessTooMuch, RefusesTooRoomy, RefusesMalformed, RefusesMarkFirst, RefusesTasks, RefusesOpenBlock, RefusesOpenHead};
+ghost use Rattle.ac_syntax.specs.RefusalExamples.{TakesName64, RefusesName65, TakesString1000, RefusesString1001, TakesLeast, TakesCounting, RefusesPastGreatest, RefusesLessTooMuch, RefusesTooRoomy, RefusesMalformed};
 
 /// A text has at most one first refusal, and none where it spells a script.
 pub fn one_refusal()
     ensures one { (text : List ℕ) (line place : ℕ) (kind other : RefusalKind) →
         IsFirstRefusal text line kind → IsFirstRefusal text place other → (line ≡ place) × (kind ≡ other) }
     ensures not_spelled { (script : Script) (text : List ℕ) (line : ℕ) (kind : RefusalKind) → Spells script text → IsFirstRefusal text line kind → ⊥ }
-{}
-
-/// A script begins with an identifier, with `type` or with the first word of a block.
-pub fn first_word()
-    ensures { (script : Script) (first : Placed) (others : List Placed) → Derives (first ∷ others) script → starts_script first.token ≡ true }
-{}
-
-/// A script has as many first words of blocks as words `end`.
-pub fn blocks_end()
-    ensures { (script : Script) (placed : List Placed) → Derives placed script →
-        count_by (is_word_of block_words) (tokens placed) ≡ count_by (is_word_of end_words) (tokens placed) }
 {}
 
 /// The items of a script may come in their order, others may not, and each front that may come is a script's.
@@ -117,8 +102,4 @@ pub fn refusals()
     ensures less_too_much { RefusesLessTooMuch }
     ensures too_roomy { RefusesTooRoomy }
     ensures malformed { RefusesMalformed }
-    ensures mark_first { RefusesMarkFirst }
-    ensures tasks { RefusesTasks }
-    ensures open_block { RefusesOpenBlock }
-    ensures open_head { RefusesOpenHead }
 {}

@@ -22,8 +22,8 @@ pub use fault::ScriptFault;
 pub use ident::{Ident, Idents};
 pub use kind::{ElemKind, Kind};
 pub use law::{
-    blanks, blocks_end, examples, first_word, forms, items_alone, items_order, one_refusal,
-    refusals, round_trip, well_formed, words,
+    blanks, examples, forms, items_alone, items_order, one_refusal, refusals, round_trip,
+    well_formed, words,
 };
 pub use piece::Piece;
 pub use refusal::RefusalKind;

@@ -1,18 +1,15 @@
-use Rattle.std.proofs.Common.{refl, take, drop, ◌^◌, ◌-◌}
+use Rattle.std.proofs.Common.{refl, take, drop, ◌^◌}
 use Rattle.std.specs.Prelude.{codes, replicate, [], ◌∷◌}
 use Rattle.ac_syntax.specs.declared.token.Token.TheVariants as token
-use Rattle.ac_syntax.specs.declared.token.Mark.TheVariants.{Close, Semicolon}
-use Rattle.std.proofs.Math.Nat.{suc-ne-zero}
 use Rattle.ac_syntax.specs.Code.{stop}
 use Rattle.ac_syntax.specs.Parts.{item_parts}
 use Rattle.ac_syntax.specs.Grammar.{reserved, is_reserved}
-use Rattle.ac_syntax.specs.Tokens.{tokens, cut_of}
+use Rattle.ac_syntax.specs.Tokens.{tokens}
 use Rattle.ac_syntax.specs.Canonical.{canonical_placed, on_line}
-use Rattle.ac_syntax.specs.Examples.{lines}
-use Rattle.ac_syntax.specs.RefusalExamples.{on_list, named, naming, with_string, string_text, least, counting, counting_text, past_greatest, less_too_much, too_roomy, appended, open_block, looping, printing}
+use Rattle.ac_syntax.specs.RefusalExamples.{on_list, named, naming, with_string, string_text, least, counting, counting_text, past_greatest, less_too_much, too_roomy, appended}
 use Rattle.ac_syntax.proofs.Derivations.{script_derives}
 use Rattle.ac_syntax.proofs.Withins.{within}
-use Rattle.ac_syntax.proofs.FirstFaults.{limit_at, malformed_at, starts_badly, ends_at}
+use Rattle.ac_syntax.proofs.FirstFaults.{limit_at, malformed_at}
 use Rattle.ac_syntax.proofs.law.refusals.Goals as goal
 
 pub returns-clause-name_64 : goal.returns-clause-name_64
@@ -64,23 +61,3 @@ returns-clause-too_roomy c =
 pub returns-clause-malformed : goal.returns-clause-malformed
 unfolding reserved is_reserved item_parts canonical_placed
 returns-clause-malformed c = malformed_at (on_list (codes "a.append (12a);")) appended (drop 16 (canonical_placed appended)) 2 refl refl refl refl
-
-pub returns-clause-mark_first : goal.returns-clause-mark_first
-returns-clause-mark_first c = starts_badly (codes ") 99999999999999999999;") (on_line 1 (token.Mark Close)) (on_line 1 (token.Number (2 ^ 64 - 1)) ∷ on_line 1 (token.Mark Semicolon) ∷ []) refl refl
-
-pub returns-clause-tasks : goal.returns-clause-tasks
-unfolding reserved is_reserved
-returns-clause-tasks c =
-    starts_badly (lines ([] ∷ codes "tasks end tasks;" ∷ [])) (on_line 2 (token.Word (codes "tasks"))) (drop 1 (cut_of (lines ([] ∷ codes "tasks end tasks;" ∷ []))).placed) refl refl
-
-pub returns-clause-open_head : goal.returns-clause-open_head
-unfolding reserved is_reserved item_parts canonical_placed
-returns-clause-open_head c =
-    ends_at (open_block []) (looping stop) (take 16 (canonical_placed (looping stop))) (drop 17 (canonical_placed (looping stop))) (on_line 3 (token.Word (codes "loop")))
-    refl refl refl refl refl (λ e. suc-ne-zero 0 e)
-
-pub returns-clause-open_block : goal.returns-clause-open_block
-unfolding reserved is_reserved item_parts canonical_placed
-returns-clause-open_block c =
-    ends_at (open_block (codes "A.Print;" ∷ [] ∷ [])) (looping printing) (take 20 (canonical_placed (looping printing))) (drop 21 (canonical_placed (looping printing)))
-    (on_line 4 (token.Mark Semicolon)) refl refl refl refl refl (λ e. suc-ne-zero 0 e)
