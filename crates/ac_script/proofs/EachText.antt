@@ -95,7 +95,7 @@ past_refused text front line past (inr (inr bad)) = (bad.0, Syntax, bad_before_p
 within_answered : (text : List ℕ) (placed : List Placed) (malformed : Option ℕ) → IsCut text placed malformed → AreWithinLimits (tokens placed) → Read placed
     → IsSpelled text ⊎ IsRefused text
 within_answered text placed None cut within (inl (items, whole)) =
-    let script = script_found items whole.last whole.leads whole.ends in
+    let script = script_found items whole.ordered in
     inl (script.0, is_spelled text placed items script.0 cut within whole script.1)
 within_answered text placed (Some line) cut within (inl (items, whole)) = inr (line, Syntax, malformed_first text placed line cut within (whole_begins items placed whole))
 within_answered text placed None cut within (inr (inl early)) =

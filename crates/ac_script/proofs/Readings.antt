@@ -9,11 +9,11 @@ use Rattle.ac_syntax.specs.Items.{Item, closes, script_items}
 use Rattle.ac_syntax.specs.Parts.{item_parts}
 use Rattle.ac_syntax.specs.Grammar.{IsItem, AreItems, Derives, BeginsScript}
 use Rattle.ac_syntax.specs.Canonical.{line_reached, items_placed}
-use Rattle.ac_syntax.specs.Order.{Stage, listing, heading, running, Context, next_after, context_after, at_front, IsEnd}
+use Rattle.ac_syntax.specs.Order.{Stage, listing, heading, running, Context, next_after, context_after, at_front, IsEnd, AreInOrder}
 use Rattle.ac_syntax.proofs.Derivations.{are_sayable, items_derive}
 use Rattle.ac_syntax.proofs.ItemsAlone.{script_alone}
 use Rattle.ac_syntax.proofs.Withins.{not_ended}
-use Rattle.ac_syntax.proofs.Orders.{script_runs, script_found, completion, completes, behind}
+use Rattle.ac_syntax.proofs.Orders.{script_found, completion, completed, behind}
 use Rattle.ac_script.specs.Outcomes.{got, stopped}
 use Rattle.ac_script.specs.ItemReader.{item, innermost_of}
 use Rattle.ac_script.specs.ExactItems.{MayCome, IsBegun}
@@ -48,13 +48,18 @@ completion_sayable line blocks listing = ends_sayable line blocks
 completion_sayable line blocks heading = ends_sayable (line_reached line None) blocks
 completion_sayable line blocks running = ends_sayable line blocks
 
+-- what derives the script with these items
+pub derives_items : (items : List Item) (placed : List Placed) (script : Script) → script_items script ≡ items → AreItems items placed → AreInOrder items → Derives placed script
+derives_items items placed script same are ordered =
+    record { are = subst (λ items. AreItems items placed) (sym same) are; ordered = subst AreInOrder (sym same) ordered }
+
 begins_script : (items : List Item) (context : Context) (done : List Placed) → AreItems items done → context_after at_front items ≡ Some context → BeginsScript done
 begins_script items context done are leads =
     let more = completion context.blocks context.stage in
-    let end = completes context.blocks context.stage in
-    let script = script_found (items ++ more) end.0 (behind items more at_front context leads ∙ end.1) end.2 in
+    let ordered = completed items context leads in
+    let script = script_found (items ++ more) ordered in
     let derived = items_behind items more done (items_placed 1 more) are (items_derive 1 more (completion_sayable 1 context.blocks context.stage)) in
-    (items_placed 1 more, script.0, subst (λ all. AreItems all (done ++ items_placed 1 more)) (sym script.1) derived)
+    (items_placed 1 more, script.0, derives_items (items ++ more) (done ++ items_placed 1 more) script.0 script.1 derived ordered)
 
 pub front_begins : (before more : List Placed) → BeginsScript (before ++ more) → BeginsScript before
 front_begins before more (rest, script, derived) = (more ++ rest, script, subst (λ all. Derives all script) (append_assoc before more rest) derived)
@@ -119,10 +124,11 @@ no_others (x ∷ others) context last (front, left, whole, is, more) leads = abs
 -- no tokens derive two scripts
 pub derived_once : (placed : List Placed) (script other : Script) → Derives placed script → Derives placed other → script ≡ other
 derived_once placed script other derived derived_2 =
-    let runs = script_runs script in
-    let runs_2 = script_runs other in
-    let follows = same_front (script_items script) (script_items other) at_front runs.0 runs_2.0 placed [] derived (subst (λ all. Derives all other) (sym (append-nil placed)) derived_2) runs.1 runs_2.1 in
-    let none = no_others follows.others runs.0 runs_2.0 follows.are follows.leads in
+    let order = derived.ordered in
+    let order_2 = derived_2.ordered in
+    let are = subst (AreItems (script_items other)) (sym (append-nil placed)) derived_2.are in
+    let follows = same_front (script_items script) (script_items other) at_front order.last order_2.last placed [] derived.are are order.leads order_2.leads in
+    let none = no_others follows.others order.last order_2.last follows.are follows.leads in
     script_alone script other (sym (follows.whole ∙ ap (λ others. script_items script ++ others) none ∙ append-nil (script_items script)))
 
 -- ---- one item more
@@ -191,10 +197,10 @@ has_bad items context placed rest b after read e =
       on = refl;
       begins = next_begins items context read.done rest (b ∷ after) read.are read.leads begun;
       none = λ script.
-          let runs = script_runs script.1 in
-          let follows = same_front items (script_items script.1) at_front context runs.0 read.done (begun.before ++ b ∷ script.0) read.are
-          (subst (AreItems (script_items script.1)) (append_assoc (read.done ++ begun.before) (b ∷ []) script.0 ∙ append_assoc read.done begun.before (b ∷ script.0)) script.2) read.leads runs.1 in
-          none_there context runs.0 rest begun.before b after script.0 follows.others e begun.whole follows.are follows.leads;
+          let order = script.2.ordered in
+          let follows = same_front items (script_items script.1) at_front context order.last read.done (begun.before ++ b ∷ script.0) read.are
+          (subst (AreItems (script_items script.1)) (append_assoc (read.done ++ begun.before) (b ∷ []) script.0 ∙ append_assoc read.done begun.before (b ∷ script.0)) script.2.are) read.leads order.leads in
+          none_there context order.last rest begun.before b after script.0 follows.others e begun.whole follows.are follows.leads;
     }
 
 -- no items are the tokens in which reading came to their end
@@ -206,11 +212,11 @@ none_left context last rest (x ∷ others) some e (front, left, split, is, are) 
     (ap (item context.stage (innermost_of context.blocks)) split ∙ is_read context x others last front left leads is) e
 
 -- what the items of a script with these tokens are, behind those that were read
-goes_on : (items : List Item) (context : Context) (placed rest : List Placed) (script : Script) → AreRead items context placed rest → Derives placed script
-    → Follows items (script_items script) context (script_runs script).0 rest
+goes_on : (items : List Item) (context : Context) (placed rest : List Placed) (script : Script) → AreRead items context placed rest → (derived : Derives placed script)
+    → Follows items (script_items script) context derived.ordered.last rest
 goes_on items context placed rest script read derived =
-    let runs = script_runs script in
-    same_front items (script_items script) at_front context runs.0 read.done rest read.are (subst (AreItems (script_items script)) read.whole derived) read.leads runs.1
+    same_front items (script_items script) at_front context derived.ordered.last read.done rest read.are
+    (subst (AreItems (script_items script)) read.whole derived.are) read.leads derived.ordered.leads
 
 pub ends_inside : (items : List Item) (context : Context) (placed rest : List Placed) → AreRead items context placed rest → 0 < length rest
     → item context.stage (innermost_of context.blocks) rest ≡ stopped [] → EndEarly placed
@@ -221,7 +227,7 @@ ends_inside items context placed rest read some e =
           (next_begins items context read.done rest [] read.are read.leads begun);
       none = λ script derived.
           let follows = goes_on items context placed rest script read derived in
-          none_left context (script_runs script).0 rest follows.others some e follows.are follows.leads;
+          none_left context derived.ordered.last rest follows.others some e follows.are follows.leads;
     }
 
 pub ends_open : (items : List Item) (context : Context) (placed : List Placed) → AreRead items context placed [] → (IsEnd context → ⊥) → EndEarly placed
@@ -229,12 +235,12 @@ ends_open items context placed read open_still =
     record {
       begins = subst BeginsScript (sym (read.whole ∙ append-nil read.done)) (begins_script items context read.done read.are read.leads);
       none = λ script derived.
-          let runs = script_runs script in
+          let order = derived.ordered in
           let follows = goes_on items context placed [] script read derived in
-          let none = no_others follows.others context runs.0 follows.are follows.leads in
-          let last : Some context ≡ Some runs.0 = sym (ap (context_after context) none) ∙ follows.leads in
-          let same : runs.0 ≡ context = cc last in
-          open_still (subst IsEnd same runs.2);
+          let none = no_others follows.others context order.last follows.are follows.leads in
+          let last : Some context ≡ Some order.last = sym (ap (context_after context) none) ∙ follows.leads in
+          let same : order.last ≡ context = cc last in
+          open_still (subst IsEnd same order.ends);
     }
 
 pub all_read : (items : List Item) (context : Context) (placed rest : List Placed) → AreRead items context placed rest → length rest ≡ 0 → AreRead items context placed []
@@ -243,7 +249,7 @@ all_read items context placed (p ∷ rest) read none = absurd (omega (arith, non
 
 pub is_whole : (items : List Item) (context : Context) (placed : List Placed) → AreRead items context placed [] → IsEnd context → AreWhole items placed
 is_whole items context placed read ends =
-    record { are = subst (AreItems items) (sym (read.whole ∙ append-nil read.done)) read.are; last = context; leads = read.leads; ends = ends }
+    record { are = subst (AreItems items) (sym (read.whole ∙ append-nil read.done)) read.are; ordered = record { last = context; leads = read.leads; ends = ends } }
 
 -- what reading comes to where it stopped
 pub stops_reading : (items : List Item) (context : Context) (placed rest at : List Placed) → AreRead items context placed rest → 0 < length rest

@@ -10,18 +10,18 @@ use Rattle.ac_syntax.specs.declared.refusal.RefusalKind.{RefusalKind}
 use Rattle.ac_syntax.specs.declared.refusal.RefusalKind.TheVariants.{Syntax, Limit}
 use Rattle.ac_syntax.specs.Items.{Item, script_items}
 use Rattle.ac_syntax.specs.Tokens.{tokens, cut_of}
-use Rattle.ac_syntax.specs.Grammar.{AreItems, Derives, BeginsScript}
+use Rattle.ac_syntax.specs.Grammar.{Derives, BeginsScript}
 use Rattle.ac_syntax.specs.Limits.{AreWithinLimits}
 use Rattle.ac_syntax.specs.Refusals.{Spells, begins_none, past_limit, HasNoBadToken, bad_token, malformed_piece, IsFirstRefusal, first_bad, ends_early}
 use Rattle.ac_syntax.proofs.Withins.{begun_none_bad}
-use Rattle.ac_syntax.proofs.Orders.{script_found}
+use Rattle.ac_syntax.proofs.Orders.{script_ordered, script_found}
 use Rattle.ac_syntax.proofs.OneRefusal.{one_refusal, spelled_or_refused}
 use Rattle.ac_syntax.specs.declared.fault.ScriptFault.{ScriptFault}
 use Rattle.ac_syntax.specs.declared.fault.ScriptFault.TheVariants.{Refused, NoMemory}
 use Rattle.ac_script.specs.Behind.{StandWithin}
 use Rattle.ac_script.specs.Readings.{AreWhole, EndEarly, HasBad}
 use Rattle.ac_script.specs.Answers.{IsAnswer, IsCut, EndPast}
-use Rattle.ac_script.proofs.Readings.{front_begins, derived_once}
+use Rattle.ac_script.proofs.Readings.{derives_items, front_begins, derived_once}
 use Rattle.ac_script.proofs.Within.{cut_at}
 
 -- ---- tokens without a bad one
@@ -39,8 +39,8 @@ derived_begins placed script derived = ([], script, subst (λ all. Derives all s
 
 pub whole_begins : (items : List Item) (placed : List Placed) → AreWhole items placed → BeginsScript placed
 whole_begins items placed whole =
-    let script = script_found items whole.last whole.leads whole.ends in
-    derived_begins placed script.0 (subst (λ items. AreItems items placed) (sym script.1) whole.are)
+    let script = script_found items whole.ordered in
+    derived_begins placed script.0 (derives_items items placed script.0 script.1 whole.are whole.ordered)
 
 -- ---- the first bad token
 
@@ -111,8 +111,12 @@ last_of p (q ∷ placed) =
     let found = last_of q placed in
     record { before = p ∷ found.before; last = found.last; whole = ap (λ list. p ∷ list) found.whole }
 
+-- a script without items
+abbrev nothing : Script
+nothing = record { decls = []; stmts = stop }
+
 some_last : (placed : List Placed) → EndEarly placed → Last placed
-some_last [] early = absurd (early.none (record { decls = []; stmts = stop }) refl)
+some_last [] early = absurd (early.none nothing (record { are = refl; ordered = script_ordered nothing }))
 some_last (p ∷ placed) early = last_of p placed
 
 pub ended : (text : List ℕ) (placed : List Placed) → IsCut text placed None → AreWithinLimits (tokens placed) → EndEarly placed → (last : Last placed)
@@ -138,7 +142,7 @@ pub is_spelled : (text : List ℕ) (placed : List Placed) (items : List Item) (s
     → script_items script ≡ items → Spells script text
 is_spelled text placed items script cut within whole same = record {
   whole = cut.malformed_is;
-  derives = subst (λ all. Derives all script) (sym cut.placed_is) (subst (λ items. AreItems items placed) (sym same) whole.are);
+  derives = subst (λ all. Derives all script) (sym cut.placed_is) (derives_items items placed script same whole.are whole.ordered);
   within = subst (λ list. AreWithinLimits (tokens list)) (sym cut.placed_is) within;
 }
 

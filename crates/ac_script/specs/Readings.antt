@@ -4,7 +4,7 @@ use Rattle.ac_syntax.specs.declared.token.Placed.{Placed}
 use Rattle.ac_syntax.specs.declared.script.Script.{Script}
 use Rattle.ac_syntax.specs.Items.{Item}
 use Rattle.ac_syntax.specs.Grammar.{AreItems, Derives, BeginsScript}
-use Rattle.ac_syntax.specs.Order.{Context, context_after, at_front, IsEnd}
+use Rattle.ac_syntax.specs.Order.{Context, context_after, at_front, AreInOrder}
 use Rattle.ac_script.specs.declared.stage.Stage.{Stage}
 use Rattle.ac_script.specs.declared.reading.Reading.{Reading}
 use Rattle.ac_script.specs.declared.reading.Reading.TheVariants.{Whole, Early, Bad}
@@ -13,9 +13,7 @@ use Rattle.ac_script.specs.Views.{item_view, stage_view}
 -- the tokens are these items, with which a script may end
 pub record AreWhole (items : List Item) (placed : List Placed) : Type 0 where
   pub are : AreItems items placed
-  pub last : Context
-  pub leads : context_after at_front items ≡ Some last
-  pub ends : IsEnd last
+  pub ordered : AreInOrder items
 
 -- a script begins with the tokens, and none is all of them
 pub record EndEarly (placed : List Placed) : Type 0 where

@@ -2,7 +2,7 @@
 ghost use Rattle.std.specs.Prelude.{◌≡◌, ◌∷◌, [], ◌++◌, map, All, Bool, false, IfOk, OnOk, Some};
 ghost use Rattle.ac_syntax.specs.Code.{Code, Simple, one, block};
 ghost use Rattle.ac_syntax.specs.Items.{script_items, declares, commands, opens, begins, closes};
-ghost use Rattle.ac_syntax.specs.Order.{Context, context_after, next_after, at_front, IsEnd};
+ghost use Rattle.ac_syntax.specs.Order.{next_after, at_front, AreInOrder};
 ghost use Rattle.ac_syntax.specs.Statements.{before};
 ghost use Rattle.ac_script.specs.Arguments.{argument_view};
 ghost use Rattle.ac_script.specs.Views.{item_view, command_view, head_view};
@@ -244,7 +244,7 @@ impl Building {
 }
 
 fn built(alloc: Global, items: Vec<Item>) -> Result<Building, NoMemory>
-    requires order { (last : Context) × (context_after at_front (map item_view items.items) ≡ Some last) × IsEnd last }
+    requires order { AreInOrder (map item_view items.items) }
     requires fits { All Fits (map item_view items.items) }
     ensures items { IfOk result (λ made. items_so_far made ≡ map item_view items.items) }
     ensures ended { IfOk result (λ made. made.around.items ≡ []) }
@@ -259,7 +259,7 @@ fn built(alloc: Global, items: Vec<Item>) -> Result<Building, NoMemory>
 
 /// The script of these items, whose order is a script's.
 pub fn build(alloc: Global, items: Vec<Item>) -> Result<Script, NoMemory>
-    requires order { (last : Context) × (context_after at_front (map item_view items.items) ≡ Some last) × IsEnd last }
+    requires order { AreInOrder (map item_view items.items) }
     requires fits { All Fits (map item_view items.items) }
     ensures { IfOk result (λ script. script_items script ≡ map item_view items.items) }
 {

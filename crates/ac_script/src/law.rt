@@ -22,7 +22,8 @@ pub fn one_script()
 
 /// Each text spells a script, or has a first refusal.
 pub fn each_text()
-    ensures { (text : List ℕ) → ((script : Script) × Spells script text) ⊎ ((line : ℕ) × (kind : RefusalKind) × IsFirstRefusal text line kind) }
+    ensures { (text : List ℕ) →
+        ((script : Script) × Spells script text) ⊎ ((line : ℕ) × (kind : RefusalKind) × IsFirstRefusal text line kind) }
 {}
 
 /// Texts that no script begins with or is, worked out by hand.

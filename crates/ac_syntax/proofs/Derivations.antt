@@ -12,6 +12,7 @@ use Rattle.ac_syntax.specs.Tokens.{tokens}
 use Rattle.ac_syntax.specs.Items.{Item, item_line, script_items}
 use Rattle.ac_syntax.specs.Parts.{Part, says, marks, names, counts, writes, lacks, item_parts}
 use Rattle.ac_syntax.specs.Grammar.{is_reserved, IsPart, AreParts, BeginsOn, AreItems, Derives}
+use Rattle.ac_syntax.proofs.Orders.{script_ordered}
 use Rattle.ac_syntax.specs.Canonical.{part_tokens, on_line, line_reached, items_placed, canonical_placed, RisesFrom}
 
 pub false-not : (a : Bool) → not a ≡ true → a ≡ false
@@ -86,7 +87,7 @@ items_derive line (item ∷ items) p =
 
 pub script_derives : (script : Script) → are_sayable 1 (script_items script) ≡ true → Derives (canonical_placed script) script
 unfolding canonical_placed
-script_derives script p = items_derive 1 (script_items script) p
+script_derives script p = record { are = items_derive 1 (script_items script) p; ordered = script_ordered script }
 
 -- a test that the lines never fall from this one on
 abbrev pub rises : ℕ → List ℕ → Bool

@@ -8,7 +8,7 @@ use Rattle.ac_syntax.specs.Code.{Simple, Head, loop_at, view_at, stable_at, decl
 use Rattle.ac_syntax.specs.declared.decl.Decl.{Decl}
 use Rattle.ac_syntax.specs.declared.script.Script.{Script}
 use Rattle.ac_syntax.specs.Items.{Item, declares, commands, opens, begins, closes, bare, is_loop, declared, items, script_items}
-use Rattle.ac_syntax.specs.Order.{Stage, listing, heading, running, Context, next_after, context_after, at_front, is_heading, IsEnd}
+use Rattle.ac_syntax.specs.Order.{Stage, listing, heading, running, Context, next_after, context_after, at_front, is_heading, IsEnd, AreInOrder}
 use Rattle.ac_syntax.proofs.ItemsAlone.{around}
 
 abbrev pub at : List Bool → Stage → Context
@@ -59,16 +59,20 @@ IsStop stop = Unit {0}
 IsStop (one _ _) = ⊥
 IsStop (block _ _ _) = ⊥
 
-stmts_end : (code : Code) → (last : Context) × (context_after at_front (items code) ≡ Some last) × IsEnd last
-unfolding IsStop
-stmts_end stop = (at_front, refl, record { closed = refl; begun = refl })
-stmts_end (one s rest) = (at [] running, same_later (one s rest) (λ e. subst IsStop (sym e) tt) ∙ code_ends (one s rest), record { closed = refl; begun = refl })
-stmts_end (block h body rest) = (at [] running, same_later (block h body rest) (λ e. subst IsStop (sym e) tt) ∙ code_ends (block h body rest), record { closed = refl; begun = refl })
+at_end_now : IsEnd (at [] running)
+at_end_now = record { closed = refl; begun = refl }
 
-pub script_runs : (script : Script) → (last : Context) × (context_after at_front (script_items script) ≡ Some last) × IsEnd last
-script_runs script =
-    let found : (last : Context) × (context_after at_front (items script.stmts) ≡ Some last) × IsEnd last = stmts_end script.stmts in
-    (found.0, listed_runs script.decls (items script.stmts) ∙ found.1, found.2)
+stmts_end : (code : Code) → AreInOrder (items code)
+unfolding IsStop
+stmts_end stop = record { last = at_front; leads = refl; ends = record { closed = refl; begun = refl } }
+stmts_end (one s rest) = record { last = at [] running; leads = same_later (one s rest) (λ e. subst IsStop (sym e) tt) ∙ code_ends (one s rest); ends = at_end_now }
+stmts_end (block h body rest) =
+    record { last = at [] running; leads = same_later (block h body rest) (λ e. subst IsStop (sym e) tt) ∙ code_ends (block h body rest); ends = at_end_now }
+
+pub script_ordered : (script : Script) → AreInOrder (script_items script)
+script_ordered script =
+    let found = stmts_end script.stmts in
+    record { last = found.last; leads = listed_runs script.decls (items script.stmts) ∙ found.leads; ends = found.ends }
 
 -- ---- items that may come in their order, up to an end, are a script's
 
@@ -154,9 +158,9 @@ finish (closes false ∷ xs) (false ∷ blocks) running last e end = (stop, xs, 
 finish (closes false ∷ xs) (true ∷ blocks) listing last e end = absurd (none-some last e)
 finish (closes false ∷ xs) (true ∷ blocks) running last e end = absurd (none-some last e)
 
-pub script_found : (xs : List Item) (last : Context) → context_after at_front xs ≡ Some last → IsEnd last → (script : Script) × (script_items script ≡ xs)
-script_found xs last e end =
-    let r : Finishes [] listing xs = finish xs [] listing last e end in
+pub script_found : (xs : List Item) → AreInOrder xs → (script : Script) × (script_items script ≡ xs)
+script_found xs ordered =
+    let r : Finishes [] listing xs = finish xs [] listing ordered.last ordered.leads ordered.ends in
     (record { decls = r.0; stmts = r.3.0 }, sym (r.2 ∙ ap (λ rest. map declares r.0 ++ rest) r.3.1))
 
 -- ---- a front that may come can be completed
@@ -188,10 +192,14 @@ pub behind : (xs ys : List Item) (from to : Context) → context_after from xs �
 behind [] ys from to e = ap (λ (c : Context). context_after c ys) (some_context e)
 behind (x ∷ xs) ys from to e = further (next_after from.blocks from.stage x) xs ys to (λ n p. behind xs ys n to p) e
 
+-- and behind what may come, what closes all that is open
+pub completed : (xs : List Item) (context : Context) → context_after at_front xs ≡ Some context → AreInOrder (xs ++ completion context.blocks context.stage)
+completed xs context e =
+    let found = completes context.blocks context.stage in
+    record { last = found.0; leads = behind xs (completion context.blocks context.stage) at_front context e ∙ found.1; ends = found.2 }
+
 pub front_completes : (xs : List Item) (context : Context) → context_after at_front xs ≡ Some context
     → (more : List Item) × (script : Script) × (script_items script ≡ xs ++ more)
 front_completes xs context e =
-    let found : (last : Context) × (context_after context (completion context.blocks context.stage) ≡ Some last) × IsEnd last = completes context.blocks context.stage in
-    let script : (script : Script) × (script_items script ≡ xs ++ completion context.blocks context.stage)
-    = script_found (xs ++ completion context.blocks context.stage) found.0 (behind xs (completion context.blocks context.stage) at_front context e ∙ found.1) found.2 in
+    let script = script_found (xs ++ completion context.blocks context.stage) (completed xs context e) in
     (completion context.blocks context.stage, script.0, script.1)

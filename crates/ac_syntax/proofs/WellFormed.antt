@@ -137,10 +137,10 @@ unfolding canonical_placed
 spelled_well script text h =
     let placed = (cut_of text).placed in
     let tidy = cut_tidy 0 1 text in
-    let told = items_told 1 (script_items script) placed h.derives tidy.rising in
+    let told = items_told 1 (script_items script) placed h.derives.are tidy.rising in
     record {
       derives = script_derives script told.sayable;
-      within = items_within 1 (script_items script) placed h.derives h.within;
-      written = items_written 1 (script_items script) placed h.derives tidy.written;
+      within = items_within 1 (script_items script) placed h.derives.are h.within;
+      written = items_written 1 (script_items script) placed h.derives.are tidy.written;
       lines = told.rising;
     }

@@ -10,6 +10,7 @@ use Rattle.ac_syntax.specs.declared.token.Placed.{Placed}
 use Rattle.ac_syntax.specs.declared.script.Script.{Script}
 use Rattle.ac_syntax.specs.Tokens.{tokens}
 use Rattle.ac_syntax.specs.Items.{Item, item_line, script_items}
+use Rattle.ac_syntax.specs.Order.{AreInOrder}
 use Rattle.ac_syntax.specs.Parts.{Part, says, marks, names, counts, writes, lacks, item_parts}
 
 -- the words that name nothing
@@ -64,9 +65,10 @@ AreItems [] placed = placed ≡ []
 AreItems (item ∷ items) placed =
     (front : List Placed) × (rest : List Placed) × (placed ≡ front ++ rest) × IsItem item front × AreItems items rest
 
--- these tokens derive this script, lines and all
-abbrev pub Derives : List Placed → Script → Type 0
-Derives placed script = AreItems (script_items script) placed
+-- these tokens derive this script, lines and all: they are its items, and each of these may come where it stands
+pub record Derives (placed : List Placed) (script : Script) : Type 0 where
+  pub are : AreItems (script_items script) placed
+  pub ordered : AreInOrder (script_items script)
 
 -- some derivation begins with these tokens
 abbrev pub BeginsScript : List Placed → Type 0

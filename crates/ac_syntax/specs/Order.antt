@@ -69,3 +69,9 @@ is_heading running = false
 pub record IsEnd (context : Context) : Type 0 where
   pub closed : context.blocks ≡ []
   pub begun : is_heading context.stage ≡ false
+
+-- each of these items may come where it stands, and a script may end behind the last
+pub record AreInOrder (items : List Item) : Type 0 where
+  pub last : Context
+  pub leads : context_after at_front items ≡ Some last
+  pub ends : IsEnd last

@@ -1,5 +1,5 @@
 -- Texts that are refused, with the line and the kind, worked out by hand.
-use Rattle.std.specs.Prelude.{◌^◌, ℕ, pos, neg_ℤ, replicate, codes, false, true, List, [], ◌∷◌, ◌++◌, Some, None}
+use Rattle.std.specs.Prelude.{◌^◌, ℕ, pos, neg_ℤ, replicate, codes, true, List, [], ◌∷◌, ◌++◌, Some, None}
 use Rattle.ac_syntax.specs.Code.{Code, call_at, set_at, sum_at, stop, one}
 use Rattle.ac_base.specs.declared.value.Value.TheVariants as value
 use Rattle.ac_syntax.specs.declared.arg.Arg.TheVariants.{Lit}

@@ -5,7 +5,7 @@ ghost use Rattle.ac_syntax.specs.declared.script.Script.{Script};
 ghost use Rattle.ac_syntax.specs.Items.{Item, script_items};
 ghost use Rattle.ac_syntax.specs.Tokens.{cut_of};
 ghost use Rattle.ac_syntax.specs.Canonical.{canonical_text, canonical_placed, canonical_tokens, is_written, IsWellFormed};
-ghost use Rattle.ac_syntax.specs.Order.{Context, context_after, at_front, IsEnd};
+ghost use Rattle.ac_syntax.specs.Order.{Context, context_after, at_front, AreInOrder};
 ghost use Rattle.ac_syntax.specs.Refusals.{Spells, IsFirstRefusal};
 ghost use Rattle.ac_syntax.specs.declared.refusal.RefusalKind.{RefusalKind};
 ghost use Rattle.ac_syntax.specs.Examples.{SpellsLoosely, WritesStrictly, SpellsNested, WritesNested, ReadsDoubledQuote, RefusesOpenString, EndsComment, RefusesLetterAfterNumber, WritesNothing, TakesDepth16, RefusesDepth17};
@@ -18,14 +18,16 @@ ghost use Rattle.ac_syntax.specs.RefusalExamples.{TakesName64, RefusesName65, Ta
 pub fn one_refusal()
     ensures one { (text : List ℕ) (line place : ℕ) (kind other : RefusalKind) →
         IsFirstRefusal text line kind → IsFirstRefusal text place other → (line ≡ place) × (kind ≡ other) }
-    ensures not_spelled { (script : Script) (text : List ℕ) (line : ℕ) (kind : RefusalKind) → Spells script text → IsFirstRefusal text line kind → ⊥ }
+    ensures not_spelled { (script : Script) (text : List ℕ) (line : ℕ) (kind : RefusalKind) →
+        Spells script text → IsFirstRefusal text line kind → ⊥ }
 {}
 
 /// The items of a script may come in their order, others may not, and each front that may come is a script's.
 pub fn items_order()
-    ensures script { (script : Script) → (last : Context) × (context_after at_front (script_items script) ≡ Some last) × IsEnd last }
-    ensures only { (items : List Item) (last : Context) → context_after at_front items ≡ Some last → IsEnd last → (script : Script) × (script_items script ≡ items) }
-    ensures front { (items : List Item) (context : Context) → context_after at_front items ≡ Some context → (more : List Item) × (script : Script) × (script_items script ≡ items ++ more) }
+    ensures script { (script : Script) → AreInOrder (script_items script) }
+    ensures only { (items : List Item) → AreInOrder items → (script : Script) × (script_items script ≡ items) }
+    ensures front { (items : List Item) (context : Context) → context_after at_front items ≡ Some context →
+        (more : List Item) × (script : Script) × (script_items script ≡ items ++ more) }
 {}
 
 /// No two scripts have the same items.

@@ -8,7 +8,8 @@ use Rattle.ac_syntax.specs.Parts.{item_parts}
 use Rattle.ac_syntax.specs.Grammar.{reserved, is_reserved}
 use Rattle.ac_syntax.specs.Tokens.{tokens, cut_of}
 use Rattle.ac_syntax.specs.Canonical.{canonical_text, canonical_placed}
-use Rattle.ac_syntax.specs.FormExamples.{every_form}
+use Rattle.ac_syntax.specs.FormExamples.{every_form, zero_set}
+use Rattle.ac_syntax.proofs.Orders.{script_ordered}
 use Rattle.ac_syntax.proofs.Derivations.{script_derives, rises_from}
 use Rattle.ac_syntax.proofs.Withins.{within}
 use Rattle.ac_syntax.proofs.law.forms.Goals as goal
@@ -36,28 +37,31 @@ unfolding reserved is_reserved item_parts canonical_placed
 returns-clause-minus_zero c =
     record {
       whole = refl;
-      derives = (
-        (cut_of (codes "X := -0;")).placed,
-        [],
-        refl,
-        record {
-          spelled = (
-            token.Word (codes "x") ∷ [],
-            token.Mark Assign ∷ token.Mark Minus ∷ token.Number 0 ∷ token.Mark Semicolon ∷ [],
-            refl,
-            (refl, refl),
-            (
-              token.Mark Assign ∷ [],
-              token.Mark Minus ∷ token.Number 0 ∷ token.Mark Semicolon ∷ [],
+      derives = record {
+        are = (
+          (cut_of (codes "X := -0;")).placed,
+          [],
+          refl,
+          record {
+            spelled = (
+              token.Word (codes "x") ∷ [],
+              token.Mark Assign ∷ token.Mark Minus ∷ token.Number 0 ∷ token.Mark Semicolon ∷ [],
               refl,
-              refl,
-              (token.Mark Minus ∷ token.Number 0 ∷ [], token.Mark Semicolon ∷ [], refl, inr (0, refl, refl), (token.Mark Semicolon ∷ [], [], refl, refl, refl)),
-            ),
-          );
-          begins = refl;
-        },
-        refl,
-      );
+              (refl, refl),
+              (
+                token.Mark Assign ∷ [],
+                token.Mark Minus ∷ token.Number 0 ∷ token.Mark Semicolon ∷ [],
+                refl,
+                refl,
+                (token.Mark Minus ∷ token.Number 0 ∷ [], token.Mark Semicolon ∷ [], refl, inr (0, refl, refl), (token.Mark Semicolon ∷ [], [], refl, refl, refl)),
+              ),
+            );
+            begins = refl;
+          },
+          refl,
+        );
+        ordered = script_ordered zero_set;
+      };
       within = within (tokens (cut_of (codes "X := -0;")).placed) refl;
     }
 
@@ -67,7 +71,7 @@ returns-clause-zero c = refl
 
 pub returns-clause-cursor : goal.returns-clause-cursor
 unfolding reserved is_reserved item_parts canonical_placed
-returns-clause-cursor c = λ w. w.derives.3.spelled.4.4.3
+returns-clause-cursor c = λ w. w.derives.are.3.spelled.4.4.3
 
 pub returns-clause-rising_lines : goal.returns-clause-rising_lines
 returns-clause-rising_lines c = λ w. omega (arith, w.lines.1.0)
