@@ -8,7 +8,7 @@ use Rattle.ac_syntax.specs.declared.refusal.RefusalKind.{RefusalKind}
 use Rattle.ac_syntax.specs.declared.refusal.RefusalKind.TheVariants.{Syntax, Limit}
 use Rattle.ac_syntax.specs.Items.{Item}
 use Rattle.ac_syntax.specs.Tokens.{tokens, cut_of}
-use Rattle.ac_syntax.specs.Limits.{is_past_limit, AreWithinLimits}
+use Rattle.ac_syntax.specs.Limits.{seen_of, is_past_limit, AreWithinLimits}
 use Rattle.ac_syntax.specs.Order.{Stage, listing, heading, running, Context, at_front, is_heading}
 use Rattle.ac_syntax.specs.Refusals.{Spells, IsFirstRefusal}
 use Rattle.ac_syntax.proofs.Orders.{script_found}
@@ -62,14 +62,14 @@ record Past (placed : List Placed) : Type 0 where
   after : List Placed
   whole : placed ≡ before ++ past ∷ after
   within : AreWithinLimits (tokens before)
-  is_past : is_past_limit (tokens before) past.token ≡ true
+  is_past : is_past_limit (seen_of (tokens before)) past.token ≡ true
 
 abbrev Limited : List Placed → Type 0
 Limited placed = AreWithinLimits (tokens placed) ⊎ Past placed
 
 on_token : (before : List Placed) (p : Placed) (rest : List Placed) → AreWithinLimits (tokens before)
     → (AreWithinLimits (tokens (before ++ p ∷ [])) → Limited ((before ++ p ∷ []) ++ rest))
-    → (b : Bool) → is_past_limit (tokens before) p.token ≡ b → Limited (before ++ p ∷ rest)
+    → (b : Bool) → is_past_limit (seen_of (tokens before)) p.token ≡ b → Limited (before ++ p ∷ rest)
 on_token before p rest within further true e = inr (record { before = before; past = p; after = rest; whole = refl; within = within; is_past = e })
 on_token before p rest within further false e =
     subst Limited (append_assoc before (p ∷ []) rest)
@@ -77,7 +77,7 @@ on_token before p rest within further false e =
 
 limited : (before rest : List Placed) → AreWithinLimits (tokens before) → Limited (before ++ rest)
 limited before [] within = inl (subst (λ list. AreWithinLimits (tokens list)) (sym (append-nil before)) within)
-limited before (p ∷ rest) within = on_token before p rest within (limited (before ++ p ∷ []) rest) (is_past_limit (tokens before) p.token) refl
+limited before (p ∷ rest) within = on_token before p rest within (limited (before ++ p ∷ []) rest) (is_past_limit (seen_of (tokens before)) p.token) refl
 
 -- ---- a text with these tokens
 

@@ -1,10 +1,10 @@
 -- Items whose tokens keep the limits and can be written have literals that are values.
-use Rattle.std.proofs.Common.{◌≡◌, ◌-◌, ◌^◌, ◌≤◌, ◌<◌, ℕ, zero, suc, pos, neg_ℤ, Bool, true, false, List, [], ◌∷◌, ◌++◌, length, reverse, Option, Some, None, refl, sym, ap, ◌∙◌, subst, inl, inr, arith, append_assoc, lt-ltb, true≢false, cond}
+use Rattle.std.proofs.Common.{◌≡◌, ◌-◌, ◌^◌, ◌≤◌, ◌<◌, ℕ, zero, suc, pos, neg_ℤ, Bool, true, false, List, [], ◌∷◌, ◌++◌, length, Option, Some, None, refl, sym, ap, ◌∙◌, subst, inl, inr, arith, append_assoc, lt-ltb, true≢false, cond}
 use Rattle.std.specs.Prelude.{nat_lt, All, IsTrue}
-use Rattle.std.specs.List.{list_all}
+use Rattle.std.specs.List.{list_all, fold}
 use Rattle.std.proofs.lemmas.Int.{ints}
 use Rattle.std.proofs.lemmas.Bool.{cases_lt, and_parts}
-use Rattle.std.proofs.lemmas.List.{map-append, reverse-append}
+use Rattle.std.proofs.lemmas.List.{map-append}
 use Rattle.std.proofs.lemmas.List.Elements.{All-cons, All-nil}
 use Rattle.std.proofs.lemmas.List.Folds.{list_all-append}
 use Rattle.ac_base.specs.Text.{IsPrintable}
@@ -21,45 +21,52 @@ use Rattle.ac_syntax.specs.Code.{Simple, call_at, set_at, sum_at}
 use Rattle.ac_syntax.specs.Items.{Item, declares, commands, opens, begins, closes}
 use Rattle.ac_syntax.specs.Parts.{Part, says, marks, names, counts, writes, lacks, arg_part, more_args, args_parts, target_parts, simple_parts, item_parts}
 use Rattle.ac_syntax.specs.Grammar.{IsPart, AreParts, AreItems}
-use Rattle.ac_syntax.specs.Limits.{is_before_literal, has_minus, most, is_past_limit, AreWithinLimits}
+use Rattle.ac_syntax.specs.Limits.{is_before_literal, Seen, none_seen, seen_after, seen_of, most, is_past_limit, AreWithinLimits}
 use Rattle.ac_syntax.specs.Canonical.{is_written}
 use Rattle.ac_syntax.specs.declared.arg.Arg.{Arg}
 use Rattle.ac_syntax.specs.declared.arg.Arg.TheVariants.{Lit, NoElement, Var}
-use Rattle.ac_script.specs.Behind.{is_opened}
+use Rattle.ac_script.proofs.Within.{one_more_seen}
 use Rattle.ac_script.specs.Fits.{IsInteger, FitsArg, FitArgs, FitsSimple, Fits}
 
 -- behind a mark that opens a literal, a minus isn't last
-not_minus : (before : List Token) → is_opened before ≡ true → has_minus before ≡ false
-not_minus [] e = absurd (cc e)
-not_minus (token.Word w ∷ before) e = absurd (cc e)
-not_minus (token.Number n ∷ before) e = absurd (cc e)
-not_minus (token.Text t ∷ before) e = absurd (cc e)
-not_minus (token.Mark Open ∷ []) e = refl
-not_minus (token.Mark Comma ∷ []) e = refl
-not_minus (token.Mark Assign ∷ []) e = refl
-not_minus (token.Mark Open ∷ b ∷ before) e = refl
-not_minus (token.Mark Comma ∷ b ∷ before) e = refl
-not_minus (token.Mark Assign ∷ b ∷ before) e = refl
-not_minus (token.Mark Colon ∷ before) e = absurd (cc e)
-not_minus (token.Mark Semicolon ∷ before) e = absurd (cc e)
-not_minus (token.Mark Close ∷ before) e = absurd (cc e)
-not_minus (token.Mark Dot ∷ before) e = absurd (cc e)
-not_minus (token.Mark Plus ∷ before) e = absurd (cc e)
-not_minus (token.Mark Minus ∷ before) e = absurd (cc e)
+
+abbrev IsNotBoth : Seen → Type 0
+IsNotBoth seen = seen.opened ≡ true → seen.minus ≡ false
+
+one_last : (seen : Seen) (t : Token) → IsNotBoth (seen_after seen t)
+one_last seen (token.Word w) e = refl
+one_last seen (token.Number n) e = refl
+one_last seen (token.Text t) e = refl
+one_last seen (token.Mark Colon) e = refl
+one_last seen (token.Mark Semicolon) e = refl
+one_last seen (token.Mark Comma) e = refl
+one_last seen (token.Mark Open) e = refl
+one_last seen (token.Mark Close) e = refl
+one_last seen (token.Mark Dot) e = refl
+one_last seen (token.Mark Assign) e = refl
+one_last seen (token.Mark Plus) e = refl
+one_last seen (token.Mark Minus) e = absurd (cc e)
+
+not_both : (seen : Seen) (before : List Token) → IsNotBoth seen → IsNotBoth (fold seen_after seen before)
+not_both seen [] h = h
+not_both seen (t ∷ before) h = not_both (seen_after seen t) before (one_last seen t)
+
+not_minus : (before : List Token) → (seen_of before).opened ≡ true → (seen_of before).minus ≡ false
+not_minus before = not_both none_seen before (λ e. refl)
 
 not_less : (m n : ℕ) → nat_lt m n ≡ false → n ≤ m
 not_less m n e = elim (cases_lt m n) [ inl lt ↦ absurd (true≢false (sym (lt-ltb m n lt) ∙ e)) | inr le ↦ le ]
 
-at_most : (before : List Token) (n : ℕ) → is_past_limit before (token.Number n) ≡ false → n ≤ 2 ^ 63
-at_most before n e = by (has_minus (reverse before)) (not_less (most before) n e)
+at_most : (before : List Token) (n : ℕ) → is_past_limit (seen_of before) (token.Number n) ≡ false → n ≤ 2 ^ 63
+at_most before n e = by (seen_of before).minus (not_less (most (seen_of before)) n e)
   where
     by : (b : Bool) → n ≤ cond b (2 ^ 63) (2 ^ 63 - 1) → n ≤ 2 ^ 63
     by true h = h
     by false h = omega arith
 
-less : (before : List Token) (n : ℕ) → is_opened (reverse before) ≡ true → is_past_limit before (token.Number n) ≡ false → n < 2 ^ 63
+less : (before : List Token) (n : ℕ) → (seen_of before).opened ≡ true → is_past_limit (seen_of before) (token.Number n) ≡ false → n < 2 ^ 63
 less before n opened e =
-    let h : n ≤ cond false (2 ^ 63) (2 ^ 63 - 1) = subst (λ b. n ≤ cond b (2 ^ 63) (2 ^ 63 - 1)) (not_minus (reverse before) opened) (not_less (most before) n e) in
+    let h : n ≤ cond false (2 ^ 63) (2 ^ 63 - 1) = subst (λ b. n ≤ cond b (2 ^ 63) (2 ^ 63 - 1)) (not_minus before opened) (not_less (most (seen_of before)) n e) in
     omega arith
 
 positive : (n : ℕ) → n < 2 ^ 63 → IsInteger (pos n)
@@ -77,7 +84,7 @@ printable [] h = All-nil IsPrintable
 printable (b ∷ bytes) h = let both = and_parts _ _ h in All-cons IsPrintable b bytes (in_range b both.0) (printable bytes both.1)
 
 -- a literal's value behind these tokens, where the token before it is a mark that opens one
-literal_fits : (v : Value) (before front after : List Token) → is_opened (reverse before) ≡ true → AreWithinLimits (before ++ (front ++ after)) → list_all is_written front ≡ true → IsPart (writes v) front → FitsArg (Lit v)
+literal_fits : (v : Value) (before front after : List Token) → (seen_of before).opened ≡ true → AreWithinLimits (before ++ (front ++ after)) → list_all is_written front ≡ true → IsPart (writes v) front → FitsArg (Lit v)
 literal_fits (value.Int z) before front after opened within written (inl h) =
     let past = within before after (token.Number h.0) (ap (λ ts. before ++ (ts ++ after)) h.2) in
     subst IsInteger (sym h.1) (positive h.0 (less before h.0 opened past))
@@ -114,8 +121,8 @@ abbrev FitParts : List Part → Type 0
 FitParts [] = Unit {0}
 FitParts (part ∷ parts) = FitPart part × FitParts parts
 
-last_opens : (before : List Token) (t : Token) → is_opened (reverse (before ++ t ∷ [])) ≡ is_before_literal t
-last_opens before t = ap is_opened (reverse-append before (t ∷ []))
+last_opens : (before : List Token) (t : Token) → (seen_of (before ++ t ∷ [])).opened ≡ is_before_literal t
+last_opens before t = ap (λ (s : Seen). s.opened) (one_more_seen before t)
 
 kept_front : (before spelled after front rest : List Token) → spelled ≡ front ++ rest → AreWithinLimits (before ++ (spelled ++ after)) → AreWithinLimits (before ++ (front ++ (rest ++ after)))
 kept_front before spelled after front rest e h =
@@ -131,7 +138,7 @@ not_opened : {A : Type 0} → false ≡ true → A
 not_opened e = absurd (true≢false (sym e))
 
 -- tokens that keep the limits spell parts whose literals fit
-parts_fit : (parts : List Part) (opened : Bool) (before spelled after : List Token) → (opened ≡ true → is_opened (reverse before) ≡ true) → AreWithinLimits (before ++ (spelled ++ after)) → list_all is_written spelled ≡ true
+parts_fit : (parts : List Part) (opened : Bool) (before spelled after : List Token) → (opened ≡ true → (seen_of before).opened ≡ true) → AreWithinLimits (before ++ (spelled ++ after)) → list_all is_written spelled ≡ true
     → Opened opened parts → AreParts parts spelled → FitParts parts
 parts_fit [] opened before spelled after last within written o p = tt
 parts_fit (says word ∷ parts) opened before spelled after last within written o p =
@@ -139,7 +146,7 @@ parts_fit (says word ∷ parts) opened before spelled after last within written 
 parts_fit (marks mark ∷ parts) opened before spelled after last within written o p = (
   tt,
   parts_fit parts (opens_literal mark) (before ++ p.0) p.1 after
-      (λ e. ap (λ ts. is_opened (reverse (before ++ ts))) p.3 ∙ last_opens before (token.Mark mark) ∙ e)
+      (λ e. ap (λ ts. (seen_of (before ++ ts)).opened) p.3 ∙ last_opens before (token.Mark mark) ∙ e)
       (kept_rest before spelled after p.0 p.1 p.2 within) (both_written spelled p.0 p.1 p.2 written).1 o p.4,
 )
 parts_fit (names word ∷ parts) opened before spelled after last within written o p =

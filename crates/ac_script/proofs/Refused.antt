@@ -8,6 +8,7 @@ use Rattle.ac_syntax.specs.Items.{Item}
 use Rattle.ac_syntax.specs.Canonical.{items_placed}
 use Rattle.ac_syntax.specs.Order.{Context, context_after, at_front, IsEnd}
 use Rattle.ac_syntax.specs.Refusals.{IsFirstRefusal}
+use Rattle.ac_syntax.specs.Limits.{none_seen}
 use Rattle.ac_syntax.specs.Tokens.{tokens, cut_of}
 use Rattle.ac_syntax.proofs.Derivations.{are_sayable, items_derive}
 use Rattle.ac_syntax.proofs.Withins.{within_from, within}
@@ -25,7 +26,7 @@ are_read items context placed rest whole sayable leads = record { done = items_p
 -- behind these items reading stops at a token
 pub stops_at : (text : List ℕ) (items : List Item) (context : Context) (rest after : List Placed) (bad : Placed)
     → (cut_of text).placed ≡ items_placed 1 items ++ rest → are_sayable 1 items ≡ true → context_after at_front items ≡ Some context
-    → within_from [] (tokens (cut_of text).placed) ≡ true → item context.stage (innermost_of context.blocks) rest ≡ stopped (bad ∷ after) → IsFirstRefusal text bad.line Syntax
+    → within_from none_seen (tokens (cut_of text).placed) ≡ true → item context.stage (innermost_of context.blocks) rest ≡ stopped (bad ∷ after) → IsFirstRefusal text bad.line Syntax
 stops_at text items context rest after bad whole sayable leads kept stops =
     bad_within text (cut_of text).placed (cut_of text).malformed bad.line (record { placed_is = refl; malformed_is = refl }) (within (tokens (cut_of text).placed) kept)
     (has_bad items context (cut_of text).placed rest bad after (are_read items context (cut_of text).placed rest whole sayable leads) stops)
@@ -33,7 +34,7 @@ stops_at text items context rest after bad whole sayable leads kept stops =
 -- the tokens are these items, behind which no script may end
 pub stays_open : (text : List ℕ) (items : List Item) (context : Context) (before : List Placed) (last : Placed)
     → (cut_of text).malformed ≡ None → (cut_of text).placed ≡ before ++ last ∷ [] → (cut_of text).placed ≡ items_placed 1 items → are_sayable 1 items ≡ true
-    → context_after at_front items ≡ Some context → within_from [] (tokens (cut_of text).placed) ≡ true → (IsEnd context → ⊥) → IsFirstRefusal text last.line Syntax
+    → context_after at_front items ≡ Some context → within_from none_seen (tokens (cut_of text).placed) ≡ true → (IsEnd context → ⊥) → IsFirstRefusal text last.line Syntax
 stays_open text items context before last unbroken ends whole sayable leads kept unended =
     ended text (cut_of text).placed (record { placed_is = refl; malformed_is = unbroken }) (within (tokens (cut_of text).placed) kept)
     (ends_open items context (cut_of text).placed

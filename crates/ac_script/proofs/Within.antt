@@ -1,12 +1,13 @@
 -- How far tokens keep the limits, one token more at a time.
-use Rattle.std.proofs.Common.{◌≡◌, ◌+◌, ◌<◌, ℕ, suc, false, List, [], ◌∷◌, ◌++◌, take, length, refl, ap, ◌∙◌, arith, get_or, inl, inr}
+use Rattle.std.proofs.Common.{◌≡◌, ◌+◌, ◌-◌, ◌<◌, ◌≤◌, ℕ, suc, Bool, true, false, cond, List, [], ◌∷◌, ◌++◌, take, length, refl, ap, ◌∙◌, arith, get_or, inl, inr}
 use Rattle.std.specs.Prelude.{◌⊎◌}
 use Rattle.std.proofs.lemmas.List.{map-append}
+use Rattle.std.proofs.lemmas.List.Sums.{fold-append}
 use Rattle.std.proofs.Math.Seq.{take-suc}
 use Rattle.ac_syntax.specs.declared.token.Token.{Token}
 use Rattle.ac_syntax.specs.declared.token.Placed.{Placed}
 use Rattle.ac_syntax.specs.Tokens.{tokens}
-use Rattle.ac_syntax.specs.Limits.{is_past_limit, AreWithinLimits}
+use Rattle.ac_syntax.specs.Limits.{none_seen, seen_after, seen_of, depth_after, is_word_of, block_words, end_words, is_past_limit, AreWithinLimits}
 use Rattle.ac_syntax.proofs.Withins.{not_ended}
 
 -- a list with one item more is cut at that item, or before it
@@ -23,7 +24,7 @@ cut_at (a ∷ done) (b ∷ before) after next x e =
       | inr h ↦ inr (h.0, (λ i. same i ∷ h.1 i))
     ]
 
-pub one_more : (done : List Token) (next : Token) → AreWithinLimits done → is_past_limit done next ≡ false → AreWithinLimits (done ++ next ∷ [])
+pub one_more : (done : List Token) (next : Token) → AreWithinLimits done → is_past_limit (seen_of done) next ≡ false → AreWithinLimits (done ++ next ∷ [])
 one_more done next h past before after token e = elim (cut_at done before after next token e) [
   | inl k ↦ rw (← k.0, ← k.1) past
   | inr k ↦ h before k.0 token k.1
@@ -31,6 +32,18 @@ one_more done next h past before after token e = elim (cut_at done before after 
 
 pub none_within : AreWithinLimits []
 none_within before after token e = absurd (not_ended before after token e)
+
+pub one_more_seen : (done : List Token) (next : Token) → seen_of (done ++ next ∷ []) ≡ seen_after (seen_of done) next
+one_more_seen done next = fold-append seen_after none_seen done (next ∷ [])
+
+-- with a token more, one block more at most is open
+pub depth_rises : (depth : ℕ) (token : Token) → depth_after depth token ≤ depth + 1
+depth_rises depth token = by (is_word_of block_words token) (is_word_of end_words token)
+  where
+    by : (begins ends : Bool) → cond begins (depth + 1) (cond ends (depth - 1) depth) ≤ depth + 1
+    by true ends = omega arith
+    by false true = omega arith
+    by false false = omega arith
 
 -- the tokens of the first n placed ones and the next
 pub taken : (placed : List Placed) (n : ℕ) (d : Placed) → n < length placed → tokens (take (n + 1) placed) ≡ tokens (take n placed) ++ (get_or placed n d).token ∷ []

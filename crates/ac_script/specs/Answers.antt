@@ -3,7 +3,7 @@ use Rattle.std.specs.Prelude.{◌≡◌, ℕ, true, List, [], ◌∷◌, ◌++�
 use Rattle.ac_syntax.specs.declared.token.Placed.{Placed}
 use Rattle.ac_syntax.specs.declared.script.Script.{Script}
 use Rattle.ac_syntax.specs.Tokens.{tokens, cut_of}
-use Rattle.ac_syntax.specs.Limits.{is_past_limit, AreWithinLimits}
+use Rattle.ac_syntax.specs.Limits.{seen_of, is_past_limit, AreWithinLimits}
 use Rattle.ac_syntax.specs.Refusals.{Spells, IsFirstRefusal}
 use Rattle.ac_syntax.specs.declared.fault.ScriptFault.{ScriptFault}
 use Rattle.ac_syntax.specs.declared.fault.ScriptFault.TheVariants.{Refused, NoMemory}
@@ -28,4 +28,4 @@ pub record EndPast (text : List ℕ) (front : List Placed) (line : ℕ) : Type 0
   pub front_is : front ≡ before ++ past ∷ []
   pub on : past.line ≡ line
   pub within : AreWithinLimits (tokens before)
-  pub is_past : is_past_limit (tokens before) past.token ≡ true
+  pub is_past : is_past_limit (seen_of (tokens before)) past.token ≡ true

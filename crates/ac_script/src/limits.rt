@@ -1,9 +1,8 @@
 //! The limits of a script's tokens.
-ghost use Rattle.std.specs.Prelude.{◌≡◌, ◌++◌, ◌∷◌, [], ◌<◌, ◌^◌, ◌-◌, List};
-ghost use Rattle.ac_syntax.specs.declared.token.Token.{Token as Piece};
+ghost use Rattle.std.specs.Prelude.{◌≡◌, ◌<◌, ◌^◌, ◌-◌};
 ghost use Rattle.ac_syntax.specs.Limits as limits;
-ghost use Rattle.ac_syntax.specs.Limits.{is_word_of, is_past_limit};
-ghost use Rattle.ac_script.specs.Behind.{IsBehind, StandWithin};
+ghost use Rattle.ac_syntax.specs.Limits.{is_word_of, seen_after, is_past_limit};
+ghost use Rattle.ac_script.specs.Behind.{seen_view, StandWithin};
 
 use crate::reserved::is_among;
 use ac_syntax::{Mark, Placed, Token};
@@ -35,10 +34,8 @@ const END_WORDS: [&[u8]; 1] = [b"end"];
 /// What the tokens so far say of the limits of the next one.
 #[derive(Clone, Copy, Debug, PartialEq, Eq)]
 struct Behind {
-    /// How many words began a block.
-    blocks: u64,
-    /// How many words ended one.
-    ends: u64,
+    /// How many blocks are open.
+    depth: u64,
     /// The last token is a mark behind which a literal may begin.
     opened: bool,
     /// The last token is a literal's minus.
@@ -81,11 +78,11 @@ fn is_before_literal(token: &Token) -> bool
 impl Behind {
     /// Whether the next token is past a limit.
     fn refuses(&self, token: &Token) -> bool
-        ensures { (before : List Piece) → IsBehind self.now before → result ≡ is_past_limit before token.now }
+        ensures { result ≡ is_past_limit (seen_view self.now) token.now }
     {
         match token {
             Token::Word(word) => {
-                word.bytes().len() > LONGEST_NAME || is_block_word(token) && self.depth() >= DEEPEST
+                word.bytes().len() > LONGEST_NAME || is_block_word(token) && self.depth >= DEEPEST
             }
             Token::Number(number) => *number > self.most(),
             Token::Text(string) => string.bytes().len() > LONGEST_STRING,
@@ -93,29 +90,34 @@ impl Behind {
         }
     }
 
-    /// How many blocks are open.
-    fn depth(&self) -> u64
-        ensures { result ≡ self.now.blocks - self.now.ends }
-    {
-        self.blocks.saturating_sub(self.ends)
-    }
-
     /// The greatest number that may stand here.
     fn most(&self) -> u64
-        ensures { (before : List Piece) → IsBehind self.now before → result ≡ limits.most before }
+        ensures { result ≡ limits.most (seen_view self.now) }
     {
         if self.minus { LEAST } else { LEAST - 1 }
     }
 
+    /// How many blocks are open behind one token more.
+    fn depth_after(&self, token: &Token) -> u64
+        requires { self.now.depth < 2 ^ 64 - 1 }
+        ensures { result ≡ limits.depth_after self.now.depth token.now }
+    {
+        if is_block_word(token) {
+            self.depth + 1
+        } else if is_end_word(token) {
+            self.depth.saturating_sub(1)
+        } else {
+            self.depth
+        }
+    }
+
     /// The same behind one token more.
     fn one_more(&self, token: &Token) -> Behind
-        requires blocks { self.now.blocks < 2 ^ 64 - 1 }
-        requires ends { self.now.ends < 2 ^ 64 - 1 }
-        ensures { (before : List Piece) → IsBehind self.now before → IsBehind result (before ++ token.now ∷ []) }
+        requires { self.now.depth < 2 ^ 64 - 1 }
+        ensures { seen_view result ≡ seen_after (seen_view self.now) token.now }
     {
         Behind {
-            blocks: self.blocks + u64::from(is_block_word(token)),
-            ends: self.ends + u64::from(is_end_word(token)),
+            depth: self.depth_after(token),
             opened: is_before_literal(token),
             minus: is_mark(token, Mark::Minus) && self.opened,
         }
@@ -127,8 +129,7 @@ pub fn within(placed: &[Placed]) -> usize
     ensures { StandWithin result placed.now }
 {
     let mut behind = Behind {
-        blocks: 0,
-        ends: 0,
+        depth: 0,
         opened: false,
         minus: false,
     };

@@ -1,8 +1,8 @@
 -- Tokens without the minus before some zeros keep the limits that the tokens with it kept.
-use Rattle.std.proofs.Common.{◌≡◌, ◌+◌, ◌-◌, ◌^◌, ◌&&◌, ◌||◌, ℕ, zero, suc, pos, neg_ℤ, ℤ, Bool, true, false, not, cond, List, [], ◌∷◌, ◌++◌, map, flat_map, reverse, length, refl, sym, ap, ap₂, subst, ◌∙◌, append_assoc, append-nil, inl, inr, arith, nat_lt, nat_le, count_by}
+use Rattle.std.proofs.Common.{◌≡◌, ◌-◌, ◌^◌, ℕ, zero, suc, pos, neg_ℤ, ℤ, Bool, true, false, not, cond, List, [], ◌∷◌, ◌++◌, map, flat_map, refl, sym, ap, subst, ◌∙◌, append_assoc, inl, inr, nat_lt}
+use Rattle.std.specs.List.{fold}
 use Rattle.std.proofs.lemmas.Bool.{and_parts, and_from}
-use Rattle.std.proofs.lemmas.List.{map-append, reverse-append}
-use Rattle.std.proofs.lemmas.List.Sums.{sum_by-append}
+use Rattle.std.proofs.lemmas.List.{map-append}
 use Rattle.ac_base.specs.declared.value.Value.TheVariants as value
 use Rattle.ac_syntax.specs.declared.token.Token.{Token}
 use Rattle.ac_syntax.specs.declared.token.Token.TheVariants as token
@@ -12,7 +12,7 @@ use Rattle.ac_syntax.specs.Items.{Item, item_line}
 use Rattle.ac_syntax.specs.Parts.{Part, says, marks, names, counts, writes, lacks, item_parts}
 use Rattle.ac_syntax.specs.Grammar.{IsPart, AreParts, AreItems}
 use Rattle.ac_syntax.specs.Tokens.{tokens}
-use Rattle.ac_syntax.specs.Limits.{is_word_of, block_words, end_words, depth, has_minus, is_past_limit, AreWithinLimits}
+use Rattle.ac_syntax.specs.Limits.{Seen, none_seen, seen_after, is_past_limit, AreWithinLimits}
 use Rattle.ac_syntax.specs.Canonical.{line_reached, part_tokens, on_line, items_placed}
 use Rattle.ac_syntax.proofs.Derivations.{tokens-on_line}
 use Rattle.ac_syntax.proofs.Withins.{within_from, within}
@@ -23,81 +23,30 @@ data Tidied : List Token → List Token → Type 0 where
   kept : (t : Token) (xs ys : List Token) → Tidied xs ys → Tidied (t ∷ xs) (t ∷ ys)
   dropped : (xs ys : List Token) → Tidied xs ys → Tidied (token.Mark Minus ∷ token.Number 0 ∷ xs) (token.Number 0 ∷ ys)
 
--- behind either tokens the same token is past a limit
-record AreAlike (xs ys : List Token) : Type 0 where
-  depths : depth xs ≡ depth ys
-  blocks : count_by (is_word_of block_words) xs ≡ count_by (is_word_of block_words) ys
-  ends : count_by (is_word_of end_words) xs ≡ count_by (is_word_of end_words) ys
-  minus : has_minus (reverse xs) ≡ has_minus (reverse ys)
-  next : (t : Token) → has_minus (t ∷ reverse xs) ≡ has_minus (t ∷ reverse ys)
-
-none_alike : AreAlike [] []
-none_alike = record { depths = refl; blocks = refl; ends = refl; minus = refl; next = λ t. refl }
-
-count_behind : (words : List (List ℕ)) (xs : List Token) (t : Token) → count_by (is_word_of words) (xs ++ t ∷ []) ≡ count_by (is_word_of words) xs + count_by (is_word_of words) (t ∷ [])
-count_behind words xs t = sum_by-append (λ u. cond (is_word_of words u) 1 0) xs (t ∷ [])
-
-turned : (xs : List Token) (t : Token) → reverse (xs ++ t ∷ []) ≡ t ∷ reverse xs
-turned xs t = reverse-append xs (t ∷ [])
-
-alike_by : (xs ys : List Token) → count_by (is_word_of block_words) xs ≡ count_by (is_word_of block_words) ys → count_by (is_word_of end_words) xs ≡ count_by (is_word_of end_words) ys
-    → has_minus (reverse xs) ≡ has_minus (reverse ys) → ((t : Token) → has_minus (t ∷ reverse xs) ≡ has_minus (t ∷ reverse ys)) → AreAlike xs ys
-alike_by xs ys blocks ends minus next = record { depths = ap₂ (λ b e. b - e) blocks ends; blocks = blocks; ends = ends; minus = minus; next = next }
-
--- with one more token
-kept_alike : (xs ys : List Token) (t : Token) → AreAlike xs ys → AreAlike (xs ++ t ∷ []) (ys ++ t ∷ [])
-kept_alike xs ys t h =
-    alike_by (xs ++ t ∷ []) (ys ++ t ∷ [])
-    (count_behind block_words xs t ∙ ap (λ n. n + count_by (is_word_of block_words) (t ∷ [])) h.blocks ∙ sym (count_behind block_words ys t))
-    (count_behind end_words xs t ∙ ap (λ n. n + count_by (is_word_of end_words) (t ∷ [])) h.ends ∙ sym (count_behind end_words ys t))
-    (ap has_minus (turned xs t) ∙ h.next t ∙ sym (ap has_minus (turned ys t)))
-    (λ u. ap (λ ts. has_minus (u ∷ ts)) (turned xs t) ∙ sym (ap (λ ts. has_minus (u ∷ ts)) (turned ys t)))
-
--- a minus that is dropped is no word, and no minus is last behind the zero
-zero_last : (xs : List Token) → has_minus (token.Number 0 ∷ xs) ≡ false
-zero_last [] = refl
-zero_last (_ ∷ _) = refl
-
-dropped_alike : (xs ys : List Token) → AreAlike xs ys → AreAlike ((xs ++ token.Mark Minus ∷ []) ++ token.Number 0 ∷ []) (ys ++ token.Number 0 ∷ [])
-dropped_alike xs ys h =
-    let signed = xs ++ token.Mark Minus ∷ [] in
-    let all = signed ++ token.Number 0 ∷ [] in
-    alike_by all (ys ++ token.Number 0 ∷ [])
-    (omega (arith, count_behind block_words signed (token.Number 0), count_behind block_words xs (token.Mark Minus), count_behind block_words ys (token.Number 0), h.blocks))
-    (omega (arith, count_behind end_words signed (token.Number 0), count_behind end_words xs (token.Mark Minus), count_behind end_words ys (token.Number 0), h.ends))
-    (ap has_minus (turned signed (token.Number 0)) ∙ zero_last (reverse signed) ∙ sym (zero_last (reverse ys)) ∙ sym (ap has_minus (turned ys (token.Number 0))))
-    (λ u. ap (λ ts. has_minus (u ∷ ts)) (turned signed (token.Number 0)) ∙ sym (ap (λ ts. has_minus (u ∷ ts)) (turned ys (token.Number 0))))
-
-same_limit : (xs ys : List Token) (t : Token) → AreAlike xs ys → is_past_limit xs t ≡ is_past_limit ys t
-same_limit xs ys (token.Word word) h = ap (λ n. nat_lt 64 (length word) || (is_word_of block_words (token.Word word) && nat_le 16 n)) h.depths
-same_limit xs ys (token.Number n) h = ap (λ minus. nat_lt (cond minus (2 ^ 63) (2 ^ 63 - 1)) n) h.minus
-same_limit xs ys (token.Text _) h = refl
-same_limit xs ys (token.Mark _) h = refl
-
 zero_within_by : (minus : Bool) → not (nat_lt (cond minus (2 ^ 63) (2 ^ 63 - 1)) 0) ≡ true
 zero_within_by true = refl
 zero_within_by false = refl
 
-tidied_from : (seen tidy xs ys : List Token) → AreAlike seen tidy → Tidied xs ys → within_from seen xs ≡ true → within_from tidy ys ≡ true
-tidied_from seen tidy xs ys h done w = refl
-tidied_from seen tidy xs ys h (kept t more others d) w =
-    let parts : (not (is_past_limit seen t) ≡ true) × (within_from (seen ++ t ∷ []) more ≡ true) = and_parts _ _ w in
-    and_from _ _ (ap not (sym (same_limit seen tidy t h)) ∙ parts.0) (tidied_from (seen ++ t ∷ []) (tidy ++ t ∷ []) more others (kept_alike seen tidy t h) d parts.1)
-tidied_from seen tidy xs ys h (dropped more others d) w =
-    let zero = token.Number 0 in
-    let signed = seen ++ token.Mark Minus ∷ [] in
-    let parts : (not (is_past_limit signed zero) ≡ true) × (within_from (signed ++ zero ∷ []) more ≡ true) = and_parts _ _ (and_parts (not (is_past_limit seen (token.Mark Minus))) _ w).1 in
-    and_from _ _ (zero_within_by (has_minus (reverse tidy))) (tidied_from (signed ++ zero ∷ []) (tidy ++ zero ∷ []) more others (dropped_alike seen tidy h) d parts.1)
+-- behind the zero, what was seen is the same
+tidied_from : (seen : Seen) (xs ys : List Token) → Tidied xs ys → within_from seen xs ≡ true → within_from seen ys ≡ true
+tidied_from seen xs ys done w = refl
+tidied_from seen xs ys (kept t more others d) w =
+    let parts : (not (is_past_limit seen t) ≡ true) × (within_from (seen_after seen t) more ≡ true) = and_parts _ _ w in
+    and_from _ _ parts.0 (tidied_from (seen_after seen t) more others d parts.1)
+tidied_from seen xs ys (dropped more others d) w =
+    let signed = seen_after seen (token.Mark Minus) in
+    let parts : (not (is_past_limit signed (token.Number 0)) ≡ true) × (within_from (seen_after signed (token.Number 0)) more ≡ true) =
+    and_parts _ _ (and_parts (not (is_past_limit seen (token.Mark Minus))) _ w).1 in
+    and_from _ _ (zero_within_by seen.minus) (tidied_from (seen_after signed (token.Number 0)) more others d parts.1)
 
 -- the test that these tokens keep the limits succeeds where they do
-within_of : (seen all : List Token) → ((before after : List Token) (t : Token) → all ≡ before ++ t ∷ after → is_past_limit (seen ++ before) t ≡ false) → within_from seen all ≡ true
+within_of : (seen : Seen) (all : List Token) → ((before after : List Token) (t : Token) → all ≡ before ++ t ∷ after → is_past_limit (fold seen_after seen before) t ≡ false) → within_from seen all ≡ true
 within_of seen [] h = refl
 within_of seen (t ∷ all) h =
-    and_from _ _ (ap not (subst (λ s. is_past_limit s t ≡ false) (append-nil seen) (h [] all t refl)))
-    (within_of (seen ++ t ∷ []) all (λ before after u e. subst (λ s. is_past_limit s u ≡ false) (sym (append_assoc seen (t ∷ []) before)) (h (t ∷ before) after u (ap (λ ts. t ∷ ts) e))))
+    and_from _ _ (ap not (h [] all t refl)) (within_of (seen_after seen t) all (λ before after u e. h (t ∷ before) after u (ap (λ ts. t ∷ ts) e)))
 
 tidied_within : (xs ys : List Token) → Tidied xs ys → AreWithinLimits xs → AreWithinLimits ys
-tidied_within xs ys d h = within ys (tidied_from [] [] xs ys none_alike d (within_of [] xs h))
+tidied_within xs ys d h = within ys (tidied_from none_seen xs ys d (within_of none_seen xs h))
 
 -- the tokens of a script that others derive are these without the minus before some zeros
 

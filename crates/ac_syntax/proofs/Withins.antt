@@ -1,44 +1,43 @@
 -- Tokens that keep the limits, and have no bad one, by tests that compute.
 use Rattle.std.proofs.Common.{◌≡◌, ◌&&◌, Bool, true, false, not, List, [], ◌∷◌, ◌++◌, sym, ap, subst, ◌∙◌, append_assoc, length, arith}
 use Rattle.std.proofs.lemmas.Bool.{and_parts}
-use Rattle.std.proofs.lemmas.List.{map-append, append-nil}
+use Rattle.std.proofs.lemmas.List.{map-append}
+use Rattle.std.specs.List.{fold}
 use Rattle.std.proofs.Math.Bool.{true≢false}
 use Rattle.ac_syntax.specs.declared.token.Token.{Token}
 use Rattle.ac_syntax.specs.declared.token.Placed.{Placed}
 use Rattle.ac_syntax.specs.declared.script.Script.{Script}
 use Rattle.ac_syntax.specs.Tokens.{tokens}
 use Rattle.ac_syntax.specs.Grammar.{Derives}
-use Rattle.ac_syntax.specs.Limits.{is_past_limit, AreWithinLimits}
+use Rattle.ac_syntax.specs.Limits.{Seen, none_seen, seen_after, is_past_limit, AreWithinLimits}
 use Rattle.ac_syntax.specs.Refusals.{begins_none, past_limit, HasNoBadToken}
 use Rattle.ac_syntax.proofs.Derivations.{false-not}
 
--- a test that none of the tokens behind these is past a limit
-abbrev pub within_from : List Token → List Token → Bool
-within_from before [] = true
-within_from before (token ∷ others) = not (is_past_limit before token) && within_from (before ++ token ∷ []) others
+-- a test that no token behind what was seen is past a limit
+abbrev pub within_from : Seen → List Token → Bool
+within_from seen [] = true
+within_from seen (token ∷ others) = not (is_past_limit seen token) && within_from (seen_after seen token) others
 
 -- a list that ends in an item and more isn't empty
 pub not_ended : {A : Type 0} (before after : List A) (x : A) → [] ≡ before ++ x ∷ after → ⊥
 not_ended [] after x e = omega (arith, ap length e)
 not_ended (b ∷ before) after x e = omega (arith, ap length e)
 
-pub within_at : (seen all before after : List Token) (token : Token)
-    → within_from seen all ≡ true → all ≡ before ++ token ∷ after → is_past_limit (seen ++ before) token ≡ false
+within_at : (seen : Seen) (all before after : List Token) (token : Token)
+    → within_from seen all ≡ true → all ≡ before ++ token ∷ after → is_past_limit (fold seen_after seen before) token ≡ false
 within_at seen [] before after token p e = absurd (not_ended before after token e)
 within_at seen (x ∷ xs) [] after token p e =
-    let h : (not (is_past_limit seen x) ≡ true) × (within_from (seen ++ x ∷ []) xs ≡ true) = and_parts _ _ p in
+    let h : (not (is_past_limit seen x) ≡ true) × (within_from (seen_after seen x) xs ≡ true) = and_parts _ _ p in
     let same : x ≡ token = cc e in
-    rw (append-nil seen, ← same) (false-not (is_past_limit seen x) h.0)
+    rw (← same) (false-not (is_past_limit seen x) h.0)
 within_at seen (x ∷ xs) (b ∷ bs) after token p e =
-    let h : (not (is_past_limit seen x) ≡ true) × (within_from (seen ++ x ∷ []) xs ≡ true) = and_parts _ _ p in
+    let h : (not (is_past_limit seen x) ≡ true) × (within_from (seen_after seen x) xs ≡ true) = and_parts _ _ p in
     let same : x ≡ b = cc e in
     let others : xs ≡ bs ++ token ∷ after = cc e in
-    let found : is_past_limit ((seen ++ x ∷ []) ++ bs) token ≡ false = within_at (seen ++ x ∷ []) xs bs after token h.1 others in
-    let regrouped : (seen ++ x ∷ []) ++ bs ≡ seen ++ b ∷ bs = append_assoc seen (x ∷ []) bs ∙ ap (λ y. seen ++ y ∷ bs) same in
-    subst (λ list. is_past_limit list token ≡ false) regrouped found
+    subst (λ t. is_past_limit (fold seen_after (seen_after seen t) bs) token ≡ false) same (within_at (seen_after seen x) xs bs after token h.1 others)
 
-pub within : (all : List Token) → within_from [] all ≡ true → AreWithinLimits all
-within all p before after token e = within_at [] all before after token p e
+pub within : (all : List Token) → within_from none_seen all ≡ true → AreWithinLimits all
+within all p before after token e = within_at none_seen all before after token p e
 
 -- tokens that begin a derivation and keep the limits have no bad one
 pub begun_none_bad : (placed more : List Placed) (script : Script) → Derives (placed ++ more) script → AreWithinLimits (tokens placed) → HasNoBadToken placed
@@ -50,5 +49,5 @@ begun_none_bad placed more script d kept before after bad kind e (past_limit _ p
   split = ap tokens e ∙ map-append (λ (t : Placed). t.token) before (bad ∷ after)
 
 -- the same by a test that computes
-pub none_bad : (placed more : List Placed) (script : Script) → Derives (placed ++ more) script → within_from [] (tokens placed) ≡ true → HasNoBadToken placed
+pub none_bad : (placed more : List Placed) (script : Script) → Derives (placed ++ more) script → within_from none_seen (tokens placed) ≡ true → HasNoBadToken placed
 none_bad placed more script d p = begun_none_bad placed more script d (within (tokens placed) p)

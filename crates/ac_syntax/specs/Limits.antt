@@ -1,6 +1,6 @@
--- The limits of a script's text, each a test of one token after the tokens before it.
-use Rattle.std.specs.Prelude.{◌≡◌, ◌-◌, ◌^◌, ◌&&◌, ◌||◌, ℕ, nat_lt, nat_le, codes, Bool, false, List, [], ◌∷◌, ◌++◌, reverse, length, count_by, if◌then◌else◌}
-use Rattle.std.specs.List.{list_any}
+-- The limits of a script's text, each a test of one token behind what was seen of the tokens before it.
+use Rattle.std.specs.Prelude.{◌≡◌, ◌+◌, ◌-◌, ◌^◌, ◌&&◌, ◌||◌, ℕ, nat_lt, nat_le, codes, Bool, false, List, [], ◌∷◌, ◌++◌, length, if◌then◌else◌}
+use Rattle.std.specs.List.{list_any, fold}
 use Rattle.std.specs.Str.{bytes_eq}
 use denote.Enum.Bare.{sameb}
 use Rattle.ac_syntax.specs.contracts.token.Mark.{the_type}
@@ -30,31 +30,48 @@ block_words =
 abbrev pub end_words : List (List ℕ)
 end_words = codes "end" ∷ []
 
--- how many blocks are open behind these tokens: each began with its first word, and ends at its own `end`
-abbrev pub depth : List Token → ℕ
-depth before = count_by (is_word_of block_words) before - count_by (is_word_of end_words) before
-
 -- a literal may begin behind these marks
 abbrev pub is_before_literal : Token → Bool
 is_before_literal t = is_mark Open t || is_mark Comma t || is_mark Assign t
 
--- a literal's minus is last; the tokens are given from the last one on
-abbrev pub has_minus : List Token → Bool
-has_minus [] = false
-has_minus (_ ∷ []) = false
-has_minus (last ∷ earlier ∷ _) = is_mark Minus last && is_before_literal earlier
+-- what the tokens so far say of the limits of the next one
+pub record Seen : Type 0 where
+  -- how many blocks are open
+  pub depth : ℕ
+  -- a literal may begin here
+  pub opened : Bool
+  -- the last token is a literal's minus
+  pub minus : Bool
 
--- the greatest number that may stand behind these tokens
-abbrev pub most : List Token → ℕ
-most before = if has_minus (reverse before) then 2 ^ 63 else 2 ^ 63 - 1
+abbrev pub none_seen : Seen
+none_seen = record { depth = 0; opened = false; minus = false }
 
--- this token, behind those before it, is past a limit
-abbrev pub is_past_limit : List Token → Token → Bool
-is_past_limit before (token.Word word) = nat_lt 64 (length word) || (is_word_of block_words (token.Word word) && nat_le 16 (depth before))
-is_past_limit before (token.Number n) = nat_lt (most before) n
-is_past_limit before (token.Text bytes) = nat_lt 1000 (length bytes)
-is_past_limit before (token.Mark _) = false
+-- a block begins with its first word, and ends at its own `end`
+abbrev pub depth_after : ℕ → Token → ℕ
+depth_after depth token =
+    if is_word_of block_words token then depth + 1
+    else if is_word_of end_words token then depth - 1
+    else depth
+
+-- the same behind one token more
+abbrev pub seen_after : Seen → Token → Seen
+seen_after seen token =
+    record { depth = depth_after seen.depth token; opened = is_before_literal token; minus = is_mark Minus token && seen.opened }
+
+abbrev pub seen_of : List Token → Seen
+seen_of tokens = fold seen_after none_seen tokens
+
+-- the greatest number that may stand behind what was seen
+abbrev pub most : Seen → ℕ
+most seen = if seen.minus then 2 ^ 63 else 2 ^ 63 - 1
+
+-- this token, behind what was seen, is past a limit
+abbrev pub is_past_limit : Seen → Token → Bool
+is_past_limit seen (token.Word word) = nat_lt 64 (length word) || (is_word_of block_words (token.Word word) && nat_le 16 seen.depth)
+is_past_limit seen (token.Number n) = nat_lt (most seen) n
+is_past_limit seen (token.Text bytes) = nat_lt 1000 (length bytes)
+is_past_limit seen (token.Mark _) = false
 
 -- no token is past a limit
 abbrev pub AreWithinLimits : List Token → Type 0
-AreWithinLimits all = (before after : List Token) (token : Token) → all ≡ before ++ token ∷ after → is_past_limit before token ≡ false
+AreWithinLimits all = (before after : List Token) (token : Token) → all ≡ before ++ token ∷ after → is_past_limit (seen_of before) token ≡ false

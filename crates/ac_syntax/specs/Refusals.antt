@@ -6,7 +6,7 @@ use Rattle.ac_syntax.specs.declared.refusal.RefusalKind.{RefusalKind}
 use Rattle.ac_syntax.specs.declared.refusal.RefusalKind.TheVariants.{Syntax, Limit}
 use Rattle.ac_syntax.specs.Tokens.{Cut, cut_of, tokens}
 use Rattle.ac_syntax.specs.Grammar.{Derives, BeginsScript}
-use Rattle.ac_syntax.specs.Limits.{is_past_limit, AreWithinLimits}
+use Rattle.ac_syntax.specs.Limits.{seen_of, is_past_limit, AreWithinLimits}
 
 -- the bytes are cut into tokens, and these derive the script within the limits
 pub record Spells (script : Script) (text : List ℕ) : Type 0 where
@@ -17,7 +17,7 @@ pub record Spells (script : Script) (text : List ℕ) : Type 0 where
 -- the first kind, in this order, of which a token is bad behind those before it: no script begins so, or it is past a limit
 pub data IsBadToken (before : List Placed) (bad : Placed) : RefusalKind → Type 0 where
   begins_none : (BeginsScript (before ++ bad ∷ []) → ⊥) → IsBadToken before bad Syntax
-  past_limit : BeginsScript (before ++ bad ∷ []) → is_past_limit (tokens before) bad.token ≡ true → IsBadToken before bad Limit
+  past_limit : BeginsScript (before ++ bad ∷ []) → is_past_limit (seen_of (tokens before)) bad.token ≡ true → IsBadToken before bad Limit
 
 -- no token of these is bad
 abbrev pub HasNoBadToken : List Placed → Type 0
