@@ -6,9 +6,11 @@ use Rattle.std.proofs.lemmas.List.{reverse-append, reverse-reverse}
 use Rattle.std.proofs.lemmas.Grind.{flat_map-append}
 use Rattle.std.proofs.lemmas.Option.{none-some}
 use Rattle.ac_syntax.specs.Code.{Code, Simple, Head as SpecHead, loop_at, view_at, stable_at, declare_at, stop, one, block}
-use Rattle.ac_syntax.specs.Items.{Item, declares, commands, opens, begins, closes, items, is_loop, bare, declared}
+use Rattle.ac_syntax.specs.Items.{Item, declares, commands, opens, begins, closes, items, ending, bare, declared}
 use Rattle.ac_syntax.specs.Statements.{before, code_of}
 use Rattle.ac_syntax.specs.Order.{Stage, listing, heading, running, Context, next_after, context_after, is_heading, IsEnd, reach, entered, left_behind}
+use Rattle.ac_syntax.specs.declared.closing.Closing.{Closing}
+use Rattle.ac_syntax.specs.declared.closing.Closing.TheVariants.{EndLoop, End}
 use Rattle.ac_syntax.specs.declared.decl.Decl.{Decl}
 use Rattle.ac_syntax.specs.declared.stmt.Stmt.{Stmt}
 use Rattle.ac_syntax.specs.declared.stmt.Stmt.TheVariants.{Call, Set, Sum, Loop, View, Stable, Declare}
@@ -24,8 +26,8 @@ use Rattle.ac_script.specs.Building.{begun_items, level_items, enclosing_items, 
 items_block : (h : SpecHead) (body rest : Code) → items (block h body rest) ≡ items (block h body stop) ++ items rest
 items_block h body rest =
     ap (λ is. opens (bare h) ∷ is)
-    (ap (λ is. declared h ++ is) (sym (append_assoc (items body) (closes (is_loop h) ∷ []) (items rest)))
-    ∙ sym (append_assoc (declared h) (items body ++ closes (is_loop h) ∷ []) (items rest)))
+    (ap (λ is. declared h ++ is) (sym (append_assoc (items body) (closes (ending h) ∷ []) (items rest)))
+    ∙ sym (append_assoc (declared h) (items body ++ closes (ending h) ∷ []) (items rest)))
 
 -- a statement's items, and then those of what follows it
 items_before : (s : Stmt) (rest : Code) → items (before s rest) ≡ items (before s stop) ++ items rest
@@ -65,8 +67,8 @@ of_stmts decls begun stmts s c e =
 step : (front l more i : List Item) → more ≡ l ++ i → front ++ more ≡ (front ++ l) ++ i
 step front l more i e = ap (λ is. front ++ is) e ∙ sym (append_assoc front l i)
 
-abbrev loops : List Enclosing → List Bool
-loops around = map (λ (e : Enclosing). is_loop (head_view e.head)) around
+abbrev endings : List Enclosing → List Closing
+endings around = map (λ (e : Enclosing). ending (head_view e.head)) around
 
 nests_same : (around : List Enclosing) (old new : Level) → new.decls ≡ old.decls → new.begun ≡ old.begun → Nests around old → Nests around new
 nests_same [] old new d b h = b ∙ h
@@ -92,7 +94,7 @@ module _ (old new : Building) (context next : Context) (built : IsBuilding old c
   reached : (stage : Stage) → reach context.blocks stage ≡ Some next → IsStaged stage (reverse new.around.items) new.level → IsBuilding new next
   reached stage e staged =
       let is : record { blocks = context.blocks; stage = stage } ≡ next = cc e in
-      subst (λ (c : Context). IsBuilding new c) is (record { blocks = built.blocks ∙ ap loops (sym turned); staged = staged })
+      subst (λ (c : Context). IsBuilding new c) is (record { blocks = built.blocks ∙ ap endings (sym turned); staged = staged })
 
   declared_step : (d : Decl) → new.level.decls.items ≡ old.level.decls.items ++ d ∷ [] → new.level.begun ≡ old.level.begun → new.level.stmts ≡ old.level.stmts
       → (stage : Stage) → IsStaged stage (reverse old.around.items) old.level → next_after context.blocks stage (declares d) ≡ Some next → Step (declares d) old new next
@@ -162,11 +164,11 @@ module _ (old new : Building) (context next : Context) (built : IsBuilding old c
   turned_in : reverse new.around.items ≡ e ∷ reverse old.around.items
   turned_in = ap reverse around ∙ turned_more old.around.items e
 
-  inside : (b : Bool) (stage : Stage) → reach (b ∷ context.blocks) stage ≡ Some next → is_loop (head_view e.head) ≡ b → IsStaged stage (e ∷ reverse old.around.items) new.level → IsBuilding new next
+  inside : (b : Closing) (stage : Stage) → reach (b ∷ context.blocks) stage ≡ Some next → ending (head_view e.head) ≡ b → IsStaged stage (e ∷ reverse old.around.items) new.level → IsBuilding new next
   inside b stage q loop staged =
       let is : record { blocks = b ∷ context.blocks; stage = stage } ≡ next = cc q in
       subst (λ (c : Context). IsBuilding new c) is (record {
-        blocks = (λ i. sym loop i ∷ built.blocks i) ∙ ap loops (sym turned_in);
+        blocks = (λ i. sym loop i ∷ built.blocks i) ∙ ap endings (sym turned_in);
         staged = subst (λ around. IsStaged stage around new.level) (sym turned_in) staged;
       })
 
@@ -175,13 +177,13 @@ module _ (old new : Building) (context next : Context) (built : IsBuilding old c
 
   entered_as : (h : Head) → e.head ≡ h → Nests (reverse old.around.items) old.level → entered context.blocks (head_view h) ≡ Some next → IsBuilding new next
   entered_as (head.Loop line name elements backward object) is nests q =
-      inside true running q (ap (λ h. is_loop (head_view h)) is) (subst (λ b. Suits b new.level) (sym (ap is_declare is)) (no_decls, unbegun), outside nests)
+      inside EndLoop running q (ap (λ h. ending (head_view h)) is) (subst (λ b. Suits b new.level) (sym (ap is_declare is)) (no_decls, unbegun), outside nests)
   entered_as (head.View line kind object at name) is nests q =
-      inside false running q (ap (λ h. is_loop (head_view h)) is) (subst (λ b. Suits b new.level) (sym (ap is_declare is)) (no_decls, unbegun), outside nests)
+      inside End running q (ap (λ h. ending (head_view h)) is) (subst (λ b. Suits b new.level) (sym (ap is_declare is)) (no_decls, unbegun), outside nests)
   entered_as (head.Stable line object) is nests q =
-      inside false running q (ap (λ h. is_loop (head_view h)) is) (subst (λ b. Suits b new.level) (sym (ap is_declare is)) (no_decls, unbegun), outside nests)
+      inside End running q (ap (λ h. ending (head_view h)) is) (subst (λ b. Suits b new.level) (sym (ap is_declare is)) (no_decls, unbegun), outside nests)
   entered_as (head.Declare line) is nests q =
-      inside false heading q (ap (λ h. is_loop (head_view h)) is) (record {
+      inside End heading q (ap (λ h. ending (head_view h)) is) (record {
         block = e;
         outer = reverse old.around.items;
         is = refl;
@@ -214,32 +216,32 @@ head_kept (head.View line kind object at name) level more h = rw (h.0, h.1) refl
 head_kept (head.Stable line object) level more h = rw (h.0, h.1) refl
 head_kept (head.Declare line) level more h = rw h (ap (λ is. opens (declare_at line []) ∷ is) (append_assoc (map declares level.decls.items) (begins ∷ []) more))
 
-loop_kept : (h : Head) (decls : List Decl) → is_loop (full_head h decls) ≡ is_loop (head_view h)
-loop_kept (head.Loop line name elements backward object) decls = refl
-loop_kept (head.View line kind object at name) decls = refl
-loop_kept (head.Stable line object) decls = refl
-loop_kept (head.Declare line) decls = refl
+ending_kept : (h : Head) (decls : List Decl) → ending (full_head h decls) ≡ ending (head_view h)
+ending_kept (head.Loop line name elements backward object) decls = refl
+ending_kept (head.View line kind object at name) decls = refl
+ending_kept (head.Stable line object) decls = refl
+ending_kept (head.Declare line) decls = refl
 
 -- the blocks that are left when the innermost one ends
-left_as : (l b : Bool) (blocks : List Bool) (next : Context) → left_behind l (b ∷ blocks) ≡ Some next → (l ≡ b) × (record { blocks = blocks; stage = running } ≡ next)
-left_as true true blocks next q = (refl, cc q)
-left_as true false blocks next q = absurd (none-some next q)
-left_as false true blocks next q = absurd (none-some next q)
-left_as false false blocks next q = (refl, cc q)
+left_as : (l b : Closing) (blocks : List Closing) (next : Context) → left_behind l (b ∷ blocks) ≡ Some next → (l ≡ b) × (record { blocks = blocks; stage = running } ≡ next)
+left_as EndLoop EndLoop blocks next q = (refl, cc q)
+left_as EndLoop End blocks next q = absurd (none-some next q)
+left_as End EndLoop blocks next q = absurd (none-some next q)
+left_as End End blocks next q = (refl, cc q)
 
 module _ (old new : Building) (context next : Context) (built : IsBuilding old context) (e : Enclosing) (s : Stmt) (around : old.around.items ≡ new.around.items ++ e ∷ [])
     (decls : new.level.decls ≡ e.level.decls) (begun : new.level.begun ≡ e.level.begun) (stmts : new.level.stmts.items ≡ e.level.stmts.items ++ s ∷ [])
-    (is : before s stop ≡ block (full_head e.head old.level.decls.items) (code_of old.level.stmts.items) stop) (l : Bool) where
+    (is : before s stop ≡ block (full_head e.head old.level.decls.items) (code_of old.level.stmts.items) stop) (l : Closing) where
   turned_out : reverse old.around.items ≡ e ∷ reverse new.around.items
   turned_out = ap reverse around ∙ turned_more new.around.items e
 
-  left_items : Suits (is_declare e.head) old.level → l ≡ is_loop (head_view e.head) → items_so_far new ≡ items_so_far old ++ closes l ∷ []
+  left_items : Suits (is_declare e.head) old.level → l ≡ ending (head_view e.head) → items_so_far new ≡ items_so_far old ++ closes l ∷ []
   left_items suits loop =
       let flat = flat_map enclosing_items new.around.items in
       let body = items (code_of old.level.stmts.items) in
       let block_items : items (block (full_head e.head old.level.decls.items) (code_of old.level.stmts.items) stop) ≡ opens (head_view e.head) ∷ (level_items old.level ++ closes l ∷ []) =
-      head_kept e.head old.level (body ++ closes (is_loop (full_head e.head old.level.decls.items)) ∷ []) suits
-      ∙ ap (λ b. opens (head_view e.head) ∷ (map declares old.level.decls.items ++ (begun_items old.level.begun ++ (body ++ closes b ∷ [])))) (loop_kept e.head old.level.decls.items ∙ sym loop)
+      head_kept e.head old.level (body ++ closes (ending (full_head e.head old.level.decls.items)) ∷ []) suits
+      ∙ ap (λ b. opens (head_view e.head) ∷ (map declares old.level.decls.items ++ (begun_items old.level.begun ++ (body ++ closes b ∷ [])))) (ending_kept e.head old.level.decls.items ∙ sym loop)
       ∙ ap (λ is. opens (head_view e.head) ∷ (map declares old.level.decls.items ++ is)) (sym (append_assoc (begun_items old.level.begun) body (closes l ∷ [])))
       ∙ ap (λ is. opens (head_view e.head) ∷ is) (sym (append_assoc (map declares old.level.decls.items) (begun_items old.level.begun ++ body) (closes l ∷ []))) in
       let level : level_items new.level ≡ level_items e.level ++ (opens (head_view e.head) ∷ (level_items old.level ++ closes l ∷ [])) =
@@ -255,9 +257,9 @@ module _ (old new : Building) (context next : Context) (built : IsBuilding old c
       ∙ ap (λ is. flat ++ is) (sym (append_assoc (enclosing_items e) (level_items old.level) (closes l ∷ [])))
       ∙ sym (append_assoc flat (enclosing_items e ++ level_items old.level) (closes l ∷ [])) ∙ ap (λ is. is ++ closes l ∷ []) (sym before_all)
 
-  left_running : Nests (e ∷ reverse new.around.items) old.level → left_behind l (is_loop (head_view e.head) ∷ loops (reverse new.around.items)) ≡ Some next → Step (closes l) old new next
+  left_running : Nests (e ∷ reverse new.around.items) old.level → left_behind l (ending (head_view e.head) ∷ endings (reverse new.around.items)) ≡ Some next → Step (closes l) old new next
   left_running nests q =
-      let left = left_as l (is_loop (head_view e.head)) (loops (reverse new.around.items)) next q in (
+      let left = left_as l (ending (head_view e.head)) (endings (reverse new.around.items)) next q in (
         left_items nests.0 left.0,
         subst (λ (c : Context). IsBuilding new c) left.1 (record { blocks = refl; staged = nests_same (reverse new.around.items) e.level new.level decls begun nests.1 }),
       )
@@ -266,9 +268,9 @@ module _ (old new : Building) (context next : Context) (built : IsBuilding old c
   left_step listing staged q = let none : e ∷ reverse new.around.items ≡ [] = sym turned_out ∙ staged.0 in absurd (cc none)
   left_step heading staged q = absurd (none-some next q)
   left_step running staged q =
-      left_running (subst (λ around. Nests around old.level) turned_out staged) (ap (left_behind l) (sym (built.blocks ∙ ap loops turned_out)) ∙ q)
+      left_running (subst (λ around. Nests around old.level) turned_out staged) (ap (left_behind l) (sym (built.blocks ∙ ap endings turned_out)) ∙ q)
 
-pub left_adds : (old new : Building) (e : Enclosing) (s : Stmt) (l : Bool) → old.around.items ≡ new.around.items ++ e ∷ [] → new.level.decls ≡ e.level.decls → new.level.begun ≡ e.level.begun
+pub left_adds : (old new : Building) (e : Enclosing) (s : Stmt) (l : Closing) → old.around.items ≡ new.around.items ++ e ∷ [] → new.level.decls ≡ e.level.decls → new.level.begun ≡ e.level.begun
     → new.level.stmts.items ≡ e.level.stmts.items ++ s ∷ [] → before s stop ≡ block (full_head e.head old.level.decls.items) (code_of old.level.stmts.items) stop → Adds (closes l) old new
 left_adds old new e s l around decls begun stmts is context next built q = left_step old new context next built e s around decls begun stmts is l context.stage built.staged q
 
@@ -285,11 +287,11 @@ goes_on context last item others e = by (next_after context.blocks context.stage
 -- a building at a script's end has no open block
 pub closed : (b : Building) (context : Context) → IsBuilding b context → IsEnd context → (b.around.items ≡ []) × (b.level.begun ≡ false)
 closed b context built end =
-    let no_loops : loops (reverse b.around.items) ≡ [] = sym built.blocks ∙ end.closed in
-    let none = none_around (reverse b.around.items) no_loops in
+    let none_open : endings (reverse b.around.items) ≡ [] = sym built.blocks ∙ end.closed in
+    let none = none_around (reverse b.around.items) none_open in
     (sym (reverse-reverse b.around.items) ∙ ap reverse none, at context.stage end.begun (subst (λ around. IsStaged context.stage around b.level) none built.staged))
   where
-    none_around : (around : List Enclosing) → loops around ≡ [] → around ≡ []
+    none_around : (around : List Enclosing) → endings around ≡ [] → around ≡ []
     none_around [] e = refl
     none_around (e ∷ around) q = absurd (cc q)
 

@@ -1,6 +1,8 @@
 -- The items that may come are those that are read.
-use Rattle.std.proofs.Common.{◌≡◌, ℕ, Bool, true, false, List, [], ◌∷◌, refl, ap, subst, inl, inr, Some, None, codes}
+use Rattle.std.proofs.Common.{◌≡◌, ℕ, List, [], ◌∷◌, refl, ap, subst, inl, inr, Some, None, codes}
 use Rattle.std.proofs.lemmas.Option.{none-some}
+use Rattle.ac_syntax.specs.declared.closing.Closing.{Closing}
+use Rattle.ac_syntax.specs.declared.closing.Closing.TheVariants.{EndLoop, End}
 use Rattle.ac_syntax.specs.Code.{Simple, call_at, set_at, sum_at, Head, loop_at, view_at, stable_at, declare_at}
 use Rattle.ac_syntax.specs.Items.{Item, declares, commands, opens, begins, closes}
 use Rattle.ac_syntax.specs.Order.{Stage, listing, heading, running, Context, entered, next_after}
@@ -44,17 +46,17 @@ relined line (declares decl) = declares (decl_on line decl)
 relined line (commands simple) = commands (simple_on line simple)
 relined line (opens head) = opens (head_on line head)
 relined line begins = begins
-relined line (closes is_loop) = closes is_loop
+relined line (closes closing) = closes closing
 
 -- an item that may come
-abbrev pub Coming : List Bool → Stage → Type 0
+abbrev pub Coming : List Closing → Stage → Type 0
 Coming blocks stage = (item : Item) × MayCome blocks stage item
 
 -- what is read is an item that may come
-abbrev Into : List Bool → Stage → ℕ → Item → List Part → Type 0
+abbrev Into : List Closing → Stage → ℕ → Item → List Part → Type 0
 Into blocks stage line item parts = (j : Coming blocks stage) × (item ≡ relined line j.0) × (parts ≡ item_parts j.0)
 
-may_enter : (blocks : List Bool) (line : ℕ) (b : Block) → (next : Context) × (entered blocks (told_head line b.0 b.1) ≡ Some next)
+may_enter : (blocks : List Closing) (line : ℕ) (b : Block) → (next : Context) × (entered blocks (told_head line b.0 b.1) ≡ Some next)
 may_enter blocks line (lead.For, t) = (_, refl)
 may_enter blocks line (lead.Query, t) = (_, refl)
 may_enter blocks line (lead.Update, t) = (_, refl)
@@ -107,35 +109,35 @@ commanded_read line n (an_assignment (a_value _)) = refl
 commanded_read line n (an_assignment (a_result _ _ _)) = refl
 commanded_read line n (an_assignment (a_sum _ _ _)) = refl
 
-listed_into : (blocks : List Bool) (line : ℕ) (i : Listed (innermost_of blocks)) → Into blocks listing line (listed_item (innermost_of blocks) line i) (listed_parts (innermost_of blocks) i)
+listed_into : (blocks : List Closing) (line : ℕ) (i : Listed (innermost_of blocks)) → Into blocks listing line (listed_item (innermost_of blocks) line i) (listed_parts (innermost_of blocks) i)
 unfolding item_parts
 listed_into blocks line (inl i) = ((typed_item line i, record { next = _; leads = refl }), refl, refl)
 listed_into blocks line (inr (inl b)) =
     let may = may_enter blocks line b in
     ((block_item line b, record { next = may.0; leads = may.1 }), ap opens (block_lined line b), block_read line b)
 listed_into [] line (inr (inr (inl e))) = absurd e
-listed_into (true ∷ blocks) line (inr (inr (inl e))) = ((closes true, record { next = _; leads = refl }), refl, refl)
-listed_into (false ∷ blocks) line (inr (inr (inl e))) = ((closes false, record { next = _; leads = refl }), refl, refl)
+listed_into (EndLoop ∷ blocks) line (inr (inr (inl e))) = ((closes EndLoop, record { next = _; leads = refl }), refl, refl)
+listed_into (End ∷ blocks) line (inr (inr (inl e))) = ((closes End, record { next = _; leads = refl }), refl, refl)
 listed_into blocks line (inr (inr (inr (n, inl d)))) =
     ((declares (declared_decl line n d), record { next = _; leads = refl }), ap declares (declared_lined line n d), declared_read line n d)
 listed_into blocks line (inr (inr (inr (n, inr c)))) =
     ((commands (commanded_simple line n c), record { next = _; leads = refl }), ap commands (commanded_lined line n c), commanded_read line n c)
 
-headed_into : (blocks : List Bool) (line : ℕ) (i : Headed) → Into blocks heading line (headed_item line i) (headed_parts i)
+headed_into : (blocks : List Closing) (line : ℕ) (i : Headed) → Into blocks heading line (headed_item line i) (headed_parts i)
 unfolding item_parts
 headed_into blocks line (inl _) = ((begins, record { next = _; leads = refl }), refl, refl)
 headed_into blocks line (inr (inl i)) = ((typed_item line i, record { next = _; leads = refl }), refl, refl)
 headed_into blocks line (inr (inr (n, d))) =
     ((declares (declared_decl line n d), record { next = _; leads = refl }), ap declares (declared_lined line n d), declared_read line n d)
 
-running_into : (blocks : List Bool) (line : ℕ) (i : Statement running (innermost_of blocks)) → Into blocks running line (statement_item running (innermost_of blocks) line i) (statement_parts running (innermost_of blocks) i)
+running_into : (blocks : List Closing) (line : ℕ) (i : Statement running (innermost_of blocks)) → Into blocks running line (statement_item running (innermost_of blocks) line i) (statement_parts running (innermost_of blocks) i)
 unfolding item_parts
 running_into blocks line (inl b) =
     let may = may_enter blocks line b in
     ((block_item line b, record { next = may.0; leads = may.1 }), ap opens (block_lined line b), block_read line b)
 running_into [] line (inr (inl e)) = absurd e
-running_into (true ∷ blocks) line (inr (inl e)) = ((closes true, record { next = _; leads = refl }), refl, refl)
-running_into (false ∷ blocks) line (inr (inl e)) = ((closes false, record { next = _; leads = refl }), refl, refl)
+running_into (EndLoop ∷ blocks) line (inr (inl e)) = ((closes EndLoop, record { next = _; leads = refl }), refl, refl)
+running_into (End ∷ blocks) line (inr (inl e)) = ((closes End, record { next = _; leads = refl }), refl, refl)
 running_into blocks line (inr (inr (n, c))) =
     ((commands (commanded_simple line n c), record { next = _; leads = refl }), ap commands (commanded_lined line n c), commanded_read line n c)
 
@@ -162,7 +164,7 @@ from_simple val parts line (call_at _ (Some target) object operation args) front
 from_simple val parts line (set_at _ target from) front f h = f target (an_assignment (a_value from)) refl h
 from_simple val parts line (sum_at _ target from minus number) front f h = f target (an_assignment (a_sum from minus number)) refl h
 
-from_head : {I : Type 0} (val : I → Item) (parts : I → List Part) (line : ℕ) (head : Head) (blocks : List Bool) (next : Context) (front : List Placed)
+from_head : {I : Type 0} (val : I → Item) (parts : I → List Part) (line : ℕ) (head : Head) (blocks : List Closing) (next : Context) (front : List Placed)
     → ((b : Block) → block_item line b ≡ relined line (opens head) → Spelled (block_parts b) front → From I val parts line (opens head) front)
     → entered blocks head ≡ Some next → Spelled (head_parts head) front → From I val parts line (opens head) front
 from_head val parts line (loop_at _ name elements backward object) blocks next front f e h = f (lead.For, (name, elements, backward, object)) refl h
@@ -177,7 +179,7 @@ from_head val parts line (stable_at _ object) blocks next front f e h = f (lead.
 from_head val parts line (declare_at _ []) blocks next front f e h = f (lead.Declare, tt) refl h
 from_head val parts line (declare_at _ (_ ∷ _)) blocks next front f e h = absurd (none-some next e)
 
-listed_from : (blocks : List Bool) (line : ℕ) (item : Item) (next : Context) (front : List Placed) → next_after blocks listing item ≡ Some next → Spelled (item_parts item) front
+listed_from : (blocks : List Closing) (line : ℕ) (item : Item) (next : Context) (front : List Placed) → next_after blocks listing item ≡ Some next → Spelled (item_parts item) front
     → From (Listed (innermost_of blocks)) (listed_item (innermost_of blocks) line) (listed_parts (innermost_of blocks)) line item front
 unfolding item_parts
 listed_from blocks line (declares decl) next front e h =
@@ -188,12 +190,12 @@ listed_from blocks line (opens head) next front e h =
     from_head (listed_item (innermost_of blocks) line) (listed_parts (innermost_of blocks)) line head blocks next front (λ b is s. (inr (inl b), is, s)) e h
 listed_from blocks line begins next front e h = absurd (none-some next e)
 listed_from [] line (closes _) next front e h = absurd (none-some next e)
-listed_from (true ∷ blocks) line (closes true) next front e h = (inr (inr (inl tt)), refl, h)
-listed_from (true ∷ blocks) line (closes false) next front e h = absurd (none-some next e)
-listed_from (false ∷ blocks) line (closes true) next front e h = absurd (none-some next e)
-listed_from (false ∷ blocks) line (closes false) next front e h = (inr (inr (inl tt)), refl, h)
+listed_from (EndLoop ∷ blocks) line (closes EndLoop) next front e h = (inr (inr (inl tt)), refl, h)
+listed_from (EndLoop ∷ blocks) line (closes End) next front e h = absurd (none-some next e)
+listed_from (End ∷ blocks) line (closes EndLoop) next front e h = absurd (none-some next e)
+listed_from (End ∷ blocks) line (closes End) next front e h = (inr (inr (inl tt)), refl, h)
 
-headed_from : (blocks : List Bool) (line : ℕ) (item : Item) (next : Context) (front : List Placed) → next_after blocks heading item ≡ Some next → Spelled (item_parts item) front
+headed_from : (blocks : List Closing) (line : ℕ) (item : Item) (next : Context) (front : List Placed) → next_after blocks heading item ≡ Some next → Spelled (item_parts item) front
     → From Headed (headed_item line) headed_parts line item front
 unfolding item_parts
 headed_from blocks line (declares decl) next front e h =
@@ -203,7 +205,7 @@ headed_from blocks line (opens head) next front e h = absurd (none-some next e)
 headed_from blocks line begins next front e h = (inl tt, refl, h)
 headed_from blocks line (closes _) next front e h = absurd (none-some next e)
 
-running_from : (blocks : List Bool) (line : ℕ) (item : Item) (next : Context) (front : List Placed) → next_after blocks running item ≡ Some next → Spelled (item_parts item) front
+running_from : (blocks : List Closing) (line : ℕ) (item : Item) (next : Context) (front : List Placed) → next_after blocks running item ≡ Some next → Spelled (item_parts item) front
     → From (Statement running (innermost_of blocks)) (statement_item running (innermost_of blocks) line) (statement_parts running (innermost_of blocks)) line item front
 unfolding item_parts
 running_from blocks line (declares decl) next front e h = absurd (none-some next e)
@@ -213,17 +215,17 @@ running_from blocks line (opens head) next front e h =
     from_head (statement_item running (innermost_of blocks) line) (statement_parts running (innermost_of blocks)) line head blocks next front (λ b is s. (inl b, is, s)) e h
 running_from blocks line begins next front e h = absurd (none-some next e)
 running_from [] line (closes _) next front e h = absurd (none-some next e)
-running_from (true ∷ blocks) line (closes true) next front e h = (inr (inl tt), refl, h)
-running_from (true ∷ blocks) line (closes false) next front e h = absurd (none-some next e)
-running_from (false ∷ blocks) line (closes true) next front e h = absurd (none-some next e)
-running_from (false ∷ blocks) line (closes false) next front e h = (inr (inl tt), refl, h)
+running_from (EndLoop ∷ blocks) line (closes EndLoop) next front e h = (inr (inl tt), refl, h)
+running_from (EndLoop ∷ blocks) line (closes End) next front e h = absurd (none-some next e)
+running_from (End ∷ blocks) line (closes EndLoop) next front e h = absurd (none-some next e)
+running_from (End ∷ blocks) line (closes End) next front e h = (inr (inl tt), refl, h)
 
-spelled_into : (blocks : List Bool) (stage : Stage) (line : ℕ) (item : Item) (parts : List Part) (front : List Placed) → Into blocks stage line item parts → Spelled parts front
+spelled_into : (blocks : List Closing) (stage : Stage) (line : ℕ) (item : Item) (parts : List Part) (front : List Placed) → Into blocks stage line item parts → Spelled parts front
     → (j : Coming blocks stage) × (item ≡ relined line j.0) × Spelled (item_parts j.0) front
 spelled_into blocks stage line item parts front is h = (is.0, is.1, subst (λ ps. Spelled ps front) is.2 h)
 
 -- on each line, the items that may come are read
-pub item_on_exact : (blocks : List Bool) (stage : Stage) (line : ℕ) → Exact (λ (j : Coming blocks stage). relined line j.0) (λ j. item_parts j.0) (item_on stage (innermost_of blocks) line)
+pub item_on_exact : (blocks : List Closing) (stage : Stage) (line : ℕ) → Exact (λ (j : Coming blocks stage). relined line j.0) (λ j. item_parts j.0) (item_on stage (innermost_of blocks) line)
 item_on_exact blocks listing line =
     respelled (in_listing_exact (innermost_of blocks) line) (λ i front h. spelled_into blocks listing line _ _ front (listed_into blocks line i) h)
     (λ j front h. listed_from blocks line j.0 j.1.next front j.1.leads h)

@@ -2,6 +2,7 @@
 use Rattle.std.proofs.Common.{◌≡◌, ◌≤◌, ℕ, zero, suc, Bool, true, false, List, [], ◌∷◌, ◌++◌, length, refl, sym, ap, subst, ◌∙◌, append_assoc, inl, inr, Option, Some, None, arith, true≢false}
 use Rattle.std.specs.Prelude.{◌⊎◌}
 use Rattle.std.proofs.lemmas.List.{append-nil, map-append}
+use Rattle.ac_syntax.specs.declared.closing.Closing.{Closing}
 use Rattle.ac_syntax.specs.declared.token.Placed.{Placed}
 use Rattle.ac_syntax.specs.declared.script.Script.{Script}
 use Rattle.ac_syntax.specs.declared.refusal.RefusalKind.{RefusalKind}
@@ -27,7 +28,7 @@ abbrev Read : List Placed → Type 0
 Read placed = ((items : List Item) × AreWhole items placed) ⊎ (EndEarly placed ⊎ ((line : ℕ) × HasBad placed line))
 
 at_end : (items : List Item) (context : Context) (placed : List Placed) → AreRead items context placed []
-    → (blocks : List Bool) (stage : Stage) → context.blocks ≡ blocks → context.stage ≡ stage → Read placed
+    → (blocks : List Closing) (stage : Stage) → context.blocks ≡ blocks → context.stage ≡ stage → Read placed
 at_end items context placed read [] listing closed at = inl (items, is_whole items context placed read (record { closed = closed; begun = ap is_heading at }))
 at_end items context placed read [] running closed at = inl (items, is_whole items context placed read (record { closed = closed; begun = ap is_heading at }))
 at_end items context placed read [] heading closed at = inr (inl (ends_open items context placed read (λ end. absurd (true≢false (sym (ap is_heading at) ∙ end.begun)))))

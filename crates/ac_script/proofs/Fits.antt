@@ -218,7 +218,7 @@ item_fits (declares decl) before front after within written p = tt
 item_fits (commands simple) before front after within written p = simple_fits simple (parts_fit (simple_parts simple) false before front after not_opened within written (simple_opened simple) p)
 item_fits (opens head) before front after within written p = tt
 item_fits begins before front after within written p = tt
-item_fits (closes is_loop) before front after within written p = tt
+item_fits (closes closing) before front after within written p = tt
 
 items_fit : (items : List Item) (before : List Token) (placed : List Placed) → AreItems items placed → AreWithinLimits (before ++ tokens placed) → list_all is_written (tokens placed) ≡ true → All Fits items
 items_fit [] before placed are within written = All-nil Fits

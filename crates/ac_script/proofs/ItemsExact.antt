@@ -1,5 +1,7 @@
 -- The reader of one item is exact, on each line.
-use Rattle.std.proofs.Common.{◌≡◌, ℕ, Bool, true, false, List, [], ◌∷◌, ◌++◌, refl, ◌⊎◌, inl, inr, Option, Some, None, codes}
+use Rattle.std.proofs.Common.{◌≡◌, ℕ, true, false, List, [], ◌∷◌, ◌++◌, refl, ◌⊎◌, inl, inr, Option, Some, None, codes}
+use Rattle.ac_syntax.specs.declared.closing.Closing.{Closing}
+use Rattle.ac_syntax.specs.declared.closing.Closing.TheVariants.{EndLoop, End}
 use Rattle.ac_syntax.specs.Items.{Item, declares, commands, opens, begins, closes}
 use Rattle.ac_syntax.specs.Order.{Stage, listing, heading, running}
 use Rattle.ac_syntax.specs.declared.decl.Decl.TheVariants.{TypeDecl}
@@ -23,16 +25,16 @@ use Rattle.ac_script.proofs.DeclarationsExact.{type_declaration_exact, Declared,
 use Rattle.ac_script.proofs.HeadsExact.{lead_word, lead_looks, Told, told_head, told_parts, head_exact}
 use Rattle.ac_script.proofs.CommandsExact.{Commanded, a_call, an_assignment, commanded_simple, commanded_parts, command_exact}
 
-abbrev pub closing_rest : Bool → List Part
-closing_rest true = says (codes "loop") ∷ marks Semicolon ∷ []
-closing_rest false = marks Semicolon ∷ []
+abbrev pub closing_rest : Closing → List Part
+closing_rest EndLoop = says (codes "loop") ∷ marks Semicolon ∷ []
+closing_rest End = marks Semicolon ∷ []
 
-closing_exact : (is_loop : Bool) → Exact (λ (_ : Unit {0}). closes is_loop) (λ _. closing_rest is_loop) (closing is_loop)
+closing_exact : (words : Closing) → Exact (λ (_ : Unit {0}). closes words) (λ _. closing_rest words) (closing words)
 unfolding closing
-closing_exact true =
-    recast (seq (single (word_looks (codes "loop"))) (λ _. mapped (single (mark_looks Semicolon)) (λ _. closes true)))
+closing_exact EndLoop =
+    recast (seq (single (word_looks (codes "loop"))) (λ _. mapped (single (mark_looks Semicolon)) (λ _. closes EndLoop)))
     (λ _. (tt, refl, refl)) (λ _. ((tt, tt), refl, refl))
-closing_exact false = mapped (single (mark_looks Semicolon)) (λ _. closes false)
+closing_exact End = mapped (single (mark_looks Semicolon)) (λ _. closes End)
 
 -- a declared type
 abbrev pub Typed : Type 0
@@ -104,25 +106,25 @@ unfolding named
 named_exact stage line = seq (single name_looks) (λ n. behind_name_exact stage line n)
 
 -- the end of the innermost block, where one is open
-abbrev pub Ending : Option Bool → Type 0
+abbrev pub Ending : Option Closing → Type 0
 Ending None = ⊥
-Ending (Some is_loop) = Unit {0}
+Ending (Some words) = Unit {0}
 
-abbrev pub ending_item : (innermost : Option Bool) → Ending innermost → Item
+abbrev pub ending_item : (innermost : Option Closing) → Ending innermost → Item
 ending_item None i = absurd i
-ending_item (Some is_loop) i = closes is_loop
+ending_item (Some words) i = closes words
 
-abbrev pub ending_parts : (innermost : Option Bool) → Ending innermost → List Part
+abbrev pub ending_parts : (innermost : Option Closing) → Ending innermost → List Part
 ending_parts None i = absurd i
-ending_parts (Some is_loop) i = says (codes "end") ∷ closing_rest is_loop
+ending_parts (Some words) i = says (codes "end") ∷ closing_rest words
 
-abbrev pub Ended : Stage → Option Bool → Type 0
+abbrev pub Ended : Stage → Option Closing → Type 0
 Ended stage innermost = Ending innermost ⊎ WithName stage
 
-abbrev pub ended_item : (stage : Stage) (innermost : Option Bool) → ℕ → Ended stage innermost → Item
+abbrev pub ended_item : (stage : Stage) (innermost : Option Closing) → ℕ → Ended stage innermost → Item
 ended_item stage innermost line = either_value (ending_item innermost) (with_name_item stage line)
 
-abbrev pub ended_parts : (stage : Stage) (innermost : Option Bool) → Ended stage innermost → List Part
+abbrev pub ended_parts : (stage : Stage) (innermost : Option Closing) → Ended stage innermost → List Part
 ended_parts stage innermost = either_value (ending_parts innermost) (with_name_parts stage)
 
 free_name : (w : List ℕ) → is_reserved w ≡ true → (v : List ℕ) (ps : List Part) (placed : List Placed) → Spelled (names v ∷ ps) placed → Starts (as_word w) None placed
@@ -132,11 +134,11 @@ reserved_end : is_reserved (codes "end") ≡ true
 unfolding reserved is_reserved
 reserved_end = refl
 
-ended_exact : (stage : Stage) (innermost : Option Bool) (line : ℕ) → Exact (ended_item stage innermost line) (ended_parts stage innermost) (ended stage innermost line)
+ended_exact : (stage : Stage) (innermost : Option Closing) (line : ℕ) → Exact (ended_item stage innermost line) (ended_parts stage innermost) (ended stage innermost line)
 unfolding ended
 ended_exact stage None line = recast (named_exact stage line) (λ i. (inr i, refl, refl)) (either_by _ (λ i. absurd i) (λ i. (i, refl, refl)))
-ended_exact stage (Some is_loop) line =
-    recast (forked (word_looks (codes "end")) (λ _. closing_exact is_loop) (named_exact stage line) (λ i. free_name (codes "end") reserved_end i.0 (named_parts stage i.1)))
+ended_exact stage (Some words) line =
+    recast (forked (word_looks (codes "end")) (λ _. closing_exact words) (named_exact stage line) (λ i. free_name (codes "end") reserved_end i.0 (named_parts stage i.1)))
     (either_by _ (λ _. (inl tt, refl, refl)) (λ i. (inr i, refl, refl)))
     (either_by _ (λ _. (inl (tt, tt), refl, refl)) (λ i. (inr i, refl, refl)))
 
@@ -150,13 +152,13 @@ block_item line b = opens (told_head line b.0 b.1)
 abbrev pub block_parts : Block → List Part
 block_parts b = says (lead_word b.0) ∷ told_parts b.0 b.1
 
-abbrev pub Statement : Stage → Option Bool → Type 0
+abbrev pub Statement : Stage → Option Closing → Type 0
 Statement stage innermost = Block ⊎ Ended stage innermost
 
-abbrev pub statement_item : (stage : Stage) (innermost : Option Bool) → ℕ → Statement stage innermost → Item
+abbrev pub statement_item : (stage : Stage) (innermost : Option Closing) → ℕ → Statement stage innermost → Item
 statement_item stage innermost line = either_value (block_item line) (ended_item stage innermost line)
 
-abbrev pub statement_parts : (stage : Stage) (innermost : Option Bool) → Statement stage innermost → List Part
+abbrev pub statement_parts : (stage : Stage) (innermost : Option Closing) → Statement stage innermost → List Part
 statement_parts stage innermost = either_value block_parts (ended_parts stage innermost)
 
 not_lead : (v : List ℕ) → is_reserved v ≡ false → lead_of v ≡ None
@@ -176,12 +178,12 @@ end_leads : lead_of (codes "end") ≡ None
 unfolding lead_of other_lead
 end_leads = refl
 
-ended_apart : (stage : Stage) (innermost : Option Bool) (i : Ended stage innermost) (placed : List Placed) → Spelled (ended_parts stage innermost i) placed → Starts (as_word_of lead_of) None placed
+ended_apart : (stage : Stage) (innermost : Option Closing) (i : Ended stage innermost) (placed : List Placed) → Spelled (ended_parts stage innermost i) placed → Starts (as_word_of lead_of) None placed
 ended_apart stage None (inl i) placed h = absurd i
-ended_apart stage (Some is_loop) (inl i) placed h = word_apart (as_word_of lead_of) (codes "end") _ end_leads placed h
+ended_apart stage (Some words) (inl i) placed h = word_apart (as_word_of lead_of) (codes "end") _ end_leads placed h
 ended_apart stage innermost (inr i) placed h = name_apart (as_word_of lead_of) i.0 _ (not_lead i.0) placed h
 
-pub statement_exact : (stage : Stage) (innermost : Option Bool) (line : ℕ) → Exact (statement_item stage innermost line) (statement_parts stage innermost) (statement stage innermost line)
+pub statement_exact : (stage : Stage) (innermost : Option Closing) (line : ℕ) → Exact (statement_item stage innermost line) (statement_parts stage innermost) (statement stage innermost line)
 unfolding statement
 statement_exact stage innermost line =
     recast (forked lead_looks (λ l. head_item_exact line l) (ended_exact stage innermost line) (ended_apart stage innermost))
@@ -201,23 +203,23 @@ reserved_type : is_reserved (codes "type") ≡ true
 unfolding reserved is_reserved
 reserved_type = refl
 
-statement_apart : (stage : Stage) (innermost : Option Bool) (i : Statement stage innermost) (placed : List Placed) → Spelled (statement_parts stage innermost i) placed → Starts (as_word (codes "type")) None placed
+statement_apart : (stage : Stage) (innermost : Option Closing) (i : Statement stage innermost) (placed : List Placed) → Spelled (statement_parts stage innermost i) placed → Starts (as_word (codes "type")) None placed
 statement_apart stage innermost (inl i) placed h = word_apart (as_word (codes "type")) (lead_word i.0) _ (lead_type i.0) placed h
 statement_apart stage None (inr (inl i)) placed h = absurd i
-statement_apart stage (Some is_loop) (inr (inl i)) placed h = word_apart (as_word (codes "type")) (codes "end") _ refl placed h
+statement_apart stage (Some words) (inr (inl i)) placed h = word_apart (as_word (codes "type")) (codes "end") _ refl placed h
 statement_apart stage innermost (inr (inr i)) placed h = free_name (codes "type") reserved_type i.0 _ placed h
 
 -- at the front of a script
-abbrev pub Listed : Option Bool → Type 0
+abbrev pub Listed : Option Closing → Type 0
 Listed innermost = Typed ⊎ Statement listing innermost
 
-abbrev pub listed_item : (innermost : Option Bool) → ℕ → Listed innermost → Item
+abbrev pub listed_item : (innermost : Option Closing) → ℕ → Listed innermost → Item
 listed_item innermost line = either_value (typed_item line) (statement_item listing innermost line)
 
-abbrev pub listed_parts : (innermost : Option Bool) → Listed innermost → List Part
+abbrev pub listed_parts : (innermost : Option Closing) → Listed innermost → List Part
 listed_parts innermost = either_value (λ i. says (codes "type") ∷ typed_parts i) (statement_parts listing innermost)
 
-pub in_listing_exact : (innermost : Option Bool) (line : ℕ) → Exact (listed_item innermost line) (listed_parts innermost) (in_listing innermost line)
+pub in_listing_exact : (innermost : Option Closing) (line : ℕ) → Exact (listed_item innermost line) (listed_parts innermost) (in_listing innermost line)
 unfolding in_listing
 in_listing_exact innermost line =
     recast (forked (word_looks (codes "type")) (λ _. type_item_exact line) (statement_exact listing innermost line) (statement_apart listing innermost))

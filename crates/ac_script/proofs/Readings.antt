@@ -1,8 +1,10 @@
 -- What items that were read one after another say of every script of the same tokens.
-use Rattle.std.proofs.Common.{◌≡◌, ℕ, ◌<◌, Bool, true, false, List, [], ◌∷◌, ◌++◌, length, refl, sym, ap, subst, ◌∙◌, append_assoc, arith}
+use Rattle.std.proofs.Common.{◌≡◌, ℕ, ◌<◌, true, List, [], ◌∷◌, ◌++◌, length, refl, sym, ap, subst, ◌∙◌, append_assoc, arith}
 use Rattle.std.proofs.lemmas.List.{append-nil, map-append}
 use Rattle.std.proofs.lemmas.Option.{none-some}
 use Rattle.std.specs.Prelude.{Option, Some, None, map, option_and_then}
+use Rattle.ac_syntax.specs.declared.closing.Closing.{Closing}
+use Rattle.ac_syntax.specs.declared.closing.Closing.TheVariants.{EndLoop, End}
 use Rattle.ac_syntax.specs.declared.token.Placed.{Placed}
 use Rattle.ac_syntax.specs.declared.script.Script.{Script}
 use Rattle.ac_syntax.specs.Items.{Item, closes, script_items}
@@ -36,13 +38,13 @@ one_item it front is = (front, [], sym (append-nil front), is, refl)
 
 -- ---- items that may come begin a script
 
-ends_sayable : (line : ℕ) (blocks : List Bool) → are_sayable line (map closes blocks) ≡ true
+ends_sayable : (line : ℕ) (blocks : List Closing) → are_sayable line (map closes blocks) ≡ true
 unfolding item_parts
 ends_sayable line [] = refl
-ends_sayable line (true ∷ blocks) = ends_sayable (line_reached line None) blocks
-ends_sayable line (false ∷ blocks) = ends_sayable (line_reached line None) blocks
+ends_sayable line (EndLoop ∷ blocks) = ends_sayable (line_reached line None) blocks
+ends_sayable line (End ∷ blocks) = ends_sayable (line_reached line None) blocks
 
-completion_sayable : (line : ℕ) (blocks : List Bool) (stage : Stage) → are_sayable line (completion blocks stage) ≡ true
+completion_sayable : (line : ℕ) (blocks : List Closing) (stage : Stage) → are_sayable line (completion blocks stage) ≡ true
 unfolding item_parts
 completion_sayable line blocks listing = ends_sayable line blocks
 completion_sayable line blocks heading = ends_sayable (line_reached line None) blocks

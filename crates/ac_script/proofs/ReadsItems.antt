@@ -1,5 +1,7 @@
 -- The reader of an item reads the items that may come.
-use Rattle.std.proofs.Common.{◌≡◌, ◌<◌, ◌≤◌, length-append, ℕ, Bool, true, false, List, [], ◌∷◌, ◌++◌, length, refl, sym, ap, subst, ◌∙◌, Some, None, arith}
+use Rattle.std.proofs.Common.{◌≡◌, ◌<◌, ◌≤◌, length-append, ℕ, List, [], ◌∷◌, ◌++◌, length, refl, sym, ap, subst, ◌∙◌, Some, None, arith}
+use Rattle.ac_syntax.specs.declared.closing.Closing.{Closing}
+use Rattle.ac_syntax.specs.declared.closing.Closing.TheVariants.{EndLoop, End}
 use Rattle.ac_syntax.specs.Code.{Simple, call_at, set_at, sum_at, Head, loop_at, view_at, stable_at, declare_at}
 use Rattle.ac_syntax.specs.Items.{Item, declares, commands, opens, begins, closes, item_line}
 use Rattle.ac_syntax.specs.Order.{Stage, listing, heading, running, entered, next_after}
@@ -48,14 +50,14 @@ parts_on line begins = refl
 parts_on line (closes _) = refl
 
 -- and may come where it may
-entered_on : (blocks : List Bool) (line : ℕ) (head : Head) → entered blocks (head_on line head) ≡ entered blocks head
+entered_on : (blocks : List Closing) (line : ℕ) (head : Head) → entered blocks (head_on line head) ≡ entered blocks head
 entered_on blocks line (loop_at _ _ _ _ _) = refl
 entered_on blocks line (view_at _ _ _ _ _) = refl
 entered_on blocks line (stable_at _ _) = refl
 entered_on blocks line (declare_at _ []) = refl
 entered_on blocks line (declare_at _ (_ ∷ _)) = refl
 
-next_on : (blocks : List Bool) (stage : Stage) (line : ℕ) (item : Item) → next_after blocks stage (relined line item) ≡ next_after blocks stage item
+next_on : (blocks : List Closing) (stage : Stage) (line : ℕ) (item : Item) → next_after blocks stage (relined line item) ≡ next_after blocks stage item
 next_on blocks listing line (declares _) = refl
 next_on blocks heading line (declares _) = refl
 next_on blocks running line (declares _) = refl
@@ -68,7 +70,7 @@ next_on blocks running line (opens head) = entered_on blocks line head
 next_on blocks stage line begins = refl
 next_on blocks stage line (closes _) = refl
 
-may_on : (blocks : List Bool) (stage : Stage) (line : ℕ) (item : Item) → MayCome blocks stage item → MayCome blocks stage (relined line item)
+may_on : (blocks : List Closing) (stage : Stage) (line : ℕ) (item : Item) → MayCome blocks stage item → MayCome blocks stage (relined line item)
 may_on blocks stage line item may = record { next = may.next; leads = next_on blocks stage line item ∙ may.leads }
 
 -- it begins on that line
@@ -125,8 +127,8 @@ has_part (opens (view_at _ view.Reference _ _ _)) = omega arith
 has_part (opens (stable_at _ _)) = omega arith
 has_part (opens (declare_at _ _)) = omega arith
 has_part begins = omega arith
-has_part (closes true) = omega arith
-has_part (closes false) = omega arith
+has_part (closes EndLoop) = omega arith
+has_part (closes End) = omega arith
 
 -- some tokens
 record Nonempty (placed : List Placed) : Type 0 where
@@ -145,7 +147,7 @@ is_item first others it h = record {
   begins = begins_on first others it;
 }
 
-module _ (blocks : List Bool) (stage : Stage) where
+module _ (blocks : List Closing) (stage : Stage) where
   found_front : (p : Placed) (placed : List Placed) (it : Item) (rest : List Placed) → Found (λ (j : Coming blocks stage). relined p.line j.0) (λ j. item_parts j.0) (p ∷ placed) it rest
       → IsFront blocks stage (p ∷ placed) it rest
   found_front p placed it rest f =
@@ -212,7 +214,7 @@ module _ (blocks : List Bool) (stage : Stage) where
   items_read = record { found = item_found; only = item_only; begun = item_begun; bad = item_bad }
 
 -- what is read leaves fewer tokens
-pub item_leaves : (blocks : List Bool) (stage : Stage) (placed : List Placed) (it : Item) (rest : List Placed) → item stage (innermost_of blocks) placed ≡ got it rest → length rest < length placed
+pub item_leaves : (blocks : List Closing) (stage : Stage) (placed : List Placed) (it : Item) (rest : List Placed) → item stage (innermost_of blocks) placed ≡ got it rest → length rest < length placed
 item_leaves blocks stage placed it rest e =
     let front = (items_read blocks stage).found placed it rest e in
     omega (arith, ap length front.whole, length-append front.others rest)

@@ -2,7 +2,7 @@
 use Rattle.std.specs.Prelude.{◌≡◌, Bool, true, false, List, [], ◌∷◌, ◌++◌, map, flat_map, reverse, Some, if◌then◌else◌}
 use Rattle.ac_syntax.specs.Code as code
 use Rattle.ac_syntax.specs.declared.decl.Decl.{Decl}
-use Rattle.ac_syntax.specs.Items.{Item, declares, opens, begins, items, is_loop}
+use Rattle.ac_syntax.specs.Items.{Item, declares, opens, begins, items, ending}
 use Rattle.ac_syntax.specs.Statements.{code_of}
 use Rattle.ac_syntax.specs.Order.{Stage, listing, heading, running, Context, next_after}
 use Rattle.ac_script.specs.declared.item.Head.{Head}
@@ -58,7 +58,7 @@ IsStaged running around level = Nests around level
 
 -- what was built stands for the context behind its items
 pub record IsBuilding (b : Building) (context : Context) : Type 0 where
-  pub blocks : context.blocks ≡ map (λ (e : Enclosing). is_loop (head_view e.head)) (reverse b.around.items)
+  pub blocks : context.blocks ≡ map (λ (e : Enclosing). ending (head_view e.head)) (reverse b.around.items)
   pub staged : IsStaged context.stage (reverse b.around.items) b.level
 
 -- a block's head with its declarations

@@ -1,5 +1,6 @@
 -- What it is to read the items that may come, no more and no less.
-use Rattle.std.specs.Prelude.{◌≡◌, Bool, List, ◌∷◌, ◌++◌, Some}
+use Rattle.std.specs.Prelude.{◌≡◌, List, ◌∷◌, ◌++◌, Some}
+use Rattle.ac_syntax.specs.declared.closing.Closing.{Closing}
 use Rattle.ac_syntax.specs.declared.token.Placed.{Placed}
 use Rattle.ac_syntax.specs.Items.{Item}
 use Rattle.ac_syntax.specs.Grammar.{IsItem}
@@ -7,12 +8,12 @@ use Rattle.ac_syntax.specs.Order.{Stage, Context, next_after}
 use Rattle.ac_script.specs.Outcomes.{got, stopped, Reader}
 
 -- the item may come in this context
-pub record MayCome (blocks : List Bool) (stage : Stage) (item : Item) : Type 0 where
+pub record MayCome (blocks : List Closing) (stage : Stage) (item : Item) : Type 0 where
   pub next : Context
   pub leads : next_after blocks stage item ≡ Some next
 
 -- these tokens are the item's, which has some, and then the rest
-pub record IsFront (blocks : List Bool) (stage : Stage) (placed : List Placed) (item : Item) (rest : List Placed) : Type 0 where
+pub record IsFront (blocks : List Closing) (stage : Stage) (placed : List Placed) (item : Item) (rest : List Placed) : Type 0 where
   pub first : Placed
   pub others : List Placed
   pub whole : placed ≡ first ∷ (others ++ rest)
@@ -20,7 +21,7 @@ pub record IsFront (blocks : List Bool) (stage : Stage) (placed : List Placed) (
   pub may : MayCome blocks stage item
 
 -- the tokens up to these begin an item that may come
-pub record IsBegun (blocks : List Bool) (stage : Stage) (placed at : List Placed) : Type 0 where
+pub record IsBegun (blocks : List Closing) (stage : Stage) (placed at : List Placed) : Type 0 where
   pub before : List Placed
   pub more : List Placed
   pub item : Item
@@ -29,7 +30,7 @@ pub record IsBegun (blocks : List Bool) (stage : Stage) (placed at : List Placed
   pub may : MayCome blocks stage item
 
 -- the reader reads the items that may come in this context
-pub record ReadsItems (blocks : List Bool) (stage : Stage) (reader : Reader Item) : Type 0 where
+pub record ReadsItems (blocks : List Closing) (stage : Stage) (reader : Reader Item) : Type 0 where
   -- what is read is an item that may come
   pub found : (placed : List Placed) (item : Item) (rest : List Placed) → reader placed ≡ got item rest → IsFront blocks stage placed item rest
   -- each item that may come is read

@@ -31,4 +31,4 @@ Fits (declares decl) = Unit {0}
 Fits (commands simple) = FitsSimple simple
 Fits (opens head) = Unit {0}
 Fits begins = Unit {0}
-Fits (closes is_loop) = Unit {0}
+Fits (closes closing) = Unit {0}

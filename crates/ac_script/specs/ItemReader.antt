@@ -1,6 +1,8 @@
 -- The reader of one item, where it may come.
-use Rattle.std.specs.Prelude.{ℕ, codes, Bool, true, false, List, [], ◌∷◌, Option, Some, None}
+use Rattle.std.specs.Prelude.{ℕ, codes, List, [], ◌∷◌, Option, Some, None}
 use Rattle.ac_syntax.specs.Items.{Item, declares, commands, opens, begins, closes}
+use Rattle.ac_syntax.specs.declared.closing.Closing.{Closing}
+use Rattle.ac_syntax.specs.declared.closing.Closing.TheVariants.{EndLoop, End}
 use Rattle.ac_syntax.specs.Order.{Stage, listing, heading, running}
 use Rattle.ac_syntax.specs.declared.token.Mark.TheVariants.{Colon, Semicolon}
 use Rattle.ac_script.specs.declared.head.Lead.{Lead}
@@ -11,9 +13,9 @@ use Rattle.ac_script.specs.Heads.{first_word, head}
 use Rattle.ac_script.specs.Commands.{command}
 
 -- what stands behind `end`
-unfoldable pub closing : (is_loop : Bool) → Reader Item
-closing true = word (codes "loop") >>= λ _. mark Semicolon >>= λ _. gives (closes true)
-closing false = mark Semicolon >>= λ _. gives (closes false)
+unfoldable pub closing : Closing → Reader Item
+closing EndLoop = word (codes "loop") >>= λ _. mark Semicolon >>= λ _. gives (closes EndLoop)
+closing End = mark Semicolon >>= λ _. gives (closes End)
 
 unfoldable pub type_item : ℕ → Reader Item
 type_item line = type_declaration line >>= λ decl. gives (declares decl)
@@ -37,15 +39,15 @@ unfoldable pub named : Stage → ℕ → Reader Item
 named stage line = name >>= λ n. behind_name stage line n
 
 -- the end of the innermost block, where one is open
-unfoldable pub ended : Stage → Option Bool → ℕ → Reader Item
+unfoldable pub ended : Stage → Option Closing → ℕ → Reader Item
 ended stage None line = named stage line
-ended stage (Some is_loop) line = fork (word (codes "end")) (λ _. closing is_loop) (named stage line)
+ended stage (Some words) line = fork (word (codes "end")) (λ _. closing words) (named stage line)
 
 -- what isn't a type and doesn't begin the statements of a block
-unfoldable pub statement : Stage → Option Bool → ℕ → Reader Item
+unfoldable pub statement : Stage → Option Closing → ℕ → Reader Item
 statement stage innermost line = fork first_word (λ lead. head_item lead line) (ended stage innermost line)
 
-unfoldable pub in_listing : Option Bool → ℕ → Reader Item
+unfoldable pub in_listing : Option Closing → ℕ → Reader Item
 in_listing innermost line = fork (word (codes "type")) (λ _. type_item line) (statement listing innermost line)
 
 unfoldable pub type_or_named : ℕ → Reader Item
@@ -55,17 +57,17 @@ unfoldable pub in_heading : ℕ → Reader Item
 in_heading line = fork (word (codes "begin")) (λ _. gives begins) (type_or_named line)
 
 -- an item whose first token stands on this line
-abbrev pub item_on : Stage → Option Bool → ℕ → Reader Item
+abbrev pub item_on : Stage → Option Closing → ℕ → Reader Item
 item_on listing innermost line = in_listing innermost line
 item_on heading innermost line = in_heading line
 item_on running innermost line = statement running innermost line
 
--- an item where this is how far the script has come, and whether the innermost open block is a loop
-abbrev pub item : Stage → Option Bool → Reader Item
+-- an item where this is how far the script has come, and the words that end the innermost open block
+abbrev pub item : Stage → Option Closing → Reader Item
 item stage innermost [] = stopped []
 item stage innermost (first ∷ rest) = item_on stage innermost first.line (first ∷ rest)
 
--- whether the innermost of the open blocks is a loop
-abbrev pub innermost_of : List Bool → Option Bool
+-- the words that end the innermost of the open blocks
+abbrev pub innermost_of : List Closing → Option Closing
 innermost_of [] = None
-innermost_of (is_loop ∷ _) = Some is_loop
+innermost_of (closing ∷ _) = Some closing

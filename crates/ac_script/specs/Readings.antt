@@ -1,5 +1,6 @@
 -- What it is to read tokens to their end, or up to the first bad one.
-use Rattle.std.specs.Prelude.{◌≡◌, ℕ, Bool, List, [], ◌∷◌, ◌++◌, map, reverse, Some}
+use Rattle.std.specs.Prelude.{◌≡◌, ℕ, List, [], ◌∷◌, ◌++◌, map, reverse, Some}
+use Rattle.ac_syntax.specs.declared.closing.Closing.{Closing}
 use Rattle.ac_syntax.specs.declared.token.Placed.{Placed}
 use Rattle.ac_syntax.specs.declared.script.Script.{Script}
 use Rattle.ac_syntax.specs.Items.{Item}
@@ -41,7 +42,7 @@ reading_at [] = Early
 reading_at (bad ∷ _) = Bad bad.line
 
 -- the context where these blocks are open, the outermost first
-abbrev pub context_of : List Bool → Stage → Context
+abbrev pub context_of : List Closing → Stage → Context
 context_of open_blocks stage = record { blocks = reverse open_blocks; stage = stage_view stage }
 
 -- behind these items, which lead to the context, the rest of the tokens is left

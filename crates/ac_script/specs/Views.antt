@@ -29,7 +29,7 @@ item_view (Declares decl) = items.declares decl
 item_view (Commands command) = items.commands (command_view command)
 item_view (Opens head) = items.opens (head_view head)
 item_view Begins = items.begins
-item_view (Closes is_loop) = items.closes is_loop
+item_view (Closes closing) = items.closes closing
 
 abbrev pub stage_view : Stage → order.Stage
 stage_view Listing = order.listing

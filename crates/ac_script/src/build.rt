@@ -1,6 +1,7 @@
 //! Scripts from their items.
-ghost use Rattle.std.specs.Prelude.{◌≡◌, ◌∷◌, [], ◌++◌, map, All, Bool, false, IfOk, OnOk, Some};
+ghost use Rattle.std.specs.Prelude.{◌≡◌, ◌∷◌, [], ◌++◌, map, All, false, IfOk, OnOk, Some};
 ghost use Rattle.ac_syntax.specs.Code.{Code, Simple, one, block};
+ghost use Rattle.ac_syntax.specs.declared.closing.Closing.{Closing};
 ghost use Rattle.ac_syntax.specs.Items.{script_items, declares, commands, opens, begins, closes};
 ghost use Rattle.ac_syntax.specs.Order.{next_after, at_front, AreInOrder};
 ghost use Rattle.ac_syntax.specs.Statements.{before};
@@ -193,7 +194,7 @@ impl Building {
             Item::Commands(simple) => self.run(command(alloc, simple)?),
             Item::Opens(head) => self.enter(alloc, head),
             Item::Begins => self.begin(),
-            Item::Closes { .. } => self.leave(),
+            Item::Closes(_) => self.leave(),
         }
     }
 
@@ -229,7 +230,7 @@ impl Building {
 
     /// Goes out of the innermost block.
     fn leave(&mut self) -> Result<(), NoMemory>
-        ensures { (is_loop : Bool) → OnOk result (Adds (closes is_loop) self.old self.new) }
+        ensures { (closing : Closing) → OnOk result (Adds (closes closing) self.old self.new) }
     {
         let Some(Enclosing { level, head }) = self.around.pop() else {
             return Ok(());

@@ -1,7 +1,7 @@
 //! Items as they are read, their numbers of any size.
 
 use crate::argument::{Argument, Arguments};
-use ac_syntax::{Decl, Ident, ViewKind};
+use ac_syntax::{Closing, Decl, Ident, ViewKind};
 
 /// A command, with the line of its first token.
 #[derive(Drop)]
@@ -65,5 +65,5 @@ pub enum Item {
     /// The word `begin` after the declarations of a block.
     Begins,
     /// The words that end a block.
-    Closes { is_loop: bool },
+    Closes(Closing),
 }

@@ -11,21 +11,24 @@ use crate::item::Item;
 use crate::reader::{find_mark, find_word, mark, name, word};
 use crate::stage::Stage;
 use crate::stop::Stop;
-use ac_syntax::{Ident, Mark, Placed};
+use ac_syntax::{Closing, Ident, Mark, Placed};
 use std::alloc::Global;
 
 /// What follows `end`.
 #[tactic(auto, unfolding(crate::specs::ItemReader::closing))]
-fn closing(is_loop: bool, tokens: &[Placed]) -> Result<(Item, &[Placed]), Stop<'_>>
-    ensures { Sees (λ read. (item_view read.0, read.1.now)) result (readers.closing is_loop tokens.now) }
+fn closing(words: Closing, tokens: &[Placed]) -> Result<(Item, &[Placed]), Stop<'_>>
+    ensures { Sees (λ read. (item_view read.0, read.1.now)) result (readers.closing words tokens.now) }
 {
-    if is_loop {
-        let rest = word(tokens, b"loop")?;
-        let rest = mark(rest, Mark::Semicolon)?;
-        Ok((Item::Closes { is_loop }, rest))
-    } else {
-        let rest = mark(tokens, Mark::Semicolon)?;
-        Ok((Item::Closes { is_loop }, rest))
+    match words {
+        Closing::EndLoop => {
+            let rest = word(tokens, b"loop")?;
+            let rest = mark(rest, Mark::Semicolon)?;
+            Ok((Item::Closes(Closing::EndLoop), rest))
+        }
+        Closing::End => {
+            let rest = mark(tokens, Mark::Semicolon)?;
+            Ok((Item::Closes(Closing::End), rest))
+        }
     }
 }
 
@@ -117,15 +120,15 @@ fn named(
 fn ended(
     alloc: Global,
     stage: Stage,
-    innermost: Option<bool>,
+    innermost: Option<Closing>,
     line: u64,
     tokens: &[Placed],
 ) -> Result<(Item, &[Placed]), Stop<'_>>
     ensures { Sees (λ read. (item_view read.0, read.1.now)) result (readers.ended (stage_view stage) innermost line tokens.now) }
 {
     match innermost {
-        Some(is_loop) => match find_word(tokens, b"end") {
-            Some(rest) => closing(is_loop, rest),
+        Some(words) => match find_word(tokens, b"end") {
+            Some(rest) => closing(words, rest),
             None => named(alloc, stage, line, tokens),
         },
         None => named(alloc, stage, line, tokens),
@@ -136,7 +139,7 @@ fn ended(
 fn statement(
     alloc: Global,
     stage: Stage,
-    innermost: Option<bool>,
+    innermost: Option<Closing>,
     line: u64,
     tokens: &[Placed],
 ) -> Result<(Item, &[Placed]), Stop<'_>>
@@ -151,7 +154,7 @@ fn statement(
 #[tactic(auto, unfolding(crate::specs::ItemReader::in_listing))]
 fn in_listing(
     alloc: Global,
-    innermost: Option<bool>,
+    innermost: Option<Closing>,
     line: u64,
     tokens: &[Placed],
 ) -> Result<(Item, &[Placed]), Stop<'_>>
@@ -186,7 +189,7 @@ fn in_heading(alloc: Global, line: u64, tokens: &[Placed]) -> Result<(Item, &[Pl
 fn item_on(
     alloc: Global,
     stage: Stage,
-    innermost: Option<bool>,
+    innermost: Option<Closing>,
     line: u64,
     tokens: &[Placed],
 ) -> Result<(Item, &[Placed]), Stop<'_>>
@@ -199,12 +202,12 @@ fn item_on(
     }
 }
 
-/// The item at the front of the tokens, where it may come: `innermost` says whether the innermost open
-/// block is a loop, where one is open.
+/// The item at the front of the tokens, where it may come: `innermost` are the words that end the innermost
+/// open block, where one is open.
 pub fn read_item(
     alloc: Global,
     stage: Stage,
-    innermost: Option<bool>,
+    innermost: Option<Closing>,
     tokens: &[Placed],
 ) -> Result<(Item, &[Placed]), Stop<'_>>
     ensures { Sees (λ read. (item_view read.0, read.1.now)) result (readers.item (stage_view stage) innermost tokens.now) }

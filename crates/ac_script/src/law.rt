@@ -1,5 +1,6 @@
 //! What holds of the readers of this crate.
-ghost use Rattle.std.specs.Prelude.{◌≡◌, ◌⊎◌, ℕ, Bool, List};
+ghost use Rattle.std.specs.Prelude.{◌≡◌, ◌⊎◌, ℕ, List};
+ghost use Rattle.ac_syntax.specs.declared.closing.Closing.{Closing};
 ghost use Rattle.ac_syntax.specs.declared.refusal.RefusalKind.{RefusalKind};
 ghost use Rattle.ac_syntax.specs.declared.script.Script.{Script};
 ghost use Rattle.ac_syntax.specs.declared.token.Placed.{Placed};
@@ -12,7 +13,7 @@ ghost use Rattle.ac_script.specs.RefusalExamples.{RefusesMarkFirst, RefusesTasks
 
 /// In each context the items that may come are read, and reading stops at the first token with which none begins.
 pub fn items_read()
-    ensures { (blocks : List Bool) (stage : Stage) → ReadsItems blocks stage (item stage (innermost_of blocks)) }
+    ensures { (blocks : List Closing) (stage : Stage) → ReadsItems blocks stage (item stage (innermost_of blocks)) }
 {}
 
 /// No tokens derive two scripts.

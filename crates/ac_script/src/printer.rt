@@ -16,7 +16,7 @@ mod tests;
 mod words;
 
 use ac_base::NoMemory;
-use ac_syntax::{Script, Stmt, Stmts};
+use ac_syntax::{Closing, Script, Stmt, Stmts};
 use block::{put_declare, put_end, put_loop, put_stable, put_view};
 use command::{put_call, put_set, put_sum};
 use declaration::put_declarations;
@@ -25,11 +25,11 @@ use std::alloc::Global;
 
 /// Writes the statements in a block, and what ends it.
 #[cycle(statements)]
-fn put_body(page: &mut Page, body: &Stmts, is_loop: bool) -> Result<(), NoMemory>
-    ensures { OnOk result (page.new ≡ put_item (put_items page.old (items body.now)) (closes is_loop)) }
+fn put_body(page: &mut Page, body: &Stmts, closing: Closing) -> Result<(), NoMemory>
+    ensures { OnOk result (page.new ≡ put_item (put_items page.old (items body.now)) (closes closing)) }
 {
     put_statements(page, body)?;
-    put_end(page, is_loop)
+    put_end(page, closing)
 }
 
 #[cycle(statements)]
@@ -61,7 +61,7 @@ fn put_statement(page: &mut Page, stmt: &Stmt) -> Result<(), NoMemory>
             body,
         } => {
             put_loop(page, *line, name, *elements, *backward, object)?;
-            put_body(page, body, true)
+            put_body(page, body, Closing::EndLoop)
         }
         Stmt::View {
             line,
@@ -72,15 +72,15 @@ fn put_statement(page: &mut Page, stmt: &Stmt) -> Result<(), NoMemory>
             body,
         } => {
             put_view(page, *line, *kind, object, at, name)?;
-            put_body(page, body, false)
+            put_body(page, body, Closing::End)
         }
         Stmt::Stable { line, object, body } => {
             put_stable(page, *line, object)?;
-            put_body(page, body, false)
+            put_body(page, body, Closing::End)
         }
         Stmt::Declare { line, decls, body } => {
             put_declare(page, *line, decls)?;
-            put_body(page, body, false)
+            put_body(page, body, Closing::End)
         }
     }
 }

@@ -1,5 +1,7 @@
 //! The items of a script, read one after another.
-ghost use Rattle.std.specs.Prelude.{◌≡◌, Bool, true, reverse, IfOk, Some};
+ghost use Rattle.std.specs.Prelude.{◌≡◌, true, reverse, IfOk, Some};
+ghost use Rattle.ac_syntax.specs.Items as items;
+ghost use Rattle.ac_syntax.specs.declared.closing.Closing.{Closing as Words};
 ghost use Rattle.ac_syntax.specs.Order.{Context, entered, left_behind, next_after, IsEnd};
 ghost use Rattle.ac_script.specs.ItemReader.{innermost_of};
 ghost use Rattle.ac_script.specs.Views.{item_view, head_view, stage_view};
@@ -10,7 +12,7 @@ use crate::item_reader::read_item;
 use crate::stage::Stage;
 use crate::stop::Stop;
 use ac_base::NoMemory;
-use ac_syntax::Placed;
+use ac_syntax::{Closing, Placed};
 use std::alloc::Global;
 
 /// What the tokens of a text come to.
@@ -24,8 +26,8 @@ pub enum Reading {
     Bad { line: u64 },
 }
 
-/// Whether the innermost open block is a loop, where one is open.
-fn innermost(open_blocks: &[bool]) -> Option<bool>
+/// The words that end the innermost open block, where one is open.
+fn innermost(open_blocks: &[Closing]) -> Option<Closing>
     ensures { result ≡ innermost_of (reverse open_blocks.now) }
 {
     match open_blocks {
@@ -34,11 +36,21 @@ fn innermost(open_blocks: &[bool]) -> Option<bool>
     }
 }
 
+/// The words that end a block with this head.
+fn ending(head: &Head) -> Closing
+    ensures { result ≡ items.ending (head_view head.now) }
+{
+    match head {
+        Head::Loop { .. } => Closing::EndLoop,
+        Head::View { .. } | Head::Stable { .. } | Head::Declare { .. } => Closing::End,
+    }
+}
+
 /// Opens a block.
-fn enter(open_blocks: &mut Vec<bool>, head: &Head) -> Result<Stage, NoMemory>
+fn enter(open_blocks: &mut Vec<Closing>, head: &Head) -> Result<Stage, NoMemory>
     ensures { IfOk result (λ reached. entered (reverse open_blocks.old.items) (head_view head.now) ≡ Some (context_of open_blocks.new.items reached)) }
 {
-    open_blocks.push(matches!(head, Head::Loop { .. }))?;
+    open_blocks.push(ending(head))?;
     Ok(match head {
         Head::Declare { .. } => Stage::Heading,
         _ => Stage::Running,
@@ -46,22 +58,22 @@ fn enter(open_blocks: &mut Vec<bool>, head: &Head) -> Result<Stage, NoMemory>
 }
 
 /// Closes the innermost block.
-fn leave(open_blocks: &mut Vec<bool>) -> Stage
-    ensures { (is_loop : Bool) (next : Context) → left_behind is_loop (reverse open_blocks.old.items) ≡ Some next → context_of open_blocks.new.items result ≡ next }
+fn leave(open_blocks: &mut Vec<Closing>) -> Stage
+    ensures { (closing : Words) (next : Context) → left_behind closing (reverse open_blocks.old.items) ≡ Some next → context_of open_blocks.new.items result ≡ next }
 {
     open_blocks.pop();
     Stage::Running
 }
 
 /// How far the script has come behind an item that may come.
-fn after(open_blocks: &mut Vec<bool>, stage: Stage, item: &Item) -> Result<Stage, NoMemory>
+fn after(open_blocks: &mut Vec<Closing>, stage: Stage, item: &Item) -> Result<Stage, NoMemory>
     ensures { IfOk result (λ reached. (next : Context) → next_after (reverse open_blocks.old.items) (stage_view stage) (item_view item.now) ≡ Some next → context_of open_blocks.new.items reached ≡ next) }
 {
     match item {
         Item::Declares(_) => Ok(stage),
         Item::Commands(_) | Item::Begins => Ok(Stage::Running),
         Item::Opens(head) => enter(open_blocks, head),
-        Item::Closes { .. } => Ok(leave(open_blocks)),
+        Item::Closes(_) => Ok(leave(open_blocks)),
     }
 }
 
@@ -76,7 +88,7 @@ fn stopped(at: &[Placed]) -> Reading
 }
 
 /// A script may end where these blocks are open.
-fn may_end(open_blocks: &[bool], stage: Stage) -> bool
+fn may_end(open_blocks: &[Closing], stage: Stage) -> bool
     ensures ends { result ≡ true → IsEnd (context_of open_blocks.now stage) }
     ensures only { IsEnd (context_of open_blocks.now stage) → result ≡ true }
 {

@@ -4,7 +4,7 @@ use Rattle.std.proofs.lemmas.List.{append-nil}
 use Rattle.ac_syntax.specs.Code.{Head, loop_at, view_at, stable_at, declare_at, Code, stop, one, block}
 use Rattle.ac_syntax.specs.declared.decl.Decl.{Decl}
 use Rattle.ac_syntax.specs.declared.script.Script.{Script}
-use Rattle.ac_syntax.specs.Items.{Item, bare, is_loop, head_line, declares, commands, opens, begins, closes, declared, items, script_items}
+use Rattle.ac_syntax.specs.Items.{Item, bare, ending, head_line, declares, commands, opens, begins, closes, declared, items, script_items}
 
 -- nothing more, or the end of a block
 abbrev EndsHere : List Item → Type 0
@@ -33,9 +33,9 @@ IsDeclaration (closes _ ∷ _) = ⊥
 
 -- a block's items, and what stands behind them
 pub around : (head : Head) (body rest : Code) (x : List Item)
-    → items (block head body rest) ++ x ≡ opens (bare head) ∷ (declared head ++ (items body ++ closes (is_loop head) ∷ (items rest ++ x)))
+    → items (block head body rest) ++ x ≡ opens (bare head) ∷ (declared head ++ (items body ++ closes (ending head) ∷ (items rest ++ x)))
 around head body rest x = ap (λ tail. opens (bare head) ∷ tail)
-    (append_assoc (declared head) (items body ++ closes (is_loop head) ∷ items rest) x ∙ ap (λ tail. declared head ++ tail) (append_assoc (items body) (closes (is_loop head) ∷ items rest) x))
+    (append_assoc (declared head) (items body ++ closes (ending head) ∷ items rest) x ∙ ap (λ tail. declared head ++ tail) (append_assoc (items body) (closes (ending head) ∷ items rest) x))
 
 -- declarations up to the word behind them
 decls_alone : (decls others : List Decl) (xs ys : List Item)
@@ -90,14 +90,14 @@ code_alone (one s rest) (one t others) x y ex ey e =
     let found : (rest ≡ others) × (x ≡ y) = code_alone rest others x y ex ey tails in
     (λ i. one (same i) (found.0 i), found.1)
 code_alone (block head body rest) (block other inner others) x y ex ey e =
-    let both : opens (bare head) ∷ (declared head ++ (items body ++ closes (is_loop head) ∷ (items rest ++ x)))
-    ≡ opens (bare other) ∷ (declared other ++ (items inner ++ closes (is_loop other) ∷ (items others ++ y)))
+    let both : opens (bare head) ∷ (declared head ++ (items body ++ closes (ending head) ∷ (items rest ++ x)))
+    ≡ opens (bare other) ∷ (declared other ++ (items inner ++ closes (ending other) ∷ (items others ++ y)))
     = sym (around head body rest x) ∙ e ∙ around other inner others y in
     let bared : bare head ≡ bare other = cc both in
-    let tails : declared head ++ (items body ++ closes (is_loop head) ∷ (items rest ++ x)) ≡ declared other ++ (items inner ++ closes (is_loop other) ∷ (items others ++ y)) = cc both in
-    let heads : (head ≡ other) × (items body ++ closes (is_loop head) ∷ (items rest ++ x) ≡ items inner ++ closes (is_loop other) ∷ (items others ++ y))
+    let tails : declared head ++ (items body ++ closes (ending head) ∷ (items rest ++ x)) ≡ declared other ++ (items inner ++ closes (ending other) ∷ (items others ++ y)) = cc both in
+    let heads : (head ≡ other) × (items body ++ closes (ending head) ∷ (items rest ++ x) ≡ items inner ++ closes (ending other) ∷ (items others ++ y))
     = head_alone head other _ _ bared tails in
-    let inside : (body ≡ inner) × (closes (is_loop head) ∷ (items rest ++ x) ≡ closes (is_loop other) ∷ (items others ++ y)) = code_alone body inner _ _ tt tt heads.1 in
+    let inside : (body ≡ inner) × (closes (ending head) ∷ (items rest ++ x) ≡ closes (ending other) ∷ (items others ++ y)) = code_alone body inner _ _ tt tt heads.1 in
     let after : items rest ++ x ≡ items others ++ y = cc inside.1 in
     let found : (rest ≡ others) × (x ≡ y) = code_alone rest others x y ex ey after in
     (λ i. block (heads.0 i) (inside.0 i) (found.0 i), found.1)

@@ -1,6 +1,8 @@
 -- A script as its items in the order of the text: declarations, commands, what begins a block and what closes it.
-use Rattle.std.specs.Prelude.{ℕ, Bool, true, false, List, [], ◌∷◌, ◌++◌, map, Option, Some, None}
+use Rattle.std.specs.Prelude.{ℕ, List, [], ◌∷◌, ◌++◌, map, Option, Some, None}
 use Rattle.ac_syntax.specs.Code.{Simple, call_at, set_at, sum_at, Head, loop_at, view_at, stable_at, declare_at, Code, stop, one, block}
+use Rattle.ac_syntax.specs.declared.closing.Closing.{Closing}
+use Rattle.ac_syntax.specs.declared.closing.Closing.TheVariants.{EndLoop, End}
 use Rattle.ac_syntax.specs.declared.decl.Decl.{Decl}
 use Rattle.ac_syntax.specs.declared.decl.Decl.TheVariants.{TypeDecl, Object, CursorVar, IntVar, TextVar}
 use Rattle.ac_syntax.specs.declared.script.Script.{Script}
@@ -13,7 +15,7 @@ pub data Item : Type 0 where
   -- the word `begin` after the declarations of a block
   begins : Item
   -- the words that end a block
-  closes : (is_loop : Bool) → Item
+  closes : Closing → Item
 
 -- a head without its declarations
 abbrev pub bare : Head → Head
@@ -22,11 +24,12 @@ bare (view_at line kind object at name) = view_at line kind object at name
 bare (stable_at line object) = stable_at line object
 bare (declare_at line _) = declare_at line []
 
-abbrev pub is_loop : Head → Bool
-is_loop (loop_at _ _ _ _ _) = true
-is_loop (view_at _ _ _ _ _) = false
-is_loop (stable_at _ _) = false
-is_loop (declare_at _ _) = false
+-- the words that end a block with this head
+abbrev pub ending : Head → Closing
+ending (loop_at _ _ _ _ _) = EndLoop
+ending (view_at _ _ _ _ _) = End
+ending (stable_at _ _) = End
+ending (declare_at _ _) = End
 
 -- what stands between the head of a block and its body
 abbrev pub declared : Head → List Item
@@ -35,10 +38,18 @@ declared (view_at _ _ _ _ _) = []
 declared (stable_at _ _) = []
 declared (declare_at _ decls) = map declares decls ++ begins ∷ []
 
+-- what begins a block, up to its body
+abbrev pub opening : Head → List Item
+opening head = opens (bare head) ∷ declared head
+
+-- what ends a block, behind its body
+abbrev pub closing : Head → List Item
+closing head = closes (ending head) ∷ []
+
 abbrev pub items : Code → List Item
 items stop = []
 items (one simple rest) = commands simple ∷ items rest
-items (block head body rest) = opens (bare head) ∷ (declared head ++ (items body ++ closes (is_loop head) ∷ items rest))
+items (block head body rest) = opening head ++ (items body ++ (closing head ++ items rest))
 
 abbrev pub script_items : Script → List Item
 script_items script = map declares script.decls ++ items script.stmts

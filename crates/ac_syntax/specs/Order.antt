@@ -1,5 +1,7 @@
 -- In which order items come, from the front on: what may come next is told by the blocks that are open.
 use Rattle.std.specs.Prelude.{◌≡◌, Bool, true, false, List, [], ◌∷◌, Option, Some, None, option_and_then}
+use Rattle.ac_syntax.specs.declared.closing.Closing.{Closing}
+use Rattle.ac_syntax.specs.declared.closing.Closing.TheVariants.{EndLoop, End}
 use Rattle.ac_syntax.specs.Code.{Head, loop_at, view_at, stable_at, declare_at}
 use Rattle.ac_syntax.specs.Items.{Item, declares, commands, opens, begins, closes}
 
@@ -10,32 +12,32 @@ pub data Stage : Type 0 where
   heading : Stage
   running : Stage
 
--- for each open block, the innermost first, whether it is a loop
+-- the words that end each open block, those of the innermost first
 pub record Context : Type 0 where
-  pub blocks : List Bool
+  pub blocks : List Closing
   pub stage : Stage
 
-abbrev pub reach : List Bool → Stage → Option Context
+abbrev pub reach : List Closing → Stage → Option Context
 reach blocks stage = Some (record { blocks = blocks; stage = stage })
 
 -- in the block with this head
-abbrev pub entered : List Bool → Head → Option Context
-entered blocks (loop_at _ _ _ _ _) = reach (true ∷ blocks) running
-entered blocks (view_at _ _ _ _ _) = reach (false ∷ blocks) running
-entered blocks (stable_at _ _) = reach (false ∷ blocks) running
-entered blocks (declare_at _ []) = reach (false ∷ blocks) heading
+abbrev pub entered : List Closing → Head → Option Context
+entered blocks (loop_at _ _ _ _ _) = reach (EndLoop ∷ blocks) running
+entered blocks (view_at _ _ _ _ _) = reach (End ∷ blocks) running
+entered blocks (stable_at _ _) = reach (End ∷ blocks) running
+entered blocks (declare_at _ []) = reach (End ∷ blocks) heading
 entered blocks (declare_at _ (_ ∷ _)) = None
 
--- behind the innermost block, where the words end such a block
-abbrev pub left_behind : Bool → List Bool → Option Context
-left_behind is_loop [] = None
-left_behind true (true ∷ blocks) = reach blocks running
-left_behind true (false ∷ blocks) = None
-left_behind false (true ∷ blocks) = None
-left_behind false (false ∷ blocks) = reach blocks running
+-- behind the innermost block, where these words end it
+abbrev pub left_behind : Closing → List Closing → Option Context
+left_behind closing [] = None
+left_behind EndLoop (EndLoop ∷ blocks) = reach blocks running
+left_behind EndLoop (End ∷ blocks) = None
+left_behind End (EndLoop ∷ blocks) = None
+left_behind End (End ∷ blocks) = reach blocks running
 
 -- what an item leads to, where it may come
-abbrev pub next_after : List Bool → Stage → Item → Option Context
+abbrev pub next_after : List Closing → Stage → Item → Option Context
 next_after blocks listing (declares _) = reach blocks listing
 next_after blocks heading (declares _) = reach blocks heading
 next_after blocks running (declares _) = None
@@ -48,9 +50,9 @@ next_after blocks running (opens head) = entered blocks head
 next_after blocks listing begins = None
 next_after blocks heading begins = reach blocks running
 next_after blocks running begins = None
-next_after blocks listing (closes is_loop) = left_behind is_loop blocks
+next_after blocks listing (closes closing) = left_behind closing blocks
 next_after blocks heading (closes _) = None
-next_after blocks running (closes is_loop) = left_behind is_loop blocks
+next_after blocks running (closes closing) = left_behind closing blocks
 
 -- what items lead to, one after another
 abbrev pub context_after : Context → List Item → Option Context

@@ -2,6 +2,7 @@
 #![tactic(auto)]
 
 mod arg;
+mod closing;
 mod decl;
 mod fault;
 mod ident;
@@ -17,6 +18,7 @@ mod type_def;
 mod view_kind;
 
 pub use arg::{Arg, Args};
+pub use closing::Closing;
 pub use decl::{Decl, Decls};
 pub use fault::ScriptFault;
 pub use ident::{Ident, Idents};

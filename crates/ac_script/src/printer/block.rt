@@ -8,7 +8,7 @@ ghost use Rattle.ac_script.specs.Page.{put_parts, put_item, put_items};
 use crate::printer::declaration::{put_declarations, put_word_if};
 use crate::printer::page::Page;
 use ac_base::NoMemory;
-use ac_syntax::{Decls, Ident, Mark, ViewKind};
+use ac_syntax::{Closing, Decls, Ident, Mark, ViewKind};
 
 #[tactic(auto, using(crate::proofs::Pages::put_more), unfolding(ac_syntax::specs::Parts::item_parts))]
 pub fn put_loop(
@@ -171,12 +171,12 @@ pub fn put_declare(page: &mut Page, line: u64, decls: &Decls) -> Result<(), NoMe
 
 /// Writes what ends a block.
 #[tactic(auto, unfolding(ac_syntax::specs::Parts::item_parts))]
-pub fn put_end(page: &mut Page, is_loop: bool) -> Result<(), NoMemory>
-    ensures { OnOk result (page.new ≡ put_item page.old (closes is_loop)) }
+pub fn put_end(page: &mut Page, closing: Closing) -> Result<(), NoMemory>
+    ensures { OnOk result (page.new ≡ put_item page.old (closes closing)) }
 {
     page.begin_here()?;
     page.word("end")?;
-    if is_loop {
+    if matches!(closing, Closing::EndLoop) {
         page.word("loop")?;
     }
     page.mark(Mark::Semicolon)

@@ -1,6 +1,8 @@
-use Rattle.std.proofs.Common.{◌≡◌, ◌^◌, ◌-◌, take, drop, List, [], ◌∷◌, refl, ap, true, Bool}
+use Rattle.std.proofs.Common.{◌≡◌, ◌^◌, ◌-◌, take, drop, List, [], ◌∷◌, refl, ap}
 use Rattle.std.proofs.Math.Nat.{suc-ne-zero}
 use Rattle.std.specs.Prelude.{codes, length}
+use Rattle.ac_syntax.specs.declared.closing.Closing.{Closing}
+use Rattle.ac_syntax.specs.declared.closing.Closing.TheVariants.{EndLoop}
 use Rattle.ac_syntax.specs.declared.script.Script.{Script}
 use Rattle.ac_syntax.specs.declared.token.Mark.TheVariants.{Close, Semicolon, Colon}
 use Rattle.ac_syntax.specs.declared.token.Token.TheVariants as token
@@ -57,9 +59,9 @@ printing_items = take 4 (script_items (looping printing))
 
 -- in the loop
 abbrev in_loop : Context
-in_loop = at (true ∷ []) running
+in_loop = at (EndLoop ∷ []) running
 
-still_open : {b : Bool} {blocks : List Bool} → b ∷ blocks ≡ [] → ⊥
+still_open : {b : Closing} {blocks : List Closing} → b ∷ blocks ≡ [] → ⊥
 still_open {blocks} e = suc-ne-zero (length blocks) (ap length e)
 
 pub returns-clause-open_head : goal.returns-clause-open_head

@@ -14,4 +14,4 @@ pub returns-in-Begins : goal.returns-in-Begins
 returns-in-Begins c = rw c.in-Begins.is c.begin.ensures
 
 pub returns-in-Closes : goal.returns-in-Closes
-returns-in-Closes c = rw c.in-Closes.is (c.leave.ensures c.in-Closes.is_loop)
+returns-in-Closes c = rw c.in-Closes.is (c.leave.ensures c.in-Closes.field-0)

@@ -1,0 +1,8 @@
+/// The words that end a block.
+#[derive(Clone, Copy, Debug, PartialEq, Eq)]
+pub enum Closing {
+    /// `end loop;`
+    EndLoop,
+    /// `end;`
+    End,
+}
