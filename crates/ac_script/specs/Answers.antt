@@ -1,5 +1,5 @@
 -- What parsing a text comes to.
-use Rattle.std.specs.Prelude.{◌≡◌, ℕ, true, List, [], ◌∷◌, ◌++◌, Option, Result, Ok, Err}
+use Rattle.std.specs.Prelude.{◌≡◌, ◌⊎◌, ℕ, true, List, [], ◌∷◌, ◌++◌, Option, Result, Ok, Err}
 use Rattle.ac_syntax.specs.declared.token.Placed.{Placed}
 use Rattle.ac_syntax.specs.declared.script.Script.{Script}
 use Rattle.ac_syntax.specs.Tokens.{tokens, cut_of}
@@ -13,6 +13,10 @@ abbrev pub IsAnswer : List ℕ → Result Script ScriptFault → Type 0
 IsAnswer text (Ok script) = Spells script text
 IsAnswer text (Err (Refused line kind)) = IsFirstRefusal text line kind
 IsAnswer text (Err NoMemory) = Unit {0}
+
+-- the result is this answer, unless memory ran out
+abbrev pub IsOrNoMemory : Result Script ScriptFault → Result Script ScriptFault → Type 0
+IsOrNoMemory result answer = (result ≡ answer) ⊎ (result ≡ Err NoMemory)
 
 -- the text's tokens, and the line of the malformed piece behind them, if there is one
 pub record IsCut (text : List ℕ) (placed : List Placed) (malformed : Option ℕ) : Type 0 where

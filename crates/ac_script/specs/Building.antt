@@ -2,8 +2,9 @@
 use Rattle.std.specs.Prelude.{◌≡◌, Bool, true, false, List, [], ◌∷◌, ◌++◌, map, flat_map, reverse, Some, if◌then◌else◌}
 use Rattle.ac_syntax.specs.Code as code
 use Rattle.ac_syntax.specs.declared.decl.Decl.{Decl}
+use Rattle.ac_syntax.specs.declared.stmt.Stmt.{Stmt}
 use Rattle.ac_syntax.specs.Items.{Item, declares, opens, begins, items, ending}
-use Rattle.ac_syntax.specs.Statements.{code_of}
+use Rattle.ac_syntax.specs.Statements.{before, code_of}
 use Rattle.ac_syntax.specs.Order.{Stage, listing, heading, running, Context, next_after}
 use Rattle.ac_script.specs.declared.item.Head.{Head}
 use Rattle.ac_script.specs.declared.item.Head.TheVariants.{Loop, View, Stable, Declare}
@@ -60,6 +61,10 @@ IsStaged running around level = Nests around level
 pub record IsBuilding (b : Building) (context : Context) : Type 0 where
   pub blocks : context.blocks ≡ map (λ (e : Enclosing). ending (head_view e.head)) (reverse b.around.items)
   pub staged : IsStaged context.stage (reverse b.around.items) b.level
+
+-- the statement is this command
+abbrev pub Runs : Stmt → code.Simple → Type 0
+Runs stmt simple = (rest : code.Code) → before stmt rest ≡ code.one simple rest
 
 -- a block's head with its declarations
 abbrev pub full_head : Head → List Decl → code.Head

@@ -1,5 +1,6 @@
 -- Reading from the front of a token list.
 use Rattle.std.specs.Prelude.{◌≡◌, List, [], ◌∷◌, Option, Some, None, Result, Ok, Err}
+use denote.Bor.{Bor}
 use Rattle.ac_syntax.specs.declared.token.Token.{Token}
 use Rattle.ac_syntax.specs.declared.token.Placed.{Placed}
 use Rattle.ac_script.specs.declared.stop.Stop.{Stop}
@@ -23,6 +24,10 @@ Stops NoMemory outcome = Unit {0}
 abbrev pub Sees : {X A : Type 0} → (X → A × List Placed) → Result X Stop → Outcome A → Type 0
 Sees view (Ok x) outcome = outcome ≡ got (view x).0 (view x).1
 Sees view (Err stop) outcome = Stops stop outcome
+
+-- what a function read at the front of its tokens is the outcome, its value seen by `view`, unless memory ran out
+abbrev pub Reads : {X A : Type 0} → (X → A) → Result (X × Bor (List Placed)) Stop → Outcome A → Type 0
+Reads view result outcome = Sees (λ read. (view read.0, read.1.now)) result outcome
 
 -- what a function found at the front of the tokens, seen by `view`, is the outcome
 abbrev pub Finds : {X A : Type 0} → (X → A × List Placed) → Option X → List Placed → Outcome A → Type 0

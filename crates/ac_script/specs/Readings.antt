@@ -3,9 +3,10 @@ use Rattle.std.specs.Prelude.{◌≡◌, ℕ, List, [], ◌∷◌, ◌++◌, map
 use Rattle.ac_syntax.specs.declared.closing.Closing.{Closing}
 use Rattle.ac_syntax.specs.declared.token.Placed.{Placed}
 use Rattle.ac_syntax.specs.declared.script.Script.{Script}
+use Rattle.ac_syntax.specs.Code.{Head}
 use Rattle.ac_syntax.specs.Items.{Item}
 use Rattle.ac_syntax.specs.Grammar.{AreItems, Derives, BeginsScript}
-use Rattle.ac_syntax.specs.Order.{Context, context_after, at_front, AreInOrder}
+use Rattle.ac_syntax.specs.Order.{Context, entered, left_behind, next_after, context_after, at_front, AreInOrder}
 use Rattle.ac_script.specs.declared.stage.Stage.{Stage}
 use Rattle.ac_script.specs.declared.reading.Reading.{Reading}
 use Rattle.ac_script.specs.declared.reading.Reading.TheVariants.{Whole, Early, Bad}
@@ -44,6 +45,19 @@ reading_at (bad ∷ _) = Bad bad.line
 -- the context where these blocks are open, the outermost first
 abbrev pub context_of : List Closing → Stage → Context
 context_of open_blocks stage = record { blocks = reverse open_blocks; stage = stage_view stage }
+
+-- from these open blocks, a block with this head leads to the others and to this stage
+
+abbrev pub Enters : List Closing → List Closing → Head → Stage → Type 0
+Enters old new head reached = entered (reverse old) head ≡ Some (context_of new reached)
+
+-- and so do the words that end the innermost one, whichever may
+abbrev pub Leaves : List Closing → List Closing → Stage → Type 0
+Leaves old new reached = (closing : Closing) (next : Context) → left_behind closing (reverse old) ≡ Some next → context_of new reached ≡ next
+
+-- and so does an item that may come at this stage
+abbrev pub GoesOn : List Closing → List Closing → Stage → Item → Stage → Type 0
+GoesOn old new stage item reached = (next : Context) → next_after (reverse old) (stage_view stage) item ≡ Some next → context_of new reached ≡ next
 
 -- behind these items, which lead to the context, the rest of the tokens is left
 pub record AreRead (items : List Item) (context : Context) (placed rest : List Placed) : Type 0 where

@@ -1,6 +1,6 @@
 //! Arguments of calls, and what is assigned.
 ghost use Rattle.std.specs.Prelude.{◌≡◌, map, IfOk};
-ghost use Rattle.ac_script.specs.Outcomes.{Sees, Finds};
+ghost use Rattle.ac_script.specs.Outcomes.{Reads, Finds};
 ghost use Rattle.ac_script.specs.Arguments.{argument_view};
 ghost use Rattle.ac_script.specs.Commands as commands;
 
@@ -93,7 +93,7 @@ pub fn constant(
 
 #[tactic(auto, unfolding(crate::specs::Commands::other_argument))]
 fn other_argument(alloc: Global, tokens: &[Placed]) -> Result<(Argument, &[Placed]), Stop<'_>>
-    ensures { Sees (λ read. (argument_view read.0, read.1.now)) result (commands.other_argument tokens.now) }
+    ensures { Reads argument_view result (commands.other_argument tokens.now) }
 {
     match find_mark(tokens, Mark::Minus) {
         Some(rest) => {
@@ -113,7 +113,7 @@ fn other_argument(alloc: Global, tokens: &[Placed]) -> Result<(Argument, &[Place
 
 #[tactic(auto, unfolding(crate::specs::Commands::argument))]
 fn any_argument(alloc: Global, tokens: &[Placed]) -> Result<(Argument, &[Placed]), Stop<'_>>
-    ensures { Sees (λ read. (argument_view read.0, read.1.now)) result (commands.argument tokens.now) }
+    ensures { Reads argument_view result (commands.argument tokens.now) }
 {
     match constant(alloc, tokens)? {
         Some((constant, rest)) => Ok((constant, rest)),
@@ -127,7 +127,7 @@ fn listed<'a>(
     first: Argument,
     tokens: &'a [Placed],
 ) -> Result<(Vec<Argument>, &'a [Placed]), Stop<'a>>
-    ensures { Sees (λ read. (map argument_view read.0.items, read.1.now)) result (commands.listed (argument_view first) tokens.now) }
+    ensures { Reads (λ value. map argument_view value.items) result (commands.listed (argument_view first) tokens.now) }
 {
     let mut items = Vec::new(alloc);
     items.push(first)?;
@@ -142,7 +142,7 @@ fn listed<'a>(
 
 #[tactic(auto, unfolding(crate::specs::Commands::arguments))]
 fn all_arguments(alloc: Global, tokens: &[Placed]) -> Result<(Arguments, &[Placed]), Stop<'_>>
-    ensures { Sees (λ read. (read.0, read.1.now)) result (commands.arguments tokens.now) }
+    ensures { Reads (λ value. value) result (commands.arguments tokens.now) }
 {
     let (first, rest) = any_argument(alloc, tokens)?;
     let (items, rest) = listed(alloc, first, rest)?;
@@ -153,7 +153,7 @@ fn all_arguments(alloc: Global, tokens: &[Placed]) -> Result<(Arguments, &[Place
 /// Arguments in parentheses, where there are any, and the semicolon.
 #[tactic(auto, unfolding(crate::specs::Commands::arguments_end))]
 pub fn arguments_end(alloc: Global, tokens: &[Placed]) -> Result<(Arguments, &[Placed]), Stop<'_>>
-    ensures { Sees (λ read. (read.0, read.1.now)) result (commands.arguments_end tokens.now) }
+    ensures { Reads (λ value. value) result (commands.arguments_end tokens.now) }
 {
     match find_mark(tokens, Mark::Open) {
         Some(rest) => all_arguments(alloc, rest),

@@ -1,6 +1,6 @@
 //! Scripts from their items.
 ghost use Rattle.std.specs.Prelude.{◌≡◌, ◌∷◌, [], ◌++◌, map, All, false, IfOk, OnOk, Some};
-ghost use Rattle.ac_syntax.specs.Code.{Code, Simple, one, block};
+ghost use Rattle.ac_syntax.specs.Code.{Code, Simple, block};
 ghost use Rattle.ac_syntax.specs.declared.closing.Closing.{Closing};
 ghost use Rattle.ac_syntax.specs.Items.{script_items, declares, commands, opens, begins, closes};
 ghost use Rattle.ac_syntax.specs.Order.{next_after, at_front, AreInOrder};
@@ -9,7 +9,7 @@ ghost use Rattle.ac_script.specs.Arguments.{argument_view};
 ghost use Rattle.ac_script.specs.Views.{item_view, command_view, head_view};
 ghost use Rattle.ac_script.specs.Fits.{Fits, FitsSimple, FitsArg, FitArgs, IsInteger};
 ghost use Rattle.ac_script.specs.Arguments.{integer_of};
-ghost use Rattle.ac_script.specs.Building.{items_so_far, IsBuilding, Adds, full_head};
+ghost use Rattle.ac_script.specs.Building.{items_so_far, IsBuilding, Runs, Adds, full_head};
 
 use crate::argument::{Argument, Arguments};
 use crate::item::{Command, Head, Item};
@@ -86,7 +86,7 @@ fn args(alloc: Global, arguments: Arguments) -> Result<Args, NoMemory>
 
 fn command(alloc: Global, command: Command) -> Result<Stmt, NoMemory>
     requires { FitsSimple (command_view command) }
-    ensures { IfOk result (λ stmt. (rest : Code) → before stmt rest ≡ one (command_view command) rest) }
+    ensures { IfOk result (λ stmt. Runs stmt (command_view command)) }
 {
     Ok(match command {
         Command::Call {
@@ -206,7 +206,7 @@ impl Building {
     }
 
     fn run(&mut self, stmt: Stmt) -> Result<(), NoMemory>
-        ensures { (simple : Simple) → ((rest : Code) → before stmt rest ≡ one simple rest) → OnOk result (Adds (commands simple) self.old self.new) }
+        ensures { (simple : Simple) → Runs stmt simple → OnOk result (Adds (commands simple) self.old self.new) }
     {
         self.level.stmts.push(stmt)?;
         Ok(())

@@ -1,7 +1,7 @@
 //! Commands, from behind their first name on.
 ghost use Rattle.std.specs.Prelude.{IfOk};
 ghost use Rattle.std.specs.Option.{option_copied};
-ghost use Rattle.ac_script.specs.Outcomes.{Sees, Finds};
+ghost use Rattle.ac_script.specs.Outcomes.{Reads, Finds};
 ghost use Rattle.ac_script.specs.Arguments.{argument_view};
 ghost use Rattle.ac_script.specs.Views.{command_view};
 ghost use Rattle.ac_script.specs.Commands as commands;
@@ -22,7 +22,7 @@ fn call<'a>(
     object: &Ident,
     tokens: &'a [Placed],
 ) -> Result<(Command, &'a [Placed]), Stop<'a>>
-    ensures { Sees (λ read. (command_view read.0, read.1.now)) result (commands.call line (option_copied target.entry) object.now tokens.now) }
+    ensures { Reads command_view result (commands.call line (option_copied target.entry) object.now tokens.now) }
 {
     let (op, rest) = name(tokens)?;
     let (args, rest) = arguments_end(alloc, rest)?;
@@ -44,7 +44,7 @@ fn set_end<'a>(
     from: Argument,
     tokens: &'a [Placed],
 ) -> Result<(Command, &'a [Placed]), Stop<'a>>
-    ensures { Sees (λ read. (command_view read.0, read.1.now)) result (commands.set_end line target.now (argument_view from) tokens.now) }
+    ensures { Reads command_view result (commands.set_end line target.now (argument_view from) tokens.now) }
 {
     let rest = mark(tokens, Mark::Semicolon)?;
     let target = target.copy(alloc)?;
@@ -83,7 +83,7 @@ fn sum<'a>(
     minus: bool,
     tokens: &'a [Placed],
 ) -> Result<(Command, &'a [Placed]), Stop<'a>>
-    ensures { Sees (λ read. (command_view read.0, read.1.now)) result (commands.sum line target.now from.now minus tokens.now) }
+    ensures { Reads command_view result (commands.sum line target.now from.now minus tokens.now) }
 {
     let (number, rest) = number(tokens)?;
     let rest = mark(rest, Mark::Semicolon)?;
@@ -105,7 +105,7 @@ fn sum_or_set<'a>(
     from: &Ident,
     tokens: &'a [Placed],
 ) -> Result<(Command, &'a [Placed]), Stop<'a>>
-    ensures { Sees (λ read. (command_view read.0, read.1.now)) result (commands.sum_or_set line target.now from.now tokens.now) }
+    ensures { Reads command_view result (commands.sum_or_set line target.now from.now tokens.now) }
 {
     match find_sign(tokens) {
         Some((minus, rest)) => sum(alloc, line, target, from, minus, rest),
@@ -124,7 +124,7 @@ fn behind_source<'a>(
     from: &Ident,
     tokens: &'a [Placed],
 ) -> Result<(Command, &'a [Placed]), Stop<'a>>
-    ensures { Sees (λ read. (command_view read.0, read.1.now)) result (commands.behind_source line target.now from.now tokens.now) }
+    ensures { Reads command_view result (commands.behind_source line target.now from.now tokens.now) }
 {
     match find_mark(tokens, Mark::Dot) {
         Some(rest) => call(alloc, line, Some(target), from, rest),
@@ -139,7 +139,7 @@ fn from_name<'a>(
     target: &Ident,
     tokens: &'a [Placed],
 ) -> Result<(Command, &'a [Placed]), Stop<'a>>
-    ensures { Sees (λ read. (command_view read.0, read.1.now)) result (commands.from_name line target.now tokens.now) }
+    ensures { Reads command_view result (commands.from_name line target.now tokens.now) }
 {
     let (from, rest) = name(tokens)?;
     behind_source(alloc, line, target, from, rest)
@@ -152,7 +152,7 @@ fn from_negative<'a>(
     target: &Ident,
     tokens: &'a [Placed],
 ) -> Result<(Command, &'a [Placed]), Stop<'a>>
-    ensures { Sees (λ read. (command_view read.0, read.1.now)) result (commands.from_negative line target.now tokens.now) }
+    ensures { Reads command_view result (commands.from_negative line target.now tokens.now) }
 {
     let (magnitude, rest) = number(tokens)?;
     let from = Argument::Integer {
@@ -169,7 +169,7 @@ fn from_other<'a>(
     target: &Ident,
     tokens: &'a [Placed],
 ) -> Result<(Command, &'a [Placed]), Stop<'a>>
-    ensures { Sees (λ read. (command_view read.0, read.1.now)) result (commands.from_other line target.now tokens.now) }
+    ensures { Reads command_view result (commands.from_other line target.now tokens.now) }
 {
     match find_mark(tokens, Mark::Minus) {
         Some(rest) => from_negative(alloc, line, target, rest),
@@ -184,7 +184,7 @@ fn assigned<'a>(
     target: &Ident,
     tokens: &'a [Placed],
 ) -> Result<(Command, &'a [Placed]), Stop<'a>>
-    ensures { Sees (λ read. (command_view read.0, read.1.now)) result (commands.assigned line target.now tokens.now) }
+    ensures { Reads command_view result (commands.assigned line target.now tokens.now) }
 {
     match constant(alloc, tokens)? {
         Some((from, rest)) => set_end(alloc, line, target, from, rest),
@@ -199,7 +199,7 @@ fn assignment<'a>(
     target: &Ident,
     tokens: &'a [Placed],
 ) -> Result<(Command, &'a [Placed]), Stop<'a>>
-    ensures { Sees (λ read. (command_view read.0, read.1.now)) result (commands.assignment line target.now tokens.now) }
+    ensures { Reads command_view result (commands.assignment line target.now tokens.now) }
 {
     let rest = mark(tokens, Mark::Assign)?;
     assigned(alloc, line, target, rest)
@@ -213,7 +213,7 @@ pub fn command<'a>(
     first: &Ident,
     tokens: &'a [Placed],
 ) -> Result<(Command, &'a [Placed]), Stop<'a>>
-    ensures { Sees (λ read. (command_view read.0, read.1.now)) result (commands.command line first.now tokens.now) }
+    ensures { Reads command_view result (commands.command line first.now tokens.now) }
 {
     match find_mark(tokens, Mark::Dot) {
         Some(rest) => call(alloc, line, None, first, rest),

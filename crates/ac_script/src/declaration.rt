@@ -1,6 +1,6 @@
 //! Declarations, from the word `type` or the name and the colon on.
 ghost use Rattle.std.specs.Prelude.{◌≡◌};
-ghost use Rattle.ac_script.specs.Outcomes.{Sees, Finds};
+ghost use Rattle.ac_script.specs.Outcomes.{Reads};
 ghost use Rattle.ac_script.specs.Declarations as declarations;
 
 use crate::reader::{find_mark, find_word, is, mark, name, number, word};
@@ -59,7 +59,7 @@ fn kind_of(word: &[u8]) -> Option<Kind>
 }
 
 fn elem(tokens: &[Placed]) -> Result<(ElemKind, &[Placed]), Stop<'_>>
-    ensures { Sees (λ read. (read.0, read.1.now)) result (declarations.elem tokens.now) }
+    ensures { Reads (λ value. value) result (declarations.elem tokens.now) }
 {
     if let [
         Placed {
@@ -76,7 +76,7 @@ fn elem(tokens: &[Placed]) -> Result<(ElemKind, &[Placed]), Stop<'_>>
 }
 
 fn kind(tokens: &[Placed]) -> Result<(Kind, &[Placed]), Stop<'_>>
-    ensures { Sees (λ read. (read.0, read.1.now)) result (declarations.kind tokens.now) }
+    ensures { Reads (λ value. value) result (declarations.kind tokens.now) }
 {
     if let [
         Placed {
@@ -94,7 +94,7 @@ fn kind(tokens: &[Placed]) -> Result<(Kind, &[Placed]), Stop<'_>>
 
 #[tactic(auto, unfolding(crate::specs::Declarations::bounded_kind))]
 fn bounded_kind(tokens: &[Placed]) -> Result<((bool, Kind), &[Placed]), Stop<'_>>
-    ensures { Sees (λ read. (read.0, read.1.now)) result (declarations.bounded_kind tokens.now) }
+    ensures { Reads (λ value. value) result (declarations.bounded_kind tokens.now) }
 {
     match find_word(tokens, b"bounded") {
         Some(rest) => {
@@ -110,7 +110,7 @@ fn bounded_kind(tokens: &[Placed]) -> Result<((bool, Kind), &[Placed]), Stop<'_>
 
 #[tactic(auto, unfolding(crate::specs::Declarations::second_elem))]
 fn second_elem(tokens: &[Placed]) -> Result<(Option<ElemKind>, &[Placed]), Stop<'_>>
-    ensures { Sees (λ read. (read.0, read.1.now)) result (declarations.second_elem tokens.now) }
+    ensures { Reads (λ value. value) result (declarations.second_elem tokens.now) }
 {
     match find_mark(tokens, Mark::Comma) {
         Some(rest) => {
@@ -123,7 +123,7 @@ fn second_elem(tokens: &[Placed]) -> Result<(Option<ElemKind>, &[Placed]), Stop<
 
 #[tactic(auto, unfolding(crate::specs::Declarations::keyed_end))]
 fn keyed_end(tokens: &[Placed]) -> Result<(bool, &[Placed]), Stop<'_>>
-    ensures { Sees (λ read. (read.0, read.1.now)) result (declarations.keyed_end tokens.now) }
+    ensures { Reads (λ value. value) result (declarations.keyed_end tokens.now) }
 {
     match find_word(tokens, b"keyed") {
         Some(rest) => Ok((true, mark(rest, Mark::Semicolon)?)),
@@ -133,7 +133,7 @@ fn keyed_end(tokens: &[Placed]) -> Result<(bool, &[Placed]), Stop<'_>>
 
 #[tactic(auto, unfolding(crate::specs::Declarations::type_def))]
 fn type_def(tokens: &[Placed]) -> Result<(TypeDef, &[Placed]), Stop<'_>>
-    ensures { Sees (λ read. (read.0, read.1.now)) result (declarations.type_def tokens.now) }
+    ensures { Reads (λ value. value) result (declarations.type_def tokens.now) }
 {
     let ((bounded, kind), rest) = bounded_kind(tokens)?;
     let rest = mark(rest, Mark::Open)?;
@@ -157,7 +157,7 @@ pub fn type_declaration(
     line: u64,
     tokens: &[Placed],
 ) -> Result<(Decl, &[Placed]), Stop<'_>>
-    ensures { Sees (λ read. (read.0, read.1.now)) result (declarations.type_declaration line tokens.now) }
+    ensures { Reads (λ value. value) result (declarations.type_declaration line tokens.now) }
 {
     let (name, rest) = name(tokens)?;
     let rest = word(rest, b"is")?;
@@ -168,7 +168,7 @@ pub fn type_declaration(
 
 #[tactic(auto, unfolding(crate::specs::Declarations::capacity_end))]
 fn capacity_end(tokens: &[Placed]) -> Result<(Option<u64>, &[Placed]), Stop<'_>>
-    ensures { Sees (λ read. (read.0, read.1.now)) result (declarations.capacity_end tokens.now) }
+    ensures { Reads (λ value. value) result (declarations.capacity_end tokens.now) }
 {
     match find_mark(tokens, Mark::Open) {
         Some(rest) => {
@@ -187,7 +187,7 @@ fn integer_end<'a>(
     name: &Ident,
     tokens: &'a [Placed],
 ) -> Result<(Decl, &'a [Placed]), Stop<'a>>
-    ensures { Sees (λ read. (read.0, read.1.now)) result (declarations.integer_end line name.now tokens.now) }
+    ensures { Reads (λ value. value) result (declarations.integer_end line name.now tokens.now) }
 {
     let rest = mark(tokens, Mark::Semicolon)?;
     let name = name.copy(alloc)?;
@@ -201,7 +201,7 @@ fn text_end<'a>(
     name: &Ident,
     tokens: &'a [Placed],
 ) -> Result<(Decl, &'a [Placed]), Stop<'a>>
-    ensures { Sees (λ read. (read.0, read.1.now)) result (declarations.text_end line name.now tokens.now) }
+    ensures { Reads (λ value. value) result (declarations.text_end line name.now tokens.now) }
 {
     let rest = mark(tokens, Mark::Semicolon)?;
     let name = name.copy(alloc)?;
@@ -216,7 +216,7 @@ fn cursor_end<'a>(
     of: &Ident,
     tokens: &'a [Placed],
 ) -> Result<(Decl, &'a [Placed]), Stop<'a>>
-    ensures { Sees (λ read. (read.0, read.1.now)) result (declarations.cursor_end line name.now of.now tokens.now) }
+    ensures { Reads (λ value. value) result (declarations.cursor_end line name.now of.now tokens.now) }
 {
     let rest = word(tokens, b"cursor")?;
     let rest = mark(rest, Mark::Semicolon)?;
@@ -233,7 +233,7 @@ fn object_end<'a>(
     of: &Ident,
     tokens: &'a [Placed],
 ) -> Result<(Decl, &'a [Placed]), Stop<'a>>
-    ensures { Sees (λ read. (read.0, read.1.now)) result (declarations.object_end line name.now of.now tokens.now) }
+    ensures { Reads (λ value. value) result (declarations.object_end line name.now of.now tokens.now) }
 {
     let (capacity, rest) = capacity_end(tokens)?;
     let object = Decl::Object {
@@ -253,7 +253,7 @@ fn typed_end<'a>(
     of: &Ident,
     tokens: &'a [Placed],
 ) -> Result<(Decl, &'a [Placed]), Stop<'a>>
-    ensures { Sees (λ read. (read.0, read.1.now)) result (declarations.typed_end line name.now of.now tokens.now) }
+    ensures { Reads (λ value. value) result (declarations.typed_end line name.now of.now tokens.now) }
 {
     match find_mark(tokens, Mark::Dot) {
         Some(rest) => cursor_end(alloc, line, name, of, rest),
@@ -268,7 +268,7 @@ fn typed<'a>(
     declared: &Ident,
     tokens: &'a [Placed],
 ) -> Result<(Decl, &'a [Placed]), Stop<'a>>
-    ensures { Sees (λ read. (read.0, read.1.now)) result (declarations.typed line declared.now tokens.now) }
+    ensures { Reads (λ value. value) result (declarations.typed line declared.now tokens.now) }
 {
     let (of, rest) = name(tokens)?;
     typed_end(alloc, line, declared, of, rest)
@@ -281,7 +281,7 @@ fn text_or_typed<'a>(
     name: &Ident,
     tokens: &'a [Placed],
 ) -> Result<(Decl, &'a [Placed]), Stop<'a>>
-    ensures { Sees (λ read. (read.0, read.1.now)) result (declarations.text_or_typed line name.now tokens.now) }
+    ensures { Reads (λ value. value) result (declarations.text_or_typed line name.now tokens.now) }
 {
     match find_word(tokens, b"string") {
         Some(rest) => text_end(alloc, line, name, rest),
@@ -297,7 +297,7 @@ pub fn declared<'a>(
     name: &Ident,
     tokens: &'a [Placed],
 ) -> Result<(Decl, &'a [Placed]), Stop<'a>>
-    ensures { Sees (λ read. (read.0, read.1.now)) result (declarations.declared line name.now tokens.now) }
+    ensures { Reads (λ value. value) result (declarations.declared line name.now tokens.now) }
 {
     match find_word(tokens, b"integer") {
         Some(rest) => integer_end(alloc, line, name, rest),

@@ -1,7 +1,7 @@
 //! What begins a block, from its first word on.
 ghost use Rattle.std.specs.Prelude.{◌≡◌};
 ghost use Rattle.std.specs.Option.{option_copied};
-ghost use Rattle.ac_script.specs.Outcomes.{Sees, Finds};
+ghost use Rattle.ac_script.specs.Outcomes.{Reads, Finds};
 ghost use Rattle.ac_script.specs.Views.{head_view};
 ghost use Rattle.ac_script.specs.Heads as heads;
 
@@ -88,7 +88,7 @@ fn elements_of(word: &[u8]) -> Option<bool>
 
 /// Whether the loop goes over the elements.
 fn elements(tokens: &[Placed]) -> Result<(bool, &[Placed]), Stop<'_>>
-    ensures { Sees (λ read. (read.0, read.1.now)) result (heads.elements tokens.now) }
+    ensures { Reads (λ value. value) result (heads.elements tokens.now) }
 {
     if let [
         Placed {
@@ -106,7 +106,7 @@ fn elements(tokens: &[Placed]) -> Result<(bool, &[Placed]), Stop<'_>>
 
 #[tactic(auto, unfolding(crate::specs::Heads::object_loop))]
 fn object_loop(backward: bool, tokens: &[Placed]) -> Result<((bool, &Ident), &[Placed]), Stop<'_>>
-    ensures { Sees (λ read. ((read.0.0, read.0.1.now), read.1.now)) result (heads.object_loop backward tokens.now) }
+    ensures { Reads (λ value. (value.0, value.1.now)) result (heads.object_loop backward tokens.now) }
 {
     let (object, rest) = name(tokens)?;
     let rest = word(rest, b"loop")?;
@@ -115,7 +115,7 @@ fn object_loop(backward: bool, tokens: &[Placed]) -> Result<((bool, &Ident), &[P
 
 #[tactic(auto, unfolding(crate::specs::Heads::loop_end))]
 fn loop_end(tokens: &[Placed]) -> Result<((bool, &Ident), &[Placed]), Stop<'_>>
-    ensures { Sees (λ read. ((read.0.0, read.0.1.now), read.1.now)) result (heads.loop_end tokens.now) }
+    ensures { Reads (λ value. (value.0, value.1.now)) result (heads.loop_end tokens.now) }
 {
     match find_word(tokens, b"reverse") {
         Some(rest) => object_loop(true, rest),
@@ -125,7 +125,7 @@ fn loop_end(tokens: &[Placed]) -> Result<((bool, &Ident), &[Placed]), Stop<'_>>
 
 #[tactic(auto, unfolding(crate::specs::Heads::loop_head))]
 fn loop_head(alloc: Global, line: u64, tokens: &[Placed]) -> Result<(Head, &[Placed]), Stop<'_>>
-    ensures { Sees (λ read. (head_view read.0, read.1.now)) result (heads.loop_head line tokens.now) }
+    ensures { Reads head_view result (heads.loop_head line tokens.now) }
 {
     let (name, rest) = name(tokens)?;
     let (elements, rest) = elements(rest)?;
@@ -145,7 +145,7 @@ fn place_end<'a>(
     tokens: &'a [Placed],
     last: &[u8],
 ) -> Result<(Option<&'a Ident>, &'a [Placed]), Stop<'a>>
-    ensures { Sees (λ read. (option_copied read.0, read.1.now)) result (heads.place_end last.now tokens.now) }
+    ensures { Reads option_copied result (heads.place_end last.now tokens.now) }
 {
     match find_word(tokens, b"at") {
         Some(rest) => {
@@ -163,7 +163,7 @@ fn view_head(
     line: u64,
     tokens: &[Placed],
 ) -> Result<(Head, &[Placed]), Stop<'_>>
-    ensures { Sees (λ read. (head_view read.0, read.1.now)) result (heads.view_head kind line tokens.now) }
+    ensures { Reads head_view result (heads.view_head kind line tokens.now) }
 {
     let (object, rest) = name(tokens)?;
     let (at, rest) = place_end(rest, b"as")?;
@@ -181,7 +181,7 @@ fn view_head(
 
 #[tactic(auto, unfolding(crate::specs::Heads::key_head))]
 fn key_head(alloc: Global, line: u64, tokens: &[Placed]) -> Result<(Head, &[Placed]), Stop<'_>>
-    ensures { Sees (λ read. (head_view read.0, read.1.now)) result (heads.key_head line tokens.now) }
+    ensures { Reads head_view result (heads.key_head line tokens.now) }
 {
     let (object, rest) = name(tokens)?;
     let rest = word(rest, b"at")?;
@@ -205,7 +205,7 @@ fn reference_head(
     line: u64,
     tokens: &[Placed],
 ) -> Result<(Head, &[Placed]), Stop<'_>>
-    ensures { Sees (λ read. (head_view read.0, read.1.now)) result (heads.reference_head line tokens.now) }
+    ensures { Reads head_view result (heads.reference_head line tokens.now) }
 {
     let (reference, rest) = name(tokens)?;
     let rest = word(rest, b"of")?;
@@ -223,7 +223,7 @@ fn reference_head(
 
 #[tactic(auto, unfolding(crate::specs::Heads::stable_head))]
 fn stable_head(alloc: Global, line: u64, tokens: &[Placed]) -> Result<(Head, &[Placed]), Stop<'_>>
-    ensures { Sees (λ read. (head_view read.0, read.1.now)) result (heads.stable_head line tokens.now) }
+    ensures { Reads head_view result (heads.stable_head line tokens.now) }
 {
     let (object, rest) = name(tokens)?;
     let rest = word(rest, b"do")?;
@@ -238,7 +238,7 @@ pub fn head(
     line: u64,
     tokens: &[Placed],
 ) -> Result<(Head, &[Placed]), Stop<'_>>
-    ensures { Sees (λ read. (head_view read.0, read.1.now)) result (heads.head lead line tokens.now) }
+    ensures { Reads head_view result (heads.head lead line tokens.now) }
 {
     match lead {
         Lead::For => loop_head(alloc, line, tokens),

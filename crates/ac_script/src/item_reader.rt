@@ -1,6 +1,6 @@
 //! The reader of one item, where it may come.
 ghost use Rattle.std.specs.Prelude.{◌≡◌};
-ghost use Rattle.ac_script.specs.Outcomes.{Sees};
+ghost use Rattle.ac_script.specs.Outcomes.{Reads};
 ghost use Rattle.ac_script.specs.Views.{item_view, stage_view};
 ghost use Rattle.ac_script.specs.ItemReader as readers;
 
@@ -17,7 +17,7 @@ use std::alloc::Global;
 /// What follows `end`.
 #[tactic(auto, unfolding(crate::specs::ItemReader::closing))]
 fn closing(words: Closing, tokens: &[Placed]) -> Result<(Item, &[Placed]), Stop<'_>>
-    ensures { Sees (λ read. (item_view read.0, read.1.now)) result (readers.closing words tokens.now) }
+    ensures { Reads item_view result (readers.closing words tokens.now) }
 {
     match words {
         Closing::EndLoop => {
@@ -34,7 +34,7 @@ fn closing(words: Closing, tokens: &[Placed]) -> Result<(Item, &[Placed]), Stop<
 
 #[tactic(auto, unfolding(crate::specs::ItemReader::type_item))]
 fn type_item(alloc: Global, line: u64, tokens: &[Placed]) -> Result<(Item, &[Placed]), Stop<'_>>
-    ensures { Sees (λ read. (item_view read.0, read.1.now)) result (readers.type_item line tokens.now) }
+    ensures { Reads item_view result (readers.type_item line tokens.now) }
 {
     let (decl, rest) = type_declaration(alloc, line, tokens)?;
     Ok((Item::Declares(decl), rest))
@@ -47,7 +47,7 @@ fn declared_item<'a>(
     name: &Ident,
     tokens: &'a [Placed],
 ) -> Result<(Item, &'a [Placed]), Stop<'a>>
-    ensures { Sees (λ read. (item_view read.0, read.1.now)) result (readers.declared_item line name.now tokens.now) }
+    ensures { Reads item_view result (readers.declared_item line name.now tokens.now) }
 {
     let (decl, rest) = declared(alloc, line, name, tokens)?;
     Ok((Item::Declares(decl), rest))
@@ -60,7 +60,7 @@ fn command_item<'a>(
     name: &Ident,
     tokens: &'a [Placed],
 ) -> Result<(Item, &'a [Placed]), Stop<'a>>
-    ensures { Sees (λ read. (item_view read.0, read.1.now)) result (readers.command_item line name.now tokens.now) }
+    ensures { Reads item_view result (readers.command_item line name.now tokens.now) }
 {
     let (command, rest) = command(alloc, line, name, tokens)?;
     Ok((Item::Commands(command), rest))
@@ -73,7 +73,7 @@ fn head_item(
     line: u64,
     tokens: &[Placed],
 ) -> Result<(Item, &[Placed]), Stop<'_>>
-    ensures { Sees (λ read. (item_view read.0, read.1.now)) result (readers.head_item lead line tokens.now) }
+    ensures { Reads item_view result (readers.head_item lead line tokens.now) }
 {
     let (head, rest) = head(alloc, lead, line, tokens)?;
     Ok((Item::Opens(head), rest))
@@ -87,7 +87,7 @@ fn behind_name<'a>(
     name: &Ident,
     tokens: &'a [Placed],
 ) -> Result<(Item, &'a [Placed]), Stop<'a>>
-    ensures { Sees (λ read. (item_view read.0, read.1.now)) result (readers.behind_name (stage_view stage) line name.now tokens.now) }
+    ensures { Reads item_view result (readers.behind_name (stage_view stage) line name.now tokens.now) }
 {
     match stage {
         Stage::Listing => match find_mark(tokens, Mark::Colon) {
@@ -109,7 +109,7 @@ fn named(
     line: u64,
     tokens: &[Placed],
 ) -> Result<(Item, &[Placed]), Stop<'_>>
-    ensures { Sees (λ read. (item_view read.0, read.1.now)) result (readers.named (stage_view stage) line tokens.now) }
+    ensures { Reads item_view result (readers.named (stage_view stage) line tokens.now) }
 {
     let (name, rest) = name(tokens)?;
     behind_name(alloc, stage, line, name, rest)
@@ -124,7 +124,7 @@ fn ended(
     line: u64,
     tokens: &[Placed],
 ) -> Result<(Item, &[Placed]), Stop<'_>>
-    ensures { Sees (λ read. (item_view read.0, read.1.now)) result (readers.ended (stage_view stage) innermost line tokens.now) }
+    ensures { Reads item_view result (readers.ended (stage_view stage) innermost line tokens.now) }
 {
     match innermost {
         Some(words) => match find_word(tokens, b"end") {
@@ -143,7 +143,7 @@ fn statement(
     line: u64,
     tokens: &[Placed],
 ) -> Result<(Item, &[Placed]), Stop<'_>>
-    ensures { Sees (λ read. (item_view read.0, read.1.now)) result (readers.statement (stage_view stage) innermost line tokens.now) }
+    ensures { Reads item_view result (readers.statement (stage_view stage) innermost line tokens.now) }
 {
     match find_lead(tokens) {
         Some((lead, rest)) => head_item(alloc, lead, line, rest),
@@ -158,7 +158,7 @@ fn in_listing(
     line: u64,
     tokens: &[Placed],
 ) -> Result<(Item, &[Placed]), Stop<'_>>
-    ensures { Sees (λ read. (item_view read.0, read.1.now)) result (readers.in_listing innermost line tokens.now) }
+    ensures { Reads item_view result (readers.in_listing innermost line tokens.now) }
 {
     match find_word(tokens, b"type") {
         Some(rest) => type_item(alloc, line, rest),
@@ -168,7 +168,7 @@ fn in_listing(
 
 #[tactic(auto, unfolding(crate::specs::ItemReader::type_or_named))]
 fn type_or_named(alloc: Global, line: u64, tokens: &[Placed]) -> Result<(Item, &[Placed]), Stop<'_>>
-    ensures { Sees (λ read. (item_view read.0, read.1.now)) result (readers.type_or_named line tokens.now) }
+    ensures { Reads item_view result (readers.type_or_named line tokens.now) }
 {
     match find_word(tokens, b"type") {
         Some(rest) => type_item(alloc, line, rest),
@@ -178,7 +178,7 @@ fn type_or_named(alloc: Global, line: u64, tokens: &[Placed]) -> Result<(Item, &
 
 #[tactic(auto, unfolding(crate::specs::ItemReader::in_heading))]
 fn in_heading(alloc: Global, line: u64, tokens: &[Placed]) -> Result<(Item, &[Placed]), Stop<'_>>
-    ensures { Sees (λ read. (item_view read.0, read.1.now)) result (readers.in_heading line tokens.now) }
+    ensures { Reads item_view result (readers.in_heading line tokens.now) }
 {
     match find_word(tokens, b"begin") {
         Some(rest) => Ok((Item::Begins, rest)),
@@ -193,7 +193,7 @@ fn item_on(
     line: u64,
     tokens: &[Placed],
 ) -> Result<(Item, &[Placed]), Stop<'_>>
-    ensures { Sees (λ read. (item_view read.0, read.1.now)) result (readers.item_on (stage_view stage) innermost line tokens.now) }
+    ensures { Reads item_view result (readers.item_on (stage_view stage) innermost line tokens.now) }
 {
     match stage {
         Stage::Listing => in_listing(alloc, innermost, line, tokens),
@@ -210,7 +210,7 @@ pub fn read_item(
     innermost: Option<Closing>,
     tokens: &[Placed],
 ) -> Result<(Item, &[Placed]), Stop<'_>>
-    ensures { Sees (λ read. (item_view read.0, read.1.now)) result (readers.item (stage_view stage) innermost tokens.now) }
+    ensures { Reads item_view result (readers.item (stage_view stage) innermost tokens.now) }
 {
     match tokens {
         [first, ..] => item_on(alloc, stage, innermost, first.line, tokens),

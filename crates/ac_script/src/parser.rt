@@ -1,5 +1,5 @@
 //! Scripts from their texts.
-ghost use Rattle.std.specs.Prelude.{◌≡◌, ◌⊎◌, ℕ, List, [], ◌∷◌, ◌++◌, Ok, Err, IfOk, IsTrue};
+ghost use Rattle.std.specs.Prelude.{◌≡◌, ℕ, List, [], ◌∷◌, ◌++◌, Ok, Err, IfOk, IsTrue};
 ghost use Rattle.std.specs.List.{list_all};
 ghost use Rattle.ac_syntax.specs.declared.refusal.RefusalKind.{RefusalKind as Kind};
 ghost use Rattle.ac_syntax.specs.declared.script.Script.{Script as Made};
@@ -9,8 +9,7 @@ ghost use Rattle.ac_syntax.specs.Canonical.{is_written};
 ghost use Rattle.ac_syntax.specs.Limits.{AreWithinLimits};
 ghost use Rattle.ac_syntax.specs.Refusals.{Spells, IsFirstRefusal};
 ghost use Rattle.ac_syntax.specs.declared.fault.ScriptFault.TheVariants.{Refused};
-ghost use Rattle.ac_syntax.specs.declared.fault.ScriptFault.TheVariants as fault;
-ghost use Rattle.ac_script.specs.Answers.{IsAnswer, IsCut, EndPast};
+ghost use Rattle.ac_script.specs.Answers.{IsAnswer, IsOrNoMemory, IsCut, EndPast};
 
 #[cfg(test)]
 mod tests;
@@ -90,8 +89,8 @@ pub fn parse(alloc: Global, bytes: &[u8]) -> Result<Script, ScriptFault>
     ensures found { IfOk result (λ script. Spells script bytes.now) }
     ensures only { IfOk result (λ script. (other : Made) → Spells other bytes.now → other ≡ script) }
     ensures refused { (line : ℕ) (kind : Kind) → result ≡ Err (Refused line kind) → IsFirstRefusal bytes.now line kind }
-    ensures spelled { (script : Made) → Spells script bytes.now → (result ≡ Ok script) ⊎ (result ≡ Err fault.NoMemory) }
-    ensures faulty { (line : ℕ) (kind : Kind) → IsFirstRefusal bytes.now line kind → (result ≡ Err (Refused line kind)) ⊎ (result ≡ Err fault.NoMemory) }
+    ensures spelled { (script : Made) → Spells script bytes.now → IsOrNoMemory result (Ok script) }
+    ensures faulty { (line : ℕ) (kind : Kind) → IsFirstRefusal bytes.now line kind → IsOrNoMemory result (Err (Refused line kind)) }
 {
     answer(alloc, bytes)
 }

@@ -1,7 +1,7 @@
 //! Readers of one token: `find_` answers None where it isn't the one that is wanted, the others stop there.
 ghost use Rattle.std.specs.Prelude.{◌≡◌};
 ghost use Rattle.std.specs.Str.{bytes_eq};
-ghost use Rattle.ac_script.specs.Outcomes.{Sees, Finds};
+ghost use Rattle.ac_script.specs.Outcomes.{Sees, Reads, Finds};
 ghost use Rattle.ac_script.specs.Readers as readers;
 
 use crate::reserved::is_reserved;
@@ -73,14 +73,14 @@ pub fn mark(tokens: &[Placed], wanted: Mark) -> Result<&[Placed], Stop<'_>>
 }
 
 pub fn number(tokens: &[Placed]) -> Result<(u64, &[Placed]), Stop<'_>>
-    ensures { Sees (λ read. (read.0, read.1.now)) result (readers.number tokens.now) }
+    ensures { Reads (λ value. value) result (readers.number tokens.now) }
 {
     find_number(tokens).ok_or(Stop::At(tokens))
 }
 
 /// An identifier.
 pub fn name(tokens: &[Placed]) -> Result<(&Ident, &[Placed]), Stop<'_>>
-    ensures { Sees (λ read. (read.0.now, read.1.now)) result (readers.name tokens.now) }
+    ensures { Reads (λ value. value.now) result (readers.name tokens.now) }
 {
     match tokens {
         [

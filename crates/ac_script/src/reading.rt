@@ -1,11 +1,10 @@
 //! The items of a script, read one after another.
-ghost use Rattle.std.specs.Prelude.{◌≡◌, true, reverse, IfOk, Some};
+ghost use Rattle.std.specs.Prelude.{◌≡◌, true, reverse, IfOk};
 ghost use Rattle.ac_syntax.specs.Items as items;
-ghost use Rattle.ac_syntax.specs.declared.closing.Closing.{Closing as Words};
-ghost use Rattle.ac_syntax.specs.Order.{Context, entered, left_behind, next_after, IsEnd};
+ghost use Rattle.ac_syntax.specs.Order.{IsEnd};
 ghost use Rattle.ac_script.specs.ItemReader.{innermost_of};
-ghost use Rattle.ac_script.specs.Views.{item_view, head_view, stage_view};
-ghost use Rattle.ac_script.specs.Readings.{IsReading, context_of, reading_at};
+ghost use Rattle.ac_script.specs.Views.{item_view, head_view};
+ghost use Rattle.ac_script.specs.Readings.{IsReading, Enters, Leaves, GoesOn, context_of, reading_at};
 
 use crate::item::{Head, Item};
 use crate::item_reader::read_item;
@@ -48,7 +47,7 @@ fn ending(head: &Head) -> Closing
 
 /// Opens a block.
 fn enter(open_blocks: &mut Vec<Closing>, head: &Head) -> Result<Stage, NoMemory>
-    ensures { IfOk result (λ reached. entered (reverse open_blocks.old.items) (head_view head.now) ≡ Some (context_of open_blocks.new.items reached)) }
+    ensures { IfOk result (Enters open_blocks.old.items open_blocks.new.items (head_view head.now)) }
 {
     open_blocks.push(ending(head))?;
     Ok(match head {
@@ -59,7 +58,7 @@ fn enter(open_blocks: &mut Vec<Closing>, head: &Head) -> Result<Stage, NoMemory>
 
 /// Closes the innermost block.
 fn leave(open_blocks: &mut Vec<Closing>) -> Stage
-    ensures { (closing : Words) (next : Context) → left_behind closing (reverse open_blocks.old.items) ≡ Some next → context_of open_blocks.new.items result ≡ next }
+    ensures { Leaves open_blocks.old.items open_blocks.new.items result }
 {
     open_blocks.pop();
     Stage::Running
@@ -67,7 +66,7 @@ fn leave(open_blocks: &mut Vec<Closing>) -> Stage
 
 /// How far the script has come behind an item that may come.
 fn after(open_blocks: &mut Vec<Closing>, stage: Stage, item: &Item) -> Result<Stage, NoMemory>
-    ensures { IfOk result (λ reached. (next : Context) → next_after (reverse open_blocks.old.items) (stage_view stage) (item_view item.now) ≡ Some next → context_of open_blocks.new.items reached ≡ next) }
+    ensures { IfOk result (GoesOn open_blocks.old.items open_blocks.new.items stage (item_view item.now)) }
 {
     match item {
         Item::Declares(_) => Ok(stage),

@@ -64,12 +64,16 @@ abbrev pub capacity_parts : Option ℕ → List Part
 capacity_parts None = []
 capacity_parts (Some capacity) = marks Open ∷ counts capacity ∷ marks Close ∷ []
 
+-- `X : integer;`, with this word for the type
+abbrev pub variable_parts : List ℕ → List ℕ → List Part
+variable_parts name word = names name ∷ marks Colon ∷ says word ∷ marks Semicolon ∷ []
+
 abbrev pub decl_parts : Decl → List Part
 decl_parts (TypeDecl line name def) = says (codes "type") ∷ names name ∷ says (codes "is") ∷ (type_parts def ++ marks Semicolon ∷ [])
 decl_parts (Object line name of capacity) = names name ∷ marks Colon ∷ names of ∷ (capacity_parts capacity ++ marks Semicolon ∷ [])
 decl_parts (CursorVar line name of) = names name ∷ marks Colon ∷ names of ∷ marks Dot ∷ says (codes "cursor") ∷ marks Semicolon ∷ []
-decl_parts (IntVar line name) = names name ∷ marks Colon ∷ says (codes "integer") ∷ marks Semicolon ∷ []
-decl_parts (TextVar line name) = names name ∷ marks Colon ∷ says (codes "string") ∷ marks Semicolon ∷ []
+decl_parts (IntVar line name) = variable_parts name (codes "integer")
+decl_parts (TextVar line name) = variable_parts name (codes "string")
 
 abbrev pub arg_part : Arg → Part
 arg_part (Lit literal) = writes literal
@@ -108,11 +112,19 @@ abbrev pub needed_place : Option (List ℕ) → List Part
 needed_place None = lacks ∷ []
 needed_place (Some cursor) = says (codes "at") ∷ names cursor ∷ []
 
+-- `query A at C as X`, with this first word
+abbrev pub query_parts : List ℕ → List ℕ → Option (List ℕ) → List ℕ → List Part
+query_parts word object at name = says word ∷ names object ∷ (place_parts at ++ says (codes "as") ∷ names name ∷ [])
+
+-- the same where the cursor has to be there
+abbrev pub keyed_parts : List ℕ → List ℕ → Option (List ℕ) → List ℕ → List Part
+keyed_parts word object at name = says word ∷ names object ∷ (needed_place at ++ says (codes "as") ∷ names name ∷ [])
+
 -- the words of a view's head; `reference` has the new name first, the others last
 abbrev pub view_parts : ViewKind → List ℕ → Option (List ℕ) → List ℕ → List Part
-view_parts Query object at name = says (codes "query") ∷ names object ∷ (place_parts at ++ says (codes "as") ∷ names name ∷ [])
-view_parts Update object at name = says (codes "update") ∷ names object ∷ (place_parts at ++ says (codes "as") ∷ names name ∷ [])
-view_parts UpdateKey object at name = says (codes "update_key") ∷ names object ∷ (needed_place at ++ says (codes "as") ∷ names name ∷ [])
+view_parts Query object at name = query_parts (codes "query") object at name
+view_parts Update object at name = query_parts (codes "update") object at name
+view_parts UpdateKey object at name = keyed_parts (codes "update_key") object at name
 view_parts Reference object at name = says (codes "reference") ∷ names name ∷ says (codes "of") ∷ names object ∷ place_parts at
 
 abbrev pub head_parts : Head → List Part

@@ -1,7 +1,7 @@
 ghost use Rattle.std.specs.Prelude.{◌≡◌, ◌∷◌, ◌++◌, [], codes, OnOk};
 ghost use Rattle.ac_syntax.specs.Code.{loop_at, view_at, stable_at, declare_at};
 ghost use Rattle.ac_syntax.specs.Items.{opens, begins, closes, declared};
-ghost use Rattle.ac_syntax.specs.Parts.{says, names, place_parts, needed_place, view_parts};
+ghost use Rattle.ac_syntax.specs.Parts.{says, names, place_parts, needed_place, query_parts, keyed_parts, view_parts};
 ghost use Rattle.ac_syntax.specs.declared.view_kind.ViewKind.TheVariants.{Reference};
 ghost use Rattle.ac_script.specs.Page.{put_parts, put_item, put_items};
 
@@ -65,7 +65,7 @@ fn put_query(
     at: &Option<Ident>,
     name: &Ident,
 ) -> Result<(), NoMemory>
-    ensures { OnOk result (page.new ≡ put_parts page.old (says word.now ∷ names object.now ∷ (place_parts at.now ++ says (codes "as") ∷ names name.now ∷ []))) }
+    ensures { OnOk result (page.new ≡ put_parts page.old (query_parts word.now object.now at.now name.now)) }
 {
     put_named(page, word, object)?;
     put_place(page, at)?;
@@ -81,7 +81,7 @@ fn put_keyed(
     at: &Option<Ident>,
     name: &Ident,
 ) -> Result<(), NoMemory>
-    ensures { OnOk result (page.new ≡ put_parts page.old (says word.now ∷ names object.now ∷ (needed_place at.now ++ says (codes "as") ∷ names name.now ∷ []))) }
+    ensures { OnOk result (page.new ≡ put_parts page.old (keyed_parts word.now object.now at.now name.now)) }
 {
     put_named(page, word, object)?;
     put_needed_place(page, at)?;

@@ -1,6 +1,6 @@
 ghost use Rattle.std.specs.Prelude.{◌≡◌, ◌∷◌, [], Some, map, OnOk, if◌then◌else◌};
 ghost use Rattle.ac_syntax.specs.Items.{declares};
-ghost use Rattle.ac_syntax.specs.Parts.{says, marks, names, second_parts, type_parts, capacity_parts};
+ghost use Rattle.ac_syntax.specs.Parts.{says, marks, names, second_parts, type_parts, capacity_parts, variable_parts};
 ghost use Rattle.ac_syntax.specs.declared.decl.Decl.TheVariants.{TypeDecl, Object, CursorVar};
 ghost use Rattle.ac_syntax.specs.declared.token.Mark.TheVariants.{Colon, Semicolon};
 ghost use Rattle.ac_script.specs.Page.{begin_item, put_parts, put_item, put_items};
@@ -105,7 +105,7 @@ fn put_cursor(page: &mut Page, line: u64, name: &Ident, of: &Ident) -> Result<()
 
 /// Writes the declaration of a variable whose type is a reserved word.
 fn put_variable(page: &mut Page, line: u64, name: &Ident, word: &str) -> Result<(), NoMemory>
-    ensures { OnOk result (page.new ≡ put_parts (begin_item page.old (Some line)) (names name.now ∷ marks Colon ∷ says word.now ∷ marks Semicolon ∷ [])) }
+    ensures { OnOk result (page.new ≡ put_parts (begin_item page.old (Some line)) (variable_parts name.now word.now)) }
 {
     page.begin_on(line)?;
     page.name(name)?;
