@@ -139,5 +139,14 @@ heads_text n = lines (codes "type L is list (integer);" ∷ codes "A : L;" ∷ [
 abbrev pub TakesDepth16 : Type 0
 TakesDepth16 = Spells (two_lines (deep 3 16)) (heads_text 15 ++ codes "stable A do " ++ repeated 16 (codes "end;"))
 
+-- so many blocks on line 3, one behind the other
+abbrev pub in_a_row : ℕ → Code
+in_a_row zero = stop
+in_a_row (suc n) = block (stable_at 3 (codes "a")) stop (in_a_row n)
+
+-- an end leaves room for another block
+abbrev pub Takes17InARow : Type 0
+Takes17InARow = Spells (two_lines (in_a_row 17)) (heads_text 0 ++ repeated 17 (codes "stable A do end;"))
+
 abbrev pub RefusesDepth17 : Type 0
 RefusesDepth17 = IsFirstRefusal (heads_text 17) 19 Limit

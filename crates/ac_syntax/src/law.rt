@@ -8,7 +8,7 @@ ghost use Rattle.ac_syntax.specs.Canonical.{canonical_text, canonical_placed, ca
 ghost use Rattle.ac_syntax.specs.Order.{Context, context_after, at_front, AreInOrder};
 ghost use Rattle.ac_syntax.specs.Refusals.{Spells, IsFirstRefusal};
 ghost use Rattle.ac_syntax.specs.declared.refusal.RefusalKind.{RefusalKind};
-ghost use Rattle.ac_syntax.specs.Examples.{SpellsLoosely, WritesStrictly, SpellsNested, WritesNested, ReadsDoubledQuote, RefusesOpenString, EndsComment, RefusesLetterAfterNumber, WritesNothing, TakesDepth16, RefusesDepth17};
+ghost use Rattle.ac_syntax.specs.Examples.{SpellsLoosely, WritesStrictly, SpellsNested, WritesNested, ReadsDoubledQuote, RefusesOpenString, EndsComment, RefusesLetterAfterNumber, WritesNothing, TakesDepth16, RefusesDepth17, Takes17InARow};
 ghost use Rattle.ac_syntax.specs.Examples.{TakesTab, TakesReturnBeforeLineFeed, RefusesLoneReturn, RefusesReturnTwice, RefusesLastReturn, TakesReturnInComment, RefusesTabInString};
 ghost use Rattle.ac_syntax.specs.WordExamples.{ReservesWords, LeavesWords};
 ghost use Rattle.ac_syntax.specs.FormExamples.{SpellsEveryForm, WritesEveryForm, IsEveryFormWell, SpellsMinusZero, WritesZero, NeedsCursor, NeedsRisingLines};
@@ -62,6 +62,7 @@ pub fn examples()
     ensures nothing { WritesNothing }
     ensures depth_16 { TakesDepth16 }
     ensures depth_17 { RefusesDepth17 }
+    ensures in_a_row { Takes17InARow }
 {}
 
 /// Tabs and CRs, where they are white space and where they are malformed, worked out by hand.

@@ -7,7 +7,7 @@ use Rattle.ac_syntax.specs.Grammar.{reserved, is_reserved}
 use Rattle.ac_syntax.specs.Tokens.{tokens, cut_of}
 use Rattle.ac_syntax.specs.declared.script.Script.{Script}
 use Rattle.ac_syntax.specs.declared.token.Token.TheVariants as token
-use Rattle.ac_syntax.specs.Examples.{loose_script, nested_script, two_lines, deep, heads_text}
+use Rattle.ac_syntax.specs.Examples.{loose_script, nested_script, two_lines, deep, in_a_row, heads_text}
 use Rattle.ac_syntax.proofs.Derivations.{script_derives}
 use Rattle.ac_syntax.proofs.Withins.{within}
 use Rattle.ac_syntax.proofs.FirstFaults.{limit_at}
@@ -47,3 +47,8 @@ unfolding reserved is_reserved item_parts canonical_placed
 returns-clause-depth_17 c =
     limit_at (heads_text 17) too_deep (take 60 (canonical_placed too_deep)) (drop 61 (cut_of (heads_text 17)).placed) (drop 61 (canonical_placed too_deep))
     (on_line 19 (token.Word (codes "stable"))) refl refl refl refl refl
+
+pub returns-clause-in_a_row : goal.returns-clause-in_a_row
+unfolding reserved is_reserved item_parts canonical_placed
+returns-clause-in_a_row c =
+    record { whole = refl; derives = script_derives (two_lines (in_a_row 17)) refl; within = within (tokens (canonical_placed (two_lines (in_a_row 17)))) refl }
