@@ -4,7 +4,7 @@ use Rattle.std.proofs.lemmas.List.{append-nil}
 use Rattle.ac_syntax.specs.Code.{Head, loop_at, view_at, stable_at, declare_at, Code, stop, one, block}
 use Rattle.ac_syntax.specs.declared.decl.Decl.{Decl}
 use Rattle.ac_syntax.specs.declared.script.Script.{Script}
-use Rattle.ac_syntax.specs.Items.{Item, bare, ending, head_line, declares, commands, opens, begins, closes, declared, items, script_items}
+use Rattle.ac_syntax.specs.Items.{Item, bare, ending, head_line, declares, commands, opens, begins, closes, declared, opening, closing, items, script_items}
 
 -- nothing more, or the end of a block
 abbrev EndsHere : List Item → Type 0
@@ -33,9 +33,11 @@ IsDeclaration (closes _ ∷ _) = ⊥
 
 -- a block's items, and what stands behind them
 pub around : (head : Head) (body rest : Code) (x : List Item)
-    → items (block head body rest) ++ x ≡ opens (bare head) ∷ (declared head ++ (items body ++ closes (ending head) ∷ (items rest ++ x)))
-around head body rest x = ap (λ tail. opens (bare head) ∷ tail)
-    (append_assoc (declared head) (items body ++ closes (ending head) ∷ items rest) x ∙ ap (λ tail. declared head ++ tail) (append_assoc (items body) (closes (ending head) ∷ items rest) x))
+    → items (block head body rest) ++ x ≡ opening head ++ (items body ++ (closing head ++ (items rest ++ x)))
+around head body rest x =
+    append_assoc (opening head) (items body ++ (closing head ++ items rest)) x
+    ∙ ap (λ tail. opening head ++ tail)
+    (append_assoc (items body) (closing head ++ items rest) x ∙ ap (λ tail. items body ++ tail) (append_assoc (closing head) (items rest) x))
 
 -- declarations up to the word behind them
 decls_alone : (decls others : List Decl) (xs ys : List Item)

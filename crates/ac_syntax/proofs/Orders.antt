@@ -9,7 +9,7 @@ use Rattle.ac_syntax.specs.declared.closing.Closing.TheVariants.{EndLoop, End}
 use Rattle.ac_syntax.specs.Code.{Simple, Head, loop_at, view_at, stable_at, declare_at, Code, stop, one, block}
 use Rattle.ac_syntax.specs.declared.decl.Decl.{Decl}
 use Rattle.ac_syntax.specs.declared.script.Script.{Script}
-use Rattle.ac_syntax.specs.Items.{Item, declares, commands, opens, begins, closes, bare, ending, declared, items, script_items}
+use Rattle.ac_syntax.specs.Items.{Item, declares, commands, opens, begins, closes, bare, ending, declared, opening, closing, items, script_items}
 use Rattle.ac_syntax.specs.Order.{Stage, listing, heading, running, Context, next_after, context_after, at_front, is_heading, IsEnd, AreInOrder}
 use Rattle.ac_syntax.proofs.ItemsAlone.{around}
 
@@ -93,10 +93,10 @@ put_one [] s xs r = (one s r.0, ap (λ ys. commands s ∷ ys) r.1)
 put_one (l ∷ blocks) s xs r = (one s r.0, r.1, ap (λ ys. commands s ∷ ys) r.2, r.3)
 
 put_block : (blocks : List Closing) (h : Head) (body : Code) (tail xs : List Item)
-    → xs ≡ opens (bare h) ∷ (declared h ++ (items body ++ closes (ending h) ∷ tail)) → Rests blocks tail → Rests blocks xs
-put_block [] h body tail xs p r = (block h body r.0, p ∙ ap (λ ys. opens (bare h) ∷ (declared h ++ (items body ++ closes (ending h) ∷ ys))) r.1)
+    → xs ≡ opening h ++ (items body ++ (closing h ++ tail)) → Rests blocks tail → Rests blocks xs
+put_block [] h body tail xs p r = (block h body r.0, p ∙ ap (λ ys. opening h ++ (items body ++ (closing h ++ ys))) r.1)
 put_block (l ∷ blocks) h body tail xs p r =
-    (block h body r.0, r.1, p ∙ ap (λ ys. opens (bare h) ∷ (declared h ++ (items body ++ closes (ending h) ∷ ys))) r.2 ∙ sym (around h body r.0 (closes l ∷ r.1)), r.3)
+    (block h body r.0, r.1, p ∙ ap (λ ys. opening h ++ (items body ++ (closing h ++ ys))) r.2 ∙ sym (around h body r.0 (closes l ∷ r.1)), r.3)
 
 put_inner : (blocks : List Closing) (h : Head) (xs : List Item) → declared h ≡ [] → Rests (ending h ∷ blocks) xs → Rests blocks (opens (bare h) ∷ xs)
 put_inner blocks h xs none r =
