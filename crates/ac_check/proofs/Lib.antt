@@ -4,3 +4,4 @@ pub mod Outcomes
 pub mod Blocks
 pub mod FirstFaults
 pub mod EachScript
+pub mod Verdicts

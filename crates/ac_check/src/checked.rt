@@ -1,7 +1,7 @@
 //! Scripts that can run.
-ghost use Rattle.std.specs.Prelude.{◌≡◌, ℕ, Err, IfOk, OnOk};
+ghost use Rattle.std.specs.Prelude.{◌≡◌, ◌⊎◌, ℕ, Ok, Err, IfOk, OnOk};
 ghost use Rattle.ac_syntax.specs.declared.refusal.RefusalKind.{RefusalKind};
-ghost use Rattle.ac_syntax.specs.declared.fault.ScriptFault.TheVariants.{Refused};
+ghost use Rattle.ac_syntax.specs.declared.fault.ScriptFault.TheVariants.{Refused, NoMemory};
 ghost use Rattle.ac_check.specs.Faults.{IsChecked, IsFirstFault};
 
 use crate::walk::walk_script;
@@ -44,7 +44,10 @@ impl Checked {
 pub fn check(alloc: Global, script: Script) -> Result<Checked, ScriptFault>
     ensures ok { IfOk result (λ checked. checked ≡ script) }
     ensures checked { OnOk result (IsChecked script) }
+    ensures taken { IsChecked script → (result ≡ Ok script) ⊎ (result ≡ Err NoMemory) }
     ensures refused { (line : ℕ) (kind : RefusalKind) → result ≡ Err (Refused line kind) → IsFirstFault script line kind }
+    ensures faulty { (line : ℕ) (kind : RefusalKind) → IsFirstFault script line kind →
+        (result ≡ Err (Refused line kind)) ⊎ (result ≡ Err NoMemory) }
 {
     walk_script(alloc, &script)?;
     Ok(Checked { script })
