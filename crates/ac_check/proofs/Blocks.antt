@@ -8,7 +8,7 @@ use Rattle.ac_syntax.specs.declared.decl.Decl.{Decl}
 use Rattle.ac_syntax.specs.declared.refusal.RefusalKind.{RefusalKind}
 use Rattle.ac_syntax.specs.declared.stmt.Stmt.{Stmt}
 use Rattle.ac_syntax.specs.declared.stmt.Stmt.TheVariants.{Call, Set, Sum, Loop, View, Stable, Declare}
-use Rattle.ac_check.specs.Scopes.{Scope, Entry, Standing, standing, with_entry, with_decls, decl_entry, decls_in, inside, standing_decls, standings_from}
+use Rattle.ac_check.specs.Scopes.{Scope, Entry, Standing, standing, with_entry, with_decls, decl_entry, decls_in, behind_words, inside, standing_decls, standings_from}
 use Rattle.ac_check.specs.Walks.{Outcome, goes_on, refused, outcome, fault_with, stmt_item}
 use Rattle.ac_check.proofs.Outcomes.{gone_on, stopped, head_on, next_item}
 
@@ -17,7 +17,7 @@ block_end : (scope : Scope) (head : Head) (body rest : Code)
     → standings_from scope (block head body rest) ≡ standings_from scope (block head body stop) ++ standings_from scope rest
 block_end scope head body rest =
     let first = standing (opens (bare head)) scope in
-    let decls = standing_decls scope (decls_in head) in
+    let decls = standing_decls (behind_words scope head) (decls_in head) in
     let within = standings_from (inside scope head) body in
     let later = standings_from scope rest in
     ap (λ (l : List Standing). first ∷ (decls ++ (l ++ later))) (sym (append-nil within))

@@ -7,7 +7,7 @@ use Rattle.ac_syntax.specs.declared.decl.Decl.{Decl}
 use Rattle.ac_syntax.specs.declared.decl.Decl.TheVariants.{TypeDecl, Object, CursorVar, IntVar, TextVar}
 use Rattle.ac_syntax.specs.declared.refusal.RefusalKind.{RefusalKind}
 use Rattle.ac_syntax.specs.declared.script.Script.{Script}
-use Rattle.ac_check.specs.Scopes.{Scope, Standing, with_entry, decl_entry, with_decls, decls_in, inside, standing_decls, standings_from, standings}
+use Rattle.ac_check.specs.Scopes.{Scope, Standing, with_entry, decl_entry, with_decls, decls_in, behind_words, inside, standing_decls, standings_from, standings}
 use Rattle.ac_check.specs.Faults.{capacity, IsFirstFault, IsChecked}
 use Rattle.ac_check.specs.Walks.{Outcome, goes_on, refused, step, outcome, fault_with}
 use Rattle.ac_check.proofs.FirstFaults.{faultless, first_fault}
@@ -45,8 +45,12 @@ code_lined scope stop = tt
 code_lined scope (one simple rest) = let h = command_lined simple in (h.0, h.1, code_lined scope rest)
 code_lined scope (block head body rest) =
     let h = head_lined head in
-    let within = lined-append (standings_from (inside scope head) body) (standings_from scope rest) (code_lined (inside scope head) body) (code_lined scope rest) in
-    (h.0, h.1, lined-append (standing_decls scope (decls_in head)) (standings_from (inside scope head) body ++ standings_from scope rest) (decls_lined scope (decls_in head)) within)
+    let within = lined-append (standings_from (inside scope head) body) (standings_from scope rest) (code_lined (inside scope head) body) (code_lined scope rest) in (
+      h.0,
+      h.1,
+      lined-append (standing_decls (behind_words scope head) (decls_in head)) (standings_from (inside scope head) body ++ standings_from scope rest)
+          (decls_lined (behind_words scope head) (decls_in head)) within,
+    )
 
 script_lined : (script : Script) → AreLined (standings script)
 unfolding standings
