@@ -5,3 +5,4 @@ pub mod Blocks
 pub mod FirstFaults
 pub mod EachScript
 pub mod Verdicts
+pub mod Kept

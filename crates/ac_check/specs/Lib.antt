@@ -7,3 +7,4 @@ pub mod Views
 pub mod Examples
 pub mod Faults
 pub mod Walks
+pub mod Kept

@@ -1,8 +1,9 @@
-//! What holds of faults, whatever looks for them.
+//! What holds of scripts, whatever looks for their faults.
 ghost use Rattle.std.specs.Prelude.{◌≡◌, ◌⊎◌, ℕ};
 ghost use Rattle.ac_syntax.specs.declared.refusal.RefusalKind.{RefusalKind};
 ghost use Rattle.ac_syntax.specs.declared.script.Script.{Script};
 ghost use Rattle.ac_check.specs.Faults.{IsChecked, IsFirstFault};
+ghost use Rattle.ac_check.specs.Kept.{ScriptKept};
 
 /// A script has at most one first fault, and none where it is checked.
 pub fn one_fault()
@@ -14,4 +15,9 @@ pub fn one_fault()
 /// Each script can run, or has a first fault.
 pub fn each_script()
     ensures { (script : Script) → IsChecked script ⊎ ((line : ℕ) × (kind : RefusalKind) × IsFirstFault script line kind) }
+{}
+
+/// In a script that can run each statement keeps the rules in the scope where it stands.
+pub fn rules_kept()
+    ensures { (script : Script) → IsChecked script → ScriptKept script }
 {}

@@ -21,6 +21,6 @@ mod walk;
 
 pub use checked::{Checked, check};
 pub use examples::{block_examples, command_examples, declaration_examples};
-pub use law::{each_script, one_fault};
+pub use law::{each_script, one_fault, rules_kept};
 pub use rows::{Answer, Letter};
 pub use table::{Row, rows_of};
