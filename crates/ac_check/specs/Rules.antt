@@ -222,11 +222,14 @@ abbrev pub is_call : Scope → Option Typed → (target : Option (List ℕ)) →
 is_call scope None target operation args = false
 is_call scope (Some typed) target operation args = list_any (is_row scope typed target operation args) (rows_of typed.def)
 
+-- of integers alone
+abbrev pub is_sum : Scope → (target from : List ℕ) → Bool
+is_sum scope target from = takes (meaning_in scope target) (gives_value Integer) && is_value Integer (given_in (meaning_in scope from))
+
 abbrev pub is_simple : Scope → Simple → Bool
 is_simple scope (call_at line target object operation args) = is_call scope (object_of scope object) target operation args
 is_simple scope (set_at line target from) = takes (meaning_in scope target) (given scope from)
-is_simple scope (sum_at line target from minus number) =
-    takes (meaning_in scope target) (gives_value Integer) && is_value Integer (given_in (meaning_in scope from))
+is_simple scope (sum_at line target from minus number) = is_sum scope target from
 
 -- what a loop can go over, and in which direction
 abbrev pub is_looped : (backward : Bool) → Option Typed → Bool

@@ -61,3 +61,7 @@ behind (refused line kind) further = refused line kind
 -- what refuses an item, refuses it as the walk does
 abbrev pub StopsAs : {X : Type 0} → Result X ScriptFault → Outcome → Type 0
 StopsAs result o = (line : ℕ) (kind : RefusalKind) → result ≡ Err (Refused line kind) → o ≡ refused (Some line) kind
+
+-- it refuses this item, whatever is behind it
+abbrev pub StopsAt : {X : Type 0} → Result X ScriptFault → (room : ℕ) → Standing → Type 0
+StopsAt result room s = (later : List Standing) → StopsAs result (outcome room (s ∷ later))

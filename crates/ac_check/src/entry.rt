@@ -2,7 +2,7 @@
 ghost use Rattle.std.specs.Prelude.{◌≡◌, IfOk};
 ghost use Rattle.std.specs.Option.{option_map};
 ghost use Rattle.ac_check.specs.Scopes as scopes;
-ghost use Rattle.ac_check.specs.Scopes.{an_object, a_value, entry, decl_entry};
+ghost use Rattle.ac_check.specs.Scopes.{an_object, entry, decl_entry, loop_on, view_on};
 ghost use Rattle.ac_check.specs.Faults.{decl_name};
 ghost use Rattle.ac_check.specs.Meanings.{meaning_view};
 
@@ -33,7 +33,7 @@ fn object_meaning(scope: &Scope, of: &Ident) -> Result<Option<Meaning>, NoMemory
 
 /// What a declaration's name stands for, unless it is of a type that isn't in scope.
 pub fn decl_meaning(scope: &Scope, decl: &Decl) -> Result<Option<Meaning>, NoMemory>
-    ensures { IfOk result (λ m. option_map (λ kept. entry (decl_name decl.now) (meaning_view kept)) m ≡ decl_entry scope.now decl.now) }
+    ensures { IfOk result (λ m. option_map (entry (decl_name decl.now)) (option_map meaning_view m) ≡ decl_entry scope.now decl.now) }
 {
     match decl {
         Decl::TypeDecl { def, .. } => Ok(Some(Meaning::Type(*def))),
@@ -80,7 +80,7 @@ pub fn loop_meaning(
     elements: bool,
     object: &Ident,
 ) -> Result<Option<Meaning>, NoMemory>
-    ensures { IfOk result (λ m. option_map meaning_view m ≡ option_map (scopes.loop_meaning elements) (scopes.object_of scope.now object.now)) }
+    ensures { IfOk result (λ m. option_map meaning_view m ≡ loop_on scope.now elements object.now) }
 {
     match scope.meaning(object.bytes()) {
         Some(Meaning::Object { of, def }) => {
@@ -92,7 +92,7 @@ pub fn loop_meaning(
 
 /// What the name of a view of an object's element stands for, if there is such an object.
 pub fn view_meaning(scope: &Scope, view: ViewKind, object: &Ident) -> Option<Meaning>
-    ensures { option_map meaning_view result ≡ option_map (λ typed. a_value (scopes.element_of typed.def) (scopes.is_written_in view)) (scopes.object_of scope.now object.now) }
+    ensures { option_map meaning_view result ≡ view_on scope.now view object.now }
 {
     match scope.meaning(object.bytes()) {
         Some(Meaning::Object { def, .. }) => Some(Meaning::Value {

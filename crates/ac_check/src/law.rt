@@ -9,7 +9,7 @@ ghost use Rattle.ac_check.specs.Kept.{ScriptKept};
 pub fn one_fault()
     ensures one { (script : Script) (line place : ℕ) (kind other : RefusalKind) →
         IsFirstFault script line kind → IsFirstFault script place other → (line ≡ place) × (kind ≡ other) }
-    ensures not_checked { (script : Script) (line : ℕ) (kind : RefusalKind) → IsChecked script → IsFirstFault script line kind → ⊥ }
+    ensures none { (script : Script) (line : ℕ) (kind : RefusalKind) → IsChecked script → IsFirstFault script line kind → ⊥ }
 {}
 
 /// Each script can run, or has a first fault.

@@ -1,8 +1,6 @@
 //! The rules of types.
-ghost use Rattle.std.specs.Prelude.{◌≡◌, ◌&&◌};
-ghost use Rattle.ac_syntax.specs.declared.kind.ElemKind.TheVariants.{Integer};
+ghost use Rattle.std.specs.Prelude.{◌≡◌};
 ghost use Rattle.ac_check.specs.Rules as rules;
-ghost use Rattle.ac_check.specs.Rules.{gives_value};
 ghost use Rattle.ac_check.specs.Scopes as scopes;
 
 use crate::block::{is_looped, is_view};
@@ -52,7 +50,7 @@ fn is_set_right(scope: &Scope, target: &Ident, from: &Arg) -> bool
 
 /// Whether a sum keeps the rules: of integers alone.
 fn is_sum_right(scope: &Scope, target: &Ident, from: &Ident) -> bool
-    ensures { result ≡ (rules.takes (scopes.meaning_in scope.now target.now) (gives_value Integer) && rules.is_value Integer (rules.given_in (scopes.meaning_in scope.now from.now))) }
+    ensures { result ≡ rules.is_sum scope.now target.now from.now }
 {
     takes(
         scope.meaning(target.bytes()),

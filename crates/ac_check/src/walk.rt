@@ -6,11 +6,11 @@ ghost use Rattle.ac_syntax.specs.Items.{declares};
 ghost use Rattle.ac_syntax.specs.Statements.{before};
 ghost use Rattle.ac_syntax.specs.declared.refusal.RefusalKind.{RefusalKind};
 ghost use Rattle.ac_syntax.specs.declared.fault.ScriptFault.TheVariants.{Refused};
-ghost use Rattle.ac_check.specs.Scopes as scopes;
-ghost use Rattle.ac_check.specs.Scopes.{entry, a_value, element_of, is_written_in, object_of, with_entry, with_decls, standing, standing_decls, standings_from, standings, decl_entry};
+ghost use Rattle.ac_check.specs.Scopes.{with_entry, with_name, with_decls, decl_entry, loop_on, view_on};
+ghost use Rattle.ac_check.specs.Scopes.{standing, standing_decls, standings_from, standings};
 ghost use Rattle.ac_check.specs.Faults.{is_in_scope, AreFaultless, IsFirstFault, IsChecked};
 ghost use Rattle.ac_check.specs.Meanings.{meaning_view};
-ghost use Rattle.ac_check.specs.Walks.{fault_with, outcome, goes_on, refused, stmt_item, StopsAs};
+ghost use Rattle.ac_check.specs.Walks.{fault_with, outcome, goes_on, refused, stmt_item, StopsAs, StopsAt};
 
 use crate::entry::{decl_meaning, loop_meaning, view_meaning};
 use crate::faults::{decl_capacity, decl_fault, decl_line, decl_name, stmt_fault, stmt_line};
@@ -23,7 +23,7 @@ use std::alloc::Global;
 /// Takes a name in, if it is known what it stands for.
 fn declare(scope: &mut Scope, name: &Ident, meaning: Option<Meaning>) -> Result<(), NoMemory>
     requires { is_in_scope scope.old name.now ≡ false }
-    ensures { OnOk result (scope.new ≡ with_entry scope.old (option_map (λ kept. entry name.now (meaning_view kept)) meaning)) }
+    ensures { OnOk result (scope.new ≡ with_name scope.old name.now (option_map meaning_view meaning)) }
 {
     if let Some(meaning) = meaning {
         scope.declare(name.bytes(), meaning)?;
@@ -62,7 +62,7 @@ impl Walk {
 
     fn walk_decl(&mut self, decl: &Decl) -> Result<(), ScriptFault>
         ensures ok { OnOk result (outcome self.old.room (standing (declares decl.now) self.old.scope ∷ []) ≡ goes_on self.new.room) }
-        ensures refused { (later : List scopes.Standing) → StopsAs result (outcome self.old.room (standing (declares decl.now) self.old.scope ∷ later)) }
+        ensures refused { StopsAt result self.old.room (standing (declares decl.now) self.old.scope) }
         ensures scope { OnOk result (self.new.scope ≡ with_entry self.old.scope (decl_entry self.old.scope decl.now)) }
     {
         refuse(decl_line(decl), decl_fault(&self.scope, self.room, decl))?;
@@ -86,7 +86,7 @@ impl Walk {
     /// Judges a command, or what begins a block.
     fn judge(&self, stmt: &Stmt) -> Result<(), ScriptFault>
         ensures ok { OnOk result (fault_with self.now.room (standing (stmt_item stmt.now) self.now.scope) ≡ None) }
-        ensures refused { (later : List scopes.Standing) → StopsAs result (outcome self.now.room (standing (stmt_item stmt.now) self.now.scope ∷ later)) }
+        ensures refused { StopsAt result self.now.room (standing (stmt_item stmt.now) self.now.scope) }
     {
         refuse(stmt_line(stmt), stmt_fault(&self.scope, self.room, stmt))
     }
@@ -94,7 +94,7 @@ impl Walk {
     /// Takes in the name of a loop over an object.
     fn enter_loop(&mut self, name: &Ident, elements: bool, object: &Ident) -> Result<(), NoMemory>
         requires { is_in_scope self.old.scope name.now ≡ false }
-        ensures scope { OnOk result (self.new.scope ≡ with_entry self.old.scope (option_map (λ typed. entry name.now (scopes.loop_meaning elements typed)) (object_of self.old.scope object.now))) }
+        ensures scope { OnOk result (self.new.scope ≡ with_name self.old.scope name.now (loop_on self.old.scope elements object.now)) }
         ensures room { self.new.room ≡ self.old.room }
     {
         let meaning = loop_meaning(&self.scope, elements, object)?;
@@ -104,7 +104,7 @@ impl Walk {
     /// Takes in the name of a view of an object's element.
     fn enter_view(&mut self, name: &Ident, view: ViewKind, object: &Ident) -> Result<(), NoMemory>
         requires { is_in_scope self.old.scope name.now ≡ false }
-        ensures scope { OnOk result (self.new.scope ≡ with_entry self.old.scope (option_map (λ typed. entry name.now (a_value (element_of typed.def) (is_written_in view))) (object_of self.old.scope object.now))) }
+        ensures scope { OnOk result (self.new.scope ≡ with_name self.old.scope name.now (view_on self.old.scope view object.now)) }
         ensures room { self.new.room ≡ self.old.room }
     {
         let meaning = view_meaning(&self.scope, view, object);
