@@ -1,5 +1,5 @@
 -- The items of statements among others, and of a block.
-use Rattle.std.proofs.Common.{◌≡◌, ◌+◌, ◌<◌, ℕ, List, [], ◌∷◌, ◌++◌, length, take, drop, get_or, Option, Some, None, refl, sym, ap, ◌∙◌, arith}
+use Rattle.std.proofs.Common.{◌≡◌, ◌+◌, ◌<◌, ℕ, List, [], ◌∷◌, ◌++◌, length, take, drop, get_or, Option, Some, None, refl, sym, ap, ◌∙◌}
 use Rattle.std.proofs.lemmas.List.{append_assoc, append-nil}
 use Rattle.ac_syntax.specs.Code.{Code, Head, loop_at, view_at, stable_at, declare_at, stop, block}
 use Rattle.ac_syntax.specs.Items.{opens, bare}
@@ -9,7 +9,7 @@ use Rattle.ac_syntax.specs.declared.refusal.RefusalKind.{RefusalKind}
 use Rattle.ac_syntax.specs.declared.stmt.Stmt.{Stmt}
 use Rattle.ac_syntax.specs.declared.stmt.Stmt.TheVariants.{Call, Set, Sum, Loop, View, Stable, Declare}
 use Rattle.ac_check.specs.Scopes.{Scope, Entry, Standing, standing, with_entry, with_decls, decl_entry, decls_in, behind_words, inside, standing_decls, standings_from}
-use Rattle.ac_check.specs.Walks.{Outcome, goes_on, refused, outcome, fault_with, stmt_item}
+use Rattle.ac_check.specs.Walks.{goes_on, refused, outcome, fault_with, stmt_item}
 use Rattle.ac_check.proofs.Outcomes.{gone_on, stopped, head_on, next_item}
 
 -- a block's items, with none behind it

@@ -30,7 +30,7 @@ decls_lined scope (IntVar line name ∷ decls) = (line, refl, decls_lined (with_
 decls_lined scope (TextVar line name ∷ decls) = (line, refl, decls_lined (with_entry scope (decl_entry scope (TextVar line name))) decls)
 
 command_lined : (simple : Simple) → (line : ℕ) × (item_line (commands simple) ≡ Some line)
-command_lined (call_at line target object operation args) = (line, refl)
+command_lined (call_at line target object word args) = (line, refl)
 command_lined (set_at line target from) = (line, refl)
 command_lined (sum_at line target from minus number) = (line, refl)
 

@@ -29,11 +29,11 @@ TellsDecls scope kept broken = IsTrue (list_all (is_decl scope) kept && not (lis
 
 -- statements on line 1
 
-abbrev call : (target : Option (List ℕ)) → (object operation : List ℕ) → List Arg → Stmt
-call target object operation args = Call 1 target object operation args
+abbrev call : (target : Option (List ℕ)) → (object word : List ℕ) → List Arg → Stmt
+call target object word args = Call 1 target object word args
 
-abbrev done : (object operation : List ℕ) → List Arg → Stmt
-done object operation args = call None object operation args
+abbrev done : (object word : List ℕ) → List Arg → Stmt
+done object word args = call None object word args
 
 abbrev number : ℕ → Arg
 number n = Lit (value.Int (pos n))

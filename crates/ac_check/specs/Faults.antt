@@ -34,7 +34,7 @@ decl_names (IntVar line name) = []
 decl_names (TextVar line name) = []
 
 abbrev pub simple_names : Simple → List (List ℕ)
-simple_names (call_at line target object operation args) = optional_name target ++ object ∷ args_names args
+simple_names (call_at line target object word args) = optional_name target ++ object ∷ args_names args
 simple_names (set_at line target from) = target ∷ arg_names from
 simple_names (sum_at line target from minus number) = target ∷ from ∷ []
 
@@ -44,7 +44,7 @@ head_names (view_at line view object at name) = object ∷ optional_name at
 head_names (stable_at line object) = object ∷ []
 head_names (declare_at line decls) = []
 
--- the names that an item uses, but for its operation's
+-- the names that an item uses, but for a call's word
 abbrev pub used : Item → List (List ℕ)
 used (declares decl) = decl_names decl
 used (commands simple) = simple_names simple

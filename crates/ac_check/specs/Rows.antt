@@ -6,7 +6,8 @@ use Rattle.ac_check.specs.Table.{Row}
 use Rattle.ac_check.specs.declared.table.Row.{Row as Kept}
 
 abbrev pub row_view : Kept → Row
-row_view kept = record { operation = kept.operation.now; letters = kept.letters.now; optional = kept.optional; answer = kept.answer }
+row_view kept =
+    record { word = kept.word.now; letters = kept.letters.now; optional = kept.optional; answer = kept.answer; operation = kept.operation }
 
 -- the rows of all groups in order
 abbrev pub joined : List (Bor (List Kept)) → List Row

@@ -213,21 +213,21 @@ takes_answer scope None found = true
 takes_answer scope (Some target) found = takes (meaning_in scope target) found
 
 -- a call is a row's
-abbrev pub is_row : Scope → Typed → (target : Option (List ℕ)) → (operation : List ℕ) → List Arg → Row → Bool
-is_row scope typed target operation args row =
-    bytes_eq row.operation operation
+abbrev pub is_row : Scope → Typed → (target : Option (List ℕ)) → (word : List ℕ) → List Arg → Row → Bool
+is_row scope typed target word args row =
+    bytes_eq row.word word
     && (all_fit scope typed row.letters row.optional args && takes_answer scope target (answered typed row.answer))
 
-abbrev pub is_call : Scope → Option Typed → (target : Option (List ℕ)) → (operation : List ℕ) → List Arg → Bool
-is_call scope None target operation args = false
-is_call scope (Some typed) target operation args = list_any (is_row scope typed target operation args) (rows_of typed.def)
+abbrev pub is_call : Scope → Option Typed → (target : Option (List ℕ)) → (word : List ℕ) → List Arg → Bool
+is_call scope None target word args = false
+is_call scope (Some typed) target word args = list_any (is_row scope typed target word args) (rows_of typed.def)
 
 -- of integers alone
 abbrev pub is_sum : Scope → (target from : List ℕ) → Bool
 is_sum scope target from = takes (meaning_in scope target) (gives_value Integer) && is_value Integer (given_in (meaning_in scope from))
 
 abbrev pub is_simple : Scope → Simple → Bool
-is_simple scope (call_at line target object operation args) = is_call scope (object_of scope object) target operation args
+is_simple scope (call_at line target object word args) = is_call scope (object_of scope object) target word args
 is_simple scope (set_at line target from) = takes (meaning_in scope target) (given scope from)
 is_simple scope (sum_at line target from minus number) = is_sum scope target from
 
@@ -269,7 +269,7 @@ is_well_typed s = elim s.item [
 
 -- a statement keeps the rules: a command, or a block by its head
 abbrev pub is_stmt : Scope → Stmt → Bool
-is_stmt scope (Call line target object op args) = is_simple scope (call_at line target object op args)
+is_stmt scope (Call line target object word args) = is_simple scope (call_at line target object word args)
 is_stmt scope (Set line target from) = is_simple scope (set_at line target from)
 is_stmt scope (Sum line target from minus number) = is_simple scope (sum_at line target from minus number)
 is_stmt scope (Loop line name elements backward object body) = is_head scope (loop_at line name elements backward object)

@@ -15,7 +15,7 @@ use Rattle.ac_check.specs.Faults.{used, declared, capacity, is_in_scope, is_twic
 
 -- a statement's command, or what begins its block
 abbrev pub stmt_item : Stmt → Item
-stmt_item (Call line target object op args) = commands (call_at line target object op args)
+stmt_item (Call line target object word args) = commands (call_at line target object word args)
 stmt_item (Set line target from) = commands (set_at line target from)
 stmt_item (Sum line target from minus number) = commands (sum_at line target from minus number)
 stmt_item (Loop line name elements backward object body) = opens (loop_at line name elements backward object)

@@ -81,13 +81,13 @@ fn is_row(
     scope: &Scope,
     typed: Typed<'_>,
     target: &Option<Ident>,
-    operation: &[u8],
+    word: &[u8],
     args: &[Arg],
     row: &Row,
 ) -> bool
-    ensures { result ≡ rules.is_row scope.now (typed_view typed.entry) target.now operation.now args.now (row_view row.now) }
+    ensures { result ≡ rules.is_row scope.now (typed_view typed.entry) target.now word.now args.now (row_view row.now) }
 {
-    row.operation == operation
+    row.word == word
         && all_fit(scope, typed, row.letters, row.optional, args)
         && takes_answer(scope, target, answered(typed, row.answer))
 }
@@ -97,14 +97,14 @@ fn has_row(
     scope: &Scope,
     typed: Typed<'_>,
     target: &Option<Ident>,
-    operation: &[u8],
+    word: &[u8],
     args: &[Arg],
     rows: &[Row],
 ) -> bool
-    ensures { result ≡ any_row (rules.is_row scope.now (typed_view typed.entry) target.now operation.now args.now) rows.now }
+    ensures { result ≡ any_row (rules.is_row scope.now (typed_view typed.entry) target.now word.now args.now) rows.now }
 {
     rows.iter()
-        .any(|row| is_row(scope, typed, target, operation, args, row))
+        .any(|row| is_row(scope, typed, target, word, args, row))
 }
 
 /// Whether a call is a row's of some group.
@@ -112,13 +112,15 @@ fn is_among(
     scope: &Scope,
     typed: Typed<'_>,
     target: &Option<Ident>,
-    operation: &[u8],
+    word: &[u8],
     args: &[Arg],
     groups: &[&[Row]],
 ) -> bool
-    ensures { result ≡ any_grouped (rules.is_row scope.now (typed_view typed.entry) target.now operation.now args.now) groups.now }
+    ensures { result ≡ any_grouped (rules.is_row scope.now (typed_view typed.entry) target.now word.now args.now) groups.now }
 {
-    groups.iter().any(|rows| has_row(scope, typed, target, operation, args, rows))
+    groups
+        .iter()
+        .any(|rows| has_row(scope, typed, target, word, args, rows))
 }
 
 /// Whether a call on an object of the type is in the table.
@@ -127,13 +129,13 @@ pub fn is_call(
     scope: &Scope,
     typed: Option<Typed<'_>>,
     target: &Option<Ident>,
-    operation: &[u8],
+    word: &[u8],
     args: &[Arg],
 ) -> bool
-    ensures { result ≡ rules.is_call scope.now (option_map typed_view typed.entry) target.now operation.now args.now }
+    ensures { result ≡ rules.is_call scope.now (option_map typed_view typed.entry) target.now word.now args.now }
 {
     match typed {
-        Some(typed) => is_among(scope, typed, target, operation, args, rows_of(&typed.def)),
+        Some(typed) => is_among(scope, typed, target, word, args, rows_of(&typed.def)),
         None => false,
     }
 }

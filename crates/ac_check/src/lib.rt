@@ -11,6 +11,7 @@ mod given;
 mod kinds;
 mod law;
 mod meaning;
+mod operation;
 mod rows;
 mod rules;
 mod scope;
@@ -22,5 +23,10 @@ mod walk;
 pub use checked::{Checked, check};
 pub use examples::{block_examples, command_examples, declaration_examples};
 pub use law::{each_script, one_fault, rules_kept};
+pub use operation::{
+    CapacityCall, CommonCall, HolderCall, KeyedCall, ListCall, MapCall, Operation, OrderedCall,
+    OrderedMapCall, OrderedSetCall, QueueCall, SequenceCall, SetCall, TreeCall, TreeChangeCall,
+    VectorCall, WalkCall,
+};
 pub use rows::{Answer, Letter};
 pub use table::{Row, rows_of};

@@ -1,5 +1,5 @@
 use Rattle.std.proofs.Common.{◌∙◌}
-use Rattle.std.proofs.lemmas.Result.{on_ok_weaker, err_from_is_err_and}
+use Rattle.std.proofs.lemmas.Result.{on_ok_weaker}
 use Rattle.ac_check.proofs.Outcomes.{passed_on}
 use Rattle.ac_check.proofs.FirstFaults.{decls_stopped, behind_decls, faultless, first_fault}
 use Rattle.ac_check.proofs.walk.walk_script.Goals as goal

@@ -1,13 +1,13 @@
-use Rattle.std.proofs.Common.{◌≡◌, ap, sym, ◌∙◌, drop, take, ◌+◌, List, get_or, arith}
+use Rattle.std.proofs.Common.{◌≡◌, ap, sym, ◌∙◌, take, List, get_or, arith}
 use Rattle.std.proofs.lemmas.Result.{on_ok_weaker}
-use Rattle.ac_syntax.specs.Code.{Code, code_size, stop}
-use Rattle.ac_syntax.specs.Statements.{before, code_of}
+use Rattle.ac_syntax.specs.Code.{code_size, stop}
+use Rattle.ac_syntax.specs.Statements.{before}
 use Rattle.ac_syntax.specs.declared.stmt.Stmt.{Stmt}
 use Rattle.ac_syntax.specs.declared.stmt.Stmt.TheVariants.{Declare}
 use Rattle.ac_syntax.proofs.StatementSizes.{size_among}
-use Rattle.ac_check.specs.Scopes.{Scope, with_decls, Standing, standings_from}
+use Rattle.ac_check.specs.Scopes.{Scope, with_decls, Standing}
 use Rattle.ac_check.specs.Walks.{outcome}
-use Rattle.ac_check.proofs.Outcomes.{passed_on, next_item, gone_on, stopped}
+use Rattle.ac_check.proofs.Outcomes.{passed_on}
 use Rattle.ac_check.proofs.Blocks.{begins_with, declare_on, declare_stopped, outside_decls, statement_on, statement_stopped}
 use Rattle.ac_check.proofs.walk.Walk.+statements.Goals as goal
 

@@ -1,7 +1,6 @@
-use Rattle.std.proofs.Common.{◌≡◌, ap, sym, ◌∙◌, drop, ◌+◌, List}
-use Rattle.ac_syntax.specs.Items.{declares}
+use Rattle.std.proofs.Common.{ap, sym, ◌∙◌, drop, ◌+◌, List}
 use Rattle.ac_syntax.specs.declared.decl.Decl.{Decl}
-use Rattle.ac_check.specs.Scopes.{standing, standing_decls, with_decls, with_entry, decl_entry}
+use Rattle.ac_check.specs.Scopes.{standing_decls, with_entry, decl_entry}
 use Rattle.ac_check.specs.Walks.{outcome}
 use Rattle.ac_check.proofs.Outcomes.{passed_on, next_item}
 use Rattle.ac_check.proofs.walk.Walk.walk_decls.Goals as goal
