@@ -6,3 +6,5 @@ pub mod FirstFaults
 pub mod EachScript
 pub mod Verdicts
 pub mod Kept
+pub mod Apart
+pub mod Found

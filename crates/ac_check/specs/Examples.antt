@@ -1,5 +1,5 @@
 -- Declarations and statements that keep the rules and that break them, worked out by hand.
-use Rattle.std.specs.Prelude.{ℕ, ◌&&◌, pos, codes, Bool, true, false, not, List, [], ◌∷◌, ◌++◌, map, Option, Some, None, IsTrue}
+use Rattle.std.specs.Prelude.{◌≡◌, ℕ, ◌&&◌, pos, codes, Bool, true, false, not, List, [], ◌∷◌, ◌++◌, map, Option, Some, None, IsTrue}
 use Rattle.std.specs.List.{list_all, list_any}
 use Rattle.ac_base.specs.declared.value.Value.TheVariants as value
 use Rattle.ac_syntax.specs.Code.{stop, loop_at, view_at}
@@ -16,8 +16,18 @@ use Rattle.ac_syntax.specs.declared.stmt.Stmt.TheVariants.{Call, Set, Sum, Loop,
 use Rattle.ac_syntax.specs.declared.type_def.TypeDef.{TypeDef}
 use Rattle.ac_syntax.specs.declared.view_kind.ViewKind.{ViewKind}
 use Rattle.ac_syntax.specs.declared.view_kind.ViewKind.TheVariants.{Query, Update, Reference, UpdateKey}
+use Rattle.ac_check.specs.declared.operation.Operation.{Operation}
+use Rattle.ac_check.specs.declared.operation.Operation.TheVariants as operation
+use Rattle.ac_check.specs.declared.operation.SequenceCall.TheVariants as sequence_call
+use Rattle.ac_check.specs.declared.operation.ListCall.TheVariants as list_call
+use Rattle.ac_check.specs.declared.operation.VectorCall.TheVariants as vector_call
+use Rattle.ac_check.specs.declared.operation.MapCall.TheVariants as map_call
+use Rattle.ac_check.specs.declared.operation.SetCall.TheVariants as set_call
+use Rattle.ac_check.specs.declared.operation.KeyedCall.TheVariants as keyed_call
+use Rattle.ac_check.specs.declared.operation.QueueCall.TheVariants as queue_call
+use Rattle.ac_check.specs.Operations.{operation_of}
 use Rattle.ac_check.specs.Rules.{is_decl, is_stmt}
-use Rattle.ac_check.specs.Scopes.{Scope, entry, an_object, a_type, a_cursor, a_value, with_decls, inside}
+use Rattle.ac_check.specs.Scopes.{Scope, entry, object_of, an_object, a_type, a_cursor, a_value, with_decls, inside}
 
 -- the first keep the rules, and none of the others does
 
@@ -236,3 +246,30 @@ MakesLists = TellsDecls []
     (declares (list_of Integer) ∷ declares (list_of Str) ∷ declares (def true kind.List Str None false) ∷ [])
     (declares (def false kind.List Integer (Some Integer) false) ∷ declares (def false kind.List Str None true)
     ∷ (map (λ k. declares (def false k Integer None false)) refused ++ map (λ k. declares (def false k Str (Some Integer) false)) refused))
+
+-- the operation that a call means
+
+abbrev meant : Scope → (object word : List ℕ) → List Arg → Option Operation
+meant names object word args = operation_of names (object_of names object) None word args
+
+-- by its arguments, where one word means several
+abbrev pub MeansByArguments : Type 0
+MeansByArguments =
+    (meant scope A (codes "splice") (Var D ∷ Var B ∷ []) ∷ meant scope A (codes "splice") (Var D ∷ Var B ∷ Var D ∷ [])
+    ∷ meant scope A (codes "splice") (Var D ∷ NoElement ∷ []) ∷ meant scope A (codes "splice") (Var D ∷ Var O ∷ [])
+    ∷ meant scope A (codes "insert") (Var D ∷ number 5 ∷ []) ∷ meant scope A (codes "insert") (Var D ∷ number 5 ∷ number 2 ∷ [])
+    ∷ meant scope A (codes "insert") (Var D ∷ number 5 ∷ Var D ∷ number 2 ∷ []) ∷ [])
+    ≡ (Some (operation.List list_call.Splice) ∷ Some (operation.List list_call.SpliceOne)
+    ∷ Some (operation.List list_call.SpliceWithin) ∷ None
+    ∷ Some (operation.Sequence sequence_call.Insert) ∷ Some (operation.Sequence sequence_call.Insert)
+    ∷ Some (operation.Sequence sequence_call.InsertPos) ∷ [])
+
+-- and by its object's kind
+abbrev pub MeansByKind : Type 0
+MeansByKind =
+    (meant kinds (codes "vector") (codes "element") (number 3 ∷ []) ∷ meant kinds (codes "map") (codes "element") (text Y ∷ [])
+    ∷ meant kinds (codes "map") (codes "delete") (text Y ∷ []) ∷ meant kinds (codes "set") (codes "delete") (text Y ∷ [])
+    ∷ meant kinds (codes "keyed") (codes "key_exclude") (text Y ∷ []) ∷ meant kinds (codes "queue") (codes "peak_use") [] ∷ [])
+    ≡ (Some (operation.Vector vector_call.ElementIndex) ∷ Some (operation.Map map_call.ElementKey)
+    ∷ Some (operation.Map map_call.DeleteKey) ∷ Some (operation.Set set_call.DeleteItem)
+    ∷ Some (operation.Keyed keyed_call.KeyExclude) ∷ Some (operation.Queue queue_call.PeakUse) ∷ [])

@@ -8,3 +8,4 @@ pub mod Examples
 pub mod Faults
 pub mod Walks
 pub mod Kept
+pub mod Operations

@@ -1,5 +1,6 @@
 //! Declarations and statements, judged by hand.
 ghost use Rattle.ac_check.specs.Examples.{TakesElements, CountsArguments, SplicesOfOneType, TakesCursors, KeepsLoopCursor, TakesAnswers, SumsIntegers, WritesNothingQueried, WritesUpdated, WritesLooped, LoopsOverCursors, ViewsElements, ViewsSets, UpdatesNoKey, ViewsHolders, CallsByKind, WritesNoSet, FitsCapacity, NeedsCursors, MakesLists};
+ghost use Rattle.ac_check.specs.Examples.{MeansByArguments, MeansByKind};
 
 /// Commands that keep the rules, and beside them some that break them.
 pub fn command_examples()
@@ -31,4 +32,10 @@ pub fn declaration_examples()
     ensures fits_capacity { FitsCapacity }
     ensures needs_cursors { NeedsCursors }
     ensures makes_lists { MakesLists }
+{}
+
+/// Calls with the operations that they mean.
+pub fn operation_examples()
+    ensures by_arguments { MeansByArguments }
+    ensures by_kind { MeansByKind }
 {}

@@ -1,9 +1,13 @@
 //! What holds of scripts, whatever looks for their faults.
-ghost use Rattle.std.specs.Prelude.{◌≡◌, ◌⊎◌, ℕ};
+ghost use Rattle.std.specs.Prelude.{◌≡◌, ◌⊎◌, ℕ, List, Option, is_some};
 ghost use Rattle.ac_syntax.specs.declared.refusal.RefusalKind.{RefusalKind};
 ghost use Rattle.ac_syntax.specs.declared.script.Script.{Script};
 ghost use Rattle.ac_check.specs.Faults.{IsChecked, IsFirstFault};
+ghost use Rattle.ac_syntax.specs.declared.arg.Arg.{Arg};
 ghost use Rattle.ac_check.specs.Kept.{ScriptKept};
+ghost use Rattle.ac_check.specs.Operations.{HasOneRow, FindsRow, operation_of};
+ghost use Rattle.ac_check.specs.Rules.{is_call};
+ghost use Rattle.ac_check.specs.Scopes.{Scope, Typed};
 
 /// A script has at most one first fault, and none where it is checked.
 pub fn one_fault()
@@ -20,4 +24,14 @@ pub fn each_script()
 /// In a script that can run each statement keeps the rules in the scope where it stands.
 pub fn rules_kept()
     ensures { (script : Script) → IsChecked script → ScriptKept script }
+{}
+
+/// A call is one row of the table at most, and that is found; so a call of the table means one operation.
+pub fn one_row()
+    ensures one { (scope : Scope) (typed : Typed) (target : Option (List ℕ)) (word : List ℕ) (args : List Arg) →
+        HasOneRow scope typed target word args }
+    ensures found { (scope : Scope) (typed : Typed) (target : Option (List ℕ)) (word : List ℕ) (args : List Arg) →
+        FindsRow scope typed target word args }
+    ensures means { (scope : Scope) (typed : Option Typed) (target : Option (List ℕ)) (word : List ℕ) (args : List Arg) →
+        is_some (operation_of scope typed target word args) ≡ is_call scope typed target word args }
 {}

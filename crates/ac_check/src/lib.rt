@@ -21,8 +21,8 @@ mod tests;
 mod walk;
 
 pub use checked::{Checked, check};
-pub use examples::{block_examples, command_examples, declaration_examples};
-pub use law::{each_script, one_fault, rules_kept};
+pub use examples::{block_examples, command_examples, declaration_examples, operation_examples};
+pub use law::{each_script, one_fault, one_row, rules_kept};
 pub use operation::{
     CapacityCall, CommonCall, HolderCall, KeyedCall, ListCall, MapCall, Operation, OrderedCall,
     OrderedMapCall, OrderedSetCall, QueueCall, SequenceCall, SetCall, TreeCall, TreeChangeCall,

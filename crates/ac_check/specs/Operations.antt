@@ -1,0 +1,28 @@
+-- The row of the table that a call is, and so the operation that it means.
+use Rattle.std.specs.Prelude.{◌≡◌, ◌↔◌, ℕ, List, find, IsTrue, Contains, Option, Some, None, option_map}
+use Rattle.ac_syntax.specs.declared.arg.Arg.{Arg}
+use Rattle.ac_check.specs.declared.operation.Operation.{Operation}
+use Rattle.ac_check.specs.Table.{Row, rows_of}
+use Rattle.ac_check.specs.Scopes.{Scope, Typed}
+use Rattle.ac_check.specs.Rules.{is_row}
+
+module _ (scope : Scope) (typed : Typed) (target : Option (List ℕ)) (word : List ℕ) (args : List Arg) where
+  -- a row of the type's that the call is
+  pub record IsRowFor (row : Row) : Type 0 where
+    pub there : Contains (rows_of typed.def) row
+    pub fits : IsTrue (is_row scope typed target word args row)
+
+  abbrev pub row_for : Option Row
+  row_for = find (is_row scope typed target word args) (rows_of typed.def)
+
+  -- there is one row at most, and it is found
+  abbrev pub HasOneRow : Type 0
+  HasOneRow = (row other : Row) → IsRowFor row → IsRowFor other → row ≡ other
+
+  abbrev pub FindsRow : Type 0
+  FindsRow = (row : Row) → IsRowFor row ↔ (row_for ≡ Some row)
+
+-- what the call means, if it is on an object and in the table
+abbrev pub operation_of : Scope → Option Typed → (target : Option (List ℕ)) → (word : List ℕ) → List Arg → Option Operation
+operation_of scope None target word args = None
+operation_of scope (Some typed) target word args = option_map (λ (row : Row). row.operation) (row_for scope typed target word args)
