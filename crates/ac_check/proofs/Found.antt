@@ -1,5 +1,5 @@
 -- A call's row is found in the table, and no other one fits.
-use Rattle.std.proofs.Common.{◌≡◌, ◌<◌, ◌||◌, ℕ, Bool, true, false, cond, List, [], ◌∷◌, length, find, is_some, option_map, Option, Some, None, refl, sym, ap, ◌∙◌, arith, true≢false}
+use Rattle.std.proofs.Common.{◌≡◌, ◌<◌, ◌||◌, ℕ, Bool, true, false, cond, List, [], ◌∷◌, ◌++◌, length, find, is_some, option_map, Option, Some, None, refl, sym, ap, ◌∙◌, arith, true≢false}
 use Rattle.std.specs.List.{list_all, list_any, slice_index_or}
 use Rattle.std.specs.Prelude.{Contains, ◌⊎◌}
 use Rattle.std.proofs.Common.{inl, inr, zero, suc}
@@ -9,14 +9,15 @@ use Rattle.ac_syntax.specs.declared.arg.Arg.{Arg}
 use Rattle.ac_syntax.specs.declared.kind.Kind.{Kind}
 use Rattle.ac_syntax.specs.declared.kind.Kind.TheVariants as kind
 use Rattle.ac_syntax.specs.declared.type_def.TypeDef.{TypeDef}
-use Rattle.ac_check.specs.Table.{Row, rows_by, rows_of, common_rows, counted_rows, sequence_rows, capacity_rows, vector_rows, list_rows, keyed_walk_rows, map_rows, set_rows, keyed_rows, ordered_keyed_rows, ordered_rows, ordered_map_rows, ordered_set_rows, tree_rows, tree_change_rows, holder_rows, queue_rows, priority_queue_rows}
+use Rattle.ac_check.specs.Kinds.{has_capacity}
+use Rattle.ac_check.specs.Table.{Row, rows_by, rows_if, rows_of, common_rows, counted_rows, sequence_rows, capacity_rows, vector_rows, list_rows, keyed_walk_rows, map_rows, set_rows, keyed_rows, ordered_keyed_rows, ordered_rows, ordered_map_rows, ordered_set_rows, tree_rows, tree_change_rows, holder_rows, queue_rows, priority_queue_rows}
 use Rattle.ac_check.specs.Scopes.{Scope, Typed}
 use Rattle.ac_check.specs.Rules.{is_row, is_call}
 use Rattle.ac_check.specs.Operations.{IsRowFor, row_for, operation_of, HasOneRow, FindsRow}
 use Rattle.ac_check.proofs.Apart.{neither, and_parts, row_apart, rows_apart, rows_both}
 
 -- in each kind's rows those with one word ask for other arguments
-table_by : (k : Kind) (keyed : Bool) → rows_apart (rows_by k keyed) ≡ true
+table_by : (k : Kind) (keyed : Bool) → rows_apart (rows_by k keyed ++ rows_if (has_capacity k) capacity_rows) ≡ true
 unfolding common_rows counted_rows sequence_rows capacity_rows vector_rows list_rows keyed_walk_rows map_rows set_rows keyed_rows ordered_keyed_rows ordered_rows ordered_map_rows ordered_set_rows tree_rows tree_change_rows holder_rows queue_rows priority_queue_rows
 table_by kind.Vector keyed = refl
 table_by kind.List keyed = refl

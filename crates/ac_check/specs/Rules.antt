@@ -12,8 +12,6 @@ use Rattle.ac_syntax.specs.declared.arg.Arg.{Arg}
 use Rattle.ac_syntax.specs.declared.arg.Arg.TheVariants.{Lit, NoElement, Var}
 use Rattle.ac_syntax.specs.declared.decl.Decl.{Decl}
 use Rattle.ac_syntax.specs.declared.decl.Decl.TheVariants.{TypeDecl, Object, CursorVar, IntVar, TextVar}
-use Rattle.ac_syntax.specs.declared.kind.Kind.{Kind}
-use Rattle.ac_syntax.specs.declared.kind.Kind.TheVariants as kind
 use Rattle.ac_syntax.specs.declared.kind.ElemKind.{ElemKind}
 use Rattle.ac_syntax.specs.declared.kind.ElemKind.TheVariants.{Integer, Str}
 use Rattle.ac_syntax.specs.declared.stmt.Stmt.{Stmt}
@@ -25,65 +23,12 @@ use Rattle.ac_check.specs.declared.rows.Letter.{Letter}
 use Rattle.ac_check.specs.declared.rows.Letter.TheVariants as letter
 use Rattle.ac_check.specs.declared.rows.Answer.{Answer}
 use Rattle.ac_check.specs.declared.rows.Answer.TheVariants as answer
+use Rattle.ac_check.specs.Kinds.{is_map, is_set, is_queue, is_holder, has_cursors, goes_backward, is_built}
 use Rattle.ac_check.specs.Table.{Row, rows_of}
-use Rattle.ac_check.specs.Scopes.{Meaning, a_type, an_object, a_cursor, a_value, Scope, meaning_in, type_of, object_of, Typed, is_map, is_set, element_of, Standing}
+use Rattle.ac_check.specs.Scopes.{Meaning, a_type, an_object, a_cursor, a_value, Scope, meaning_in, type_of, object_of, Typed, element_of, Standing}
 
 abbrev pub is_elem : ElemKind → ElemKind → Bool
 is_elem wanted found = sameb the_type found wanted
-
-abbrev pub is_queue : Kind → Bool
-is_queue kind.Vector = false
-is_queue kind.List = false
-is_queue kind.HashedMap = false
-is_queue kind.OrderedMap = false
-is_queue kind.HashedSet = false
-is_queue kind.OrderedSet = false
-is_queue kind.Tree = false
-is_queue kind.Holder = false
-is_queue kind.Queue = true
-is_queue kind.PriorityQueue = true
-
-abbrev pub is_holder : Kind → Bool
-is_holder kind.Vector = false
-is_holder kind.List = false
-is_holder kind.HashedMap = false
-is_holder kind.OrderedMap = false
-is_holder kind.HashedSet = false
-is_holder kind.OrderedSet = false
-is_holder kind.Tree = false
-is_holder kind.Holder = true
-is_holder kind.Queue = false
-is_holder kind.PriorityQueue = false
-
--- its elements have cursors
-abbrev pub has_cursors : Kind → Bool
-has_cursors k = not (is_holder k) && not (is_queue k)
-
--- a loop can go backward
-abbrev pub goes_backward : Kind → Bool
-goes_backward kind.Vector = true
-goes_backward kind.List = true
-goes_backward kind.HashedMap = false
-goes_backward kind.OrderedMap = true
-goes_backward kind.HashedSet = false
-goes_backward kind.OrderedSet = true
-goes_backward kind.Tree = false
-goes_backward kind.Holder = false
-goes_backward kind.Queue = false
-goes_backward kind.PriorityQueue = false
-
--- scripts can have objects of the kind
-abbrev pub is_built : Kind → Bool
-is_built kind.Vector = false
-is_built kind.List = true
-is_built kind.HashedMap = false
-is_built kind.OrderedMap = false
-is_built kind.HashedSet = false
-is_built kind.OrderedSet = false
-is_built kind.Tree = false
-is_built kind.Holder = false
-is_built kind.Queue = false
-is_built kind.PriorityQueue = false
 
 -- both or neither
 abbrev are_alike : Bool → Bool → Bool

@@ -3,6 +3,7 @@ use Rattle.std.specs.Prelude.{ℕ, codes, Bool, List, [], ◌∷◌, ◌++◌, O
 use Rattle.ac_syntax.specs.declared.kind.Kind.{Kind}
 use Rattle.ac_syntax.specs.declared.kind.Kind.TheVariants as kind
 use Rattle.ac_syntax.specs.declared.type_def.TypeDef.{TypeDef}
+use Rattle.ac_check.specs.Kinds.{has_capacity}
 use Rattle.ac_check.specs.declared.operation.Operation.{Operation}
 use Rattle.ac_check.specs.declared.operation.Operation.TheVariants as operation
 use Rattle.ac_check.specs.declared.operation.CommonCall.TheVariants as common
@@ -301,13 +302,13 @@ priority_queue_rows =
 abbrev pub rows_if : Bool → List Row → List Row
 rows_if test rows = if test then rows else []
 
--- the calls of a type's objects
+-- the calls of a kind's objects, but for those of a Capacity
 abbrev pub rows_by : Kind → (is_keyed : Bool) → List Row
-rows_by kind.Vector keyed = common_rows ++ counted_rows ++ sequence_rows ++ capacity_rows ++ vector_rows
+rows_by kind.Vector keyed = common_rows ++ counted_rows ++ sequence_rows ++ vector_rows
 rows_by kind.List keyed = common_rows ++ counted_rows ++ sequence_rows ++ list_rows
-rows_by kind.HashedMap keyed = common_rows ++ counted_rows ++ keyed_walk_rows ++ map_rows ++ capacity_rows
+rows_by kind.HashedMap keyed = common_rows ++ counted_rows ++ keyed_walk_rows ++ map_rows
 rows_by kind.OrderedMap keyed = common_rows ++ counted_rows ++ keyed_walk_rows ++ map_rows ++ ordered_rows ++ ordered_map_rows
-rows_by kind.HashedSet keyed = common_rows ++ counted_rows ++ keyed_walk_rows ++ set_rows ++ capacity_rows ++ rows_if keyed keyed_rows
+rows_by kind.HashedSet keyed = common_rows ++ counted_rows ++ keyed_walk_rows ++ set_rows ++ rows_if keyed keyed_rows
 rows_by kind.OrderedSet keyed =
     common_rows ++ counted_rows ++ keyed_walk_rows ++ set_rows ++ ordered_rows ++ ordered_set_rows ++ rows_if keyed (keyed_rows ++ ordered_keyed_rows)
 rows_by kind.Tree keyed = common_rows ++ tree_rows ++ tree_change_rows
@@ -315,5 +316,6 @@ rows_by kind.Holder keyed = holder_rows
 rows_by kind.Queue keyed = queue_rows
 rows_by kind.PriorityQueue keyed = queue_rows ++ priority_queue_rows
 
+-- the calls of a type's objects
 unfoldable pub rows_of : TypeDef → List Row
-rows_of def = rows_by def.kind def.keyed
+rows_of def = rows_by def.kind def.keyed ++ rows_if (has_capacity def.kind) capacity_rows

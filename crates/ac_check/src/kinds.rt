@@ -1,45 +1,46 @@
 //! What each kind of container has.
 ghost use Rattle.std.specs.Prelude.{◌≡◌, ◌&&◌, ◌||◌, not};
 ghost use Rattle.ac_syntax.specs.declared.kind.ElemKind.TheVariants.{Integer, Str};
+ghost use Rattle.ac_check.specs.Kinds as kinds;
 ghost use Rattle.ac_check.specs.Rules as rules;
 ghost use Rattle.ac_check.specs.Scopes as scopes;
 
 use ac_syntax::{ElemKind, Kind, TypeDef};
 
 pub fn is_map(kind: Kind) -> bool
-    ensures { result ≡ scopes.is_map kind }
+    ensures { result ≡ kinds.is_map kind }
 {
     matches!(kind, Kind::HashedMap | Kind::OrderedMap)
 }
 
 pub fn is_set(kind: Kind) -> bool
-    ensures { result ≡ scopes.is_set kind }
+    ensures { result ≡ kinds.is_set kind }
 {
     matches!(kind, Kind::HashedSet | Kind::OrderedSet)
 }
 
 pub fn is_queue(kind: Kind) -> bool
-    ensures { result ≡ rules.is_queue kind }
+    ensures { result ≡ kinds.is_queue kind }
 {
     matches!(kind, Kind::Queue | Kind::PriorityQueue)
 }
 
 pub fn is_holder(kind: Kind) -> bool
-    ensures { result ≡ rules.is_holder kind }
+    ensures { result ≡ kinds.is_holder kind }
 {
     matches!(kind, Kind::Holder)
 }
 
 /// Whether its elements have cursors.
 pub fn has_cursors(kind: Kind) -> bool
-    ensures { result ≡ rules.has_cursors kind }
+    ensures { result ≡ kinds.has_cursors kind }
 {
     !is_holder(kind) && !is_queue(kind)
 }
 
 /// Whether a loop can go backward.
 pub fn goes_backward(kind: Kind) -> bool
-    ensures { result ≡ rules.goes_backward kind }
+    ensures { result ≡ kinds.goes_backward kind }
 {
     matches!(
         kind,
@@ -49,7 +50,7 @@ pub fn goes_backward(kind: Kind) -> bool
 
 /// Whether scripts can have objects of the kind.
 fn is_built(kind: Kind) -> bool
-    ensures { result ≡ rules.is_built kind }
+    ensures { result ≡ kinds.is_built kind }
 {
     matches!(kind, Kind::List)
 }
@@ -66,14 +67,14 @@ pub fn element_of(def: TypeDef) -> ElemKind
 
 /// Whether a queue's elements are integers.
 fn is_queue_right(def: TypeDef) -> bool
-    ensures { result ≡ (not (rules.is_queue def.kind) || rules.is_elem Integer def.first) }
+    ensures { result ≡ (not (kinds.is_queue def.kind) || rules.is_elem Integer def.first) }
 {
     !is_queue(def.kind) || def.first == ElemKind::Integer
 }
 
 /// Whether only a set of strings is keyed.
 fn is_keyed_right(def: TypeDef) -> bool
-    ensures { result ≡ (not def.keyed || (scopes.is_set def.kind && rules.is_elem Str def.first)) }
+    ensures { result ≡ (not def.keyed || (kinds.is_set def.kind && rules.is_elem Str def.first)) }
 {
     !def.keyed || (is_set(def.kind) && def.first == ElemKind::Str)
 }

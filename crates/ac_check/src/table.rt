@@ -265,7 +265,7 @@ const PRIORITY_QUEUE: [Row; 1] = [
     row!(b"dequeue_only_high_priority", [Integer], Integer => Queue(QueueCall::DequeueOnlyHighPriority)),
 ];
 
-static VECTORS: [&[Row]; 5] = [&COMMON, &COUNTED, &SEQUENCE, &CAPACITY, &VECTOR];
+static VECTORS: [&[Row]; 5] = [&COMMON, &COUNTED, &SEQUENCE, &VECTOR, &CAPACITY];
 
 static LISTS: [&[Row]; 4] = [&COMMON, &COUNTED, &SEQUENCE, &LIST];
 
@@ -275,7 +275,7 @@ static ORDERED_MAPS: [&[Row]; 6] = [&COMMON, &COUNTED, &KEYED_WALK, &MAP, &ORDER
 
 static HASHED_SETS: [&[Row]; 5] = [&COMMON, &COUNTED, &KEYED_WALK, &SET, &CAPACITY];
 
-static KEYED_HASHED_SETS: [&[Row]; 6] = [&COMMON, &COUNTED, &KEYED_WALK, &SET, &CAPACITY, &KEYED];
+static KEYED_HASHED_SETS: [&[Row]; 6] = [&COMMON, &COUNTED, &KEYED_WALK, &SET, &KEYED, &CAPACITY];
 
 static ORDERED_SETS: [&[Row]; 6] = [&COMMON, &COUNTED, &KEYED_WALK, &SET, &ORDERED, &ORDERED_SET];
 
