@@ -160,20 +160,23 @@ module _ (scope : Scope) (typed : Typed) where
 
   module _ (target : Option (List ℕ)) (word : List ℕ) (args : List Arg) where
     -- what a call's row has
-    row_parts : (row : Row) → is_row scope typed target word args row ≡ true → (row.word ≡ word) × (all_fit scope typed row.letters row.optional args ≡ true)
+    pub row_parts : (row : Row) → is_row scope typed target word args row ≡ true
+        → (row.word ≡ word) × (all_fit scope typed row.letters row.optional args ≡ true) × (takes_answer scope target (answered typed row.answer) ≡ true)
     row_parts row h =
-        let rest = all_fit scope typed row.letters row.optional args && takes_answer scope target (answered typed row.answer) in
-        let parts = and_parts (bytes_eq row.word word) rest h in
-        ((bytes_eq-Decides row.word word).0 parts.0, (and_parts (all_fit scope typed row.letters row.optional args) (takes_answer scope target (answered typed row.answer)) parts.1).0)
+        let fit = all_fit scope typed row.letters row.optional args in
+        let taken = takes_answer scope target (answered typed row.answer) in
+        let parts = and_parts (bytes_eq row.word word) (fit && taken) h in
+        let more = and_parts fit taken parts.1 in
+        ((bytes_eq-Decides row.word word).0 parts.0, more.0, more.1)
 
     pub rows_both : {X : Type 0} (row other : Row) → row_apart row other ≡ true
         → is_row scope typed target word args row ≡ true → is_row scope typed target word args other ≡ true → X
     rows_both {X} row other apart f g = by (bytes_eq row.word other.word) ((bytes_eq-Decides row.word other.word).1 (first.0 ∙ sym second.0)) apart
       where
-        first : (row.word ≡ word) × (all_fit scope typed row.letters row.optional args ≡ true)
+        first : (row.word ≡ word) × (all_fit scope typed row.letters row.optional args ≡ true) × (takes_answer scope target (answered typed row.answer) ≡ true)
         first = row_parts row f
 
-        second : (other.word ≡ word) × (all_fit scope typed other.letters other.optional args ≡ true)
+        second : (other.word ≡ word) × (all_fit scope typed other.letters other.optional args ≡ true) × (takes_answer scope target (answered typed other.answer) ≡ true)
         second = row_parts other g
 
         by : (same : Bool) → same ≡ true → (not same || letters_apart row.letters row.optional other.letters other.optional) ≡ true → X

@@ -1,7 +1,7 @@
 -- A call's row is found in the table, and no other one fits.
 use Rattle.std.proofs.Common.{◌≡◌, ◌<◌, ◌||◌, ℕ, Bool, true, false, cond, List, [], ◌∷◌, ◌++◌, length, find, is_some, option_map, Option, Some, None, refl, sym, ap, ◌∙◌, arith, true≢false}
 use Rattle.std.specs.List.{list_all, list_any, slice_index_or}
-use Rattle.std.specs.Prelude.{Contains, ◌⊎◌}
+use Rattle.std.specs.Prelude.{Contains, ◌⊎◌, IsTrue}
 use Rattle.std.proofs.Common.{inl, inr, zero, suc}
 use Rattle.std.proofs.lemmas.List.Elements.{All-contains, Contains-append_right}
 use Rattle.std.proofs.lemmas.List.Sums.{AllPass-from_list_all}
@@ -13,8 +13,8 @@ use Rattle.ac_check.specs.Kinds.{has_capacity}
 use Rattle.ac_check.specs.Table.{Row, rows_by, rows_if, rows_of, common_rows, counted_rows, sequence_rows, capacity_rows, vector_rows, list_rows, keyed_walk_rows, map_rows, set_rows, keyed_rows, ordered_keyed_rows, ordered_rows, ordered_map_rows, ordered_set_rows, tree_rows, tree_change_rows, holder_rows, queue_rows, priority_queue_rows}
 use Rattle.ac_check.specs.Scopes.{Scope, Typed}
 use Rattle.ac_check.specs.Rules.{is_row, is_call}
-use Rattle.ac_check.specs.Operations.{IsRowFor, row_for, operation_of, HasOneRow, FindsRow}
-use Rattle.ac_check.proofs.Apart.{neither, and_parts, row_apart, rows_apart, rows_both}
+use Rattle.ac_check.specs.Operations.{IsRowFor, row_for, operation_of, HasOneRow, FindsRow, CallKept}
+use Rattle.ac_check.proofs.Apart.{neither, and_parts, row_apart, rows_apart, row_parts, rows_both}
 
 -- in each kind's rows those with one word ask for other arguments
 table_by : (k : Kind) (keyed : Bool) → rows_apart (rows_by k keyed ++ rows_if (has_capacity k) capacity_rows) ≡ true
@@ -102,3 +102,16 @@ means_one scope None target word args = refl
 means_one scope (Some typed) target word args =
     is_some-map (λ (row : Row). row.operation) (row_for scope typed target word args)
     ∙ found_any (is_row scope typed target word args) (rows_of typed.def)
+
+-- a call that keeps the rules, by what was found
+pub call_kept : (scope : Scope) (typed : Option Typed) (target : Option (List ℕ)) (word : List ℕ) (args : List Arg)
+    → IsTrue (is_call scope typed target word args) → CallKept scope typed target word args
+call_kept scope None target word args h = neither h
+call_kept scope (Some typed) target word args h = by (row_for scope typed target word args) refl (found_any (is_row scope typed target word args) (rows_of typed.def) ∙ h)
+  where
+    by : (o : Option Row) → row_for scope typed target word args ≡ o → is_some o ≡ true → CallKept scope (Some typed) target word args
+    by None e is = neither is
+    by (Some row) e is =
+        let is_it = found_fits (is_row scope typed target word args) (rows_of typed.def) row e in
+        let parts = row_parts scope typed target word args row is_it.1 in
+        record { object = typed; is = refl; row = row; found = e; fits = parts.1; taken = parts.2 }

@@ -4,7 +4,7 @@ use Rattle.ac_syntax.specs.declared.arg.Arg.{Arg}
 use Rattle.ac_check.specs.declared.operation.Operation.{Operation}
 use Rattle.ac_check.specs.Table.{Row, rows_of}
 use Rattle.ac_check.specs.Scopes.{Scope, Typed}
-use Rattle.ac_check.specs.Rules.{is_row}
+use Rattle.ac_check.specs.Rules.{is_row, all_fit, takes_answer, answered}
 
 module _ (scope : Scope) (typed : Typed) (target : Option (List ℕ)) (word : List ℕ) (args : List Arg) where
   -- a row of the type's that the call is
@@ -26,3 +26,12 @@ module _ (scope : Scope) (typed : Typed) (target : Option (List ℕ)) (word : Li
 abbrev pub operation_of : Scope → Option Typed → (target : Option (List ℕ)) → (word : List ℕ) → List Arg → Option Operation
 operation_of scope None target word args = None
 operation_of scope (Some typed) target word args = option_map (λ (row : Row). row.operation) (row_for scope typed target word args)
+
+-- a call that keeps the rules: on an object, a row of its type's, whose letters its arguments are and whose answer the target takes
+pub record CallKept (scope : Scope) (typed : Option Typed) (target : Option (List ℕ)) (word : List ℕ) (args : List Arg) : Type 0 where
+  pub object : Typed
+  pub is : typed ≡ Some object
+  pub row : Row
+  pub found : row_for scope object target word args ≡ Some row
+  pub fits : IsTrue (all_fit scope object row.letters row.optional args)
+  pub taken : IsTrue (takes_answer scope target (answered object row.answer))

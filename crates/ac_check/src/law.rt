@@ -1,11 +1,11 @@
 //! What holds of scripts, whatever looks for their faults.
-ghost use Rattle.std.specs.Prelude.{◌≡◌, ◌⊎◌, ℕ, List, Option, is_some};
+ghost use Rattle.std.specs.Prelude.{◌≡◌, ◌⊎◌, ℕ, List, Option, is_some, IsTrue};
 ghost use Rattle.ac_syntax.specs.declared.refusal.RefusalKind.{RefusalKind};
 ghost use Rattle.ac_syntax.specs.declared.script.Script.{Script};
 ghost use Rattle.ac_check.specs.Faults.{IsChecked, IsFirstFault};
 ghost use Rattle.ac_syntax.specs.declared.arg.Arg.{Arg};
 ghost use Rattle.ac_check.specs.Kept.{ScriptKept};
-ghost use Rattle.ac_check.specs.Operations.{HasOneRow, FindsRow, operation_of};
+ghost use Rattle.ac_check.specs.Operations.{HasOneRow, FindsRow, operation_of, CallKept};
 ghost use Rattle.ac_check.specs.Rules.{is_call};
 ghost use Rattle.ac_check.specs.Scopes.{Scope, Typed};
 
@@ -34,4 +34,6 @@ pub fn one_row()
         FindsRow scope typed target word args }
     ensures means { (scope : Scope) (typed : Option Typed) (target : Option (List ℕ)) (word : List ℕ) (args : List Arg) →
         is_some (operation_of scope typed target word args) ≡ is_call scope typed target word args }
+    ensures kept { (scope : Scope) (typed : Option Typed) (target : Option (List ℕ)) (word : List ℕ) (args : List Arg) →
+        IsTrue (is_call scope typed target word args) → CallKept scope typed target word args }
 {}

@@ -9,3 +9,6 @@ returns-clause-found c = found.finds_row
 
 pub returns-clause-means : goal.returns-clause-means
 returns-clause-means c = found.means_one
+
+pub returns-clause-kept : goal.returns-clause-kept
+returns-clause-kept c = found.call_kept
