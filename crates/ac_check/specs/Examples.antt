@@ -1,5 +1,5 @@
 -- Declarations and statements that keep the rules and that break them, worked out by hand.
-use Rattle.std.specs.Prelude.{◌≡◌, ℕ, ◌&&◌, pos, codes, Bool, true, false, not, List, [], ◌∷◌, ◌++◌, map, Option, Some, None, IsTrue}
+use Rattle.std.specs.Prelude.{◌≡◌, ℕ, zero, suc, ◌&&◌, pos, codes, Bool, true, false, not, List, [], ◌∷◌, ◌++◌, map, Option, Some, None, IsTrue}
 use Rattle.std.specs.List.{list_all, list_any}
 use Rattle.ac_base.specs.declared.value.Value.TheVariants as value
 use Rattle.ac_syntax.specs.Code.{stop, loop_at, view_at}
@@ -26,6 +26,7 @@ use Rattle.ac_check.specs.declared.operation.SetCall.TheVariants as set_call
 use Rattle.ac_check.specs.declared.operation.KeyedCall.TheVariants as keyed_call
 use Rattle.ac_check.specs.declared.operation.QueueCall.TheVariants as queue_call
 use Rattle.ac_check.specs.Operations.{operation_of}
+use Rattle.ac_check.specs.Faults.{is_crowded}
 use Rattle.ac_check.specs.Rules.{is_decl, is_stmt}
 use Rattle.ac_check.specs.Scopes.{Scope, entry, object_of, an_object, a_type, a_cursor, a_value, with_decls, inside}
 
@@ -246,6 +247,14 @@ MakesLists = TellsDecls []
     (declares (list_of Integer) ∷ declares (list_of Str) ∷ declares (def true kind.List Str None false) ∷ [])
     (declares (def false kind.List Integer (Some Integer) false) ∷ declares (def false kind.List Str None true)
     ∷ (map (λ k. declares (def false k Integer None false)) refused ++ map (λ k. declares (def false k Str (Some Integer) false)) refused))
+
+abbrev named : ℕ → Scope
+named zero = []
+named (suc n) = entry Y (a_value Str true) ∷ named n
+
+-- behind 999 names there is room for one more, and behind 1,000 for none
+abbrev pub CountsNames : Type 0
+CountsNames = IsTrue (not (is_crowded (named 999) (Some X)) && (is_crowded (named 1000) (Some X) && not (is_crowded (named 1000) None)))
 
 -- the operation that a call means
 

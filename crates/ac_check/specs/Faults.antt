@@ -10,6 +10,7 @@ use Rattle.ac_syntax.specs.declared.decl.Decl.TheVariants.{TypeDecl, Object, Cur
 use Rattle.ac_syntax.specs.declared.refusal.RefusalKind.{RefusalKind}
 use Rattle.ac_syntax.specs.declared.refusal.RefusalKind.TheVariants.{Limit, UnknownName, WrongType, Twice}
 use Rattle.ac_syntax.specs.declared.script.Script.{Script}
+use Rattle.ac_check.specs.declared.faults.TheConstants.{MOST_NAMES}
 use Rattle.ac_check.specs.Scopes.{Scope, meaning_in, Standing, standings}
 use Rattle.ac_check.specs.Rules.{is_well_typed}
 
@@ -88,10 +89,7 @@ capacity (opens head) = 0
 capacity begins = 0
 capacity (closes _) = 0
 
--- how many names may be in scope, and how much room the objects of a text may have in all
-abbrev pub most_names : ℕ
-most_names = 1000
-
+-- how much room the objects of a text may have in all
 abbrev pub most_room : ℕ
 most_room = 1000000
 
@@ -105,7 +103,7 @@ is_twice scope (Some name) = is_in_scope scope name
 -- one name more is one too many
 abbrev pub is_crowded : Scope → Option (List ℕ) → Bool
 is_crowded scope None = false
-is_crowded scope (Some name) = nat_le most_names (length scope)
+is_crowded scope (Some name) = nat_le MOST_NAMES (length scope)
 
 -- the capacities of these items in all
 abbrev pub room_of : List Standing → ℕ

@@ -1,6 +1,6 @@
 //! Declarations and statements, judged by hand.
 ghost use Rattle.ac_check.specs.Examples.{TakesElements, CountsArguments, SplicesOfOneType, TakesCursors, KeepsLoopCursor, TakesAnswers, SumsIntegers, WritesNothingQueried, WritesUpdated, WritesLooped, LoopsOverCursors, ViewsElements, ViewsSets, UpdatesNoKey, ViewsHolders, CallsByKind, WritesNoSet, FitsCapacity, NeedsCursors, MakesLists};
-ghost use Rattle.ac_check.specs.Examples.{MeansByArguments, MeansByKind};
+ghost use Rattle.ac_check.specs.Examples.{CountsNames, MeansByArguments, MeansByKind};
 
 /// Commands that keep the rules, and beside them some that break them.
 pub fn command_examples()
@@ -32,6 +32,7 @@ pub fn declaration_examples()
     ensures fits_capacity { FitsCapacity }
     ensures needs_cursors { NeedsCursors }
     ensures makes_lists { MakesLists }
+    ensures counts_names { CountsNames }
 {}
 
 /// Calls with the operations that they mean.

@@ -9,3 +9,6 @@ returns-clause-needs_cursors c = refl
 
 pub returns-clause-makes_lists : goal.returns-clause-makes_lists
 returns-clause-makes_lists c = refl
+
+pub returns-clause-counts_names : goal.returns-clause-counts_names
+returns-clause-counts_names c = refl
