@@ -5,8 +5,8 @@ use Rattle.std.specs.Result.{IsErrAnd}
 use Rattle.std.proofs.lemmas.Result.{err_from_is_err_and}
 use Rattle.ac_syntax.specs.declared.refusal.RefusalKind.{RefusalKind}
 use Rattle.ac_syntax.specs.declared.script.Script.{Script}
-use Rattle.ac_script.specs.declared.fault.ScriptFault.{ScriptFault}
-use Rattle.ac_script.specs.declared.fault.ScriptFault.TheVariants.{Refused, NoMemory}
+use Rattle.ac_syntax.specs.declared.fault.ScriptFault.{ScriptFault}
+use Rattle.ac_syntax.specs.declared.fault.ScriptFault.TheVariants.{Refused, NoMemory}
 use Rattle.ac_check.specs.Faults.{IsFirstFault, IsChecked}
 use Rattle.ac_check.proofs.FirstFaults.{one_fault, no_fault}
 
