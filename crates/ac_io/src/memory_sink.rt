@@ -1,4 +1,4 @@
-ghost use Rattle.std.specs.Prelude.{◌≡◌, ◌<◌, ◌≤◌, Some, [], length, IfOk};
+ghost use Rattle.std.specs.Prelude.{◌≡◌, ◌≢◌, ◌<◌, ◌≤◌, true, Some, [], length, IfOk};
 ghost use Rattle.ac_io.specs.Outside.{Rose, Takes, TakesWithin};
 ghost use Rattle.ac_io.specs.Memory.{put_answer, after_put, room_of};
 
@@ -82,6 +82,8 @@ impl Sink for MemorySink {
 
     ghost room = { room_of };
 
+    ghost counts_failures = { λ _. true };
+
     fn put(&mut self, bytes: &[u8]) -> Put
         requires { 0 < length bytes.now }
         ensures answer { result ≡ put_answer self.old (length bytes.now) }
@@ -92,6 +94,7 @@ impl Sink for MemorySink {
         ensures counted { self.old.faults ≤ self.new.faults }
         ensures failed { result ≡ Put.Failed → Rose self.old.faults self.new.faults }
         ensures within { TakesWithin result bytes.now (room_of self.old) (room_of self.new) }
+        ensures counts { result ≢ Put.Failed → self.new.faults ≡ self.old.faults }
     {
         self.calls = self.calls.saturating_add(1);
         let space = self.room as usize - self.bytes.len();

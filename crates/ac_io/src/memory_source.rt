@@ -71,6 +71,8 @@ impl Source for MemorySource {
 
     ghost is_steady = { λ s. is_unfailing s.fails };
 
+    ghost counts_failures = { λ _. true };
+
     fn next(&mut self, buf: &mut [u8]) -> Next
         requires { 0 < length buf.old }
         ensures answer { result ≡ next_answer self.old (length buf.old) }
@@ -83,6 +85,7 @@ impl Source for MemorySource {
         ensures failed { result ≡ Next.Failed → Rose self.old.faults self.new.faults }
         ensures steady { is_unfailing self.old.fails ≡ true →
             (result ≢ Next.Failed) × (is_unfailing self.new.fails ≡ true) }
+        ensures counts { result ≢ Next.Failed → self.new.faults ≡ self.old.faults }
     {
         self.calls = self.calls.saturating_add(1);
         if self.fails.contains(&self.calls) {

@@ -22,6 +22,9 @@ pub trait Source {
     /// The source promises that no call fails from here on.
     ghost is_steady: { Self → Bool };
 
+    /// The source promises that the count rises only in a call that fails.
+    ghost counts_failures: { Self → Bool };
+
     /// Moves some of the bytes to the front of the buffer.
     fn next(&mut self, buf: &mut [u8]) -> Next
         requires { 0 < length buf.old }
@@ -29,7 +32,9 @@ pub trait Source {
         ensures counted { faults self.old ≤ faults self.new }
         ensures failed { result ≡ Next.Failed → Rose (faults self.old) (faults self.new) }
         ensures steady { is_steady self.old ≡ true →
-            (result ≢ Next.Failed) × (is_steady self.new ≡ true) };
+            (result ≢ Next.Failed) × (is_steady self.new ≡ true) }
+        ensures counts { counts_failures self.old ≡ true →
+            (result ≢ Next.Failed → faults self.new ≡ faults self.old) × (counts_failures self.new ≡ true) };
 }
 
 /// What one call of a sink took.
@@ -51,11 +56,16 @@ pub trait Sink {
     /// How many bytes the sink promises to take before a call fails, where it promises any.
     ghost room: { Self → Option ℕ };
 
+    /// The sink promises that the count rises only in a call that fails.
+    ghost counts_failures: { Self → Bool };
+
     /// Takes some of the bytes, from their front.
     fn put(&mut self, bytes: &[u8]) -> Put
         requires { 0 < length bytes.now }
         ensures takes { Takes result bytes.now (held self.old) (held self.new) }
         ensures counted { faults self.old ≤ faults self.new }
         ensures failed { result ≡ Put.Failed → Rose (faults self.old) (faults self.new) }
-        ensures within { TakesWithin result bytes.now (room self.old) (room self.new) };
+        ensures within { TakesWithin result bytes.now (room self.old) (room self.new) }
+        ensures counts { counts_failures self.old ≡ true →
+            (result ≢ Put.Failed → faults self.new ≡ faults self.old) × (counts_failures self.new ≡ true) };
 }

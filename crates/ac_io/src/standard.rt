@@ -1,4 +1,4 @@
-ghost use Rattle.std.specs.Prelude.{◌≡◌, ◌<◌, ◌≤◌, Some, None, false, length, IfSome};
+ghost use Rattle.std.specs.Prelude.{◌≡◌, ◌<◌, ◌≤◌, Some, None, true, false, length, IfSome};
 ghost use Rattle.ac_io.specs.Outside.{Gives, Takes};
 ghost use Rattle.ac_io.specs.Memory.{faults_after_next, faults_after_put};
 
@@ -28,6 +28,8 @@ impl<R: Read + Drop> Source for StdSource<R> {
     ghost faults = { λ s. s.faults };
 
     ghost is_steady = { λ _. false };
+
+    ghost counts_failures = { λ _. true };
 
     /// Each error of the reader counts as a fault.
     fn next(&mut self, buf: &mut [u8]) -> Next
@@ -73,6 +75,8 @@ impl<P: Print + Drop> Sink for StdSink<P> {
     ghost faults = { λ s. s.faults };
 
     ghost room = { λ _. None };
+
+    ghost counts_failures = { λ _. true };
 
     /// A write that takes nothing counts as a fault.
     fn put(&mut self, bytes: &[u8]) -> Put

@@ -49,6 +49,10 @@ pub fn read_all<S: Source>(alloc: Global, source: &mut S, limit: u64) -> Result<
     ensures counted { S.faults source.old ≤ S.faults source.new }
     ensures steady { S.is_steady source.old ≡ true →
         (result ≢ Err ReadEnd.ReadFault) × (S.is_steady source.new ≡ true) }
+
+    // Where the count rises in failed calls alone, no other end moves it.
+    ensures counts { S.counts_failures source.old ≡ true →
+        (result ≢ Err ReadEnd.ReadFault → S.faults source.new ≡ S.faults source.old) × (S.counts_failures source.new ≡ true) }
 {
     let mut bytes = Vec::new(alloc);
     let mut buffer = [0u8; BUFFER];
@@ -76,6 +80,10 @@ pub fn write_all<K: Sink>(sink: &mut K, bytes: &[u8]) -> Result<(), WriteFault>
     // Where the sink has room for the piece, it takes it all.
     ensures within { IfSome (K.room sink.old) (λ room. length bytes.now ≤ room →
         IsOk result × (K.room sink.new ≡ Some (room - length bytes.now))) }
+
+    // Where the count rises in failed calls alone, a whole write leaves it as it was.
+    ensures counts { K.counts_failures sink.old ≡ true →
+        (IsOk result → K.faults sink.new ≡ K.faults sink.old) × (K.counts_failures sink.new ≡ true) }
 {
     let mut rest = bytes;
     while !rest.is_empty() {
