@@ -2,6 +2,9 @@ ghost use Rattle.std.specs.Prelude.{◌<◌};
 
 use super::*;
 use std::alloc::{AllocError, Global};
+use std::cell::RefCell;
+use std::fmt::Display;
+use std::io::{self, ErrorKind};
 use std::test::Fail;
 
 const LINE: &[u8] = b"3: ok\n";
@@ -78,5 +81,50 @@ fn reads_standard_input(rt: HostRuntime) -> Result<(), Fail> {
 fn writes_standard_output(rt: HostRuntime) -> Result<(), Fail> {
     let mut output = StdSink::new(rt.stdout());
     write_all(&mut output, LINE)?;
+    Ok(())
+}
+
+/// A printer that takes two bytes a call, and fails once it has taken so many.
+#[derive(Drop)]
+struct Pairs {
+    taken: RefCell<Vec<u8>>,
+    room: usize,
+}
+
+impl Print for Pairs {
+    fn print<D: Display + Drop>(&self, _value: D) -> io::Result<()> {
+        self.write_all(b"")
+    }
+
+    fn println<D: Display + Drop>(&self, _value: D) -> io::Result<()> {
+        self.write_all(b"")
+    }
+
+    fn write_all(&self, _bytes: &[u8]) -> io::Result<()> {
+        Err(ErrorKind::Unsupported.into())
+    }
+
+    fn write_some(&self, bytes: &[u8]) -> io::Result<usize> {
+        let mut taken = self.taken.try_borrow_mut()?;
+        if taken.len() >= self.room {
+            return Err(ErrorKind::BrokenPipe.into());
+        }
+        let count = bytes.len().min(2);
+        taken.extend_from_slice(&bytes[..count])?;
+        Ok(count)
+    }
+}
+
+#[test]
+fn writes_what_a_printer_takes(rt: HostRuntime) -> Result<(), Fail> {
+    for (room, is_whole, front) in [(6, true, LINE), (4, false, b"3: o")] {
+        let printer = Pairs {
+            taken: RefCell::new(Vec::new(rt.alloc())),
+            room,
+        };
+        let mut output = StdSink::new(&printer);
+        assert_eq!(rt; write_all(&mut output, LINE).is_ok(), is_whole);
+        assert_eq!(rt; printer.taken.try_borrow()?.as_slice(), front);
+    }
     Ok(())
 }
