@@ -77,6 +77,13 @@ def build(source, place):
     return program
 
 
+def prove_and_build(folder, *words):
+    """Builds a program of this repository and runs it with these words; stops with what was said where that fails."""
+    built = subprocess.run(["rt", "run", "--", *words], cwd=folder, stdin=subprocess.DEVNULL, stdout=subprocess.PIPE, stderr=subprocess.STDOUT, text=True)
+    if built.returncode != 0:
+        sys.exit(built.stdout)
+
+
 def workload(program, *words, rounds):
     """Seconds for each round of a workload, without what a program takes to start."""
     command = [program, *words]
@@ -148,7 +155,7 @@ def lists(program):
 def main():
     subprocess.run([os.path.join(TOP, "adacont")], stdin=subprocess.DEVNULL, check=True)
     folder = os.path.join(TOP, "crates/ac_bench")
-    subprocess.run(["rt", "run"], cwd=folder, stdin=subprocess.DEVNULL, stdout=subprocess.DEVNULL, stderr=subprocess.DEVNULL)
+    prove_and_build(folder, "pool", "0")
     with tempfile.TemporaryDirectory() as place:
         scripts(place)
         checks(place)
