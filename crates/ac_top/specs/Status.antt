@@ -1,6 +1,6 @@
 -- How the program ends.
-use Rattle.std.specs.Prelude.{◌≡◌, ◌≢◌, ◌≤◌, ℕ, List, length, Option, IfSome}
-use Rattle.ac_io.specs.Outside.{GrewBy, GrewByFront}
+use Rattle.std.specs.Prelude.{◌≡◌, ◌≢◌, ◌≤◌, ℕ, Bool, true, List, length, Option, IfSome}
+use Rattle.ac_io.specs.Outside.{Rose, GrewBy, GrewByFront}
 use Rattle.ac_top.specs.Meaning.{Meaning}
 use Rattle.ac_top.specs.declared.status.Status.{Status}
 use Rattle.ac_top.specs.declared.status.Status.TheVariants.{Done, Refused, Usage, ReadFault, WriteFault, NoMemory}
@@ -28,3 +28,8 @@ pub record Writes (meaning : Meaning) (held held' : Option (List ℕ)) (room : O
   pub number : IsAnswer status → number_of status ≡ meaning.status
   pub front : GrewByFront held held' meaning.text
   pub within : IfSome room (λ n. length meaning.text ≤ n → status ≢ WriteFault)
+
+-- what an end says of the sink's count: it rose at a write fault, and where it rises in failed calls alone, no other end moves it
+pub record Counted (counts_failures : Bool) (before now : ℕ) (status : Status) : Type 0 where
+  pub rose : status ≡ WriteFault → Rose before now
+  pub stays : counts_failures ≡ true → status ≢ WriteFault → now ≡ before

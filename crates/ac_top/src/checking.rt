@@ -1,6 +1,5 @@
 //! A script that is checked alone: its canonical text, or the line on which it is refused.
 ghost use Rattle.std.specs.Prelude.{◌≡◌, ◌≢◌, ◌≤◌, ◌⊎◌, ℕ, Err, IfOk, length};
-ghost use Rattle.ac_io.specs.Outside.{Rose};
 ghost use Rattle.ac_syntax.specs.declared.refusal.RefusalKind.{RefusalKind};
 ghost use Rattle.ac_syntax.specs.declared.script.Script.{Script};
 ghost use Rattle.ac_syntax.specs.Refusals.{Spells, IsFirstRefusal};
@@ -8,7 +7,7 @@ ghost use Rattle.ac_syntax.specs.declared.fault.ScriptFault.TheVariants.{Refused
 ghost use Rattle.ac_check.specs.Faults.{IsChecked};
 ghost use Rattle.ac_top.specs.Meaning.{Meaning};
 ghost use Rattle.ac_top.specs.Checking.{IsCheckMeaning, IsFaulty, canonical, refused_at};
-ghost use Rattle.ac_top.specs.Status.{Writes};
+ghost use Rattle.ac_top.specs.Status.{Writes, Counted};
 
 use crate::entry::refuse;
 use crate::limits::INPUT_LIMIT;
@@ -34,7 +33,7 @@ fn checked(alloc: Global, input: &[u8]) -> Result<Checked, ScriptFault>
 /// Writes the canonical text.
 fn write_canonical<K: Sink>(alloc: Global, script: &Script, sink: &mut K) -> Status
     ensures writes { Writes (canonical script.now) (K.held sink.old) (K.held sink.new) (K.room sink.old) result }
-    ensures write_fault { result ≡ Status.WriteFault → Rose (K.faults sink.old) (K.faults sink.new) }
+    ensures counted { Counted (K.counts_failures sink.old) (K.faults sink.old) (K.faults sink.new) result }
     ensures kind { (result ≢ Status.Usage) × (result ≢ Status.ReadFault) }
 {
     match print(alloc, script) {
@@ -49,7 +48,7 @@ fn write_canonical<K: Sink>(alloc: Global, script: &Script, sink: &mut K) -> Sta
 /// Writes where and why a text is refused.
 fn refuse_at<K: Sink>(alloc: Global, line: u64, kind: RefusalKind, sink: &mut K) -> Status
     ensures writes { Writes (refused_at line kind) (K.held sink.old) (K.held sink.new) (K.room sink.old) result }
-    ensures write_fault { result ≡ Status.WriteFault → Rose (K.faults sink.old) (K.faults sink.new) }
+    ensures counted { Counted (K.counts_failures sink.old) (K.faults sink.old) (K.faults sink.new) result }
     ensures kind { (result ≢ Status.Usage) × (result ≢ Status.ReadFault) }
 {
     match refusal_line(alloc, line, kind) {
@@ -62,7 +61,7 @@ fn refuse_at<K: Sink>(alloc: Global, line: u64, kind: RefusalKind, sink: &mut K)
 pub fn check_input<K: Sink>(alloc: Global, input: &[u8], sink: &mut K) -> Status
     requires { length input.now ≤ INPUT_LIMIT }
     ensures writes { (m : Meaning) → IsCheckMeaning input.now m → Writes m (K.held sink.old) (K.held sink.new) (K.room sink.old) result }
-    ensures write_fault { result ≡ Status.WriteFault → Rose (K.faults sink.old) (K.faults sink.new) }
+    ensures counted { Counted (K.counts_failures sink.old) (K.faults sink.old) (K.faults sink.new) result }
     ensures kind { (result ≢ Status.Usage) × (result ≢ Status.ReadFault) }
 {
     match checked(alloc, input) {

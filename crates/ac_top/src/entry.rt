@@ -5,7 +5,7 @@ ghost use Rattle.ac_top.specs.Meaning.{Meaning};
 ghost use Rattle.ac_top.specs.Checking.{IsCheckMeaning};
 ghost use Rattle.ac_top.specs.Modes.{mode_of, Means};
 ghost use Rattle.ac_top.specs.declared.mode.Mode.TheVariants.{Run, Check};
-ghost use Rattle.ac_top.specs.Status.{number_of, IsAnswer, Writes};
+ghost use Rattle.ac_top.specs.Status.{number_of, IsAnswer, Writes, Counted};
 
 use crate::checking::check_input;
 use crate::execute::{HostEnd, execute};
@@ -22,7 +22,7 @@ use std::thread::Threads;
 /// Writes the one line of a refusal.
 pub fn refuse<K: Sink>(sink: &mut K, line: &[u8]) -> Status
     ensures writes { Writes (refusal_line line.now) (K.held sink.old) (K.held sink.new) (K.room sink.old) result }
-    ensures write_fault { result ≡ Status.WriteFault → Rose (K.faults sink.old) (K.faults sink.new) }
+    ensures counted { Counted (K.counts_failures sink.old) (K.faults sink.old) (K.faults sink.new) result }
     ensures kind { (result ≢ Status.Usage) × (result ≢ Status.ReadFault) }
 {
     match write_all(sink, line) {
@@ -34,7 +34,7 @@ pub fn refuse<K: Sink>(sink: &mut K, line: &[u8]) -> Status
 /// Runs a script.
 fn answer_script<K: Sink>(alloc: Global, script: &Script, sink: &mut K) -> Status
     ensures writes { Writes (meaning_of_script (Some script.now)) (K.held sink.old) (K.held sink.new) (K.room sink.old) result }
-    ensures write_fault { result ≡ Status.WriteFault → Rose (K.faults sink.old) (K.faults sink.new) }
+    ensures counted { Counted (K.counts_failures sink.old) (K.faults sink.old) (K.faults sink.new) result }
     ensures kind { (result ≢ Status.Usage) × (result ≢ Status.ReadFault) }
 {
     match execute(alloc, script.commands(), sink) {
@@ -48,7 +48,7 @@ fn answer_script<K: Sink>(alloc: Global, script: &Script, sink: &mut K) -> Statu
 fn run_input<K: Sink>(alloc: Global, input: &[u8], sink: &mut K) -> Status
     requires { length input.now ≤ INPUT_LIMIT }
     ensures writes { Writes (meaning_of input.now) (K.held sink.old) (K.held sink.new) (K.room sink.old) result }
-    ensures write_fault { result ≡ Status.WriteFault → Rose (K.faults sink.old) (K.faults sink.new) }
+    ensures counted { Counted (K.counts_failures sink.old) (K.faults sink.old) (K.faults sink.new) result }
     ensures kind { (result ≢ Status.Usage) × (result ≢ Status.ReadFault) }
 {
     match parse(alloc, input) {
@@ -62,7 +62,7 @@ fn run_input<K: Sink>(alloc: Global, input: &[u8], sink: &mut K) -> Status
 fn answer_input<K: Sink>(alloc: Global, mode: Mode, input: &[u8], sink: &mut K) -> Status
     requires { length input.now ≤ INPUT_LIMIT }
     ensures writes { (m : Meaning) → Means mode input.now m → Writes m (K.held sink.old) (K.held sink.new) (K.room sink.old) result }
-    ensures write_fault { result ≡ Status.WriteFault → Rose (K.faults sink.old) (K.faults sink.new) }
+    ensures counted { Counted (K.counts_failures sink.old) (K.faults sink.old) (K.faults sink.new) result }
     ensures kind { (result ≢ Status.Usage) × (result ≢ Status.ReadFault) }
 {
     match mode {
@@ -84,8 +84,9 @@ fn answer_source<S: Source, K: Sink>(
         length input ≤ INPUT_LIMIT → S.left source.new ≡ Some []) }
     ensures read_fault { result ≡ Status.ReadFault → Rose (S.faults source.old) (S.faults source.new) }
     ensures unwritten { result ≡ Status.ReadFault → sink.new ≡ sink.old }
-    ensures write_fault { result ≡ Status.WriteFault → Rose (K.faults sink.old) (K.faults sink.new) }
+    ensures counted { Counted (K.counts_failures sink.old) (K.faults sink.old) (K.faults sink.new) result }
     ensures steady { S.is_steady source.old ≡ true → result ≢ Status.ReadFault }
+    ensures source_counts { S.counts_failures source.old ≡ true → result ≢ Status.ReadFault → S.faults source.new ≡ S.faults source.old }
     ensures kind { result ≢ Status.Usage }
 {
     match read_all(alloc, source, INPUT_LIMIT) {
@@ -133,6 +134,10 @@ pub fn run<R: Threads + Wait + Sync, S: Source, K: Sink, G: Gate + Sync>(
     ensures read_fault { result ≡ Status.ReadFault → Rose (S.faults source.old) (S.faults source.new) }
     ensures unwritten { result ≡ Status.ReadFault → sink.new ≡ sink.old }
     ensures write_fault { result ≡ Status.WriteFault → Rose (K.faults sink.old) (K.faults sink.new) }
+
+    // Where a count rises in failed calls alone, no other end moves it.
+    ensures source_counts { S.counts_failures source.old ≡ true → result ≢ Status.ReadFault → S.faults source.new ≡ S.faults source.old }
+    ensures sink_counts { K.counts_failures sink.old ≡ true → result ≢ Status.WriteFault → K.faults sink.new ≡ K.faults sink.old }
 
     // Where no count rises, the input is answered, unless memory runs out.
     ensures complete { mode_of words.now ≢ None

@@ -1,4 +1,4 @@
-ghost use Rattle.std.specs.Prelude.{◌≡◌, ◌≢◌, ◌≤◌, ◌++◌, [], length, OnOk, OnErr, IfSome};
+ghost use Rattle.std.specs.Prelude.{◌≡◌, ◌≢◌, ◌≤◌, ◌++◌, true, [], length, OnOk, OnErr, IfSome};
 ghost use Rattle.ac_io.specs.Outside.{Rose, GrewBy, GrewByFront};
 ghost use Rattle.ac_top.specs.Output.{line_of};
 ghost use Rattle.ac_top.specs.Meaning.{list_after, answer, lines_from};
@@ -67,6 +67,7 @@ pub fn execute<K: Sink>(alloc: Global, commands: &[Command], sink: &mut K) -> Re
     ensures front { OnErr result (GrewByFront (K.held sink.old) (K.held sink.new) (lines_from [] commands.now)) }
     ensures fault { result ≡ Err HostEnd.WriteFault → Rose (K.faults sink.old) (K.faults sink.new) }
     ensures counted { K.faults sink.old ≤ K.faults sink.new }
+    ensures counts { K.counts_failures sink.old ≡ true → result ≢ Err HostEnd.WriteFault → K.faults sink.new ≡ K.faults sink.old }
     ensures within { IfSome (K.room sink.old) (λ room. length (lines_from [] commands.now) ≤ room → result ≢ Err HostEnd.WriteFault) }
 {
     let mut list = Numbers::new(alloc);

@@ -1,4 +1,4 @@
-use Rattle.std.proofs.Common.{[], subst, arith, ◌∙◌}
+use Rattle.std.proofs.Common.{[], refl, subst, arith, ◌∙◌}
 use Rattle.std.proofs.lemmas.Result.{err_from_is_err_and}
 use Rattle.ac_top.specs.Meaning.{lines_from}
 use Rattle.ac_top.specs.Told.{IsTold}
@@ -27,4 +27,7 @@ loop-command-preserved g c =
     record {
       told = told_more _ _ _ _ _ _ _ _ _ _ told c.in_ok-write_all.ensures.whole c.in_ok-write_all.ensures.within;
       counted = omega (arith, c.loop-command.invariant.counted, c.in_ok-write_all.ensures.counted);
+      counts = λ counts.
+          let before = c.loop-command.invariant.counts counts in
+          let turn = c.in_ok-write_all.ensures.counts before.1 in (turn.0 refl ∙ before.0, turn.1);
     }
