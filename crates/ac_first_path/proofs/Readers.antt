@@ -97,6 +97,3 @@ word_again word first rest is = rw (is, (bytes_eq-Decides word word).1 refl) ref
 
 pub identifier_again : (word : List ℕ) (first : Placed) (rest : List Placed) → is_identifier word ≡ true → first.token ≡ Word word → identifier_at (first ∷ rest) ≡ Some (word, rest)
 identifier_again word first rest free is = rw (is, free) refl
-
-pub number_again : (n : ℕ) (first : Placed) (rest : List Placed) → first.token ≡ Number n → number_at (first ∷ rest) ≡ Some (n, rest)
-number_again n first rest is = rw is refl

@@ -51,11 +51,6 @@ more_tokens done new line (b ∷ rest) piece all e is told =
     ∙ more_by done (placed_at line piece.token) (tokens_from 0 (line_after line b) (drop piece.len (b ∷ rest)))
     ∙ ap (option_map (λ others. done ++ others)) (sym (front_step line b rest piece e)) ∙ told
 
--- a malformed piece at the front leaves no tokens
-pub no_tokens : (done : List Placed) (line : ℕ) (text : List ℕ) (all : Option (List Placed)) → 0 < length text → front_piece text ≡ None → option_map (λ others. done ++ others) (tokens_from 0 line text) ≡ all → all ≡ None
-no_tokens done line [] all some e told = absurd (omega arith)
-no_tokens done line (b ∷ rest) all some e told = sym told ∙ ap (λ (o : Option Piece). option_map (λ others. done ++ others) (with_piece o line (λ skip. tokens_from skip (line_after line b) rest))) e
-
 -- a command that was read has a token, and what it leaves stands at the end
 pub record Leaves (rest left : List Placed) : Type 0 where
   pub used : List Placed
@@ -98,11 +93,6 @@ more_commands done new V (first ∷ rest) read all e is told =
     ap (λ (begun : List Command). option_map (λ others. begun ++ others) (commands_from 0 V read.1)) is
     ∙ more_by done (read.0 ∷ []) (commands_from 0 V read.1)
     ∙ ap (option_map (λ others. done ++ others)) (sym (command_step V first rest read e)) ∙ told
-
--- no command at the front leaves no commands
-pub no_commands : (done : List Command) (V : List ℕ) (placed : List Placed) (all : Option (List Command)) → 0 < length placed → front_command V placed ≡ None → option_map (λ others. done ++ others) (commands_from 0 V placed) ≡ all → all ≡ None
-no_commands done V [] all some e told = absurd (omega arith)
-no_commands done V (first ∷ rest) all some e told = sym told ∙ ap (λ (o : Option (Command × List Placed)). option_map (λ others. done ++ others) (with_command o rest (λ skip. commands_from skip V rest))) e
 
 pub command_shorter : {R : Type 0} (V : List ℕ) (placed : List Placed) (view : R → Command × List Placed) (o : Option R) → option_map view o ≡ front_command V placed → IfSome o (λ read. length (view read).1 < length placed)
 command_shorter V placed view None e = tt

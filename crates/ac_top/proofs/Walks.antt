@@ -31,10 +31,6 @@ record Stands (rows : List (Row ℕ ℤ)) (i : ℕ) : Type 0 where
   counted : 1 ≤ times row.name rows
   value : get_or (values rows) i (pos 0) ≡ row.value
 
-there_also : (b : Bool) (x : Bool) → x ≡ true → (if b then true else x) ≡ true
-there_also true x e = refl
-there_also false x e = e
-
 stands : (rows : List (Row ℕ ℤ)) (i : ℕ) → i < length rows → Stands rows i
 stands [] i h = absurd (omega arith)
 stands (r ∷ rows) zero h = record {
