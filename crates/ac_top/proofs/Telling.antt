@@ -1,28 +1,13 @@
--- A text that is written piece by piece: its beginning, one piece more, and its end.
-use Rattle.std.proofs.Common.{◌≡◌, ◌+◌, ◌-◌, ◌≤◌, ℕ, List, [], ◌++◌, refl, sym, ap, ◌∙◌, length, Option, Some, None, IfSome, Result, Ok, Err, OnErr, arith, append_assoc, append-nil, length-append, subst}
+-- A text that is written piece by piece: one piece more, and where the writing stops.
+use Rattle.std.proofs.Common.{◌≡◌, ◌+◌, ◌-◌, ◌≤◌, ℕ, List, ◌++◌, sym, ap, ◌∙◌, length, Option, Some, None, IfSome, Result, Ok, Err, OnErr, arith, append_assoc, length-append, subst}
 use Rattle.std.proofs.lemmas.Option.{none-some, same_Some, IfSome_then}
 use Rattle.ac_io.specs.Outside.{GrewBy, GrewByFront}
 use Rattle.ac_top.specs.Told.{IsTold}
-
-grew_nothing : (held : Option (List ℕ)) → GrewBy held held []
-grew_nothing None = tt
-grew_nothing (Some h) = ap Some (sym (append-nil h))
-
-room_stays : (room : Option ℕ) (whole : List ℕ) → IfSome room (λ n. length whole ≤ n → room ≡ Some (n - length {A = ℕ} []))
-room_stays None whole = tt
-room_stays (Some n) whole = λ _. let same : n ≡ n - 0 = omega arith in ap Some same
-
-pub told_nothing : (held : Option (List ℕ)) (room : Option ℕ) (whole : List ℕ) → IsTold held held room room whole whole
-told_nothing held room whole = record { told = []; parts = refl; grew = grew_nothing held; within = room_stays room whole }
 
 grew_twice : (a b c : Option (List ℕ)) (x y : List ℕ) → GrewBy a b x → GrewBy b c y → GrewBy a c (x ++ y)
 grew_twice None b c x y f g = tt
 grew_twice (Some h) None c x y f g = absurd (none-some _ f)
 grew_twice (Some h) (Some i) c x y f g = g ∙ ap (λ s. Some (s ++ y)) (same_Some i (h ++ x) f) ∙ ap Some (append_assoc h x y)
-
-pub grew_front : (a b : Option (List ℕ)) (text : List ℕ) → GrewBy a b text → GrewByFront a b text
-grew_front None b text f = tt
-grew_front (Some h) b text f = (text, record { rest = []; whole = append-nil text }, f)
 
 grew_then_front : (a b c : Option (List ℕ)) (x y rest whole : List ℕ) → x ++ (y ++ rest) ≡ whole → GrewBy a b x → GrewByFront b c y → GrewByFront a c whole
 grew_then_front None b c x y rest whole e f g = tt
@@ -61,15 +46,6 @@ told_more Q held held' held'' room room' room'' line rest whole told grew w = re
   grew = grew_twice held held' held'' told.told line told.grew grew;
   within = IfSome_then room (told_fits Q room room' room'' told.told line rest whole told.parts told.within w) (λ n f fits. (f fits).1);
 }
-
--- a sink that has room for the whole doesn't fail at the next piece
-pub told_stuck : (Q : Type 0) (held held' : Option (List ℕ)) (room room' room'' : Option ℕ) (line rest whole : List ℕ) → IsTold held held' room room' (line ++ rest) whole
-    → IfSome room' (λ n. length line ≤ n → Q × (room'' ≡ Some (n - length line))) → IfSome room (λ n. length whole ≤ n → Q)
-told_stuck Q held held' room room' room'' line rest whole told w = IfSome_then room (told_fits Q room room' room'' told.told line rest whole told.parts told.within w) (λ n f fits. (f fits).0)
-
--- all is told where nothing is left
-pub told_all : (held held' : Option (List ℕ)) (room room' : Option ℕ) (whole : List ℕ) → IsTold held held' room room' [] whole → GrewBy held held' whole
-told_all held held' room room' whole told = subst (GrewBy held held') (sym (append-nil told.told) ∙ told.parts) told.grew
 
 pub on_err_of : {T E P : Type 0} (r : Result T E) → P → OnErr r P
 on_err_of (Ok x) p = tt

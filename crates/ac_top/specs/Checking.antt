@@ -31,9 +31,8 @@ pub data IsCheckMeaning (input : List ℕ) (m : Meaning) : Type 0 where
   faulty : (script : Script) (line : ℕ) (kind : RefusalKind) → length input ≤ INPUT_LIMIT → Spells script input → IsFirstFault script line kind → m ≡ refused_at line kind → IsCheckMeaning input m
   sound : (script : Script) → length input ≤ INPUT_LIMIT → Spells script input → IsChecked script → m ≡ canonical script → IsCheckMeaning input m
 
--- the one script that a text spells has its first faulty item on this line
+-- a text spells a script that has its first faulty item on this line
 pub record IsFaulty (text : List ℕ) (line : ℕ) (kind : RefusalKind) : Type 0 where
   pub script : Script
   pub spelled : Spells script text
-  pub only : (other : Script) → Spells other text → other ≡ script
   pub first : IsFirstFault script line kind

@@ -5,9 +5,10 @@ ghost use Rattle.ac_syntax.specs.declared.script.Script.{Script};
 ghost use Rattle.ac_syntax.specs.Refusals.{Spells, IsFirstRefusal};
 ghost use Rattle.ac_syntax.specs.declared.fault.ScriptFault.TheVariants.{Refused as RefusedAt};
 ghost use Rattle.ac_check.specs.Faults.{IsChecked};
-ghost use Rattle.ac_top.specs.Meaning.{Meaning};
-ghost use Rattle.ac_top.specs.Checking.{IsCheckMeaning, IsFaulty, canonical, refused_at};
+ghost use Rattle.ac_top.specs.declared.mode.Mode.TheVariants.{Check};
+ghost use Rattle.ac_top.specs.Checking.{IsFaulty, canonical, refused_at};
 ghost use Rattle.ac_top.specs.Status.{Writes, Counted};
+ghost use Rattle.ac_top.specs.Answers.{Answers};
 
 use crate::entry::refuse;
 use crate::limits::INPUT_LIMIT;
@@ -21,7 +22,6 @@ use std::alloc::Global;
 /// The script that an input spells, where it can run.
 fn checked(alloc: Global, input: &[u8]) -> Result<Checked, ScriptFault>
     ensures spelled { IfOk result (λ script. Spells script input.now) }
-    ensures only { IfOk result (λ script. (other : Script) → Spells other input.now → other ≡ script) }
     ensures checked { IfOk result (λ script. IsChecked script) }
     ensures refused { (line : ℕ) (kind : RefusalKind) → result ≡ Err (RefusedAt line kind) →
         IsFirstRefusal input.now line kind ⊎ IsFaulty input.now line kind }
@@ -60,7 +60,7 @@ fn refuse_at<K: Sink>(alloc: Global, line: u64, kind: RefusalKind, sink: &mut K)
 /// Writes the canonical text of the script that an input spells, or refuses it.
 pub fn check_input<K: Sink>(alloc: Global, input: &[u8], sink: &mut K) -> Status
     requires { length input.now ≤ INPUT_LIMIT }
-    ensures writes { (m : Meaning) → IsCheckMeaning input.now m → Writes m (K.held sink.old) (K.held sink.new) (K.room sink.old) result }
+    ensures answers { Answers Check input.now (K.held sink.old) (K.held sink.new) (K.room sink.old) result }
     ensures counted { Counted (K.counts_failures sink.old) (K.faults sink.old) (K.faults sink.new) result }
     ensures kind { (result ≢ Status.Usage) × (result ≢ Status.ReadFault) }
 {

@@ -1,11 +1,9 @@
-ghost use Rattle.std.specs.Prelude.{◌≡◌, ◌≢◌, ◌≤◌, ◌↔◌, ◌⊎◌, ℕ, true, Some, None, [], length, IfSome};
+ghost use Rattle.std.specs.Prelude.{◌≡◌, ◌≢◌, ◌≤◌, ◌↔◌, ◌⊎◌, true, Some, None, [], length, IfSome};
 ghost use Rattle.ac_io.specs.Outside.{Rose, GrewBy, GrewByFront};
-ghost use Rattle.ac_top.specs.Meaning.{meaning_of, meaning_of_script, refusal_line};
-ghost use Rattle.ac_top.specs.Meaning.{Meaning};
-ghost use Rattle.ac_top.specs.Checking.{IsCheckMeaning};
+ghost use Rattle.ac_top.specs.Meaning.{Meaning, meaning_of, meaning_of_script, refusal_line};
 ghost use Rattle.ac_top.specs.Modes.{mode_of, Means};
-ghost use Rattle.ac_top.specs.declared.mode.Mode.TheVariants.{Run, Check};
 ghost use Rattle.ac_top.specs.Status.{number_of, IsAnswer, Writes, Counted};
+ghost use Rattle.ac_top.specs.Answers.{Answers, IfAsked, HasRoom};
 
 use crate::checking::check_input;
 use crate::execute::{HostEnd, execute};
@@ -61,7 +59,7 @@ fn run_input<K: Sink>(alloc: Global, input: &[u8], sink: &mut K) -> Status
 /// Answers an input.
 fn answer_input<K: Sink>(alloc: Global, mode: Mode, input: &[u8], sink: &mut K) -> Status
     requires { length input.now ≤ INPUT_LIMIT }
-    ensures writes { (m : Meaning) → Means mode input.now m → Writes m (K.held sink.old) (K.held sink.new) (K.room sink.old) result }
+    ensures answers { Answers mode input.now (K.held sink.old) (K.held sink.new) (K.room sink.old) result }
     ensures counted { Counted (K.counts_failures sink.old) (K.faults sink.old) (K.faults sink.new) result }
     ensures kind { (result ≢ Status.Usage) × (result ≢ Status.ReadFault) }
 {
@@ -78,8 +76,8 @@ fn answer_source<S: Source, K: Sink>(
     source: &mut S,
     sink: &mut K,
 ) -> Status
-    ensures writes { IfSome (S.left source.old) (λ input. (m : Meaning) → Means mode input m →
-        Writes m (K.held sink.old) (K.held sink.new) (K.room sink.old) result) }
+    ensures answers { IfSome (S.left source.old) (λ input.
+        Answers mode input (K.held sink.old) (K.held sink.new) (K.room sink.old) result) }
     ensures drained { IsAnswer result → IfSome (S.left source.old) (λ input.
         length input ≤ INPUT_LIMIT → S.left source.new ≡ Some []) }
     ensures read_fault { result ≡ Status.ReadFault → Rose (S.faults source.old) (S.faults source.new) }
@@ -114,23 +112,16 @@ pub fn run<R: Threads + Wait + Sync, S: Source, K: Sink, G: Gate + Sync>(
     ensures usage { result ≡ Status.Usage ↔ (mode_of words.now ≡ None) }
     ensures untouched { result ≡ Status.Usage → (source.new ≡ source.old) × (sink.new ≡ sink.old) }
 
-    // Without words an answer is the whole meaning of all the bytes.
-    ensures written { mode_of words.now ≡ Some Run → IsAnswer result → IfSome (S.left source.old) (λ input.
-        GrewBy (K.held sink.old) (K.held sink.new) (meaning_of input).text) }
-    ensures status { mode_of words.now ≡ Some Run → IsAnswer result → IfSome (S.left source.old) (λ input.
-        number_of result ≡ (meaning_of input).status) }
-
-    // With `--check` it is the canonical text of the script, or its refusal.
-    ensures checked { mode_of words.now ≡ Some Check → IsAnswer result → IfSome (S.left source.old) (λ input.
-        (m : Meaning) × IsCheckMeaning input m × GrewBy (K.held sink.old) (K.held sink.new) m.text × (number_of result ≡ m.status)) }
+    // An answer is the whole of a meaning of all the bytes: without words what the script writes as it runs, with `--check` its
+    // canonical text or its refusal.
+    ensures written { IsAnswer result → IfAsked (mode_of words.now) (S.left source.old) (λ mode input.
+        (m : Meaning) × Means mode input m × GrewBy (K.held sink.old) (K.held sink.new) m.text × (number_of result ≡ m.status)) }
     ensures drained { IsAnswer result → IfSome (S.left source.old) (λ input.
         length input ≤ INPUT_LIMIT → S.left source.new ≡ Some []) }
 
     // Any other end comes after a front of it, a fault only where a count rose.
-    ensures front { mode_of words.now ≡ Some Run → IfSome (S.left source.old) (λ input.
-        GrewByFront (K.held sink.old) (K.held sink.new) (meaning_of input).text) }
-    ensures checked_front { mode_of words.now ≡ Some Check → IfSome (S.left source.old) (λ input. (m : Meaning) → IsCheckMeaning input m →
-        GrewByFront (K.held sink.old) (K.held sink.new) m.text) }
+    ensures front { IfAsked (mode_of words.now) (S.left source.old) (λ mode input.
+        (m : Meaning) × Means mode input m × GrewByFront (K.held sink.old) (K.held sink.new) m.text) }
     ensures read_fault { result ≡ Status.ReadFault → Rose (S.faults source.old) (S.faults source.new) }
     ensures unwritten { result ≡ Status.ReadFault → sink.new ≡ sink.old }
     ensures write_fault { result ≡ Status.WriteFault → Rose (K.faults sink.old) (K.faults sink.new) }
@@ -143,10 +134,8 @@ pub fn run<R: Threads + Wait + Sync, S: Source, K: Sink, G: Gate + Sync>(
     ensures complete { mode_of words.now ≢ None
         → (Rose (S.faults source.old) (S.faults source.new) → ⊥) → (Rose (K.faults sink.old) (K.faults sink.new) → ⊥)
         → IsAnswer result ⊎ (result ≡ Status.NoMemory) }
-    ensures complete_with_room { mode_of words.now ≡ Some Run → S.is_steady source.old ≡ true → IfSome (S.left source.old) (λ input.
-        IfSome (K.room sink.old) (λ room. length (meaning_of input).text ≤ room → IsAnswer result ⊎ (result ≡ Status.NoMemory))) }
-    ensures checked_with_room { mode_of words.now ≡ Some Check → S.is_steady source.old ≡ true → IfSome (S.left source.old) (λ input. (m : Meaning) → IsCheckMeaning input m →
-        IfSome (K.room sink.old) (λ room. length m.text ≤ room → IsAnswer result ⊎ (result ≡ Status.NoMemory))) }
+    ensures complete_with_room { S.is_steady source.old ≡ true → IfAsked (mode_of words.now) (S.left source.old) (λ mode input.
+        IfSome (K.room sink.old) (λ room. HasRoom mode input room → IsAnswer result ⊎ (result ≡ Status.NoMemory))) }
 {
     match asked_for(words) {
         Some(mode) => answer_source(alloc, mode, source, sink),

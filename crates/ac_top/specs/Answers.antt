@@ -1,0 +1,21 @@
+-- How an input is answered: by a meaning of it, for what the words ask for.
+use Rattle.std.specs.Prelude.{◌≤◌, ℕ, List, length, Option, IfSome}
+use Rattle.ac_top.specs.declared.mode.Mode.{Mode}
+use Rattle.ac_top.specs.declared.status.Status.{Status}
+use Rattle.ac_top.specs.Meaning.{Meaning}
+use Rattle.ac_top.specs.Modes.{Means}
+use Rattle.ac_top.specs.Status.{Writes}
+
+-- what is said of a mode and an input, where the words ask for one and the source tells the other
+abbrev pub IfAsked : Option Mode → Option (List ℕ) → (Mode → List ℕ → Type 0) → Type 0
+IfAsked asked left Said = IfSome asked (λ mode. IfSome left (λ input. Said mode input))
+
+-- there is room for the text of every meaning
+abbrev pub HasRoom : Mode → List ℕ → (room : ℕ) → Type 0
+HasRoom mode input room = (m : Meaning) → Means mode input m → length m.text ≤ room
+
+-- what was written is of one of the input's meanings
+pub record Answers (mode : Mode) (input : List ℕ) (held held' : Option (List ℕ)) (room : Option ℕ) (status : Status) : Type 0 where
+  pub meaning : Meaning
+  pub means : Means mode input meaning
+  pub writes : Writes meaning held held' room status
