@@ -135,3 +135,21 @@ fn checks_in_place_of_no_memory(rt: HostRuntime) -> Result<(), Fail> {
     }
     Ok(())
 }
+
+#[test]
+fn a_check_ends_where_the_sink_fails(rt: HostRuntime) -> Result<(), Fail> {
+    let rows = [
+        (ONE_LIST, b"type".as_slice()),
+        (b"A.Append (1);\n", b"line"),
+    ];
+    for (input, front) in rows {
+        let alloc = rt.alloc();
+        let words = vec![in alloc; String::from_str(alloc, "--check")?]?;
+        let mut source = MemorySource::new(input.to_vec(alloc)?, WHOLE, Vec::new(alloc));
+        let mut sink = MemorySink::with_room(alloc, 100, 4, vec![in alloc; 2]?)?;
+        let status = run(&rt, alloc, &words, &mut source, &mut sink, &FreeGate);
+        assert_eq!(rt; status.number(), 4);
+        assert_eq!(rt; sink.bytes(), front);
+    }
+    Ok(())
+}
