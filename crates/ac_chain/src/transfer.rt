@@ -88,7 +88,8 @@ pub fn move_one<T>(
     requires unspent { target.old.next_serial + 1 < 2 ^ 64 }
     requires target { IsSound target.old }
     requires source { IsSound source.old }
-    ensures put { IfOk result (λ _. IsPut target.old.rows target.old.next_serial place (lists.one_value (value_of source.old name)) target.new) }
+    ensures put { IfOk result (λ _.
+        IsPut target.old.rows target.old.next_serial place (lists.one_value (value_of source.old name)) target.new) }
     ensures first { IfOk result (λ a. IsFirst target.old.next_serial target.new a) }
     ensures removed { IfOk result (λ _. source.new ≡ removed source.old name) }
     ensures slots { IfOk result (λ _. HasGrown target.old 1 target.new) }

@@ -7,12 +7,12 @@ ghost use Rattle.std.specs.Option.{ForSome};
 ghost use Rattle.ac_model.specs.Cursors.{IsNamed, cursor_of_first, spot};
 ghost use Rattle.ac_model.specs.Containers.{Grows};
 ghost use Rattle.ac_list.specs.Put.{Takes, put_call, done};
-ghost use Rattle.ac_model.specs.Letters.{tampers_cursors, tampers_elements, place_at};
+ghost use Rattle.ac_model.specs.Letters.{tampers_cursors, place_at};
 ghost use Rattle.ac_model.specs.Sequences.{room_for_copies};
 ghost use Rattle.ac_base.specs.FirstReason.{first_reason};
 ghost use Rattle.ac_model.specs.Objects.{IsValid, empty_object, plain, length_of};
 ghost use Rattle.ac_model.specs.Calls.{Same, Lends, Marks};
-ghost use Rattle.ac_model.specs.Forms.{Does, Looks, Sets, seen_by};
+ghost use Rattle.ac_model.specs.Forms.{Does, Looks, Refuses, Sets, seen_by};
 ghost use Rattle.ac_model.specs.Common as common;
 ghost use Rattle.ac_model.specs.Sequences as sequences;
 ghost use Rattle.ac_model.specs.Lists as lists;
@@ -262,7 +262,8 @@ impl<T> List<T> {
 impl<T> List<T> {
     /// Swap (A.18.3): the two elements change places, and each name keeps its place.
     pub fn swap(&mut self, first: Cursor, second: Cursor) -> Result<(), Fault>
-        ensures changed { Does Same (λ o. sequences.swap_call o (seen_by self.old first) (seen_by self.old second)) self.old self.new result }
+        ensures changed { Does Same (λ o. sequences.swap_call o (seen_by self.old first) (seen_by self.old second))
+            self.old self.new result }
         ensures spare { self.new.spare ≡ self.old.spare }
     {
         allowed(self.refuses_swap(first, second))?;
@@ -272,7 +273,7 @@ impl<T> List<T> {
 
     /// Why a swap is refused.
     fn refuses_swap(&self, first: Cursor, second: Cursor) -> Option<Reason>
-        ensures { result ≡ first_reason (tampers_elements (plain self.now.object) ∷ needs_cursor self.now.object first ∷ needs_cursor self.now.object second ∷ []) }
+        ensures { Refuses (λ o. sequences.swap_call o (seen_by self.now first) (seen_by self.now second)) self.now result }
     {
         first_reason(&[
             self.guards.forbids(Class::Elements),

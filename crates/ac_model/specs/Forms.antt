@@ -41,14 +41,23 @@ module _ {V X A : Type 0} where
 
   -- to a target and a source
   abbrev pub DoesBoth : (X → A → Type 0) → (Object ℕ V → Object ℕ V → Call (Both (Object ℕ V)) A)
-      → Both (Container V) → Both (Container V) → Result X Fault → Type 0
-  DoesBoth Answers call old new result =
-      ChangingBoth Answers (call (plain old.target.object) (plain old.source.object))
-      (both old.target.object old.source.object) (both new.target.object new.source.object) result
+      → (target source target_new source_new : Container V) → Result X Fault → Type 0
+  DoesBoth Answers call target source target_new source_new result =
+      ChangingBoth Answers (call (plain target.object) (plain source.object))
+      (both target.object source.object) (both target_new.object source_new.object) result
 
   -- it only looks
   abbrev pub Looks : (X → A → Type 0) → (Object ℕ V → Look A) → Container V → Result X Fault → Type 0
   Looks Answers call now result = Looking Answers (call (plain now.object)) result
+
+-- why the call is refused
+abbrev pub Refuses : {V A : Type 0} → (Object ℕ V → Call (Object ℕ V) A) → Container V → Option Reason → Type 0
+Refuses call now refusal = refusal ≡ (call (plain now.object)).reason
+
+-- of a target and a source
+abbrev pub RefusesBoth : {V A : Type 0} → (Object ℕ V → Object ℕ V → Call (Both (Object ℕ V)) A)
+    → (target source : Container V) → Option Reason → Type 0
+RefusesBoth call target source refusal = refusal ≡ (call (plain target.object) (plain source.object)).reason
 
 -- what the cursor means to the container
 abbrev pub seen_by : {V : Type 0} → Container V → Cursor → Mark
@@ -62,6 +71,7 @@ module _ {V X : Type 0} where
 
   -- the same of a target and a source: the variable is set to a cursor of the target
   abbrev pub SetsBoth : (Object ℕ V → Object ℕ V → Call (Both (Object ℕ V)) Mark)
-      → Both (Container V) → Cursor → Both (Container V) → Cursor → Result X Fault → Type 0
-  SetsBoth call old variable_old new variable_new result =
-      DoesBoth (λ _ mark. Marks new.target.object variable_new mark) call old new result × OnErr result (variable_new ≡ variable_old)
+      → (target source : Container V) → Cursor → (target_new source_new : Container V) → Cursor → Result X Fault → Type 0
+  SetsBoth call target source variable_old target_new source_new variable_new result =
+      DoesBoth (λ _ mark. Marks target_new.object variable_new mark) call target source target_new source_new result
+      × OnErr result (variable_new ≡ variable_old)

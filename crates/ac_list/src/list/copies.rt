@@ -2,13 +2,13 @@
 ghost use Rattle.std.specs.Prelude.{◌≡◌, ◌∷◌, [], ◌≤◌, ◌&&◌, not, max, nat_lt, IfOk};
 ghost use Rattle.ac_base.specs.Growth.{pow8};
 ghost use Rattle.ac_model.specs.Containers.{Grows, slots_of};
-ghost use Rattle.ac_model.specs.Forms.{Makes, as_fault};
+ghost use Rattle.ac_model.specs.Forms.{Does, Refuses};
 ghost use Rattle.ac_base.specs.FirstReason.{first_reason};
 ghost use Rattle.ac_base.specs.declared.limit.TheConstants.{GREATEST_LENGTH};
 ghost use Rattle.ac_model.specs.Objects.{plain, length_of};
 ghost use Rattle.ac_model.specs.Letters.{tampers_cursors, room, reason_if};
 ghost use Rattle.ac_model.specs.Calls.{Same};
-ghost use Rattle.ac_model.specs.Forms.{Does};
+ghost use Rattle.ac_model.specs.Forms.{Does, Refuses};
 ghost use Rattle.ac_model.specs.Common as common;
 ghost use Rattle.ac_model.specs.Sequences as sequences;
 
@@ -24,7 +24,8 @@ impl<T: Elem> List<T> {
     pub fn copy(&self, alloc: Global, tag: Tag, capacity: u64) -> Result<List<T>, Fault>
         requires { capacity ≤ GREATEST_LENGTH }
         ensures made { Makes (common.copy_call (plain self.now.object) tag capacity) result }
-        ensures slots { self.now.object.limit ≡ Limit.Unbounded → IfOk result (λ made. slots_of made ≤ pow8 (max (length_of self.now.object) capacity)) }
+        ensures slots { self.now.object.limit ≡ Limit.Unbounded → IfOk result (λ made.
+            slots_of made ≤ pow8 (max (length_of self.now.object) capacity)) }
     {
         let length = self.chain.len();
         if let Some(reason) = too_small(capacity, length) {
@@ -81,7 +82,7 @@ impl<T> List<T> {
     }
 
     fn refuses_merge_self(&self) -> Option<Reason>
-        ensures { result ≡ first_reason (tampers_cursors (plain self.now.object) ∷ reason_if (not (sequences.is_without_rows (plain self.now.object))) Reason.SameContainer ∷ []) }
+        ensures { Refuses sequences.merge_self_call self.now result }
     {
         first_reason(&[
             self.guards.forbids(Class::Cursors),

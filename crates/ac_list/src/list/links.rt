@@ -1,11 +1,9 @@
 //! Elements that move within a list with their names.
 ghost use Rattle.std.specs.Prelude.{◌≡◌, ◌∷◌, []};
-ghost use Rattle.ac_model.specs.Cursors.{mark, needs_cursor, may_cursor};
-ghost use Rattle.ac_model.specs.Letters.{tampers_cursors};
+ghost use Rattle.ac_model.specs.Cursors.{mark};
 ghost use Rattle.ac_base.specs.FirstReason.{first_reason};
-ghost use Rattle.ac_model.specs.Objects.{plain};
 ghost use Rattle.ac_model.specs.Calls.{Same};
-ghost use Rattle.ac_model.specs.Forms.{Does, Sets, seen_by};
+ghost use Rattle.ac_model.specs.Forms.{Does, Refuses, Sets, seen_by};
 ghost use Rattle.ac_model.specs.Lists as lists;
 
 use super::List;
@@ -16,7 +14,8 @@ use ac_model::{allowed, name_in, place_in};
 impl<T> List<T> {
     /// Swap_Links (A.18.3): the two elements change places, and each takes its name with it.
     pub fn swap_links(&mut self, first: Cursor, second: Cursor) -> Result<(), Fault>
-        ensures changed { Does Same (λ o. lists.swap_links_call o (seen_by self.old first) (seen_by self.old second)) self.old self.new result }
+        ensures changed { Does Same (λ o. lists.swap_links_call o (seen_by self.old first) (seen_by self.old second))
+            self.old self.new result }
         ensures spare { self.new.spare ≡ self.old.spare }
     {
         allowed(self.refuses_swap_links(first, second))?;
@@ -45,7 +44,8 @@ impl<T> List<T> {
 
     /// As `splice_within`, with a variable for the element, which keeps its value.
     pub fn splice_one_self(&mut self, b: Cursor, q: &mut Cursor) -> Result<(), Fault>
-        ensures changed { Sets (λ o. lists.splice_one_self_call o (seen_by self.old b) (seen_by self.old q.old)) self.old q.old self.new q.new result }
+        ensures changed { Sets (λ o. lists.splice_one_self_call o (seen_by self.old b) (seen_by self.old q.old))
+            self.old q.old self.new q.new result }
         ensures spare { self.new.spare ≡ self.old.spare }
         ensures same { q.new ≡ q.old }
     {
@@ -54,7 +54,7 @@ impl<T> List<T> {
 
     /// Why an exchange of links is refused.
     fn refuses_swap_links(&self, first: Cursor, second: Cursor) -> Option<Reason>
-        ensures { result ≡ first_reason (tampers_cursors (plain self.now.object) ∷ needs_cursor self.now.object first ∷ needs_cursor self.now.object second ∷ []) }
+        ensures { Refuses (λ o. lists.swap_links_call o (seen_by self.now first) (seen_by self.now second)) self.now result }
     {
         first_reason(&[
             self.guards.forbids(Class::Cursors),
@@ -65,7 +65,7 @@ impl<T> List<T> {
 
     /// Why a splice within the list is refused.
     fn refuses_splice(&self, b: Cursor, c: Cursor) -> Option<Reason>
-        ensures { result ≡ first_reason (tampers_cursors (plain self.now.object) ∷ may_cursor self.now.object b ∷ needs_cursor self.now.object c ∷ []) }
+        ensures { Refuses (λ o. lists.splice_within_call o (seen_by self.now b) (seen_by self.now c)) self.now result }
     {
         first_reason(&[
             self.guards.forbids(Class::Cursors),

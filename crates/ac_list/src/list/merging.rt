@@ -1,9 +1,8 @@
 //! Elements that move into another list in the order of both.
 ghost use Rattle.std.specs.Prelude.{◌≡◌, ◌+◌, ◌^◌, ◌<◌, ◌≤◌, IfOk, IfErr, drop, length};
 ghost use Rattle.ac_model.specs.Containers.{Grows, slots_of};
-ghost use Rattle.ac_model.specs.Objects.{plain};
 ghost use Rattle.ac_model.specs.Calls.{Same, both};
-ghost use Rattle.ac_model.specs.Forms.{DoesBoth};
+ghost use Rattle.ac_model.specs.Forms.{DoesBoth, RefusesBoth};
 ghost use Rattle.ac_model.specs.Sequences as sequences;
 
 use super::List;
@@ -15,7 +14,7 @@ use ac_model::{allowed, as_fault, room};
 impl<T: Rank> List<T> {
     /// Merge (A.18.3) of another list: each time the smaller of the two first elements, and this list's where neither is smaller.
     pub fn merge(&mut self, source: &mut List<T>) -> Result<(), Fault>
-        ensures changed { DoesBoth Same (sequences.merge_call T.is_less) (both self.old source.old) (both self.new source.new) result }
+        ensures changed { DoesBoth Same (sequences.merge_call T.is_less) self.old source.old self.new source.new result }
         ensures slots { Grows result self.old self.new }
         ensures source { slots_of source.new ≡ slots_of source.old }
     {
@@ -25,7 +24,7 @@ impl<T: Rank> List<T> {
 
     /// Why a merge is refused.
     fn refuses_merge(&self, source: &List<T>) -> Option<Reason>
-        ensures { result ≡ (sequences.merge_call T.is_less (plain self.now.object) (plain source.now.object)).reason }
+        ensures { RefusesBoth (sequences.merge_call T.is_less) self.now source.now result }
     {
         let more = source.chain.len();
         let length = self.chain.len() + more;

@@ -1,10 +1,9 @@
 //! Elements that move into another list, under new names.
 ghost use Rattle.std.specs.Prelude.{◌≡◌, ◌+◌, ◌^◌, ◌<◌, ◌≤◌, IfOk, IfErr, OnErr, length, max};
-ghost use Rattle.ac_model.specs.Forms.{cursor_of};
+ghost use Rattle.ac_model.specs.Forms.{DoesBoth, RefusesBoth, SetsBoth, seen_by};
 ghost use Rattle.ac_model.specs.Containers.{Grows, slots_of};
-ghost use Rattle.ac_model.specs.Objects.{plain};
-ghost use Rattle.ac_model.specs.Calls.{Same, Marks, both};
-ghost use Rattle.ac_model.specs.Forms.{DoesBoth, SetsBoth, seen_by};
+ghost use Rattle.ac_model.specs.Calls.{Same, Marks};
+ghost use Rattle.ac_model.specs.Forms.{DoesBoth, RefusesBoth, SetsBoth, seen_by};
 ghost use Rattle.ac_model.specs.Common as common;
 ghost use Rattle.ac_model.specs.Lists as lists;
 
@@ -17,7 +16,7 @@ use ac_model::{allowed, as_fault, cursor_of, name_in, place_in, room};
 impl<T: Drop> List<T> {
     /// Move (A.18.3): the source's elements, under new names, in place of those that were here.
     pub fn move_from(&mut self, source: &mut List<T>) -> Result<(), Fault>
-        ensures changed { DoesBoth Same common.move_from_call (both self.old source.old) (both self.new source.new) result }
+        ensures changed { DoesBoth Same common.move_from_call self.old source.old self.new source.new result }
         ensures slots { Grows result self.old self.new }
         ensures source { slots_of source.new ≡ slots_of source.old }
     {
@@ -27,7 +26,7 @@ impl<T: Drop> List<T> {
 
     /// Why a move is refused.
     fn refuses_move(&self, source: &List<T>) -> Option<Reason>
-        ensures { result ≡ (common.move_from_call (plain self.now.object) (plain source.now.object)).reason }
+        ensures { RefusesBoth common.move_from_call self.now source.now result }
     {
         let length = source.chain.len();
         first_reason(&[
@@ -41,7 +40,7 @@ impl<T: Drop> List<T> {
 impl<T> List<T> {
     /// Splice (A.18.3) of another list: its elements go before the cursor, where No_Element is the end.
     pub fn splice(&mut self, b: Cursor, source: &mut List<T>) -> Result<(), Fault>
-        ensures changed { DoesBoth Same (λ o s. lists.splice_call o (seen_by self.old b) s) (both self.old source.old) (both self.new source.new) result }
+        ensures changed { DoesBoth Same (λ o s. lists.splice_call o (seen_by self.old b) s) self.old source.old self.new source.new result }
         ensures slots { Grows result self.old self.new }
         ensures source { slots_of source.new ≡ slots_of source.old }
     {
@@ -51,7 +50,7 @@ impl<T> List<T> {
 
     /// Why a splice of another list is refused.
     fn refuses_splice_of_all(&self, b: Cursor, source: &List<T>) -> Option<Reason>
-        ensures { result ≡ (lists.splice_call (plain self.now.object) (seen_by self.now b) (plain source.now.object)).reason }
+        ensures { RefusesBoth (λ o s. lists.splice_call o (seen_by self.now b) s) self.now source.now result }
     {
         let more = source.chain.len();
         let length = self.chain.len() + more;
@@ -70,7 +69,8 @@ impl<T> List<T> {
         source: &mut List<T>,
         q: &mut Cursor,
     ) -> Result<(), Fault>
-        ensures changed { SetsBoth (λ o s. lists.splice_one_call o (seen_by self.old b) s (seen_by source.old q.old)) (both self.old source.old) q.old (both self.new source.new) q.new result }
+        ensures changed { SetsBoth (λ o s. lists.splice_one_call o (seen_by self.old b) s (seen_by source.old q.old))
+            self.old source.old q.old self.new source.new q.new result }
         ensures slots { Grows result self.old self.new }
         ensures source { slots_of source.new ≡ slots_of source.old }
     {
@@ -80,7 +80,8 @@ impl<T> List<T> {
 
     /// As `splice_one`, with the element's new cursor as the answer.
     fn take_one(&mut self, b: Cursor, source: &mut List<T>, q: Cursor) -> Result<Cursor, Fault>
-        ensures changed { DoesBoth (Marks self.new.object) (λ o s. lists.splice_one_call o (seen_by self.old b) s (seen_by source.old q)) (both self.old source.old) (both self.new source.new) result }
+        ensures changed { DoesBoth (Marks self.new.object) (λ o s. lists.splice_one_call o (seen_by self.old b) s (seen_by source.old q))
+            self.old source.old self.new source.new result }
         ensures slots { Grows result self.old self.new }
         ensures source { slots_of source.new ≡ slots_of source.old }
     {
@@ -91,7 +92,7 @@ impl<T> List<T> {
 
     /// Why a splice of one element of another list is refused.
     fn refuses_splice_of_one(&self, b: Cursor, source: &List<T>, q: Cursor) -> Option<Reason>
-        ensures { result ≡ (lists.splice_one_call (plain self.now.object) (seen_by self.now b) (plain source.now.object) (seen_by source.now q)).reason }
+        ensures { RefusesBoth (λ o s. lists.splice_one_call o (seen_by self.now b) s (seen_by source.now q)) self.now source.now result }
     {
         let length = self.chain.len() + 1;
         first_reason(&[

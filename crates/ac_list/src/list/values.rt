@@ -44,7 +44,8 @@ impl<T: Drop> List<T> {
 
     fn set_value(&mut self, c: Cursor, e: T)
         requires { needs_cursor self.old.object c ≡ None }
-        ensures written { IsAfter self.old.object self.new.object (with_rows (plain self.old.object) (with_value (plain self.old.object).rows (name_of (seen_by self.old c)) e)) }
+        ensures written { IsAfter self.old.object self.new.object
+            (with_rows (plain self.old.object) (with_value (plain self.old.object).rows (name_of (seen_by self.old c)) e)) }
         ensures spare { self.new.spare ≡ self.old.spare }
     {
         *self.chain.at_mut(name_in(c)) = e;
