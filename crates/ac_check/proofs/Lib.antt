@@ -8,3 +8,4 @@ pub mod Verdicts
 pub mod Kept
 pub mod Apart
 pub mod Found
+pub mod RowsOf

@@ -11,16 +11,18 @@ use Rattle.ac_check.specs.Faults.{decl_names, simple_names, head_names, decl_nam
 abbrev pub AreKnown : Scope → List (List ℕ) → Type 0
 AreKnown scope names = All (λ name. IsTrue (is_in_scope scope name)) names
 
+-- what a declaration names is in scope and of the right type, and its own name is new there
 pub record DeclKept (scope : Scope) (decl : Decl) : Type 0 where
   pub known : AreKnown scope (decl_names decl)
   pub typed : IsTrue (is_decl scope decl)
-  -- the name that it declares isn't in scope yet
   pub new : is_in_scope scope (decl_name decl) ≡ false
 
+-- the same of a command, which declares nothing
 pub record CommandKept (scope : Scope) (simple : Simple) : Type 0 where
   pub known : AreKnown scope (simple_names simple)
   pub typed : IsTrue (is_simple scope simple)
 
+-- and of the words of a block's head, without its declarations
 pub record HeadKept (scope : Scope) (head : Head) : Type 0 where
   pub known : AreKnown scope (head_names head)
   pub typed : IsTrue (is_head scope head)
@@ -36,6 +38,7 @@ abbrev pub DeclsKept : Scope → List Decl → Type 0
 DeclsKept scope [] = Unit {0}
 DeclsKept scope (decl ∷ decls) = InTurn (DeclKept scope decl) (DeclsKept (with_entry scope (decl_entry scope decl)) decls)
 
+-- a block: the words of its head, its declarations, its body, and what is behind it
 pub record BlockKept (Opening Declared Body Rest : Type 0) : Type 0 where
   pub head : Opening
   pub decls : Declared

@@ -1,5 +1,7 @@
 //! Declarations and statements, judged by hand.
-ghost use Rattle.ac_check.specs.Examples.{TakesElements, CountsArguments, SplicesOfOneType, TakesCursors, KeepsLoopCursor, TakesAnswers, SumsIntegers, WritesNothingQueried, WritesUpdated, WritesLooped, LoopsOverCursors, ViewsElements, ViewsSets, UpdatesNoKey, ViewsHolders, CallsByKind, WritesNoSet, FitsCapacity, NeedsCursors, MakesLists};
+ghost use Rattle.ac_check.specs.Examples.{TakesElements, CountsArguments, SplicesOfOneType, TakesCursors, TakesAnswers, SumsIntegers, CallsByKind};
+ghost use Rattle.ac_check.specs.Examples.{KeepsLoopCursor, WritesNothingQueried, WritesUpdated, WritesLooped, WritesNoSet, LoopsOverCursors};
+ghost use Rattle.ac_check.specs.Examples.{ViewsElements, ViewsSets, UpdatesNoKey, ViewsHolders, FitsCapacity, NeedsCursors, MakesLists};
 ghost use Rattle.ac_check.specs.Examples.{CountsNames, MeansByArguments, MeansByKind};
 
 /// Commands that keep the rules, and beside them some that break them.

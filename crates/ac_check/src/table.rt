@@ -299,7 +299,6 @@ static QUEUES: [&[Row]; 1] = [&QUEUE];
 static PRIORITY_QUEUES: [&[Row]; 2] = [&QUEUE, &PRIORITY_QUEUE];
 
 /// The calls of a type's objects, in groups.
-#[tactic(auto, unfolding(crate::specs::Table::rows_of, crate::specs::Table::common_rows, crate::specs::Table::counted_rows, crate::specs::Table::sequence_rows, crate::specs::Table::capacity_rows, crate::specs::Table::vector_rows, crate::specs::Table::list_rows, crate::specs::Table::keyed_walk_rows, crate::specs::Table::map_rows, crate::specs::Table::set_rows, crate::specs::Table::keyed_rows, crate::specs::Table::ordered_keyed_rows, crate::specs::Table::ordered_rows, crate::specs::Table::ordered_map_rows, crate::specs::Table::ordered_set_rows, crate::specs::Table::tree_rows, crate::specs::Table::tree_change_rows, crate::specs::Table::holder_rows, crate::specs::Table::queue_rows, crate::specs::Table::priority_queue_rows))]
 pub fn rows_of(def: &TypeDef) -> &'static [&'static [Row]]
     ensures { joined result.now ≡ table.rows_of def.now }
 {
