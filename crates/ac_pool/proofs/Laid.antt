@@ -1,7 +1,7 @@
 -- A slot is found in its chunk, and a write there is a write to the list of all cells.
 use Rattle.std.proofs.Common.{◌≡◌, ℕ, zero, suc, ◌+◌, ◌-◌, ◌<◌, List, [], ◌∷◌, ◌++◌, length, set, get_or, take, map, refl, sym, ap, ◌∙◌, subst, arith, length-append, length-set}
 use Rattle.std.proofs.lemmas.List.{length-map, get_or_append_left, get_or-append-add, set-append_left, set-append_right, get_or_default, map_push, append-nil, append_assoc}
-use Rattle.ac_pool.specs.declared.slots.Level.{Level}
+use Rattle.ac_pool.specs.declared.slots.Group.{Group}
 use Rattle.ac_pool.specs.declared.slots.Place.{Place}
 use Rattle.ac_pool.specs.Slots.{all_cells, total, IsAt, IsIndexed, IsLaid, Finds}
 
@@ -75,9 +75,9 @@ module _ {X : Type 0} where
       pub sizes-write : (c : X) → sizes (set chunks p.chunk (set cs (i - p.start) c)) ≡ sizes chunks
       sizes-write c = ap (λ l. sizes (set chunks p.chunk (set l (i - p.start) c))) chunk_is ∙ same_sizes chunks p.chunk (i - p.start) c
 
-pub Finds-laid : {X : Type 0} (chunks : List (List X)) (levels : List Level) (newest n i : ℕ) → IsLaid (sizes chunks) levels newest n → i < length (all_cells chunks) → Finds (sizes chunks) levels i
-Finds-laid chunks levels newest n i h lt = record {
+pub Finds-laid : {X : Type 0} (chunks : List (List X)) (groups : List Group) (newest n i : ℕ) → IsLaid (sizes chunks) groups newest n → i < length (all_cells chunks) → Finds (sizes chunks) groups i
+Finds-laid chunks groups newest n i h lt = record {
   within = omega (arith, length-all_cells chunks);
   few = omega (arith, h.count, h.few);
-  indexed = subst (λ m. IsIndexed (sizes chunks) levels m) h.count h.indexed;
+  indexed = subst (λ m. IsIndexed (sizes chunks) groups m) h.count h.indexed;
 }

@@ -1,27 +1,15 @@
--- The chunk of a slot is found from its level, and a growth keeps it so.
+-- The chunk of a slot is found from its group, and a growth keeps it so.
 use Rattle.std.proofs.Common.{◌≡◌, Bool, true, false, nat_lt, ℕ, zero, suc, ◌+◌, ◌-◌, ◌*◌, ◌<◌, ◌≤◌, ◌^◌, List, [], ◌∷◌, ◌++◌, length, get_or, take, refl, sym, ap, ◌∙◌, subst, inl, inr, arith, length-append}
 use borrow.Author.Tests.{ltb-true, ltb-false}
 use mir.Val.{bool_byte}
-use Rattle.std.proofs.Math.Pow.{pow_mono}
 use Rattle.std.proofs.lemmas.Bool.{cases_lt}
-use Rattle.std.proofs.lemmas.Nat.{pow_pos}
 use Rattle.std.proofs.lemmas.List.{get_or_append_left, take-append-le, get_or_push, take_all}
-use Rattle.ac_pool.specs.declared.slots.Level.{Level}
+use Rattle.ac_pool.specs.declared.slots.Group.{Group}
 use Rattle.ac_pool.specs.declared.slots.Place.{Place}
-use Rattle.ac_pool.specs.Slots.{total, IsEven, IsLevel, IsAt, Holds, IsIndexed, IsLaid}
+use Rattle.ac_pool.specs.Slots.{total, ToEights, InGroup, IsAt, Holds, IsIndexed, IsLaid}
 
--- a later slot is on no lower level
-pub level_mono : (a b i j : ℕ) → IsLevel a i → IsLevel b j → i ≤ j → a ≤ b
-level_mono a b i j h k le = elim (cases_lt b a) [
-  | inl less ↦ let up : 2 ^ suc b ≤ 2 ^ a = pow_mono {i = suc b} {j = a} (omega arith) in absurd (omega (arith, h.low, k.high))
-  | inr done ↦ done
-]
-
-pub level_below : (m i : ℕ) → IsLevel m i → i < 2 ^ 30 → m ≤ 30
-level_below m i h small = elim (cases_lt 30 m) [
-  | inl more ↦ let up : 2 ^ 31 ≤ 2 ^ m = pow_mono {i = 31} {j = m} (omega arith) in absurd (omega (arith, h.low))
-  | inr done ↦ done
-]
+pub group_mono : (a b i j : ℕ) → InGroup a i → InGroup b j → i ≤ j → a ≤ b
+group_mono a b i j h k le = omega (arith, h.low, k.high)
 
 total-append : (ms ns : List ℕ) → total (ms ++ ns) ≡ total ms + total ns
 total-append [] ns = omega arith
@@ -54,7 +42,7 @@ module _ (ns : List ℕ) (m : ℕ) where
     below = let same : get_or (ns ++ m ∷ []) p.chunk 0 ≡ get_or ns p.chunk 0 = get_or_append_left ns (m ∷ []) 0 p.chunk h.chunk in omega (arith, h.below);
   }
 
-  Holds-push : (l : Level) (i : ℕ) → Holds ns l i → Holds (ns ++ m ∷ []) l i
+  Holds-push : (l : Group) (i : ℕ) → Holds ns l i → Holds (ns ++ m ∷ []) l i
   Holds-push l i h = record {
     last = λ le. IsAt-push l.last i (h.last le);
     before = λ less. let b = h.before less in (b.0, b.1, IsAt-push _ i b.2);
@@ -70,12 +58,15 @@ module _ (ns : List ℕ) (m : ℕ) where
 
 IsAt-newest : (ns : List ℕ) (newest i k s : ℕ) → newest ≡ total (take (length ns - 1) ns) → newest ≤ i → i < total ns → k ≡ length ns → s ≡ newest → (0 < k) × IsAt ns (record { chunk = k - 1; start = s }) i
 IsAt-newest ns newest i k s is le less e f =
-    let some = some_size ns (omega arith) in let one : k - 1 ≡ length ns - 1 = omega arith in (omega arith, record {
-      chunk = omega arith;
-      start = f ∙ is ∙ ap (λ j. total (take j ns)) (sym one);
-      above = omega arith;
-      below = let size : get_or ns (k - 1) 0 ≡ get_or ns (length ns - 1) 0 = ap (λ j. get_or ns j 0) one in omega (arith, total-last ns some);
-    })
+    let some = some_size ns (omega arith) in let one : k - 1 ≡ length ns - 1 = omega arith in (
+      omega arith,
+      record {
+        chunk = omega arith;
+        start = f ∙ is ∙ ap (λ j. total (take j ns)) (sym one);
+        above = omega arith;
+        below = let size : get_or ns (k - 1) 0 ≡ get_or ns (length ns - 1) 0 = ap (λ j. get_or ns j 0) one in omega (arith, total-last ns some);
+      },
+    )
 
 IsAt-same : (ns : List ℕ) (p q : Place) (i : ℕ) → p.chunk ≡ q.chunk → p.start ≡ q.start → IsAt ns p i → IsAt ns q i
 IsAt-same ns p q i c e h = record {
@@ -86,12 +77,12 @@ IsAt-same ns p q i c e h = record {
 }
 
 -- the chunk of a slot, by a test that counts as 0 or 1
-pub record IsFound (ns : List ℕ) (l : Level) (i back : ℕ) : Type 0 where
+pub record IsFound (ns : List ℕ) (l : Group) (i back : ℕ) : Type 0 where
   pub chunk : back ≤ l.last.chunk
   pub start : back * l.step ≤ l.last.start
   pub at : IsAt ns (record { chunk = l.last.chunk - back; start = l.last.start - back * l.step }) i
 
-IsFound-by : (ns : List ℕ) (l : Level) (i : ℕ) → Holds ns l i → (b : Bool) → nat_lt i l.last.start ≡ b → IsFound ns l i (bool_byte b)
+IsFound-by : (ns : List ℕ) (l : Group) (i : ℕ) → Holds ns l i → (b : Bool) → nat_lt i l.last.start ≡ b → IsFound ns l i (bool_byte b)
 IsFound-by ns l i h true e =
     let b = h.before (ltb-true i l.last.start e) in record {
       chunk = b.0;
@@ -104,50 +95,46 @@ IsFound-by ns l i h false e = record {
   at = IsAt-same ns l.last _ i (omega arith) (omega arith) (h.last (ltb-false i l.last.start e));
 }
 
-pub found : (ns : List ℕ) (l : Level) (i : ℕ) → Holds ns l i → IsFound ns l i (bool_byte (nat_lt i l.last.start))
+pub found : (ns : List ℕ) (l : Group) (i : ℕ) → Holds ns l i → IsFound ns l i (bool_byte (nat_lt i l.last.start))
 found ns l i h = IsFound-by ns l i h (nat_lt i l.last.start) refl
 
--- more levels, of which the first ones are the same
-pub IsIndexed-more : (ns : List ℕ) (levels news : List Level) (n : ℕ) → IsIndexed ns levels n → ((i m : ℕ) → i < n → IsLevel m i → m < length news)
-    → ((k : ℕ) (d : Level) → k < length levels → k < length news → get_or news k d ≡ get_or levels k d) → IsIndexed ns news n
-IsIndexed-more ns levels news n h within same = record {
+-- more groups, of which the first ones are the same
+pub IsIndexed-more : (ns : List ℕ) (groups news : List Group) (n : ℕ) → IsIndexed ns groups n → ((i m : ℕ) → i < n → InGroup m i → m < length news)
+    → ((k : ℕ) (d : Group) → k < length groups → k < length news → get_or news k d ≡ get_or groups k d) → IsIndexed ns news n
+IsIndexed-more ns groups news n h within same = record {
   within = within;
   held = λ i m d less on. subst (λ l. Holds ns l i) (sym (same m d (h.within i m less on) (within i m less on))) (h.held i m d less on);
 }
 
-early_below : (first n : ℕ) → IsLevel first n → (i k : ℕ) → IsLevel k i → k < first → i < n
+early_below : (first n : ℕ) → InGroup first n → (i k : ℕ) → InGroup k i → k < first → i < n
 early_below first n from i k on lower = elim (cases_lt i n) [
   | inl less ↦ less
-  | inr late ↦ absurd (omega (arith, level_mono first k n i from on late))
+  | inr late ↦ absurd (omega (arith, group_mono first k n i from on late))
 ]
 
-room_after : (n m : ℕ) → 0 < m → IsEven n m → (k : ℕ) → IsLevel k (n + m) → n < 2 ^ k
-room_after n m more e k on = elim e.even [
-  | inl none ↦ omega (arith, pow_pos k)
-  | inr power ↦ elim (cases_lt k power.0) [
-    | inl less ↦ let up : 2 ^ suc k ≤ 2 ^ power.0 = pow_mono {i = suc k} {j = power.0} (omega arith) in absurd (omega (arith, on.high, power.1))
-    | inr le ↦ let up : 2 ^ power.0 ≤ 2 ^ k = pow_mono {i = power.0} {j = k} le in omega (arith, power.1)
-  ]
+room_after : (n m : ℕ) → ToEights n m → (k : ℕ) → InGroup k (n + m) → n ≤ 8 * k
+room_after n m e k on = elim e.eights [
+  | inl none ↦ omega arith
+  | inr eights ↦ let same : eights.0 ≡ k = omega (arith, on.low, on.high, eights.1) in omega (arith, eights.1)
 ]
 
--- the slots from n on lie in a new chunk, which is the last one of all levels from that of n on
-module _ (ns : List ℕ) (levels news : List Level) (newest n m first top : ℕ) (l : Level) (h : IsLaid ns levels newest n) (more : 0 < m) (from : IsLevel first n) where
-  Holds-new : l.last.chunk ≡ length ns → l.last.start ≡ n → l.step ≡ n - newest → (i k : ℕ) → i < n + m → IsLevel k i → first ≤ k → Holds (ns ++ m ∷ []) l i
+-- the slots from n on lie in a new chunk, which is the last one of all groups from that of n on
+module _ (ns : List ℕ) (groups news : List Group) (newest n m first top : ℕ) (l : Group) (h : IsLaid ns groups newest n) (more : 0 < m) (from : InGroup first n) where
+  Holds-new : l.last.chunk ≡ length ns → l.last.start ≡ n → l.step ≡ n - newest → (i k : ℕ) → i < n + m → InGroup k i → first ≤ k → Holds (ns ++ m ∷ []) l i
   Holds-new chunk start step i k less on upper = record {
     last = λ le. IsAt-last ns m l.last i chunk (start ∙ h.count) le (omega arith);
     before = λ early.
-        let same : k ≡ first = omega (arith, level_mono k first i n on from (omega arith)) in
-        let low : 2 ^ k ≡ 2 ^ first = ap (λ j. 2 ^ j) same in
+        let same : k ≡ first = omega (arith, group_mono k first i n on from (omega arith)) in
         let room = h.room first from in
         let at = IsAt-newest ns newest i l.last.chunk (l.last.start - l.step) h.newest_is (omega (arith, on.low)) (omega (arith, h.count)) chunk (omega (arith, from.low)) in
         (at.0, omega arith, IsAt-push ns m _ i at.1);
   }
 
-  pub IsLaid-push : IsEven n m → n + m ≤ 2 ^ 30 → l.last.chunk ≡ length ns → l.last.start ≡ n → l.step ≡ n - newest → IsLevel top (n + (m - 1)) → length news ≡ top + 1
-      → ((k : ℕ) (d : Level) → k < first → k < length levels → get_or news k d ≡ get_or levels k d)
-      → ((k : ℕ) (d : Level) → first ≤ k → k < length news → get_or news k d ≡ l) → IsLaid (ns ++ m ∷ []) news n (n + m)
+  pub IsLaid-push : ToEights n m → n + m ≤ 2 ^ 30 → l.last.chunk ≡ length ns → l.last.start ≡ n → l.step ≡ n - newest → InGroup top (n + (m - 1)) → length news ≡ top + 1
+      → ((k : ℕ) (d : Group) → k < first → k < length groups → get_or news k d ≡ get_or groups k d)
+      → ((k : ℕ) (d : Group) → first ≤ k → k < length news → get_or news k d ≡ l) → IsLaid (ns ++ m ∷ []) news n (n + m)
   IsLaid-push even fits chunk start step to long old new =
-      let within : (i k : ℕ) → i < n + m → IsLevel k i → k < length news = λ i k less on. omega (arith, level_mono k top i (n + (m - 1)) on to (omega arith)) in
+      let within : (i k : ℕ) → i < n + m → InGroup k i → k < length news = λ i k less on. omega (arith, group_mono k top i (n + (m - 1)) on to (omega arith)) in
       let size : length (ns ++ m ∷ []) - 1 ≡ length ns = omega (arith, length-append ns (m ∷ [])) in record {
         count = omega (arith, total-append ns (m ∷ []), h.count);
         few = fits;
@@ -160,5 +147,5 @@ module _ (ns : List ℕ) (levels news : List Level) (newest n m first top : ℕ)
           ];
         };
         newest_is = h.count ∙ ap total (sym (take_all (length ns) ns (omega arith)) ∙ sym (take_old ns m (length ns) (omega arith))) ∙ ap (λ k. total (take k (ns ++ m ∷ []))) (sym size);
-        room = room_after n m more even;
+        room = room_after n m even;
       }

@@ -1,7 +1,7 @@
 -- How cells lie in chunks one after another, and how the chunk of a slot is found.
 use Rattle.std.specs.Prelude.{◌≡◌, ℕ, ◌+◌, ◌-◌, ◌*◌, ◌<◌, ◌≤◌, ◌^◌, ◌⊎◌, List, [], ◌∷◌, get_or, length, take}
 use Rattle.std.specs.List.{flat_map}
-use Rattle.ac_pool.specs.declared.slots.Level.{Level}
+use Rattle.ac_pool.specs.declared.slots.Group.{Group}
 use Rattle.ac_pool.specs.declared.slots.Place.{Place}
 
 -- the cells of all chunks
@@ -12,14 +12,14 @@ abbrev pub total : List ℕ → ℕ
 total [] = 0
 total (n ∷ ns) = n + total ns
 
--- the slots 0, or so many more that they are a power of two
-pub record IsEven (n by : ℕ) : Type 0 where
-  pub even : (n ≡ 0) ⊎ ((k : ℕ) × (n + by ≡ 2 ^ k))
+-- there is no slot yet, or there will be a multiple of eight
+pub record ToEights (n by : ℕ) : Type 0 where
+  pub eights : (n ≡ 0) ⊎ ((k : ℕ) × (n + by ≡ 8 * k))
 
--- the slots 2^m - 1 to 2 * 2^m - 2 are on the level m
-pub record IsLevel (m i : ℕ) : Type 0 where
-  pub low : 2 ^ m ≤ i + 1
-  pub high : i + 1 < 2 * 2 ^ m
+-- the slot i is one of the eight of the group m
+pub record InGroup (m i : ℕ) : Type 0 where
+  pub low : 8 * m ≤ i
+  pub high : i < 8 * m + 8
 
 -- the slot i lies in the chunk of the place. The chunks have these lengths
 pub record IsAt (sizes : List ℕ) (place : Place) (i : ℕ) : Type 0 where
@@ -28,27 +28,27 @@ pub record IsAt (sizes : List ℕ) (place : Place) (i : ℕ) : Type 0 where
   pub above : place.start ≤ i
   pub below : i < place.start + get_or sizes place.chunk 0
 
--- the slot i lies in the last chunk of the level, or in the one before it
-pub record Holds (sizes : List ℕ) (level : Level) (i : ℕ) : Type 0 where
-  pub last : level.last.start ≤ i → IsAt sizes level.last i
-  pub before : i < level.last.start → (0 < level.last.chunk) × (level.step ≤ level.last.start) × IsAt sizes (record { chunk = level.last.chunk - 1; start = level.last.start - level.step }) i
+-- the slot i lies in the last chunk of the group, or in the one before it
+pub record Holds (sizes : List ℕ) (group : Group) (i : ℕ) : Type 0 where
+  pub last : group.last.start ≤ i → IsAt sizes group.last i
+  pub before : i < group.last.start → (0 < group.last.chunk) × (group.step ≤ group.last.start) × IsAt sizes (record { chunk = group.last.chunk - 1; start = group.last.start - group.step }) i
 
--- each of the n slots is held by its level
-pub record IsIndexed (sizes : List ℕ) (levels : List Level) (n : ℕ) : Type 0 where
-  pub within : (i m : ℕ) → i < n → IsLevel m i → m < length levels
-  pub held : (i m : ℕ) (d : Level) → i < n → IsLevel m i → Holds sizes (get_or levels m d) i
+-- each of the n slots is held by its group
+pub record IsIndexed (sizes : List ℕ) (groups : List Group) (n : ℕ) : Type 0 where
+  pub within : (i m : ℕ) → i < n → InGroup m i → m < length groups
+  pub held : (i m : ℕ) (d : Group) → i < n → InGroup m i → Holds sizes (get_or groups m d) i
 
 -- what holds of n slots in chunks of these lengths, of which the newest begins with that slot
-pub record IsLaid (sizes : List ℕ) (levels : List Level) (newest n : ℕ) : Type 0 where
+pub record IsLaid (sizes : List ℕ) (groups : List Group) (newest n : ℕ) : Type 0 where
   pub count : n ≡ total sizes
   pub few : n ≤ 2 ^ 30
-  pub indexed : IsIndexed sizes levels n
-  -- the chunk that comes next is the second one of its first level
+  pub indexed : IsIndexed sizes groups n
+  -- the chunk that comes next is the second one of its first group, or the first
   pub newest_is : newest ≡ total (take (length sizes - 1) sizes)
-  pub room : (m : ℕ) → IsLevel m n → newest < 2 ^ m
+  pub room : (m : ℕ) → InGroup m n → newest ≤ 8 * m
 
 -- all that the search for a slot's chunk needs
-pub record Finds (sizes : List ℕ) (levels : List Level) (i : ℕ) : Type 0 where
+pub record Finds (sizes : List ℕ) (groups : List Group) (i : ℕ) : Type 0 where
   pub within : i < total sizes
   pub few : total sizes ≤ 2 ^ 30
-  pub indexed : IsIndexed sizes levels (total sizes)
+  pub indexed : IsIndexed sizes groups (total sizes)

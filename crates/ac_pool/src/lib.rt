@@ -10,7 +10,7 @@ mod slots;
 pub use chunk::Chunk;
 pub use pool::{Pool, PutFault};
 #[doc(hidden)]
-pub use slots::{Level, Place, Slots};
+pub use slots::{Group, Place, Slots};
 
 #[cfg(test)]
 mod tests;

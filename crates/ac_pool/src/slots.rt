@@ -3,7 +3,7 @@ ghost use Rattle.std.specs.Prelude.{◌≡◌, ℕ, ◌+◌, ◌^◌, ◌<◌, �
 ghost use Rattle.std.specs.Borrow.{sem};
 ghost use Rattle.ac_pool.specs.Cell.{serial_in, serial_of, serial_at, IsFull, IsKept};
 ghost use Rattle.ac_pool.specs.CellLends.{lends_kept};
-ghost use Rattle.ac_pool.specs.Slots.{IsEven, IsLevel, IsAt, Finds};
+ghost use Rattle.ac_pool.specs.Slots.{ToEights, InGroup, IsAt, Finds};
 
 use crate::chunk::Chunk;
 use std::alloc::{AllocError, Global};
@@ -16,41 +16,40 @@ pub struct Place {
     start: usize,
 }
 
-/// Where the slots of a level lie: in the last chunk that reaches into it, or in the one before, which begins so many slots earlier.
+/// Where the eight slots of a group lie: in a chunk, or, those before its start, in the chunk before, which begins so many slots earlier.
 #[derive(Clone, Copy)]
-pub struct Level {
+pub struct Group {
     last: Place,
     step: usize,
 }
 
-/// The level of a slot. Level `m` begins with the slot `2^m - 1`, so that there are at most 31.
-fn level_of(slot: usize) -> usize
-    requires { slot < 2 ^ 30 }
-    ensures { IsLevel result slot }
+/// Eight slots in a row are a group.
+fn group_of(slot: usize) -> usize
+    ensures { InGroup result slot }
 {
-    (slot + 1).ilog2() as usize
+    slot / 8
 }
 
-/// The chunk of a slot. It is found without a branch, so that reads of one slot in a row find it once.
-fn place_of(levels: &[Level], slot: usize) -> Place
-    requires { (sizes : List ℕ) × Finds sizes levels.now slot }
-    ensures { (sizes : List ℕ) → Finds sizes levels.now slot → IsAt sizes result slot }
+/// The chunk of a slot. It is found without a branch, so that several reads of one slot find it once.
+fn place_of(groups: &[Group], slot: usize) -> Place
+    requires { (sizes : List ℕ) × Finds sizes groups.now slot }
+    ensures { (sizes : List ℕ) → Finds sizes groups.now slot → IsAt sizes result slot }
 {
-    let level = levels[level_of(slot)];
-    let back = (slot < level.last.start) as usize;
+    let group = groups[group_of(slot)];
+    let back = (slot < group.last.start) as usize;
     Place {
-        chunk: level.last.chunk - back,
-        start: level.last.start - back * level.step,
+        chunk: group.last.chunk - back,
+        start: group.last.start - back * group.step,
     }
 }
 
-/// Makes `level` that of each number from `from` on.
-fn set_from(levels: &mut [Level], from: usize, level: Level)
-    ensures below { (k : ℕ) (d : Level) → k < from → slice_index_or levels.new k d ≡ slice_index_or levels.old k d }
-    ensures above { (k : ℕ) (d : Level) → from ≤ k → k < length levels.old → slice_index_or levels.new k d ≡ level }
+/// Makes `group` that of each number from `from` on.
+fn set_from(groups: &mut [Group], from: usize, group: Group)
+    ensures below { (k : ℕ) (d : Group) → k < from → slice_index_or groups.new k d ≡ slice_index_or groups.old k d }
+    ensures above { (k : ℕ) (d : Group) → from ≤ k → k < length groups.old → slice_index_or groups.new k d ≡ group }
 {
-    for k in from..levels.len() {
-        levels[k] = level;
+    for k in from..groups.len() {
+        groups[k] = group;
     }
 }
 
@@ -78,7 +77,7 @@ fn kept_mut<T>(cell: &mut Option<(u64, T)>) -> &mut T
 #[derive(Drop)]
 pub struct Slots<T> {
     chunks: Vec<Chunk<T>>,
-    levels: Vec<Level>,
+    groups: Vec<Group>,
     // The first slot of the newest chunk.
     newest: usize,
     len: usize,
@@ -96,7 +95,7 @@ impl<T> Model for Slots<T> {
 
     ghost view = { λ s. all_cells s.chunks.items };
 
-    ghost invariant = { λ s. IsLaid (map length s.chunks.items) s.levels.items s.newest s.len };
+    ghost invariant = { λ s. IsLaid (map length s.chunks.items) s.groups.items s.newest s.len };
 }
 
 impl<T> Slots<T> {
@@ -107,7 +106,7 @@ impl<T> Slots<T> {
     {
         Slots {
             chunks: Vec::new(alloc),
-            levels: Vec::new(alloc),
+            groups: Vec::new(alloc),
             newest: 0,
             len: 0,
         }
@@ -117,25 +116,25 @@ impl<T> Slots<T> {
     pub(crate) fn grow(&mut self, by: usize) -> Result<(), AllocError>
         requires some { 0 < by }
         requires few { length self.old + by ≤ 2 ^ 30 }
-        requires even { IsEven (length self.old) by }
+        requires eights { ToEights (length self.old) by }
         ensures ok { OnOk result (self.new ≡ self.old ++ replicate by None) }
         ensures err { OnErr result (self.new ≡ self.old) }
     {
         let alloc = *self.chunks.allocator();
-        let first = level_of(self.len);
-        let level = Level {
+        let first = group_of(self.len);
+        let group = Group {
             last: Place {
                 chunk: self.chunks.len(),
                 start: self.len,
             },
             step: self.len - self.newest,
         };
-        let top = level_of(self.len + (by - 1));
+        let top = group_of(self.len + (by - 1));
         self.chunks.reserve(1)?;
-        self.levels.resize(top + 1, level)?;
+        self.groups.resize(top + 1, group)?;
         let chunk = Chunk::new(alloc, by)?;
         self.chunks.push_reserved(chunk);
-        set_from(self.levels.as_mut_slice(), first, level);
+        set_from(self.groups.as_mut_slice(), first, group);
         self.newest = self.len;
         self.len += by;
         Ok(())
@@ -152,7 +151,7 @@ impl<T> Slots<T> {
         requires { slot < length self.now }
         ensures { result.now ≡ get_or self.now slot None }
     {
-        let place = place_of(self.levels.as_slice(), slot);
+        let place = place_of(self.groups.as_slice(), slot);
         let chunk = &self.chunks[place.chunk];
         chunk.cell(slot - place.start)
     }
@@ -162,7 +161,7 @@ impl<T> Slots<T> {
         ensures* writes_back { sem 𝓛 (lends_slot T.row self.entry slot result) }
         ensures value { result.now ≡ get_or self.old slot None }
     {
-        let place = place_of(self.levels.as_slice(), slot);
+        let place = place_of(self.groups.as_slice(), slot);
         let chunk = &mut self.chunks[place.chunk];
         chunk.cell_mut(slot - place.start)
     }

@@ -1,4 +1,4 @@
-use Rattle.std.proofs.Common.{suc, ◌*◌, ◌^◌, ◌≤◌, arith}
+use Rattle.std.proofs.Common.{◌*◌, ◌^◌, ◌≤◌, arith}
 use Rattle.ac_base.proofs.Powers.{IsLow, IsLow-first, IsLow-more, IsLeastPow8-low, pow8-unique}
 use Rattle.ac_pool.proofs.growth.least_slots.Goals as goal
 
@@ -17,6 +17,6 @@ returns c =
     let s = c.loop-slots.slots in let h = c.loop-slots.invariant in
     record {
       slots = pow8-unique c.args.wanted s (IsLeastPow8-low c.args.wanted s h.low c.loop-slots-test.false);
-      power = (suc (suc (suc h.low.power.0)), omega (arith, h.low.power.1));
+      eights = (2 ^ h.low.power.0, h.low.power.1);
       bounds = (c.loop-slots-test.false, h.small);
     }

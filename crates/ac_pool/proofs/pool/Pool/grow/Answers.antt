@@ -1,7 +1,7 @@
 use Rattle.std.proofs.Common.{◌≡◌, ◌≤◌, ◌^◌, ◌+◌, ◌++◌, length, get_or, replicate, None, sym, ap, ◌∙◌, subst, arith}
 use Rattle.std.proofs.lemmas.List.{with_items_is}
 use Rattle.ac_pool.specs.Contents.{contents, slot_count, IsSound}
-use Rattle.ac_pool.specs.Slots.{IsEven}
+use Rattle.ac_pool.specs.Slots.{ToEights}
 use Rattle.ac_pool.specs.PoolFields.{entries_in, IsPool}
 use Rattle.ac_pool.proofs.Entries.{entries_in-grown}
 use Rattle.ac_pool.proofs.Pooled.{sound, slot_count-cells, empty_count_within, IsPool-relist, IsPool-grow}
@@ -11,10 +11,10 @@ pub grow-requires-clause-few : goal.grow-requires-clause-few
 grow-requires-clause-few g c =
     let a = c.self.inside in let h = c.self.invariant in let fits : slot_count (contents (entries_in a.slots) a.next_serial a.spare) + c.args.by ≤ 2 ^ 30 = subst (λ x. slot_count x + c.args.by ≤ 2 ^ 30) (sym c.self.view_is) c.requires.few in omega (arith, slot_count-cells a.slots a.free.items a.spare a.next_serial h)
 
-pub grow-requires-clause-even : goal.grow-requires-clause-even
-grow-requires-clause-even g c =
-    let a = c.self.inside in let even : IsEven (slot_count (contents (entries_in a.slots) a.next_serial a.spare)) c.args.by = subst (λ x. IsEven (slot_count x) c.args.by) (sym c.self.view_is) c.requires.even in
-    subst (λ n. IsEven n c.args.by) (slot_count-cells a.slots a.free.items a.spare a.next_serial c.self.invariant) even
+pub grow-requires-clause-eights : goal.grow-requires-clause-eights
+grow-requires-clause-eights g c =
+    let a = c.self.inside in let even : ToEights (slot_count (contents (entries_in a.slots) a.next_serial a.spare)) c.args.by = subst (λ x. ToEights (slot_count x) c.args.by) (sym c.self.view_is) c.requires.eights in
+    subst (λ n. ToEights n c.args.by) (slot_count-cells a.slots a.free.items a.spare a.next_serial c.self.invariant) even
 
 pub invariant_of-self-in_err-grow : goal.invariant_of-self-in_err-grow
 invariant_of-self-in_err-grow g c =

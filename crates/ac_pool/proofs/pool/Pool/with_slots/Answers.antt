@@ -10,6 +10,6 @@ pub grow-requires-clause-few : goal.grow-requires-clause-few
 grow-requires-clause-few g c =
     let none : slot_count c.new-pool.result ≡ 0 = ap slot_count c.new-pool.ensures.empty ∙ slot_count-no_values g.row.T.Denot 1 0 in omega (arith, c.requires)
 
-pub grow-requires-clause-even : goal.grow-requires-clause-even
-grow-requires-clause-even g c =
-    let none : slot_count c.new-pool.result ≡ 0 = ap slot_count c.new-pool.ensures.empty ∙ slot_count-no_values g.row.T.Denot 1 0 in record { even = inl none }
+pub grow-requires-clause-eights : goal.grow-requires-clause-eights
+grow-requires-clause-eights g c =
+    let none : slot_count c.new-pool.result ≡ 0 = ap slot_count c.new-pool.ensures.empty ∙ slot_count-no_values g.row.T.Denot 1 0 in record { eights = inl none }
