@@ -32,6 +32,3 @@ pub use refusal::first_reason;
 pub use steps::Steps;
 pub use text::{Text, TextFault};
 pub use value::Value;
-
-#[cfg(test)]
-mod tests;

@@ -92,6 +92,7 @@ impl<T> Links<T> {
         }
     }
 
+    #[inline(always)]
     #[tactic(auto, unfolding(crate::specs::ChainFields::joined))]
     fn join(&mut self, left: Option<Name>, right: Option<Name>)
         ensures { self.new ≡ joined self.old left right }

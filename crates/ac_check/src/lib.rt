@@ -16,8 +16,6 @@ mod rows;
 mod rules;
 mod scope;
 mod table;
-#[cfg(test)]
-mod tests;
 mod walk;
 
 pub use checked::{Checked, check};

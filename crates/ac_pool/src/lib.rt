@@ -11,6 +11,3 @@ pub use chunk::Chunk;
 pub use pool::{Pool, PutFault};
 #[doc(hidden)]
 pub use slots::{Group, Place, Slots};
-
-#[cfg(test)]
-mod tests;

@@ -11,9 +11,6 @@ ghost use Rattle.ac_syntax.specs.Refusals.{Spells, IsFirstRefusal};
 ghost use Rattle.ac_syntax.specs.declared.fault.ScriptFault.TheVariants.{Refused};
 ghost use Rattle.ac_script.specs.Answers.{IsAnswer, IsOrNoMemory, IsCut, EndPast};
 
-#[cfg(test)]
-mod tests;
-
 use crate::build::build;
 use crate::cut::{CutText, cut};
 use crate::limits::within;

@@ -11,8 +11,6 @@ mod declaration;
 mod literal;
 mod mark;
 mod page;
-#[cfg(test)]
-mod tests;
 mod words;
 
 use ac_base::NoMemory;

@@ -5,4 +5,16 @@
 #[cfg(test)]
 mod chains;
 #[cfg(test)]
+mod checks;
+#[cfg(test)]
 mod lists;
+#[cfg(test)]
+mod parses;
+#[cfg(test)]
+mod pools;
+#[cfg(test)]
+mod prints;
+#[cfg(test)]
+mod runs;
+#[cfg(test)]
+mod values;

@@ -19,6 +19,3 @@ pub use gate::{FreeGate, Gate};
 pub use law::one_meaning;
 pub use limits::{INPUT_LIMIT, LENGTH_LIMIT};
 pub use status::Status;
-
-#[cfg(test)]
-mod tests;

@@ -1,5 +1,4 @@
-use super::*;
-use crate::printer::print;
+use ac_script::{RefusalKind, ScriptFault, parse, print};
 use std::test::Fail;
 
 /// Every declaration, command and head, as they are printed.

@@ -1,4 +1,4 @@
-use super::*;
+use ac_base::*;
 use std::alloc::Global;
 use std::process::Abort;
 use std::test::Fail;

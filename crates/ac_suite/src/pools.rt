@@ -1,5 +1,5 @@
-use super::*;
 use ac_base::Name;
+use ac_pool::{Pool, PutFault};
 use std::cell::Cell;
 use std::process::Abort;
 use std::test::Fail;

@@ -1,7 +1,7 @@
 ghost use Rattle.std.specs.Prelude.{◌<◌};
 
-use super::*;
 use ac_io::{MemorySink, MemorySource};
+use ac_top::{FreeGate, Gate, INPUT_LIMIT, Status, run};
 use std::alloc::Global;
 use std::sync::Wait;
 use std::test::Fail;

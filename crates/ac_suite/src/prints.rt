@@ -1,7 +1,7 @@
-use super::*;
 use ac_base::Value;
-use ac_syntax::{Arg, Args, Decl, Decls, ElemKind, Ident, Kind, TypeDef};
-use std::alloc::AllocError;
+use ac_script::print;
+use ac_syntax::{Arg, Args, Decl, Decls, ElemKind, Ident, Kind, Script, Stmt, Stmts, TypeDef};
+use std::alloc::{AllocError, Global};
 use std::test::Fail;
 
 fn ident(alloc: Global, word: &[u8]) -> Result<Ident, AllocError> {

@@ -1,5 +1,5 @@
-use super::*;
 use ac_base::Value;
+use ac_check::check;
 use ac_syntax::{
     Arg, Args, Decl, Decls, ElemKind, Ident, Kind, RefusalKind, Script, ScriptFault, Stmt, Stmts,
     TypeDef,
