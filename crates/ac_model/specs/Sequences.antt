@@ -7,6 +7,7 @@ use Rattle.ac_base.specs.FirstReason.{first_reason}
 use Rattle.ac_model.specs.Rows.{fresh, cut, put, value_at, with_value, with_exchanged_values, is_ascending, merged}
 use Rattle.ac_model.specs.Objects.{Object, contents, length_of, with_rows, grown}
 use Rattle.ac_model.specs.Letters.{Mark, no_mark, mark_at, needs, may, name_of, place_at, is_no_mark, mark_for, mark_in, tampers_cursors, tampers_elements, count_of, in_range, room, reason_if, has_room}
+use Rattle.ac_model.specs.Common.{is_empty_call}
 use Rattle.ac_model.specs.Calls.{Call, call, Look, look, Both, both, Done, takes_none, takes_some}
 
 -- the values are pairwise equal
@@ -119,19 +120,15 @@ first_call o = mark_in o 0
 abbrev pub last_call : {V : Type 0} → Object ℕ V → Mark
 last_call o = mark_in o (length_of o - 1)
 
--- the object has no element
-abbrev pub is_without_rows : {V : Type 0} → Object ℕ V → Bool
-is_without_rows o = length_of o == 0
-
 -- First_Element (A.18.2, A.18.3)
 abbrev pub first_element_call : {V : Type 0} → Object ℕ V → Look (Option V)
 first_element_call o =
-    look (first_reason (reason_if (is_without_rows o) Empty ∷ [])) (slice_get (contents o) 0)
+    look (first_reason (reason_if (is_empty_call o) Empty ∷ [])) (slice_get (contents o) 0)
 
 -- Last_Element (A.18.2, A.18.3)
 abbrev pub last_element_call : {V : Type 0} → Object ℕ V → Look (Option V)
 last_element_call o =
-    look (first_reason (reason_if (is_without_rows o) Empty ∷ [])) (slice_get (contents o) (length_of o - 1))
+    look (first_reason (reason_if (is_empty_call o) Empty ∷ [])) (slice_get (contents o) (length_of o - 1))
 
 -- Next (A.18.2, A.18.3)
 abbrev pub next_call : {V : Type 0} → Object ℕ V → Mark → Look Mark
@@ -189,4 +186,4 @@ merge_call less target source =
 -- of an object with itself
 abbrev pub merge_self_call : {T : Type 0} → Object ℕ T → Call (Object ℕ T) Done
 merge_self_call o =
-    call takes_none (first_reason (tampers_cursors o ∷ reason_if (not (is_without_rows o)) SameContainer ∷ [])) o tt
+    call takes_none (first_reason (tampers_cursors o ∷ reason_if (not (is_empty_call o)) SameContainer ∷ [])) o tt
