@@ -26,10 +26,6 @@ turned true s e = sym (ap not e)
 turned false s e = sym (ap not e)
 
 module _ {T : Type 0} where
-  pub values-plains : (rows : List (Row Name T)) → values rows ≡ values (plains rows)
-  values-plains [] = refl
-  values-plains (r ∷ rows) = ap (λ vs. r.value ∷ vs) (values-plains rows)
-
   -- two walks side by side: what is left of them decides
   pub record Comparing (same : T → T → Bool) (c d : Chained T) (here there : Option Name) : Type 0 where
     pub lefts : List (Row Name T)

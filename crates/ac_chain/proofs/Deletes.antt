@@ -23,7 +23,7 @@ use Rattle.ac_model.specs.Calls.{IsAfter}
 use Rattle.ac_chain.specs.Cut.{IsCut}
 use Rattle.ac_model.specs.Objects.{plains}
 use Rattle.ac_model.specs.Cursors.{needs_cursor, mark, place_in, name_in}
-use Rattle.ac_chain.proofs.Puts.{plains-append}
+use Rattle.ac_model.proofs.Plains.{plains-append}
 
 module _ {X : Type 0} where
   -- so far: so many rows from the place on are gone
@@ -171,15 +171,6 @@ module _ {X : Type 0} where
 
   pub dropping_live : (now : Chained X) (a : Name) → Some a ≡ name_before now.rows (length now.rows) → IsLive now a
   dropping_live now a e = let s = last_split now.rows a e in has_live a now.rows (subst (λ rows. HasName a rows) (sym s.is) (HasName-right a s.rest (s.last ∷ []) (inl s.named)))
-
-  plains-take : (i : ℕ) (rows : List (Row Name X)) → plains (take i rows) ≡ take i (plains rows)
-  plains-take i rows = sym (take-map plain_row i rows)
-
-  plains-drop : (i : ℕ) (rows : List (Row Name X)) → plains (drop i rows) ≡ drop i (plains rows)
-  plains-drop i rows = sym (drop-map plain_row i rows)
-
-  pub plains-cut : (rows : List (Row Name X)) (i n : ℕ) → plains (take i rows ++ drop (i + n) rows) ≡ cut (plains rows) i n
-  plains-cut rows i n = plains-append (take i rows) (drop (i + n) rows) ∙ (λ j. plains-take i rows j ++ plains-drop (i + n) rows j)
 
   pub cut_has : (a : Name) (rows : List (Row Name X)) (i n : ℕ) → HasName a (take i rows ++ drop (i + n) rows) → HasName a rows
   cut_has a rows i n t = elim (HasName-either a (take i rows) (drop (i + n) rows) t) [

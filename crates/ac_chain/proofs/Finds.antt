@@ -53,12 +53,6 @@ module _ {X : Type 0} where
   pub take_had : (n : ℕ) (rows : List (Row Name X)) (a : Name) → HasName a (take n rows) → HasName a rows
   take_had n rows a h = subst (λ zs. HasName a zs) (take-append-drop n rows) (HasName-left a (take n rows) (drop n rows) h)
 
-  pub plains-drop : (n : ℕ) (rows : List (Row Name X)) → plains (drop n rows) ≡ drop n (plains rows)
-  plains-drop n rows = sym (drop-map plain_row n rows)
-
-  pub plains-take : (n : ℕ) (rows : List (Row Name X)) → plains (take n rows) ≡ take n (plains rows)
-  plains-take n rows = sym (take-map plain_row n rows)
-
   pub first_place : (rows : List (Row Name X)) → place_of (name_at rows 0) rows ≡ 0
   first_place [] = refl
   first_place (r ∷ rows) = index_here r.name r rows refl

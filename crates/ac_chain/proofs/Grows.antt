@@ -40,23 +40,7 @@ use Rattle.ac_model.specs.Objects.{plains}
 use Rattle.ac_chain.specs.Put.{IsPut, HasFirst}
 use Rattle.ac_model.specs.Cursors.{may_cursor, mark, place_in, cursor_at}
 use Rattle.ac_model.specs.Containers.{Container, container}
-use Rattle.ac_chain.proofs.Puts.{plains-append}
-
-pub accepted : {V X A : Type 0} (Answers : X → A → Type 0) (memory : _) (reason : Option Reason) (after : Object ℕ V) (answer : A) (old new : Object Name V) (r : Result X Fault) → reason ≡ None
-    → Changing Answers (call memory None after answer) old new r → Changing Answers (call memory reason after answer) old new r
-accepted Answers memory reason after answer old new (Ok x) e h = (e, h.1, h.2)
-accepted Answers memory reason after answer old new (Err (fault.Raised q)) e h = absurd (let k : None ≡ Some q = h.0 in cc)
-accepted Answers memory reason after answer old new (Err fault.NoMemory) e h = (h.0, e, h.2)
-
--- of a call that answers by a variable, without the variable
-pub unanswered : {V A : Type 0} (Answers : Done → A → Type 0) (c : Call (Object ℕ V) A) (old new : Object Name V) (r : Result Done Fault) → Changing Answers c old new r → Changing Same (call c.memory c.reason c.after tt) old new r
-unanswered Answers c old new (Ok x) h = (h.0, h.1, refl)
-unanswered Answers c old new (Err (fault.Raised q)) h = h
-unanswered Answers c old new (Err fault.NoMemory) h = h
-
-pub no_capacity : (l : Limit) (n : ℕ) → capacity_after l None n ≡ None
-no_capacity Unbounded n = refl
-no_capacity (Bounded most) n = refl
+use Rattle.ac_model.proofs.Plains.{plains-append}
 
 module _ {X : Type 0} where
   pub all_from : (P : Name → Type 0) (rows : List (Row Name X)) → ((a : Name) → HasName a rows → P a) → All P (names rows)
@@ -95,14 +79,6 @@ module _ {X : Type 0} where
   past_end (r ∷ rows) h =
       let some = h r.name (inl refl) in
       cond-false _ _ _ (ne_eqb r.name.serial 0 (λ e. omega arith)) ∙ ap suc (past_end rows (λ a t. h a (inr t)))
-
-  pub place_none : (o : Object Name X) (place : Option Reason) (n : _) → first_reason (tampers_cursors (plain o) ∷ place ∷ room_for_copies (plain o) n) ≡ None → place ≡ None
-  place_none o place n h = none_first place (room_for_copies (plain o) n) (none_others (tampers_cursors (plain o)) (place ∷ room_for_copies (plain o) n) h)
-
-  pub plains-reverse : (rows : List (Row Name X)) → plains (reverse rows) ≡ reverse (plains rows)
-  plains-reverse [] = refl
-  plains-reverse (r ∷ rows) =
-      ap plains (reverse-append (r ∷ []) rows) ∙ plains-append (reverse rows) (r ∷ []) ∙ ap (λ zs. zs ++ plains (r ∷ [])) (plains-reverse rows) ∙ sym (reverse-append (plains (r ∷ [])) (plains rows))
 
   pub reverse_has : (a : Name) (rows : List (Row Name X)) → HasName a (reverse rows) → HasName a rows
   reverse_has a [] h = h

@@ -1,6 +1,5 @@
 pub mod Chains
 pub mod Compares
-pub mod Copied
 pub mod Cuts
 pub mod Deletes
 pub mod Finds
@@ -17,7 +16,6 @@ pub mod Refills
 pub mod Relinked
 pub mod Searches
 pub mod Sorts
-pub mod StableSorts
 pub mod Standing
 pub mod Swaps
 pub mod Transfers

@@ -20,6 +20,7 @@ use Rattle.ac_model.specs.Letters.{mark_at, is_same_name, is_among, mark_of, jud
 use Rattle.ac_model.proofs.RowLaws.{at_its_place}
 use Rattle.ac_model.specs.Objects.{plains}
 use Rattle.ac_model.specs.Cursors.{needs_cursor, may_cursor, cursor_at, name_in}
+use Rattle.ac_model.proofs.Plains.{slice_get-plains}
 
 same_is : (a b : Name) → is_same_name a b ≡ true → a ≡ b
 same_is a b h = elim (cases_Bool (a.slot == b.slot)) [
@@ -83,11 +84,6 @@ module _ {X : Type 0} where
 
   pub marked_live : (number : ℕ) (rows : List (Row Name X)) (a : Name) → HasName a rows → mark_of number (names rows) (At number a) ≡ mark_at number a.serial
   marked_live number rows a h = let t = has_among a rows h in let e = eq-eqb number number refl in simp (e, t)
-
-  pub slice_get-plains : (rows : List (Row Name X)) (i : ℕ) → slice_get (plains rows) i ≡ option_map (λ (r : Row Name X). row r.name.serial r.value) (slice_get rows i)
-  slice_get-plains [] i = refl
-  slice_get-plains (r ∷ rows) zero = refl
-  slice_get-plains (r ∷ rows) (suc i) = slice_get-plains rows i
 
   -- the cursor at a place is the definitions' mark there
   pub marked_at : (number : ℕ) (rows : List (Row Name X)) (i : ℕ) → mark_of number (names rows) (cursor_at number (name_at rows i)) ≡ mark_for number (slice_get (plains rows) i)

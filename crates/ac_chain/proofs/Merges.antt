@@ -28,7 +28,8 @@ use Rattle.ac_model.specs.Objects.{plains}
 use Rattle.ac_chain.specs.Put.{HasGrown}
 use Rattle.ac_chain.specs.Search.{found_in}
 use Rattle.ac_base.specs.Rows.{values}
-use Rattle.ac_chain.proofs.Puts.{plains-append, length-plains, place_cut, reserved_enough, reserved_grown}
+use Rattle.ac_model.proofs.Plains.{plains-append, length-plains}
+use Rattle.ac_chain.proofs.Puts.{place_cut, reserved_enough, reserved_grown}
 use Rattle.ac_chain.proofs.Searches.{first_found, first_passed}
 use Rattle.ac_chain.proofs.Transfers.{Leaving, leaving_none, leaving_more, leaving_count, leaving_all, leaving_cleared, none_left, some_left, Taken}
 

@@ -17,21 +17,9 @@ use Rattle.ac_base.proofs.Powers.{pow8-enough}
 use Rattle.std.proofs.lemmas.Bool.{cond-true, cond-false, cases_lt, cases_eq, lt-leb}
 use Rattle.ac_model.specs.Objects.{plains}
 use Rattle.ac_chain.specs.Put.{IsPut, IsFirst, HasFirst, HasGrown}
+use Rattle.ac_model.proofs.Plains.{plains-append, length-plains, fresh-append}
 
 module _ {X : Type 0} where
-  pub plains-append : (xs ys : List (Row Name X)) → plains (xs ++ ys) ≡ plains xs ++ plains ys
-  plains-append [] ys = refl
-  plains-append (x ∷ xs) ys = ap (λ zs. row x.name.serial x.value ∷ zs) (plains-append xs ys)
-
-  pub length-plains : (xs : List (Row Name X)) → length (plains xs) ≡ length xs
-  length-plains [] = refl
-  length-plains (x ∷ xs) = ap suc (length-plains xs)
-
-  fresh-append : (next : ℕ) (vs : List X) (v : X) → fresh next (vs ++ v ∷ []) ≡ fresh next vs ++ (row (next + length vs) v ∷ [])
-  fresh-append next [] v = let e : next ≡ next + 0 = omega arith in ap (λ n. row n v ∷ []) e
-  fresh-append next (w ∷ vs) v = let e : (next + 1) + length vs ≡ next + suc (length vs) = omega arith in
-      ap (λ zs. row next w ∷ zs) (fresh-append (next + 1) vs v ∙ ap (λ n. fresh (next + 1) vs ++ (row n v ∷ [])) e)
-
   -- nothing was put yet
   pub put_none : (c : Chained X) (place : Option Name) → ((a : Name) → place ≡ Some a → IsLive c a) → IsPut c.rows c.next_serial place [] c
   put_none c place h =

@@ -34,7 +34,8 @@ use Rattle.ac_chain.specs.Put.{IsPut}
 use Rattle.ac_chain.specs.Refill.{IsRefilled}
 use Rattle.ac_model.specs.Forms.{as_fault}
 use Rattle.ac_base.specs.Rows.{values}
-use Rattle.ac_chain.proofs.Puts.{length-plains, put_none, put_length, reserved_enough, reserved_slots, reserved_kept}
+use Rattle.ac_model.proofs.Plains.{length-plains}
+use Rattle.ac_chain.proofs.Puts.{put_none, put_length, reserved_enough, reserved_slots, reserved_kept}
 use Rattle.ac_chain.proofs.Deletes.{last_split, none_last}
 
 module _ {X : Type 0} where
@@ -176,10 +177,6 @@ module _ {X : Type 0} where
       let zero : count - 1 ≡ 0 = omega arith in
       let empty : values ≡ [] = e ∙ ap (λ vs. vs ++ []) (r ∙ ap (λ n. take n values) zero) in
       subst (λ vs. IsPut c.rows c.next_serial None (reverse vs) c) (sym empty) (put_none c None (λ a t. absurd (let k : None ≡ Some a = t in cc)))
-
-  pub values-plains : (rows : List (Row Name X)) → values (plains rows) ≡ values rows
-  values-plains [] = refl
-  values-plains (r ∷ rows) = ap (λ vs. r.value ∷ vs) (values-plains rows)
 
   pub refilled_length : (k now : Chained X) (source : List (Row Name X)) → IsRefilled k (values source) now → length now.rows ≡ length source
   refilled_length k now source f =

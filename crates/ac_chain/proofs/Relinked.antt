@@ -32,8 +32,9 @@ use Rattle.ac_model.specs.Calls.{IsAfter, Changing, Same, Marks, Done}
 use Rattle.ac_model.proofs.RowLaws.{at_its_place}
 use Rattle.ac_model.specs.Objects.{plains}
 use Rattle.ac_model.specs.Cursors.{needs_cursor, may_cursor, mark, name_in, place_in}
-use Rattle.ac_chain.proofs.Marks.{Alone, alone, place_is, slice_get-plains}
-use Rattle.ac_chain.proofs.Puts.{plains-append, length-plains}
+use Rattle.ac_chain.proofs.Marks.{Alone, alone, place_is}
+use Rattle.ac_model.proofs.Plains.{slice_get-plains}
+use Rattle.ac_model.proofs.Plains.{plains-append, length-plains}
 use Rattle.ac_chain.proofs.Grows.{put_cut, past_end}
 
 pub same_rows : {A : Type 0} (xs ys : List A) → ((i : ℕ) → slice_get xs i ≡ slice_get ys i) → xs ≡ ys

@@ -31,7 +31,7 @@ use Rattle.ac_model.specs.Objects.{Object, plain, with_rows}
 use Rattle.ac_model.specs.Calls.{IsAfter}
 use Rattle.ac_chain.proofs.Relinked.{WasAt, swap_was, swap_had}
 use Rattle.ac_chain.proofs.Searches.{some_value}
-use Rattle.ac_chain.proofs.StableSorts.{strict_order, sort_is}
+use Rattle.ac_model.proofs.StableSorts.{strict_order, sort_is}
 use Rattle.ac_chain.proofs.Walks.{Forward, Ahead, ahead, forward_first, forward_end, forward_left}
 
 module _ {X : Type 0} where

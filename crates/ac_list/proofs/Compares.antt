@@ -19,7 +19,7 @@ use Rattle.ac_model.specs.Sequences.{are_equal}
 use Rattle.ac_model.specs.Objects.{plains}
 use Rattle.ac_list.specs.State.{object_of}
 use Rattle.ac_base.specs.Rows.{values}
-use Rattle.ac_chain.proofs.Compares.{values-plains}
+use Rattle.ac_model.proofs.Plains.{values-plains}
 
 module _ {X : Type 0} (g : GuardCounts) (l : Limit) (k : Chained X) (o : Object Name X) (view : object_of g l k ≡ o) where
   pub contents_are : values k.rows ≡ values (plain o).rows

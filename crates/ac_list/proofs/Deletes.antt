@@ -26,9 +26,10 @@ use Rattle.ac_model.specs.Cursors.{needs_cursor, mark, place_in, name_in}
 use Rattle.ac_list.specs.State.{object_of}
 use Rattle.ac_chain.proofs.Marks.{has_among, place_live}
 use Rattle.ac_list.proofs.Standing.{stands}
-use Rattle.ac_chain.proofs.Puts.{length-plains}
+use Rattle.ac_model.proofs.Plains.{length-plains}
 use Rattle.ac_chain.proofs.Grows.{all_from}
-use Rattle.ac_chain.proofs.Deletes.{plains-cut, cut_has}
+use Rattle.ac_model.proofs.Plains.{plains-cut}
+use Rattle.ac_chain.proofs.Deletes.{cut_has}
 
 module _ {X : Type 0} where
   pub cut_after : (g : GuardCounts) (l : Limit) (k now : Chained X) (o : Object Name X) → object_of g l k ≡ o → (i n : ℕ) → IsCut k i n now → IsAfter o (object_of g l now) (with_rows (plain o) (cut (plain o).rows i n))

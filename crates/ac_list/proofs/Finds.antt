@@ -28,8 +28,10 @@ use Rattle.ac_list.specs.State.{object_of}
 use Rattle.ac_chain.specs.Search.{found_in, count_to, start_of, end_of}
 use Rattle.ac_chain.proofs.Marks.{may_by_name, place_live}
 use Rattle.ac_list.proofs.Standing.{stands}
-use Rattle.ac_chain.proofs.Grows.{past_end, plains-reverse, reverse_has}
-use Rattle.ac_chain.proofs.Finds.{found_marked, any_found, drop_had, take_had, plains-drop, plains-take, first_place, first_live, last_live, count_last}
+use Rattle.ac_chain.proofs.Grows.{past_end, reverse_has}
+use Rattle.ac_model.proofs.Plains.{plains-reverse}
+use Rattle.ac_chain.proofs.Finds.{found_marked, any_found, drop_had, take_had, first_place, first_live, last_live, count_last}
+use Rattle.ac_model.proofs.Plains.{plains-drop, plains-take}
 
 module _ {X : Type 0} where
   -- where a search begins

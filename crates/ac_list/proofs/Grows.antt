@@ -38,28 +38,17 @@ use Rattle.ac_model.specs.Cursors.{spot, IsNamed}
 use Rattle.ac_model.specs.Containers.{Grows, slots_of}
 use Rattle.ac_model.specs.Objects.{plains}
 use Rattle.ac_chain.specs.Put.{IsPut, HasFirst}
-use Rattle.ac_list.specs.Put.{Takes, put_call, done}
+use Rattle.ac_model.specs.Putting.{Takes, put_call, done}
 use Rattle.ac_model.specs.Cursors.{may_cursor, mark, place_in, cursor_at}
 use Rattle.ac_model.specs.Containers.{Container, container}
 use Rattle.ac_list.specs.State.{object_of, IsList}
 use Rattle.ac_chain.proofs.Marks.{among_has, has_among, place_live, may_by_name, marked_live}
 use Rattle.ac_list.proofs.Standing.{stands}
-use Rattle.ac_chain.proofs.Puts.{plains-append, length-plains, put_length}
-use Rattle.ac_chain.proofs.Grows.{accepted, no_capacity, all_from, put_cut, put_kept, past_end, plains-reverse, reverse_has}
-
--- the answer is let go
-pub done_changes : {V X A : Type 0} (Answers : X → A → Type 0) (memory : _) (reason : Option Reason) (after : Object ℕ V) (answer : A) (old new : Object Name V) (r : Result X Fault)
-    → Changing Answers (call memory reason after answer) old new r → Changing Same (call memory reason after tt) old new (done r)
-done_changes Answers memory reason after answer old new (Ok x) h = (h.0, h.1, refl)
-done_changes Answers memory reason after answer old new (Err (fault.Raised q)) h = h
-done_changes Answers memory reason after answer old new (Err fault.NoMemory) h = h
-
-done_grows : {V A : Type 0} (r : Result A Fault) (old new : Container V) → Grows r old new → Grows (done r) old new
-done_grows (Ok x) old new h = h
-done_grows (Err e) old new h = h
-
-pub done_slots : {V A : Type 0} (r : Result A Fault) (d : Result Done Fault) (old new : Container V) → d ≡ done r → Grows r old new → Grows d old new
-done_slots r d old new e h = subst (λ q. Grows q old new) (sym e) (done_grows r old new h)
+use Rattle.ac_model.proofs.Plains.{plains-append, length-plains}
+use Rattle.ac_chain.proofs.Puts.{put_length}
+use Rattle.ac_model.proofs.Changes.{accepted, no_capacity}
+use Rattle.ac_chain.proofs.Grows.{all_from, put_cut, put_kept, past_end, reverse_has}
+use Rattle.ac_model.proofs.Plains.{plains-reverse}
 
 module _ {X : Type 0} where
   -- of a list that takes so many more, the chain does too
@@ -164,12 +153,6 @@ module _ {X : Type 0} where
   takes_within g l k o view n t =
       subst (λ m. is_past l (m + n) ≡ false) refl (subst (λ (p : Object Name X). Takes p n) (sym view) t).within
 
-  pub takes_from : (o : Object Name X) (place : Option Reason) (n : _) → None ≡ first_reason (tampers_cursors (plain o) ∷ place ∷ room_for_copies (plain o) n) → Takes o (count_of n)
-  takes_from o place n h =
-      let rest = after_two (tampers_cursors (plain o)) place (room_for_copies (plain o) n) (sym h) in
-      let has = room_none (plain o) (length_of (plain o) + count_of n) (count_of n) (none_others (in_range n) (room (plain o) (length_of (plain o) + count_of n) (count_of n)) rest) in
-      subst (λ m. (m + count_of n ≤ GREATEST_LENGTH) → (is_past o.limit (m + count_of n) ≡ false) → Takes o (count_of n)) (sym (length-map o.rows plain_row)) (λ few within. record { few = few; within = within; unspent = has.within_names }) has.within_greatest has.within_limit
-
   pub first_spot : (g : GuardCounts) (l : Limit) (k : Chained X) (o : Object Name X) → object_of g l k ≡ o → IsSound k → (place : Option Name) → place ≡ name_at k.rows 0 → (ForSome place (IsNamed o)) × (spot o place ≡ 0)
   first_spot g l k o view s place e = subst (λ (p : Object Name X). (ForSome place (IsNamed p)) × (spot p place ≡ 0)) view (subst (λ q. (ForSome q (IsNamed (object_of g l k))) × (spot (object_of g l k) q ≡ 0)) (sym e) (at_first k.rows refl))
     where
@@ -204,20 +187,6 @@ module _ {X : Type 0} where
       let sum : len + more ≡ length (plains k.rows) + count_of n = λ i. (el ∙ sym (length-plains k.rows)) i + em i in
       e ∙ (λ i. earlier (et i) (earlier place (earlier (ea i) ((with_none_later r ∙ er ∙ (λ j. first_reason (room_in l (en j) (sum j) (em j)))) i))))
       ∙ ap (λ (p : Object Name X). first_reason (tampers_cursors (plain p) ∷ place ∷ room_for_copies (plain p) n)) view
-
-  pub copies_changed : (o new : Object Name X) (place : Option Name) (at m : ℕ) (n : _) (e : X) (r : Result Cursor Fault) (reason : Option Reason) → spot o place ≡ at → m ≡ count_of n → reason ≡ None
-      → Changing (Marks new) (put_call o place e m) o new r → Changing (Marks new) (call (copies_take_memory (plain o) n) reason (with_copies (plain o) at e n) (first_new (plain o) no_mark (count_of n))) o new r
-  copies_changed o new place at m n e r reason spot_at count none h =
-      accepted (Marks new) (copies_take_memory (plain o) n) reason (with_copies (plain o) at e n) (first_new (plain o) no_mark (count_of n)) o new r none
-      (subst (λ a. Changing (Marks new) (call (copies_take_memory (plain o) n) None (with_copies (plain o) a e n) (first_new (plain o) no_mark (count_of n))) o new r) spot_at
-      (subst (λ q. Changing (Marks new) (put_call o place e q) o new r) count h))
-
-  pub copies_done : (o new : Object Name X) (place : Option Name) (at m : ℕ) (n : _) (e : X) (r : Result Cursor Fault) (d : Result Done Fault) (reason : Option Reason) → spot o place ≡ at → m ≡ count_of n → reason ≡ None
-      → Changing (Marks new) (put_call o place e m) o new r → d ≡ done r → Changing Same (call (copies_take_memory (plain o) n) reason (with_copies (plain o) at e n) tt) o new d
-  copies_done o new place at m n e r d reason spot_at count none h is =
-      subst (λ q. Changing Same (call (copies_take_memory (plain o) n) reason (with_copies (plain o) at e n) tt) o new q) (sym is)
-      (done_changes (Marks new) (copies_take_memory (plain o) n) reason (with_copies (plain o) at e n) (first_new (plain o) no_mark (count_of n)) o new r
-      (copies_changed o new place at m n e r reason spot_at count none h))
 
   pub reversed_after : (g : GuardCounts) (l : Limit) (k now : Chained X) (o : Object Name X) → object_of g l k ≡ o → now ≡ reversed k → IsAfter o (object_of g l now) (with_rows (plain o) (reverse (plain o).rows))
   reversed_after g l k now o view e =

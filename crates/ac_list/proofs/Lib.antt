@@ -1,5 +1,4 @@
 pub mod Compares
-pub mod Copied
 pub mod Deletes
 pub mod Finds
 pub mod Grows

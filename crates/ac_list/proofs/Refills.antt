@@ -37,8 +37,9 @@ use Rattle.ac_chain.specs.Put.{IsPut}
 use Rattle.ac_chain.specs.Refill.{IsRefilled}
 use Rattle.ac_model.specs.Forms.{as_fault}
 use Rattle.ac_base.specs.Rows.{values}
-use Rattle.ac_chain.proofs.Puts.{length-plains}
-use Rattle.ac_chain.proofs.Refills.{values-plains, refilled_length}
+use Rattle.ac_model.proofs.Plains.{length-plains}
+use Rattle.ac_model.proofs.Plains.{values-plains}
+use Rattle.ac_chain.proofs.Refills.{refilled_length}
 
 module _ {X : Type 0} where
   pub refill_list : (l : Limit) (k now : Chained X) (source : List (Row Name X)) (r : Result Done NoMemory) → IsList l k → length source ≤ GREATEST_LENGTH → is_past l (length source) ≡ false
@@ -53,7 +54,7 @@ module _ {X : Type 0} where
 
   -- what the rows of the source are to the definitions
   pub source_is : (g : GuardCounts) (l : Limit) (k : Chained X) (o : Object Name X) → object_of g l k ≡ o → (contents (plain o) ≡ values k.rows) × (length_of (plain o) ≡ length k.rows)
-  source_is g l k o view = subst (λ (p : Object Name X). (contents (plain p) ≡ values k.rows) × (length_of (plain p) ≡ length k.rows)) view (values-plains k.rows, length-plains k.rows)
+  source_is g l k o view = subst (λ (p : Object Name X). (contents (plain p) ≡ values k.rows) × (length_of (plain p) ≡ length k.rows)) view (sym (values-plains k.rows), length-plains k.rows)
 
   pub refill_after : (g : GuardCounts) (l : Limit) (k now : Chained X) (o : Object Name X) (vs : List X) (n : ℕ) → object_of g l k ≡ o → length vs ≡ n → IsRefilled k vs now → IsAfter o (object_of g l now) (grown (plain o) (fresh (plain o).next vs) n)
   refill_after g l k now o vs n view count f =

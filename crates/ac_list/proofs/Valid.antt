@@ -17,7 +17,7 @@ use Rattle.ac_model.specs.Objects.{Object, plain, times, IsValid}
 use Rattle.ac_model.specs.Objects.{plains}
 use Rattle.ac_model.specs.Containers.{HasSlots}
 use Rattle.ac_list.specs.State.{object_of, IsList}
-use Rattle.ac_chain.proofs.Puts.{length-plains}
+use Rattle.ac_model.proofs.Plains.{length-plains}
 use Rattle.ac_base.specs.Rows.{Row}
 use Rattle.ac_chain.proofs.Valid.{times_none, times_once}
 

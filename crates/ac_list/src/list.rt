@@ -6,7 +6,7 @@ ghost use Rattle.ac_model.specs.Containers.{HasSlots, first_spare, with_guards, 
 ghost use Rattle.std.specs.Option.{ForSome};
 ghost use Rattle.ac_model.specs.Cursors.{IsNamed, cursor_of_first, spot};
 ghost use Rattle.ac_model.specs.Containers.{Grows};
-ghost use Rattle.ac_list.specs.Put.{Takes, put_call, done};
+ghost use Rattle.ac_model.specs.Putting.{Takes, put_call, done};
 ghost use Rattle.ac_model.specs.Letters.{tampers_cursors, place_at};
 ghost use Rattle.ac_model.specs.Sequences.{room_for_copies};
 ghost use Rattle.ac_base.specs.FirstReason.{first_reason};

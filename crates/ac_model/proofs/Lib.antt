@@ -22,3 +22,6 @@ pub mod TreeLaws
 pub mod TreeMoves
 pub mod TreeWithin
 pub mod HoldersAndQueues
+pub mod Plains
+pub mod Changes
+pub mod StableSorts

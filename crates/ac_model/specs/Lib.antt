@@ -19,3 +19,4 @@ pub mod Holders
 pub mod Queues
 pub mod Outline
 pub mod Trees
+pub mod Putting

@@ -5,8 +5,8 @@ use Rattle.ac_model.specs.Letters.{count_of, tampers_cursors}
 use Rattle.ac_model.specs.Sequences as sequences
 use Rattle.ac_model.specs.Sequences.{room_for_copies}
 use Rattle.ac_model.specs.Cursors.{spot}
-use Rattle.ac_list.specs.Put.{Takes}
-use Rattle.ac_list.proofs.Grows.{takes_from, copies_done, done_slots}
+use Rattle.ac_model.specs.Putting.{Takes}
+use Rattle.ac_model.proofs.Changes.{takes_from, copies_done, done_slots}
 use Rattle.ac_model.proofs.Reasons.{passed}
 use Rattle.ac_list.proofs.list.List.append.Goals as goal
 

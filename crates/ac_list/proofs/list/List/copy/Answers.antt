@@ -4,7 +4,7 @@ use Rattle.ac_base.specs.declared.limit.TheConstants.{GREATEST_LENGTH}
 use Rattle.ac_model.specs.Common.{limit_of_copy}
 use Rattle.ac_model.specs.Containers.{Container}
 use Rattle.ac_list.proofs.Refills.{source_is}
-use Rattle.ac_list.proofs.Copied.{copy_wants, copy_slots}
+use Rattle.ac_model.proofs.Changes.{copy_wants, copy_slots}
 use Rattle.ac_list.proofs.list.List.copy.Goals as goal
 
 pub returns-in_err-assign-clause-made : goal.returns-in_err-assign-clause-made

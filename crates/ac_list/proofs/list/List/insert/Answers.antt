@@ -3,7 +3,7 @@ use Rattle.ac_model.specs.Objects.{plain}
 use Rattle.ac_model.specs.Calls.{Changing, Same, Marks}
 use Rattle.ac_model.specs.Sequences as sequences
 use Rattle.ac_model.specs.Cursors.{mark}
-use Rattle.ac_chain.proofs.Grows.{unanswered}
+use Rattle.ac_model.proofs.Changes.{unanswered}
 use Rattle.ac_list.proofs.list.List.insert.Goals as goal
 
 pub returns-clause-slots : goal.returns-clause-slots

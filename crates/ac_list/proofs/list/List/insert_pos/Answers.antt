@@ -3,9 +3,9 @@ use Rattle.ac_base.specs.FirstReason.{first_reason}
 use Rattle.ac_model.specs.Objects.{plain}
 use Rattle.ac_model.specs.Letters.{count_of, tampers_cursors}
 use Rattle.ac_model.specs.Sequences.{room_for_copies}
-use Rattle.ac_list.specs.Put.{Takes}
-use Rattle.ac_chain.proofs.Grows.{place_none}
-use Rattle.ac_list.proofs.Grows.{takes_from}
+use Rattle.ac_model.specs.Putting.{Takes}
+use Rattle.ac_model.proofs.Changes.{place_none}
+use Rattle.ac_model.proofs.Changes.{takes_from}
 use Rattle.ac_model.proofs.Reasons.{passed}
 use Rattle.ac_list.proofs.list.List.insert_pos.Goals as goal
 

@@ -5,8 +5,9 @@ use Rattle.ac_model.specs.Letters.{count_of, tampers_cursors}
 use Rattle.ac_model.specs.Sequences as sequences
 use Rattle.ac_model.specs.Sequences.{room_for_copies}
 use Rattle.ac_model.specs.Containers.{Container}
-use Rattle.ac_list.specs.Put.{Takes}
-use Rattle.ac_list.proofs.Grows.{takes_from, copies_done, done_slots, first_spot}
+use Rattle.ac_model.specs.Putting.{Takes}
+use Rattle.ac_model.proofs.Changes.{takes_from, copies_done, done_slots}
+use Rattle.ac_list.proofs.Grows.{first_spot}
 use Rattle.ac_model.proofs.Reasons.{passed}
 use Rattle.ac_list.proofs.list.List.prepend.Goals as goal
 

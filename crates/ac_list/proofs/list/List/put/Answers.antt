@@ -4,7 +4,7 @@ use Rattle.ac_model.specs.Objects.{Object}
 use Rattle.ac_model.specs.Calls.{Changing, Marks}
 use Rattle.ac_model.specs.Containers.{Container}
 use Rattle.ac_list.specs.State.{object_of}
-use Rattle.ac_list.specs.Put.{put_call}
+use Rattle.ac_model.specs.Putting.{put_call}
 use Rattle.ac_list.proofs.Grows.{named_live, takes_few, takes_names, takes_within, list_after, put_done, put_wants, grown_slots}
 use Rattle.ac_list.proofs.list.List.put.Goals as goal
 

@@ -4,9 +4,6 @@ use Rattle.ac_base.specs.declared.name.Name.{Name}
 use Rattle.ac_base.specs.declared.fault.Fault.{Fault}
 use Rattle.ac_base.specs.declared.cursor.Cursor.{Cursor}
 use Rattle.ac_base.specs.Growth.{pow8}
-use Rattle.ac_chain.specs.Rows as chain
-use Rattle.ac_chain.specs.Rows.{Chained, IsLive, place_of}
-use Rattle.ac_chain.specs.ChainFields.{first_or}
 use Rattle.ac_model.specs.Rows as model
 use Rattle.ac_base.specs.Rows.{row, Row, names}
 use Rattle.ac_model.specs.Rows.{fresh}

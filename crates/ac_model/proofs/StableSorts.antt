@@ -1,18 +1,16 @@
 -- A list has one stable sort: rows in order, those that are level as they stood.
-use Rattle.std.proofs.Common.{◌≡◌, ℕ, suc, Bool, true, false, not, ◌&&◌, List, [], ◌∷◌, map, filter, cond, refl, sym, ap, ◌∙◌, subst, arith, add-one, IsPermutation}
-use Rattle.std.specs.List.{AllByRecursion}
-use Rattle.std.specs.List.Sorted.{IsSortedBy, IsStableBy, ties}
-use Rattle.std.specs.Cmp.{IsStrictWeakOrder}
+use Rattle.ac_base.specs.Order.{IsWeakOrder, are_level}
+use Rattle.ac_base.specs.Rows.{Row, values}
+use Rattle.ac_base.specs.WeakOrders.{asymmetric, not_less_transitive}
+use Rattle.ac_model.proofs.RowLaws.{sorted_ascends, sorted_stable}
+use Rattle.ac_model.specs.Rows.{is_ascending, sorted}
+use Rattle.std.proofs.Common.{Bool, IsPermutation, List, [], add-one, ap, arith, cond, false, filter, map, not, refl, subst, suc, sym, true, ℕ, ◌&&◌, ◌∙◌, ◌∷◌, ◌≡◌}
 use Rattle.std.proofs.lemmas.Bool.{and_parts, not-true}
 use Rattle.std.proofs.lemmas.List.{nil_from_length}
 use Rattle.std.proofs.lemmas.List.Sorted.{length_permutation}
-use Rattle.ac_base.specs.Order.{IsWeakOrder}
-use Rattle.ac_base.specs.WeakOrders.{asymmetric, not_less_transitive}
-use Rattle.ac_model.specs.Rows as model
-use Rattle.ac_base.specs.Rows.{Row, values}
-use Rattle.ac_base.specs.Order.{are_level}
-use Rattle.ac_model.specs.Rows.{sorted, is_ascending}
-use Rattle.ac_model.proofs.RowLaws.{sorted_ascends, sorted_stable}
+use Rattle.std.specs.Cmp.{IsStrictWeakOrder}
+use Rattle.std.specs.List.{AllByRecursion}
+use Rattle.std.specs.List.Sorted.{IsSortedBy, IsStableBy, ties}
 
 module _ {V : Type 0} (less : V → V → Bool) (order : IsWeakOrder less) where
   -- the rows that are level with the value
