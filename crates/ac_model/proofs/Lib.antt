@@ -21,6 +21,7 @@ pub mod TreeOutlines
 pub mod TreeLaws
 pub mod TreeMoves
 pub mod TreeWithin
+pub mod Unslotted
 pub mod HoldersAndQueues
 pub mod Plains
 pub mod Changes

@@ -1,13 +1,13 @@
 -- A library cursor, whose name has a slot, at an object in memory.
-use Rattle.std.specs.Prelude.{ℕ, zero, suc, Option, Some, None, length, IsTrue}
+use Rattle.std.specs.Prelude.{◌≡◌, ◌==◌, ◌<◌, ⊤, ℕ, zero, suc, Bool, true, not, ◌&&◌, Option, Some, None, IsTrue, if◌then◌else◌}
 use Rattle.ac_base.specs.declared.cursor.Cursor.{Cursor}
 use Rattle.ac_base.specs.declared.cursor.Cursor.TheVariants.{NoElement, At}
 use Rattle.ac_base.specs.declared.name.Name.{Name}
 use Rattle.ac_base.specs.declared.reason.Reason.{Reason}
 use Rattle.ac_base.specs.Rows.{names}
-use Rattle.ac_model.specs.Rows.{place_of}
+use Rattle.ac_model.specs.Rows.{place_of, is_named}
 use Rattle.ac_model.specs.Objects.{Object, plain, length_of}
-use Rattle.ac_model.specs.Letters.{Mark, mark_of, is_among, needs, may}
+use Rattle.ac_model.specs.Letters.{Mark, no_mark, mark_at, stale_mark, mark_of, is_among, needs, may}
 
 module _ {V : Type 0} where
   -- what the cursor means to the object
@@ -49,3 +49,29 @@ place_in (At object name) = Some name
 abbrev pub cursor_of_first : ℕ → Cursor → Cursor → Cursor
 cursor_of_first zero first none = none
 cursor_of_first (suc count) first none = first
+
+-- the cursor without its slot, as a script has it
+abbrev pub plain_mark : Cursor → Mark
+plain_mark NoElement = no_mark
+plain_mark (At object name) = mark_at object name.serial
+
+-- what it means to the object with this number, where the test says under which names something stands
+abbrev pub seen_by : ℕ → (ℕ → Bool) → Mark → Mark
+seen_by number is_there no_mark = no_mark
+seen_by number is_there (mark_at object name) =
+    if (object == number) && not (is_there name) then stale_mark object else mark_at object name
+seen_by number is_there (stale_mark object) = stale_mark object
+
+-- to an object: one of its own under whose name nothing stands is stale
+abbrev pub seen : {V : Type 0} → Object ℕ V → Mark → Mark
+seen o m = seen_by o.number (is_named o.rows) m
+
+-- a name that the object gave: its serial is below the next, and where a row has the serial, it has the slot too
+pub record IsOwn {V : Type 0} (o : Object Name V) (name : Name) : Type 0 where
+  pub given : name.serial < o.next
+  pub slot : is_named (plain o).rows name.serial ≡ true → IsTrue (is_among (names o.rows) name)
+
+-- the cursor's slot is the one that the object would find: so it is of every cursor that the object gave
+abbrev pub Agrees : {V : Type 0} → Object Name V → Cursor → Type 0
+Agrees o NoElement = ⊤
+Agrees o (At object name) = object ≡ o.number → IsOwn o name

@@ -1,26 +1,41 @@
 -- The calls of multiway trees (A.18.10).
-use Rattle.std.specs.Prelude.{◌≡◌, ◌==◌, ◌+◌, ℕ, ℤ, pos, Bool, false, not, ◌&&◌, ◌||◌, List, [], ◌∷◌, length, reverse, replicate, find, filter, Option, Some, None, option_map, slice_get, if◌then◌else◌}
+use Rattle.std.specs.Prelude.{◌≡◌, ◌==◌, ◌+◌, ⊤, ℕ, ℤ, pos, Bool, false, not, ◌&&◌, ◌||◌, List, [], ◌∷◌, length, reverse, replicate, find, filter, Option, Some, None, option_map, slice_get, if◌then◌else◌}
 use Rattle.std.specs.List.{list_any}
 use Rattle.ac_base.specs.declared.reason.Reason.{Reason}
 use Rattle.ac_base.specs.declared.reason.Reason.TheVariants.{NoElement, RootNode, RootSource, NotLeaf, NotChild, BelowItself}
 use Rattle.ac_base.specs.declared.name.Name.{Name}
 use Rattle.ac_base.specs.declared.cursor.Cursor.{Cursor}
+use Rattle.ac_base.specs.declared.cursor.Cursor.TheVariants as cursor
 use Rattle.ac_base.specs.FirstReason.{first_reason, earlier}
 use Rattle.ac_base.specs.Rows.{Row, names, values}
 use Rattle.ac_model.specs.Rows.{Node, node, cut, put, is_named, value_at, with_some_value, place_of}
 use Rattle.ac_model.specs.Objects.{Object, contents, length_of, with_rows}
 use Rattle.ac_model.specs.Letters.{Mark, no_mark, mark_at, stale_mark, mark_of, judged_in, name_of, is_no_mark, tampers_cursors, tampers_elements, count_of, room, reason_if}
+use Rattle.ac_model.specs.Cursors.{seen_by, IsOwn}
 use Rattle.ac_model.specs.Calls.{Call, call, Look, look, Both, both, Done, takes_none, takes_some}
 use Rattle.ac_model.specs.Sequences.{with_new, room_for_copies, copies_take_memory, first_new, are_equal}
 use Rattle.ac_model.specs.Outline.{IsValidTree, Spot, spot, depth_of, run_of, children_of, parent_of, is_in, is_in_subtree, path_to, siblings_of, next_after, last_before, run_start, run_rows, subtree_length, subtree_start, subtree_rows, moved_to_depth}
 
--- what a library cursor means to a tree, whose root has the name 0 in slot 0
+-- the name of a tree's root, which has no row
+abbrev pub root_name : Name
+root_name = record { slot = 0; serial = 0 }
+
+-- what a library cursor means to a tree
 abbrev pub tree_mark : {V : Type 0} → Object Name V → Cursor → Mark
-tree_mark o cursor = mark_of o.number (record { slot = 0; serial = 0 } ∷ names o.rows) cursor
+tree_mark o cursor = mark_of o.number (root_name ∷ names o.rows) cursor
 
 -- a cursor that must be at a node, the root too (letter W), and one that may be No_Element besides (letter O)
 abbrev pub is_node : {V : Type 0} → Object ℕ V → ℕ → Bool
 is_node o name = (name == 0) || is_named o.rows name
+
+-- what a cursor without its slot means to a tree: at the root something stands
+abbrev pub seen_in_tree : {V : Type 0} → Object ℕ V → Mark → Mark
+seen_in_tree o m = seen_by o.number (is_node o) m
+
+-- the cursor's slot is the one that the tree would find: the root's, or that of the element
+abbrev pub AgreesInTree : {V : Type 0} → Object Name V → Cursor → Type 0
+AgreesInTree o cursor.NoElement = ⊤
+AgreesInTree o (cursor.At object name) = object ≡ o.number → (name.serial ≡ 0 → name ≡ root_name) × IsOwn o name
 
 abbrev pub needs_node : {V : Type 0} → Object ℕ V → Mark → Option Reason
 needs_node o no_mark = Some NoElement

@@ -2,6 +2,7 @@
 //! Functions with empty bodies are laws of the definitions and worked examples, which the check proves.
 #![tactic(auto)]
 
+pub mod cursor_laws;
 mod cursors;
 pub mod holder_examples;
 pub mod keyed_validity;
@@ -20,5 +21,6 @@ pub mod vector_examples;
 
 pub use cursors::{cursor_at, cursor_of_first, name_in, place_in};
 pub use refusals::{
-    allowed, as_fault, count_of, cursor_of, in_range, index_in, judge, limit_of_copy, reason_if, room, too_many, too_small,
+    allowed, as_fault, count_of, cursor_of, in_range, index_in, judge, limit_of_copy, reason_if,
+    room, too_many, too_small,
 };
