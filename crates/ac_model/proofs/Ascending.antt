@@ -8,7 +8,7 @@ use Rattle.ac_base.specs.Order.{are_level, IsWeakOrder}
 use Rattle.ac_model.specs.Rows.{cut, put, named, with_value}
 use Rattle.ac_model.specs.Objects.{times}
 use Rattle.std.specs.Cmp.{IsEquivalence, IsPartialEquivalence, equiv}
-use Rattle.ac_base.specs.WeakOrders.{asymmetric, level_transitive}
+use Rattle.ac_base.specs.WeakOrders.{level_transitive}
 use Rattle.ac_model.specs.Keyed.{ascending, is_strictly_ascending, added}
 use Rattle.ac_model.proofs.Counts.{count, count-cons, count-put, count_step, unnamed}
 

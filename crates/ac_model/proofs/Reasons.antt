@@ -10,7 +10,6 @@ use Rattle.ac_base.specs.declared.limit.TheConstants.{GREATEST_LENGTH}
 use Rattle.ac_model.specs.Objects.{Object}
 use Rattle.ac_model.specs.Rows.{is_named}
 use Rattle.ac_model.specs.Letters.{Mark, no_mark, mark_at, stale_mark, reason_if, room, judged_in, needs, name_of, in_range, count_of}
-use Rattle.ac_base.specs.declared.fault.Fault.{Fault}
 use Rattle.ac_model.specs.Forms.{allowed}
 use Rattle.std.specs.Prelude.{Result, Ok, Err, OnErr}
 

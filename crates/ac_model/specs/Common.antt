@@ -1,5 +1,5 @@
 -- The calls that vectors, lists, maps, sets and trees have in common.
-use Rattle.std.specs.Prelude.{◌==◌, ◌+◌, ◌-◌, ℕ, zero, suc, ℤ, pos, Bool, true, false, ◌&&◌, nat_lt, max, [], ◌∷◌, Option, Some, None, is_some, unwrap_or}
+use Rattle.std.specs.Prelude.{◌==◌, ◌+◌, ℕ, zero, suc, ℤ, pos, Bool, false, ◌&&◌, nat_lt, max, [], ◌∷◌, Option, Some, None, is_some, unwrap_or}
 use Rattle.ac_base.specs.declared.limit.Limit.{Limit}
 use Rattle.ac_base.specs.declared.limit.Limit.TheVariants.{Unbounded, Bounded}
 use Rattle.ac_base.specs.declared.reason.Reason.TheVariants.{CapacityFull}
