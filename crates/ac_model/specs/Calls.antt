@@ -6,6 +6,7 @@ use Rattle.ac_base.specs.declared.fault.Fault.{Fault}
 use Rattle.ac_base.specs.declared.fault.Fault.TheVariants as fault
 use Rattle.ac_base.specs.declared.name.Name.{Name}
 use Rattle.ac_base.specs.declared.cursor.Cursor.{Cursor}
+use Rattle.ac_base.specs.FirstReason.{earlier}
 use Rattle.ac_base.specs.Rows.{names}
 use Rattle.ac_model.specs.Objects.{Object, plain, IsValid}
 use Rattle.ac_model.specs.Letters.{Mark, mark_of, is_among}
@@ -37,6 +38,10 @@ Done = Unit {0}
 
 abbrev pub call : {S A : Type 0} → Bool → Option Reason → S → A → Call S A
 call memory reason after answer = record { reason = reason; after = after; answer = answer; memory = memory }
+
+-- the call after a check, which is made before the call looks for its own reasons
+abbrev pub after_check : {S A : Type 0} → Option Reason → Call S A → Call S A
+after_check check c = record c { reason = earlier check c.reason }
 
 abbrev pub look : {A : Type 0} → Option Reason → A → Look A
 look reason answer = record { reason = reason; answer = answer }

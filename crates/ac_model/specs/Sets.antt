@@ -1,11 +1,11 @@
 -- The calls of hashed and ordered sets (A.18.7, A.18.8, A.18.9). Every change of a set tampers with cursors. An element's order and equivalence are those of its key, equality is its own.
-use Rattle.std.specs.Prelude.{◌==◌, ◌+◌, ℕ, Bool, not, ◌&&◌, List, [], ◌∷◌, length, filter}
+use Rattle.std.specs.Prelude.{◌==◌, ◌+◌, ℕ, Bool, not, ◌&&◌, List, [], length, filter, None}
 use Rattle.std.specs.List.{list_any, list_all}
 use Rattle.ac_base.specs.FirstReason.{first_reason}
 use Rattle.ac_base.specs.Rows.{Row}
 use Rattle.ac_model.specs.Objects.{Object, contents, length_of, with_rows, grown}
 use Rattle.ac_model.specs.Letters.{Mark, tampers_cursors, room}
-use Rattle.ac_model.specs.Calls.{Call, call, Done, takes_none, takes_some}
+use Rattle.ac_model.specs.Calls.{Call, call, after_check, Done, takes_none, takes_some}
 use Rattle.ac_model.specs.Keyed as keyed
 use Rattle.ac_model.specs.Keyed.{Order, has, added}
 
@@ -44,48 +44,68 @@ common_rows order target source = filter (λ r. has order (contents source) r.va
 abbrev pub own_rows : {T : Type 0} → Order T → Object ℕ T → Object ℕ T → List (Row ℕ T)
 own_rows order target source = filter (λ r. not (has order (contents source) r.value)) target.rows
 
--- Union (A.18.7)
-abbrev pub union_call : {T : Type 0} → Order T → Object ℕ T → Object ℕ T → Call (Object ℕ T) Done
-union_call order target source =
+-- Union, without the check of tampering
+abbrev pub unchecked_union : {T : Type 0} → Order T → Object ℕ T → Object ℕ T → Call (Object ℕ T) Done
+unchecked_union order target source =
     let more = additions order target source in
     call takes_some
-    (first_reason (tampers_cursors target ∷ room target (length_of target + length more) (length more)))
+    (first_reason (room target (length_of target + length more) (length more)))
     (grown target (added order target.rows target.next more) (length more))
     tt
 
+-- Union (A.18.7)
+abbrev pub union_call : {T : Type 0} → Order T → Object ℕ T → Object ℕ T → Call (Object ℕ T) Done
+union_call order target source = after_check (tampers_cursors target) (unchecked_union order target source)
+
+-- a set without a change
+abbrev pub unchanged : {T : Type 0} → Object ℕ T → Call (Object ℕ T) Done
+unchanged o = call takes_none None o tt
+
 -- Union and Intersection of a set with itself
 abbrev pub union_self_call : {T : Type 0} → Object ℕ T → Call (Object ℕ T) Done
-union_self_call o = call takes_none (first_reason (tampers_cursors o ∷ [])) o tt
+union_self_call o = after_check (tampers_cursors o) (unchanged o)
 
 abbrev pub intersection_self_call : {T : Type 0} → Object ℕ T → Call (Object ℕ T) Done
-intersection_self_call o = call takes_none (first_reason (tampers_cursors o ∷ [])) o tt
+intersection_self_call o = after_check (tampers_cursors o) (unchanged o)
 
--- Intersection (A.18.7)
+-- Intersection, without the check and with it (A.18.7)
+abbrev pub unchecked_intersection : {T : Type 0} → Order T → Object ℕ T → Object ℕ T → Call (Object ℕ T) Done
+unchecked_intersection order target source = call takes_none None (with_rows target (common_rows order target source)) tt
+
 abbrev pub intersection_call : {T : Type 0} → Order T → Object ℕ T → Object ℕ T → Call (Object ℕ T) Done
-intersection_call order target source =
-    call takes_none (first_reason (tampers_cursors target ∷ [])) (with_rows target (common_rows order target source)) tt
+intersection_call order target source = after_check (tampers_cursors target) (unchecked_intersection order target source)
 
--- Difference (A.18.7)
+-- Difference, without the check and with it (A.18.7)
+abbrev pub unchecked_difference : {T : Type 0} → Order T → Object ℕ T → Object ℕ T → Call (Object ℕ T) Done
+unchecked_difference order target source = call takes_none None (with_rows target (own_rows order target source)) tt
+
 abbrev pub difference_call : {T : Type 0} → Order T → Object ℕ T → Object ℕ T → Call (Object ℕ T) Done
-difference_call order target source =
-    call takes_none (first_reason (tampers_cursors target ∷ [])) (with_rows target (own_rows order target source)) tt
+difference_call order target source = after_check (tampers_cursors target) (unchecked_difference order target source)
+
+-- a set without its elements
+abbrev pub emptied : {T : Type 0} → Object ℕ T → Call (Object ℕ T) Done
+emptied o = call takes_none None (with_rows o []) tt
 
 -- Difference and Symmetric_Difference of a set with itself
 abbrev pub difference_self_call : {T : Type 0} → Object ℕ T → Call (Object ℕ T) Done
-difference_self_call o = call takes_none (first_reason (tampers_cursors o ∷ [])) (with_rows o []) tt
+difference_self_call o = after_check (tampers_cursors o) (emptied o)
 
 abbrev pub symmetric_difference_self_call : {T : Type 0} → Object ℕ T → Call (Object ℕ T) Done
-symmetric_difference_self_call o = call takes_none (first_reason (tampers_cursors o ∷ [])) (with_rows o []) tt
+symmetric_difference_self_call o = after_check (tampers_cursors o) (emptied o)
 
--- Symmetric_Difference (A.18.7): the need is the length after removals and additions
-abbrev pub symmetric_difference_call : {T : Type 0} → Order T → Object ℕ T → Object ℕ T → Call (Object ℕ T) Done
-symmetric_difference_call order target source =
+-- Symmetric_Difference, without the check: the need is the length after removals and additions
+abbrev pub unchecked_symmetric_difference : {T : Type 0} → Order T → Object ℕ T → Object ℕ T → Call (Object ℕ T) Done
+unchecked_symmetric_difference order target source =
     let kept = own_rows order target source in
     let more = additions order target source in
     call takes_some
-    (first_reason (tampers_cursors target ∷ room target (length kept + length more) (length more)))
+    (first_reason (room target (length kept + length more) (length more)))
     (grown target (added order kept target.next more) (length more))
     tt
+
+-- Symmetric_Difference (A.18.7)
+abbrev pub symmetric_difference_call : {T : Type 0} → Order T → Object ℕ T → Object ℕ T → Call (Object ℕ T) Done
+symmetric_difference_call order target source = after_check (tampers_cursors target) (unchecked_symmetric_difference order target source)
 
 -- Overlap, Is_Subset, Equivalent_Sets (A.18.7)
 abbrev pub overlap_call : {T : Type 0} → Order T → Object ℕ T → Object ℕ T → Bool

@@ -2,6 +2,7 @@
 //! Functions with empty bodies are laws of the definitions and worked examples, which the check proves.
 #![tactic(auto)]
 
+pub mod call_laws;
 pub mod cursor_laws;
 mod cursors;
 pub mod holder_examples;
