@@ -369,7 +369,7 @@ released_valid o v = record {
 
 ended : {K V : Type 0} (key : V → K) (alike : K → K → Bool) (order : Order V) → Closed order → ((v w : V) → alike (key v) (key w) ≡ true → order.alike v w ≡ true) → (o : Object ℕ V) (c : Mark) (copy : V) (r : Row ℕ V) →
     IsValidKeyed order o → named o.rows (name_of c) ≡ Some r → (b : Bool) → alike (key r.value) (key copy) ≡ b →
-    IsValidKeyed order (if b then with_rows o (with_value o.rows (name_of c) copy) else with_rows o (cut o.rows (place_of o.rows (name_of c)) 1))
+    IsValidKeyed order (with_rows o (if b then with_value o.rows (name_of c) copy else cut o.rows (place_of o.rows (name_of c)) 1))
 ended key alike order closed same o c copy r valid there true e = value_valid order closed o (name_of c) copy r valid there (same r.value copy e)
 ended key alike order closed same o c copy r valid there false e = cut_valid order closed o (place_of o.rows (name_of c)) 1 valid
 

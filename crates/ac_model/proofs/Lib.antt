@@ -9,6 +9,7 @@ pub mod VectorsKept
 pub mod RowLaws
 pub mod Capacity
 pub mod FirstValid
+pub mod FirstNew
 pub mod OutlineLaws
 pub mod KeyedKept
 pub mod Counts

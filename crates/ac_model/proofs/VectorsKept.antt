@@ -1,12 +1,12 @@
 -- The calls of vectors alone keep a valid object valid.
-use Rattle.std.proofs.Common.{◌≡◌, ◌+◌, ◌-◌, ◌≤◌, ℕ, ℤ, Bool, true, false, List, length, take, reverse, replicate, refl, arith, None, if◌then◌else◌}
+use Rattle.std.proofs.Common.{◌≡◌, ◌+◌, ◌-◌, ◌≤◌, ℕ, ℤ, Bool, true, false, List, length, take, reverse, replicate, refl, arith, None}
 use Rattle.std.specs.Prelude.{nat_le}
 use Rattle.std.proofs.lemmas.List.{length-take, length-replicate}
 use Rattle.std.proofs.lemmas.Bool.Decides.{nat_tests}
 use Rattle.ac_base.specs.FirstReason.{first_reason}
 use Rattle.ac_base.specs.Rows.{values}
 use Rattle.ac_model.specs.Rows.{over, put, sorted, fresh}
-use Rattle.ac_model.specs.Objects.{Object, IsValid, contents, with_rows, grown}
+use Rattle.ac_model.specs.Objects.{Object, IsValid, contents, with_rows, grown_unless}
 use Rattle.ac_model.specs.Letters.{Mark, room, may, in_range, index_in, count_of, tampers_cursors, place_at, place_of_index}
 use Rattle.ac_model.specs.Calls.{Keeps}
 use Rattle.ac_model.specs.Vectors as vector
@@ -27,7 +27,7 @@ pub sort_keeps : {T : Type 0} (less : T → T → Bool) (o : Object ℕ T) → K
 sort_keeps less o v none = over_kept o (values (sorted less o.rows)) v
 
 set_length_kept : {T : Type 0} (o : Object ℕ T) (blank : T) (n : ℕ) → IsValid o → first_reason (room o n (n - length o.rows)) ≡ None → (b : Bool) → nat_le n (length o.rows) ≡ b →
-    IsValid (if b then with_rows o (take n o.rows) else grown o (put o.rows (length o.rows) (fresh o.next (replicate (n - length o.rows) blank))) (n - length o.rows))
+    IsValid (grown_unless b o (take n o.rows) (put o.rows (length o.rows) (fresh o.next (replicate (n - length o.rows) blank))) (n - length o.rows))
 set_length_kept o blank n v none true e = kept o (take n o.rows) v (λ s. times-take_less s n o.rows) (omega (arith, length-take n o.rows))
 set_length_kept o blank n v none false e =
     let longer : length o.rows ≤ n = grind (arith, nat_tests) in

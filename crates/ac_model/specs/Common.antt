@@ -1,5 +1,5 @@
 -- The calls that vectors, lists, maps, sets and trees have in common.
-use Rattle.std.specs.Prelude.{◌==◌, ◌+◌, ℕ, zero, suc, ℤ, pos, Bool, false, ◌&&◌, nat_lt, max, [], ◌∷◌, Option, Some, None, is_some, unwrap_or}
+use Rattle.std.specs.Prelude.{◌≡◌, ◌==◌, ◌+◌, ℕ, zero, suc, ℤ, pos, Bool, false, ◌&&◌, nat_lt, max, [], ◌∷◌, Option, Some, None, is_some, unwrap_or}
 use Rattle.ac_base.specs.declared.limit.Limit.{Limit}
 use Rattle.ac_base.specs.declared.limit.Limit.TheVariants.{Unbounded, Bounded}
 use Rattle.ac_base.specs.declared.reason.Reason.TheVariants.{CapacityFull}
@@ -99,6 +99,24 @@ under_guards o guards = record o { cursor_guards = guards.cursor_guards; element
 
 abbrev pub guards_on : {V : Type 0} → Object ℕ V → GuardCounts
 guards_on o = record { number = o.number; cursor_guards = o.cursor_guards; element_guards = o.element_guards }
+
+-- the effect of a call doesn't depend on the counts of guards, and leaves them as they are; so it does of a call that changes two objects
+abbrev pub GuardsApart : {V A : Type 0} → (Object ℕ V → Call (Object ℕ V) A) → Type 0
+GuardsApart {V} f = (o : Object ℕ V) (guards : GuardCounts) →
+    let held = f (under_guards o guards) in
+    (held.after ≡ under_guards (f o).after guards) × (held.answer ≡ (f o).answer) × (held.memory ≡ (f o).memory)
+
+abbrev pub GuardsApartOfBoth : {V A : Type 0} → (Object ℕ V → Object ℕ V → Call (Both (Object ℕ V)) A) → Type 0
+GuardsApartOfBoth {V} f = (target source : Object ℕ V) (guards others : GuardCounts) →
+    let held = f (under_guards target guards) (under_guards source others) in
+    let free = f target source in
+    (held.after ≡ both (under_guards free.after.target guards) (under_guards free.after.source others))
+    × (held.answer ≡ free.answer) × (held.memory ≡ free.memory)
+
+-- of a call that only reads its source, whose guards are of no account
+abbrev pub GuardsApartFrom : {V A : Type 0} → (Object ℕ V → Object ℕ V → Call (Object ℕ V) A) → Type 0
+GuardsApartFrom {V} f = (source : Object ℕ V) (others : GuardCounts) →
+    GuardsApart (λ o. f o source) × ((o : Object ℕ V) → f o (under_guards source others) ≡ f o source)
 
 -- a guard is held: a set has cursor guards alone
 abbrev pub hold_call : {V : Type 0} → Bool → GuardKind → Object ℕ V → Object ℕ V

@@ -1,7 +1,7 @@
 -- The calls that maps (A.18.4) and sets (A.18.7) have in common: rows whose keys are pairwise not equivalent, in order of arrival or ascending. A set's row holds its element, which is its own key; a keyed set's element has a key.
 --
 -- A look-up takes the test of a row's value that the key or item passes.
-use Rattle.std.specs.Prelude.{◌≡◌, ◌==◌, ◌+◌, ◌≤◌, ℕ, Bool, true, false, not, ◌&&◌, List, [], ◌∷◌, length, reverse, filter, find, Option, Some, None, is_some}
+use Rattle.std.specs.Prelude.{◌≡◌, ◌==◌, ◌+◌, ◌≤◌, ℕ, Bool, true, not, ◌&&◌, List, [], ◌∷◌, length, reverse, filter, find, Option, Some, None, is_some}
 use Rattle.std.specs.List.{list_any, prefix_len}
 use Rattle.std.specs.Cmp.{IsEquivalence}
 use Rattle.ac_base.specs.declared.reason.Reason.{Reason}
@@ -10,7 +10,7 @@ use Rattle.ac_base.specs.FirstReason.{first_reason}
 use Rattle.ac_base.specs.Rows.{Row, row, values}
 use Rattle.ac_base.specs.Order.{are_level, IsWeakOrder}
 use Rattle.ac_model.specs.Rows.{cut, put, place_of, with_value, row_by}
-use Rattle.ac_model.specs.Objects.{Object, IsValid, contents, with_rows, grown}
+use Rattle.ac_model.specs.Objects.{Object, IsValid, contents, with_rows, grown, grown_unless}
 use Rattle.ac_model.specs.Letters.{Mark, no_mark, mark_at, needs, name_of, mark_for, tampers_cursors, room_for_one, reason_if, has_room}
 use Rattle.ac_model.specs.Calls.{Call, call, Done, takes_none}
 
@@ -67,9 +67,16 @@ without rows None = rows
 without rows (Some r) = cut rows (place_of rows r.name) 1
 
 -- a row that is there keeps its name and its place, with the new key and element
+abbrev pub replaced_rows : {V : Type 0} → List (Row ℕ V) → Option (Row ℕ V) → V → List (Row ℕ V)
+replaced_rows rows None v = rows
+replaced_rows rows (Some r) v = with_value rows r.name v
+
 abbrev pub with_replaced : {V : Type 0} → Object ℕ V → Option (Row ℕ V) → V → Object ℕ V
-with_replaced o None v = o
-with_replaced o (Some r) v = with_rows o (with_value o.rows r.name v)
+with_replaced o present v = with_rows o (replaced_rows o.rows present v)
+
+-- the object with one value more where no row is found, and with these rows where one is
+abbrev pub with_added_or : {V : Type 0} → Order V → Object ℕ V → Option (Row ℕ V) → V → List (Row ℕ V) → Object ℕ V
+with_added_or order o present v rows = grown_unless (is_some present) o rows (added order o.rows o.next (v ∷ [])) 1
 
 -- an insertion needs memory where it inserts and there is no room
 abbrev pub insertion_takes_memory : {V : Type 0} → Object ℕ V → Option (Row ℕ V) → Bool
@@ -94,13 +101,16 @@ pub record Inserted : Type 0 where
   pub position : Mark
   pub inserted : Bool
 
+-- the name of a row that is found, and this one where none is
+abbrev pub name_or : {V : Type 0} → Option (Row ℕ V) → ℕ → ℕ
+name_or None name = name
+name_or (Some r) name = r.name
+
 abbrev pub inserted_or_found : {V : Type 0} → Object ℕ V → Option (Row ℕ V) → Inserted
-inserted_or_found o None = record { position = mark_at o.number o.next; inserted = true }
-inserted_or_found o (Some r) = record { position = mark_at o.number r.name; inserted = false }
+inserted_or_found o present = record { position = mark_at o.number (name_or present o.next); inserted = not (is_some present) }
 
 abbrev pub with_added_if_absent : {V : Type 0} → Order V → Object ℕ V → Option (Row ℕ V) → V → Object ℕ V
-with_added_if_absent order o None v = with_added order o v
-with_added_if_absent order o (Some r) v = o
+with_added_if_absent order o present v = with_added_or order o present v o.rows
 
 -- Insert with a position (A.18.4, A.18.7): where an equivalent one is there, the position is that one, and nothing else changes
 abbrev pub insert_pos_call : {V : Type 0} → Order V → Object ℕ V → V → Call (Object ℕ V) Inserted
@@ -112,8 +122,7 @@ insert_pos_call order o v =
     (inserted_or_found o present)
 
 abbrev pub with_added_or_replaced : {V : Type 0} → Order V → Object ℕ V → Option (Row ℕ V) → V → Object ℕ V
-with_added_or_replaced order o None v = with_added order o v
-with_added_or_replaced order o (Some r) v = with_replaced o (Some r) v
+with_added_or_replaced order o present v = with_added_or order o present v (replaced_rows o.rows present v)
 
 -- Include (A.18.4, A.18.7)
 abbrev pub include_call : {V : Type 0} → Order V → Object ℕ V → V → Call (Object ℕ V) Done

@@ -1,5 +1,5 @@
 -- The calls that sets with keys add (Generic_Keys, A.18.8 and A.18.9). `key` is an element's key, `alike` says which keys are equivalent, `less` which is less.
-use Rattle.std.specs.Prelude.{◌+◌, ◌-◌, ℕ, Bool, false, not, [], ◌∷◌, Option, Some, None, option_map, is_some, if◌then◌else◌}
+use Rattle.std.specs.Prelude.{◌+◌, ◌-◌, ℕ, Bool, false, not, List, [], ◌∷◌, Option, Some, None, option_map, is_some, if◌then◌else◌}
 use Rattle.ac_base.specs.declared.reason.Reason.TheVariants.{KeyAbsent, KeyChanged, Duplicate}
 use Rattle.ac_base.specs.FirstReason.{first_reason}
 use Rattle.ac_base.specs.Rows.{Row}
@@ -8,7 +8,7 @@ use Rattle.ac_model.specs.Objects.{Object, with_rows}
 use Rattle.ac_model.specs.Letters.{Mark, needs, name_of, tampers_cursors, reason_if}
 use Rattle.ac_model.specs.Calls.{Call, call, Look, look, Done, takes_none, takes_some}
 use Rattle.ac_model.specs.Keyed as keyed
-use Rattle.ac_model.specs.Keyed.{Order, by_arrival, ascending, another_is_like, with_reordered}
+use Rattle.ac_model.specs.Keyed.{Order, by_arrival, ascending, another_is_like, with_reordered, name_or}
 
 -- the order of a hashed keyed set, and of an ordered one
 abbrev pub hashed : {K T : Type 0} → (T → K) → (K → K → Bool) → Order T
@@ -46,12 +46,14 @@ key_delete_call key alike o k = keyed.delete_match_call (has_key key alike k) o
 
 -- the name of a row that is found, and 0 where none is
 abbrev pub name_found : {T : Type 0} → Option (Row ℕ T) → ℕ
-name_found None = 0
-name_found (Some r) = r.name
+name_found present = name_or present 0
+
+abbrev pub reordered_rows : {T : Type 0} → Order T → List (Row ℕ T) → Option (Row ℕ T) → T → List (Row ℕ T)
+reordered_rows order rows None element = rows
+reordered_rows order rows (Some r) element = with_reordered order rows r.name element
 
 abbrev pub reordered_where_found : {T : Type 0} → Order T → Object ℕ T → Option (Row ℕ T) → T → Object ℕ T
-reordered_where_found order o None element = o
-reordered_where_found order o (Some r) element = with_rows o (with_reordered order o.rows r.name element)
+reordered_where_found order o present element = with_rows o (reordered_rows order o.rows present element)
 
 -- Replace by a key (A.18.8, A.18.9): then as Replace_Element on the element that has it
 abbrev pub key_replace_call : {K T : Type 0} → (T → K) → (K → K → Bool) → Order T → Object ℕ T → K → T → Call (Object ℕ T) Done
@@ -90,6 +92,5 @@ end_update_key_call key alike o c copy =
     let keeps = keeps_key key alike (value_at o.rows (name_of c)) copy in
     call takes_none
     (first_reason (reason_if (not keeps) KeyChanged ∷ []))
-    (if keeps then with_rows released (with_value o.rows (name_of c) copy)
-    else with_rows released (cut o.rows (place_of o.rows (name_of c)) 1))
+    (with_rows released (if keeps then with_value o.rows (name_of c) copy else cut o.rows (place_of o.rows (name_of c)) 1))
     tt

@@ -60,6 +60,14 @@ with_rows o rows = record o { rows = rows }
 abbrev pub grown : {V : Type 0} → Object ℕ V → List (Row ℕ V) → ℕ → Object ℕ V
 grown o rows more = record o { rows = rows; next = o.next + more; capacity = capacity_after o.limit o.capacity (length rows) }
 
+-- with these rows where the test is passed, none of them new, and grown to the others where it isn't
+abbrev pub grown_unless : {V : Type 0} → Bool → Object ℕ V → List (Row ℕ V) → List (Row ℕ V) → ℕ → Object ℕ V
+grown_unless test o rows longer more = record o {
+  rows = if test then rows else longer;
+  next = if test then o.next else o.next + more;
+  capacity = if test then o.capacity else capacity_after o.limit o.capacity (length longer);
+}
+
 -- in how many rows the name stands
 abbrev pub times : {V : Type 0} → ℕ → List (Row ℕ V) → ℕ
 times name [] = 0

@@ -5,7 +5,7 @@ use Rattle.ac_base.specs.declared.reason.Reason.TheVariants.{IndexRange}
 use Rattle.ac_base.specs.FirstReason.{first_reason}
 use Rattle.ac_base.specs.Rows.{values}
 use Rattle.ac_model.specs.Rows.{fresh, cut, put, over, sorted, with_value, with_exchanged_values}
-use Rattle.ac_model.specs.Objects.{Object, contents, length_of, with_rows, grown}
+use Rattle.ac_model.specs.Objects.{Object, contents, length_of, with_rows, grown_unless}
 use Rattle.ac_model.specs.Letters.{Mark, no_mark, may, place_at, is_no_mark, mark_in, tampers_cursors, tampers_elements, count_of, in_range, is_index, index_in, place_of_index, room, reason_if, name_of}
 use Rattle.ac_model.specs.Calls.{Call, call, Look, look, Done, takes_none, takes_some}
 use Rattle.ac_model.specs.Sequences.{with_new, with_copies, room_for_copies, copies_take_memory, first_new}
@@ -25,9 +25,10 @@ abbrev pub set_length_call : {T : Type 0} → Object ℕ T → T → ℤ → Cal
 set_length_call o blank count =
     call takes_some
     (first_reason (tampers_cursors o ∷ in_range count ∷ room o (count_of count) (count_of count - length_of o)))
-    (if nat_le (count_of count) (length_of o)
-    then with_rows o (take (count_of count) o.rows)
-    else grown o (put o.rows (length_of o) (fresh o.next (replicate (count_of count - length_of o) blank))) (count_of count - length_of o))
+    (grown_unless (nat_le (count_of count) (length_of o)) o
+    (take (count_of count) o.rows)
+    (put o.rows (length_of o) (fresh o.next (replicate (count_of count - length_of o) blank)))
+    (count_of count - length_of o))
     tt
 
 -- To_Cursor (A.18.2)

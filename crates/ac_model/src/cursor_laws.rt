@@ -15,8 +15,8 @@ pub fn without_slots<V>()
 
 /// A call that keeps names keeps their slots: a cursor's is the one that the object would find afterwards too.
 pub fn slots_stay<V>()
-    ensures in_rows { (o now : Object Name V) (after : Object ℕ V) (c : Cursor) → IsValid (plain o) → Agrees o c → IsAfter o now after →
-        after.number ≡ o.number → o.next ≤ after.next → Agrees now c }
-    ensures in_tree { (o now : Object Name V) (after : Object ℕ V) (c : Cursor) → IsValid (plain o) → AgreesInTree o c → IsAfter o now after →
-        after.number ≡ o.number → o.next ≤ after.next → AgreesInTree now c }
+    ensures in_rows { (o now : Object Name V) (after : Object ℕ V) (c : Cursor) → IsValid (plain o) → Agrees o c →
+        IsAfter o now after → after.number ≡ o.number → o.next ≤ after.next → Agrees now c }
+    ensures in_tree { (o now : Object Name V) (after : Object ℕ V) (c : Cursor) → IsValid (plain o) → AgreesInTree o c →
+        IsAfter o now after → after.number ≡ o.number → o.next ≤ after.next → AgreesInTree now c }
 {}

@@ -5,6 +5,7 @@
 pub mod call_laws;
 pub mod cursor_laws;
 mod cursors;
+pub mod guards_apart;
 pub mod holder_examples;
 pub mod keyed_validity;
 pub mod list_examples;
