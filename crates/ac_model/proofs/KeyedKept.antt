@@ -7,12 +7,12 @@ use Rattle.ac_model.specs.Rows.{fresh, cut, put, place_of, named, is_named}
 use Rattle.ac_model.specs.Objects.{Object, IsValid, times, with_rows, grown}
 use Rattle.ac_model.specs.Letters.{room, room_for_one}
 use Rattle.ac_model.specs.Lists.{one_row}
-use Rattle.ac_model.specs.Keyed.{Order, added, with_added, without, with_replaced, with_reordered, room_where_absent, with_added_if_absent, with_added_or_replaced}
+use Rattle.ac_model.specs.Keyed.{Order, added, with_added, without, with_reordered}
 use Rattle.ac_model.proofs.Times.{times-put}
 use Rattle.ac_model.proofs.Moves.{found, length-put, times-cut_one, length-cut_one}
 use Rattle.ac_model.proofs.Reasons.{room_none}
 use Rattle.ac_model.proofs.Kept.{kept, grew}
-use Rattle.ac_model.proofs.SequencesKept.{with_value_kept, cut_kept}
+use Rattle.ac_model.proofs.SequencesKept.{cut_kept}
 
 pub times-added : {V : Type 0} (order : Order V) (s : ℕ) (vs : List V) (rows : List (Row ℕ V)) (next : ℕ) → times s (added order rows next vs) ≡ times s rows + times s (fresh next vs)
 times-added order s [] rows next = omega arith
@@ -40,18 +40,6 @@ one_added_kept order o v valid none = added_kept order o o.rows (v ∷ []) valid
 pub without_kept : {V : Type 0} (o : Object ℕ V) (r : Option (Row ℕ V)) → IsValid o → IsValid (with_rows o (without o.rows r))
 without_kept o None v = kept o o.rows v (λ s. omega arith) (omega arith)
 without_kept o (Some r) v = cut_kept o (place_of o.rows r.name) 1 v
-
-pub replaced_kept : {V : Type 0} (o : Object ℕ V) (r : Option (Row ℕ V)) (w : V) → IsValid o → IsValid (with_replaced o r w)
-replaced_kept o None w v = v
-replaced_kept o (Some r) w v = with_value_kept o r.name w v
-
-pub added_if_absent_kept : {V : Type 0} (order : Order V) (o : Object ℕ V) (r : Option (Row ℕ V)) (w : V) → IsValid o → first_reason (room_where_absent o r) ≡ None → IsValid (with_added_if_absent order o r w)
-added_if_absent_kept order o None w v none = one_added_kept order o w v none
-added_if_absent_kept order o (Some r) w v none = v
-
-pub added_or_replaced_kept : {V : Type 0} (order : Order V) (o : Object ℕ V) (r : Option (Row ℕ V)) (w : V) → IsValid o → first_reason (room_where_absent o r) ≡ None → IsValid (with_added_or_replaced order o r w)
-added_or_replaced_kept order o None w v none = one_added_kept order o w v none
-added_or_replaced_kept order o (Some r) w v none = with_value_kept o r.name w v
 
 -- a row that goes to its place under its name
 times-reordered : {V : Type 0} (order : Order V) (s : ℕ) (rows : List (Row ℕ V)) (name : ℕ) (v : V) → is_named rows name ≡ true → times s (with_reordered order rows name v) ≡ times s rows

@@ -228,9 +228,6 @@ shifted_depths : {T : Type 0} (from to : ℕ) (rows : List (Row ℕ (Node T))) �
 shifted_depths from to [] = refl
 shifted_depths from to (r ∷ rows) = ap (λ ds. (r.value.depth + to - from) ∷ ds) (shifted_depths from to rows)
 
-moved_length : {T : Type 0} (from to : ℕ) (rows : List (Row ℕ (Node T))) → length (values (moved_to_depth from to rows)) ≡ length (moved_to_depth from to rows)
-moved_length from to rows = simp length-map
-
 shifted_fit : (from top before : ℕ) (ds : List ℕ) → 1 ≤ top → from ≤ before + 1 → before + (top + 1) - from ≡ top → AllFrom from ds → follows before ds ≡ true → Children top (map (λ d. d + (top + 1) - from) ds)
 shifted_fit from top before ds one reach same all h =
     let moved : follows (before + (top + 1) - from) (map (λ d. d + (top + 1) - from) ds) ≡ true = shifted_follows from (top + 1) before ds (omega arith) reach all h in
