@@ -2,6 +2,7 @@
 use Rattle.std.specs.Prelude.{◌≡◌, ◌==◌, ◌+◌, ℕ, zero, suc, ℤ, pos, Bool, false, ◌&&◌, nat_lt, max, [], ◌∷◌, Option, Some, None, is_some, unwrap_or}
 use Rattle.ac_base.specs.declared.limit.Limit.{Limit}
 use Rattle.ac_base.specs.declared.limit.Limit.TheVariants.{Unbounded, Bounded}
+use Rattle.ac_base.specs.declared.reason.Reason.{Reason}
 use Rattle.ac_base.specs.declared.reason.Reason.TheVariants.{CapacityFull}
 use Rattle.ac_base.specs.declared.guard.GuardKind.{GuardKind}
 use Rattle.ac_base.specs.Guards.{GuardCounts, one_more, one_less, raised_kind}
@@ -9,7 +10,7 @@ use Rattle.ac_base.specs.FirstReason.{first_reason}
 use Rattle.ac_model.specs.Rows.{fresh}
 use Rattle.ac_base.specs.Limits.{is_past}
 use Rattle.ac_model.specs.Objects.{Object, contents, length_of, with_rows, grown, capacity_after, empty_object}
-use Rattle.ac_model.specs.Letters.{Mark, designates, tampers_cursors, room, reason_if, in_range, count_of}
+use Rattle.ac_model.specs.Letters.{Mark, needs, designates, tampers_cursors, room, reason_if, in_range, count_of}
 use Rattle.ac_model.specs.Calls.{Call, call, Both, both, Done, takes_none, takes_some}
 
 -- Length (A.18.2, A.18.3, A.18.4, A.18.7)
@@ -92,6 +93,10 @@ copy_call o number capacity =
     (first_reason (reason_if (nat_lt 0 capacity && nat_lt capacity (length_of o)) CapacityFull ∷ []))
     (copied o number capacity)
     tt
+
+-- why the head of a view is refused (query, update, reference) of a kind whose every element has a row
+abbrev pub view_reason : {V : Type 0} → Object ℕ V → Mark → Option Reason
+view_reason o c = first_reason (needs o c ∷ [])
 
 -- the object with other counts of guards
 abbrev pub under_guards : {V : Type 0} → Object ℕ V → GuardCounts → Object ℕ V

@@ -4,6 +4,8 @@ use Rattle.ac_base.specs.declared.limit.Limit.{Limit}
 use Rattle.ac_base.specs.declared.reason.Reason.{Reason}
 use Rattle.ac_base.specs.declared.reason.Reason.TheVariants.{Empty, TooLarge}
 use Rattle.ac_base.specs.declared.guard.Class.TheVariants as class
+use Rattle.ac_base.specs.declared.guard.GuardKind.{GuardKind}
+use Rattle.ac_base.specs.Guards.{GuardCounts, one_more, one_less}
 use Rattle.ac_base.specs.Tampering.{forbids}
 use Rattle.ac_base.specs.FirstReason.{first_reason}
 use Rattle.ac_base.specs.Limits.{is_past}
@@ -43,9 +45,13 @@ with_element h element = record h { element = element }
 abbrev pub is_empty_call : {T : Type 0} → Holder T → Bool
 is_empty_call h = is_none h.element
 
+-- why Element is refused, and the head of a view (query, update, reference)
+abbrev pub view_reason : {T : Type 0} → Holder T → Option Reason
+view_reason h = first_reason (reason_if (is_none h.element) Empty ∷ [])
+
 -- Element (A.18.18)
 abbrev pub element_call : {T : Type 0} → Holder T → Look (Option T)
-element_call h = look (first_reason (reason_if (is_none h.element) Empty ∷ [])) h.element
+element_call h = look (view_reason h) h.element
 
 -- Replace_Element (A.18.18)
 abbrev pub replace_element_call : {T : Type 0} → (T → ℕ) → Holder T → T → Call (Holder T) Done
@@ -107,6 +113,20 @@ are_equal same (Some v) (Some w) = same v w
 
 abbrev pub equal_call : {T : Type 0} → (T → T → Bool) → Holder T → Holder T → Bool
 equal_call same left right = are_equal same left.element right.element
+
+-- the holder with other counts of guards
+abbrev pub under_guards : {T : Type 0} → Holder T → GuardCounts → Holder T
+under_guards h guards = record h { cursor_guards = guards.cursor_guards; element_guards = guards.element_guards }
+
+abbrev pub guards_on : {T : Type 0} → Holder T → GuardCounts
+guards_on h = record { number = h.number; cursor_guards = h.cursor_guards; element_guards = h.element_guards }
+
+-- a guard is held, and released
+abbrev pub hold_call : {T : Type 0} → GuardKind → Holder T → Holder T
+hold_call kind h = under_guards h (one_more kind (guards_on h))
+
+abbrev pub release_call : {T : Type 0} → GuardKind → Holder T → Holder T
+release_call kind h = under_guards h (one_less kind (guards_on h))
 
 -- a call keeps a holder valid
 abbrev pub KeepsHolder : {T A : Type 0} → (T → ℕ) → Holder T → Call (Holder T) A → Type 0

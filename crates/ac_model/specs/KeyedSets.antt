@@ -1,6 +1,9 @@
 -- The calls that sets with keys add (Generic_Keys, A.18.8 and A.18.9). `key` is an element's key, `alike` says which keys are equivalent, `less` which is less.
 use Rattle.std.specs.Prelude.{◌+◌, ◌-◌, ℕ, Bool, false, not, List, [], ◌∷◌, Option, Some, None, option_map, is_some, if◌then◌else◌}
 use Rattle.ac_base.specs.declared.reason.Reason.TheVariants.{KeyAbsent, KeyChanged, Duplicate}
+use Rattle.ac_base.specs.declared.reason.Reason.{Reason}
+use Rattle.ac_base.specs.declared.guard.GuardKind.TheVariants as guard
+use Rattle.ac_base.specs.Guards.{HeldGuard}
 use Rattle.ac_base.specs.FirstReason.{first_reason}
 use Rattle.ac_base.specs.Rows.{Row}
 use Rattle.ac_model.specs.Rows.{row_by, value_at, with_value, cut, place_of}
@@ -72,13 +75,21 @@ key_floor_call key less o k = keyed.floor_call (λ v. less k (key v)) o
 abbrev pub key_ceiling_call : {K T : Type 0} → (T → K) → (K → K → Bool) → Object ℕ T → K → Mark
 key_ceiling_call key less o k = keyed.ceiling_call (λ v. less (key v) k) o
 
+-- what the start of an update answers: the guard that is held, and a copy of the element
+pub record Started (T : Type 0) : Type 0 where
+  pub guard : HeldGuard
+  pub copy : Option T
+
+-- why it is refused, as the head of a view is that updates a key
+abbrev pub update_key_reason : {T : Type 0} → Object ℕ T → Mark → Option Reason
+update_key_reason o c = first_reason (tampers_cursors o ∷ needs o c ∷ [])
+
 -- the start of Update_Element_Preserving_Key (A.18.8, A.18.9): a cursor guard is held, and the element is copied
-abbrev pub start_update_key_call : {T : Type 0} → Object ℕ T → Mark → Call (Object ℕ T) (Option T)
+abbrev pub start_update_key_call : {T : Type 0} → Object ℕ T → Mark → Call (Object ℕ T) (Started T)
 start_update_key_call o c =
-    call takes_some
-    (first_reason (tampers_cursors o ∷ needs o c ∷ []))
+    call takes_some (update_key_reason o c)
     (record o { cursor_guards = o.cursor_guards + 1 })
-    (value_at o.rows (name_of c))
+    (record { guard = record { object = o.number; kind = guard.Cursors }; copy = value_at o.rows (name_of c) })
 
 -- the key of the copy is that of the element
 abbrev pub keeps_key : {K T : Type 0} → (T → K) → (K → K → Bool) → Option T → T → Bool

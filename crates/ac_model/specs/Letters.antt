@@ -1,5 +1,5 @@
 -- What the arguments of a call bring: where a cursor stands, the reasons that a cursor, a count or a need of room gives, and what guards forbid.
-use Rattle.std.specs.Prelude.{◌==◌, ◌+◌, ◌-◌, ℕ, ℤ, pos, negsuc, Bool, true, false, not, ◌&&◌, nat_lt, nat_le, List, [], ◌∷◌, length, Option, Some, None, slice_get, if◌then◌else◌}
+use Rattle.std.specs.Prelude.{◌==◌, ◌+◌, ◌-◌, ◌^◌, ℕ, ℤ, pos, negsuc, Bool, true, false, not, ◌&&◌, nat_lt, nat_le, List, [], ◌∷◌, length, Option, Some, None, slice_get, if◌then◌else◌}
 use Rattle.std.specs.List.{list_any}
 use Rattle.ac_base.specs.declared.reason.Reason.{Reason}
 use Rattle.ac_base.specs.declared.reason.Reason.TheVariants.{NoElement, ForeignCursor, DeadCursor, IndexRange, LengthRange, CapacityFull, NamesSpent}
@@ -114,6 +114,19 @@ index_in index last = reason_if (not (is_index index last)) IndexRange
 -- the place of an index
 abbrev pub place_of_index : ℤ → ℕ
 place_of_index index = count_of index - 1
+
+-- the values of arguments that are left out: a count is 1, a cursor where a search starts none, and an index there 1, or the greatest for a search backwards
+abbrev pub count_left_out : ℤ
+count_left_out = pos 1
+
+abbrev pub start_left_out : Mark
+start_left_out = no_mark
+
+abbrev pub index_left_out : ℤ
+index_left_out = pos 1
+
+abbrev pub last_index_left_out : ℤ
+last_index_left_out = pos (2 ^ 63 - 1)
 
 -- a new length, and so many new names, under a limit and from the next name on
 abbrev pub room_in : Limit → ℕ → ℕ → ℕ → List (Option Reason)

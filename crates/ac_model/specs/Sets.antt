@@ -1,6 +1,7 @@
 -- The calls of hashed and ordered sets (A.18.7, A.18.8, A.18.9). Every change of a set tampers with cursors. An element's order and equivalence are those of its key, equality is its own.
-use Rattle.std.specs.Prelude.{◌==◌, ◌+◌, ℕ, Bool, not, ◌&&◌, List, [], length, filter, None}
+use Rattle.std.specs.Prelude.{◌==◌, ◌+◌, ℕ, Bool, not, ◌&&◌, List, [], length, filter, Option, None}
 use Rattle.std.specs.List.{list_any, list_all}
+use Rattle.ac_base.specs.declared.reason.Reason.{Reason}
 use Rattle.ac_base.specs.FirstReason.{first_reason}
 use Rattle.ac_base.specs.Rows.{Row}
 use Rattle.ac_model.specs.Objects.{Object, contents, length_of, with_rows, grown}
@@ -44,12 +45,16 @@ common_rows order target source = filter (λ r. has order (contents source) r.va
 abbrev pub own_rows : {T : Type 0} → Order T → Object ℕ T → Object ℕ T → List (Row ℕ T)
 own_rows order target source = filter (λ r. not (has order (contents source) r.value)) target.rows
 
+-- the room that a set needs whose rows are those that stay and so many more
+abbrev pub room_after : {T : Type 0} → Object ℕ T → List (Row ℕ T) → List T → List (Option Reason)
+room_after target kept more = room target (length kept + length more) (length more)
+
 -- Union, without the check of tampering
 abbrev pub unchecked_union : {T : Type 0} → Order T → Object ℕ T → Object ℕ T → Call (Object ℕ T) Done
 unchecked_union order target source =
     let more = additions order target source in
     call takes_some
-    (first_reason (room target (length_of target + length more) (length more)))
+    (first_reason (room_after target target.rows more))
     (grown target (added order target.rows target.next more) (length more))
     tt
 
@@ -99,7 +104,7 @@ unchecked_symmetric_difference order target source =
     let kept = own_rows order target source in
     let more = additions order target source in
     call takes_some
-    (first_reason (room target (length kept + length more) (length more)))
+    (first_reason (room_after target kept more))
     (grown target (added order kept target.next more) (length more))
     tt
 

@@ -155,9 +155,13 @@ ancestor_find_call same o c element =
 abbrev pub element_of : {T : Type 0} → Option (Node T) → Option T
 element_of v = option_map (λ n. n.element) v
 
+-- why Element is refused, and the head of a view (query, update, reference)
+abbrev pub view_reason : {V : Type 0} → Object ℕ V → Mark → Option Reason
+view_reason o c = first_reason (needs_element o c ∷ [])
+
 -- Element (A.18.10)
 abbrev pub element_call : {T : Type 0} → Object ℕ (Node T) → Mark → Look (Option T)
-element_call o c = look (first_reason (needs_element o c ∷ [])) (element_of (value_at o.rows (name_of c)))
+element_call o c = look (view_reason o c) (element_of (value_at o.rows (name_of c)))
 
 -- the rows with another element under the name, at the same depth
 abbrev pub with_element : {T : Type 0} → List (Row ℕ (Node T)) → ℕ → Option T → List (Row ℕ (Node T))

@@ -29,7 +29,7 @@ pub fn ordered()
 pub fn key_updated()
     ensures found { by_key.key_find_call tens nat_eq (list_of 1 (11 ∷ [])) 1 ≡ mark_at 1 1 }
     ensures started { let c = by_key.start_update_key_call (list_of 1 (11 ∷ [])) (mark_at 1 1) in
-        (c.reason ≡ None) × (c.answer ≡ Some 11) × ((keyed.insert_call ordered_tens c.after 90).reason ≡ Some CursorTampering) }
+        (c.reason ≡ None) × (c.answer.copy ≡ Some 11) × ((keyed.insert_call ordered_tens c.after 90).reason ≡ Some CursorTampering) }
     ensures kept { let c = by_key.end_update_key_call tens nat_eq (guarded 1 0 (list_of 1 (11 ∷ []))) (mark_at 1 1) 12 in
         (c.reason ≡ None) × (c.after.rows ≡ row 1 12 ∷ []) × (c.after.cursor_guards ≡ 0) }
     ensures changed { let c = by_key.end_update_key_call tens nat_eq (guarded 1 0 (list_of 1 (12 ∷ []))) (mark_at 1 1) 22 in
