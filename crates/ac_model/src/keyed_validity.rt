@@ -17,32 +17,46 @@ ghost use Rattle.ac_model.specs.KeyedSets as by_key;
 /// The calls that maps and sets have in common, and those of the ordered kinds.
 pub fn keyed_calls<V>()
     ensures clear { InEachOrder (λ (order : Order V). (o : Object ℕ V) → KeepsKeyed order o (common.clear_call o)) }
-    ensures assign { InEachOrder (λ (order : Order V). (target source : Object ℕ V) → IsValidKeyed order source → KeepsKeyed order target (common.assign_call target source)) }
-    ensures move_from { InEachOrder (λ (order : Order V). (target source : Object ℕ V) → IsValidKeyed order target → IsValidKeyed order source → (common.move_from_call target source).reason ≡ None →
-        IsValidKeyed order (common.move_from_call target source).after.target × IsValidKeyed order (common.move_from_call target source).after.source) }
+    ensures assign { InEachOrder (λ (order : Order V). (target source : Object ℕ V) → IsValidKeyed order source →
+        KeepsKeyed order target (common.assign_call target source)) }
+    ensures move_from { InEachOrder (λ (order : Order V). (target source : Object ℕ V) → IsValidKeyed order target →
+        IsValidKeyed order source → (common.move_from_call target source).reason ≡ None →
+        IsValidKeyed order (common.move_from_call target source).after.target
+        × IsValidKeyed order (common.move_from_call target source).after.source) }
     ensures insert { InEachOrder (λ (order : Order V). (o : Object ℕ V) (v : V) → KeepsKeyed order o (keyed.insert_call order o v)) }
-    ensures insert_pos { InEachOrder (λ (order : Order V). (o : Object ℕ V) (v : V) → KeepsKeyed order o (keyed.insert_pos_call order o v)) }
+    ensures insert_pos { InEachOrder (λ (order : Order V). (o : Object ℕ V) (v : V) →
+        KeepsKeyed order o (keyed.insert_pos_call order o v)) }
     ensures include { InEachOrder (λ (order : Order V). (o : Object ℕ V) (v : V) → KeepsKeyed order o (keyed.include_call order o v)) }
-    ensures replace { InEachOrder (λ (order : Order V). (tampering : Option Reason) (o : Object ℕ V) (v : V) → KeepsKeyed order o (keyed.replace_call tampering order o v)) }
-    ensures exclude { InEachOrder (λ (order : Order V). (matches : V → Bool) (o : Object ℕ V) → KeepsKeyed order o (keyed.exclude_call matches o)) }
-    ensures delete_match { InEachOrder (λ (order : Order V). (matches : V → Bool) (o : Object ℕ V) → KeepsKeyed order o (keyed.delete_match_call matches o)) }
-    ensures delete { InEachOrder (λ (order : Order V). (o : Object ℕ V) (position : Mark) → KeepsKeyed order o (keyed.delete_call o position)) }
-    ensures replace_element { InEachOrder (λ (order : Order V). (o : Object ℕ V) (c : Mark) (v : V) → KeepsKeyed order o (keyed.replace_element_call order o c v)) }
+    ensures replace { InEachOrder (λ (order : Order V). (tampering : Option Reason) (o : Object ℕ V) (v : V) →
+        KeepsKeyed order o (keyed.replace_call tampering order o v)) }
+    ensures exclude { InEachOrder (λ (order : Order V). (matches : V → Bool) (o : Object ℕ V) →
+        KeepsKeyed order o (keyed.exclude_call matches o)) }
+    ensures delete_match { InEachOrder (λ (order : Order V). (matches : V → Bool) (o : Object ℕ V) →
+        KeepsKeyed order o (keyed.delete_match_call matches o)) }
+    ensures delete { InEachOrder (λ (order : Order V). (o : Object ℕ V) (position : Mark) →
+        KeepsKeyed order o (keyed.delete_call o position)) }
+    ensures replace_element { InEachOrder (λ (order : Order V). (o : Object ℕ V) (c : Mark) (v : V) →
+        KeepsKeyed order o (keyed.replace_element_call order o c v)) }
     ensures delete_first { InEachOrder (λ (order : Order V). (o : Object ℕ V) → KeepsKeyed order o (ordered.delete_first_call o)) }
     ensures delete_last { InEachOrder (λ (order : Order V). (o : Object ℕ V) → KeepsKeyed order o (ordered.delete_last_call o)) }
 {}
 
 /// The calls of sets.
 pub fn set_calls<V>()
-    ensures union { InEachOrder (λ (order : Order V). (target source : Object ℕ V) → IsValidKeyed order source → KeepsKeyed order target (set.union_call order target source)) }
-    ensures intersection { InEachOrder (λ (order : Order V). (target source : Object ℕ V) → KeepsKeyed order target (set.intersection_call order target source)) }
-    ensures difference { InEachOrder (λ (order : Order V). (target source : Object ℕ V) → KeepsKeyed order target (set.difference_call order target source)) }
-    ensures symmetric_difference { InEachOrder (λ (order : Order V). (target source : Object ℕ V) → IsValidKeyed order source → KeepsKeyed order target (set.symmetric_difference_call order target source)) }
+    ensures union { InEachOrder (λ (order : Order V). (target source : Object ℕ V) → IsValidKeyed order source →
+        KeepsKeyed order target (set.union_call order target source)) }
+    ensures intersection { InEachOrder (λ (order : Order V). (target source : Object ℕ V) →
+        KeepsKeyed order target (set.intersection_call order target source)) }
+    ensures difference { InEachOrder (λ (order : Order V). (target source : Object ℕ V) →
+        KeepsKeyed order target (set.difference_call order target source)) }
+    ensures symmetric_difference { InEachOrder (λ (order : Order V). (target source : Object ℕ V) → IsValidKeyed order source →
+        KeepsKeyed order target (set.symmetric_difference_call order target source)) }
 {}
 
 /// The calls that sets with keys add: a copy that is written back keeps its set valid whether it keeps its key or not.
 pub fn keyed_set_calls<K, V>()
-    ensures key_replace { InEachOrder (λ (order : Order V). (key : V → K) (alike : K → K → Bool) (o : Object ℕ V) (k : K) (element : V) → KeepsKeyed order o (by_key.key_replace_call key alike order o k element)) }
+    ensures key_replace { InEachOrder (λ (order : Order V). (key : V → K) (alike : K → K →
+        Bool) (o : Object ℕ V) (k : K) (element : V) → KeepsKeyed order o (by_key.key_replace_call key alike order o k element)) }
     ensures hashed_update { (key : V → K) (alike : K → K → Bool) → IsEquivalence alike → (o : Object ℕ V) (c : Mark) (copy : V) →
         IsValidKeyed (by_key.hashed key alike) o → is_named o.rows (name_of c) ≡ true →
         IsValidKeyed (by_key.hashed key alike) (by_key.end_update_key_call key alike o c copy).after }

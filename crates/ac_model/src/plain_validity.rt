@@ -7,11 +7,13 @@ ghost use Rattle.ac_model.specs.Queues.{Queue, Discipline, KeepsQueue};
 
 /// The calls of holders: an element is no larger than the limit.
 pub fn holder_calls<T>()
-    ensures replace_element { (size : T → ℕ) (h : Holder T) (element : T) → KeepsHolder size h (holder.replace_element_call size h element) }
+    ensures replace_element { (size : T → ℕ) (h : Holder T) (element : T) →
+        KeepsHolder size h (holder.replace_element_call size h element) }
     ensures write { (size : T → ℕ) (h : Holder T) (element : T) → KeepsHolder size h (holder.write_call size h element) }
     ensures clear { (size : T → ℕ) (h : Holder T) → KeepsHolder size h (holder.clear_call h) }
     ensures assign { (size : T → ℕ) (target source : Holder T) → KeepsHolder size target (holder.assign_call size target source) }
-    ensures move_from { (size : T → ℕ) (target source : Holder T) → KeepsBothHolders size target source (holder.move_from_call size target source) }
+    ensures move_from { (size : T → ℕ) (target source : Holder T) →
+        KeepsBothHolders size target source (holder.move_from_call size target source) }
     ensures swap { (size : T → ℕ) (target source : Holder T) → KeepsBothHolders size target source (holder.swap_call size target source) }
 {}
 

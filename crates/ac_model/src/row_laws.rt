@@ -8,8 +8,10 @@ ghost use Rattle.ac_model.specs.Rows.{Node, fresh, cut, put, place_of, named, ro
 
 /// A cut and a put of the same rows give the list back.
 pub fn cut_and_put<V>()
-    ensures cut_of_put { (rows : List (Row ℕ V)) (place : ℕ) (more : List (Row ℕ V)) → place ≤ length rows → cut (put rows place more) place (length more) ≡ rows }
-    ensures put_of_cut { (rows : List (Row ℕ V)) (place count : ℕ) → put (cut rows place count) place (take count (drop place rows)) ≡ rows }
+    ensures cut_of_put { (rows : List (Row ℕ V)) (place : ℕ) (more : List (Row ℕ V)) → place ≤ length rows →
+        cut (put rows place more) place (length more) ≡ rows }
+    ensures put_of_cut { (rows : List (Row ℕ V)) (place count : ℕ) →
+        put (cut rows place count) place (take count (drop place rows)) ≡ rows }
 {}
 
 /// Fresh rows have the next names in order, over the values.
@@ -21,14 +23,17 @@ pub fn fresh_rows<V>()
 /// At the place of a name stands the row that it names, and a row that is found by its key matches it.
 pub fn places<V>()
     ensures at_its_place { (rows : List (Row ℕ V)) (name : ℕ) → slice_get rows (place_of rows name) ≡ named rows name }
-    ensures found_matches { (matches : V → Bool) (rows : List (Row ℕ V)) (r : Row ℕ V) → row_by matches rows ≡ Some r → matches r.value ≡ true }
-    ensures none_matches { (matches : V → Bool) (rows : List (Row ℕ V)) → row_by matches rows ≡ None → list_any matches (values rows) ≡ false }
+    ensures found_matches { (matches : V → Bool) (rows : List (Row ℕ V)) (r : Row ℕ V) → row_by matches rows ≡ Some r →
+        matches r.value ≡ true }
+    ensures none_matches { (matches : V → Bool) (rows : List (Row ℕ V)) → row_by matches rows ≡ None →
+        list_any matches (values rows) ≡ false }
 {}
 
 /// A sorted list has the same rows, in order, and rows of which neither is less stand as they stood.
 pub fn sorted_lists<V>()
     ensures same_rows { (less : V → V → Bool) (rows : List (Row ℕ V)) → HasRowsOf (sorted less rows) rows }
-    ensures in_order { (less : V → V → Bool) → IsWeakOrder less → (rows : List (Row ℕ V)) → is_ascending less (values (sorted less rows)) ≡ true }
+    ensures in_order { (less : V → V → Bool) → IsWeakOrder less → (rows : List (Row ℕ V)) →
+        is_ascending less (values (sorted less rows)) ≡ true }
     ensures stable { (less : V → V → Bool) → IsWeakOrder less → (v : V) (rows : List (Row ℕ V)) →
         filter (λ r. are_level less r.value v) (sorted less rows) ≡ filter (λ r. are_level less r.value v) rows }
 {}
@@ -38,11 +43,13 @@ pub fn merged_lists<V>()
     ensures none_first { (less : V → V → Bool) (rows : List (Row ℕ V)) → merged less [] rows ≡ rows }
     ensures none_second { (less : V → V → Bool) (rows : List (Row ℕ V)) → merged less rows [] ≡ rows }
     ensures heads { (less : V → V → Bool) (r s : Row ℕ V) (rows others : List (Row ℕ V)) →
-        merged less (r ∷ rows) (s ∷ others) ≡ (if less s.value r.value then s ∷ merged less (r ∷ rows) others else r ∷ merged less rows (s ∷ others)) }
+        merged less (r ∷ rows) (s ∷ others)
+        ≡ (if less s.value r.value then s ∷ merged less (r ∷ rows) others else r ∷ merged less rows (s ∷ others)) }
     ensures rows_of_both { (less : V → V → Bool) (rows others : List (Row ℕ V)) → HasRowsOf (merged less rows others) (rows ++ others) }
 {}
 
 /// Every node of an outline but the root has a parent, which stands before it with a depth one less.
 pub fn outlines<T>()
-    ensures { (rows : List (Row ℕ (Node T))) → is_outline rows ≡ true → (place : ℕ) → 0 < place → place ≤ length rows → HasParent (spots rows) place }
+    ensures { (rows : List (Row ℕ (Node T))) → is_outline rows ≡ true → (place : ℕ) → 0 < place → place ≤ length rows →
+        HasParent (spots rows) place }
 {}

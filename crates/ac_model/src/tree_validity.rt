@@ -16,14 +16,19 @@ pub fn tree_calls<T>()
     ensures replace_element { (o : Object ℕ (Node T)) (c : Mark) (element : T) → KeepsTree o (tree.replace_element_call o c element) }
     ensures write { (o : Object ℕ (Node T)) (c : Mark) (element : T) → KeepsTree o (tree.write_call o c element) }
     ensures swap { (o : Object ℕ (Node T)) (first second : Mark) → KeepsTree o (tree.swap_call o first second) }
-    ensures insert_child { (o : Object ℕ (Node T)) (parent before : Mark) (element : T) (count : ℤ) → KeepsTree o (tree.insert_child_call o parent before element count) }
-    ensures insert_child_pos { (o : Object ℕ (Node T)) (parent before : Mark) (element : T) (count : ℤ) → KeepsTree o (tree.insert_child_pos_call o parent before element count) }
-    ensures append_child { (o : Object ℕ (Node T)) (parent : Mark) (element : T) (count : ℤ) → KeepsTree o (tree.append_child_call o parent element count) }
-    ensures prepend_child { (o : Object ℕ (Node T)) (parent : Mark) (element : T) (count : ℤ) → KeepsTree o (tree.prepend_child_call o parent element count) }
+    ensures insert_child { (o : Object ℕ (Node T)) (parent before : Mark) (element : T) (count : ℤ) →
+        KeepsTree o (tree.insert_child_call o parent before element count) }
+    ensures insert_child_pos { (o : Object ℕ (Node T)) (parent before : Mark) (element : T) (count : ℤ) →
+        KeepsTree o (tree.insert_child_pos_call o parent before element count) }
+    ensures append_child { (o : Object ℕ (Node T)) (parent : Mark) (element : T) (count : ℤ) →
+        KeepsTree o (tree.append_child_call o parent element count) }
+    ensures prepend_child { (o : Object ℕ (Node T)) (parent : Mark) (element : T) (count : ℤ) →
+        KeepsTree o (tree.prepend_child_call o parent element count) }
     ensures delete_leaf { (o : Object ℕ (Node T)) (position : Mark) → KeepsTree o (tree.delete_leaf_call o position) }
     ensures delete_subtree { (o : Object ℕ (Node T)) (position : Mark) → KeepsTree o (tree.delete_subtree_call o position) }
     ensures delete_children { (o : Object ℕ (Node T)) (parent : Mark) → KeepsTree o (tree.delete_children_call o parent) }
-    ensures copy_subtree { (target : Object ℕ (Node T)) (parent before : Mark) (source : Object ℕ (Node T)) (top : Mark) → IsValidTree source →
+    ensures copy_subtree { (target : Object ℕ (Node T)) (parent before : Mark) (source : Object ℕ (Node T)) (top : Mark) →
+        IsValidTree source →
         KeepsTree target (tree.copy_subtree_call target parent before source top) }
     ensures splice_subtree_from { (target : Object ℕ (Node T)) (parent before : Mark) (source : Object ℕ (Node T)) (top : Mark) →
         KeepsBothTrees target source (tree.splice_subtree_from_call target parent before source top) }
@@ -33,7 +38,10 @@ pub fn tree_calls<T>()
 
 /// The splices within a tree.
 pub fn splices_within<T>()
-    ensures splice_subtree { (o : Object ℕ (Node T)) (parent before top : Mark) → KeepsTree o (tree.splice_subtree_call o parent before top) }
-    ensures splice_subtree_from_self { (o : Object ℕ (Node T)) (parent before top : Mark) → KeepsTree o (tree.splice_subtree_from_self_call o parent before top) }
-    ensures splice_children { (o : Object ℕ (Node T)) (parent before source_parent : Mark) → KeepsTree o (tree.splice_children_call o parent before source_parent) }
+    ensures splice_subtree { (o : Object ℕ (Node T)) (parent before top : Mark) →
+        KeepsTree o (tree.splice_subtree_call o parent before top) }
+    ensures splice_subtree_from_self { (o : Object ℕ (Node T)) (parent before top : Mark) →
+        KeepsTree o (tree.splice_subtree_from_self_call o parent before top) }
+    ensures splice_children { (o : Object ℕ (Node T)) (parent before source_parent : Mark) →
+        KeepsTree o (tree.splice_children_call o parent before source_parent) }
 {}

@@ -34,7 +34,8 @@ pub fn sequence_calls<T>()
     ensures append { (o : Object ℕ T) (element : T) (count : ℤ) → Keeps o (sequence.append_call o element count) }
     ensures prepend { (o : Object ℕ T) (element : T) (count : ℤ) → Keeps o (sequence.prepend_call o element count) }
     ensures insert { (o : Object ℕ T) (before : Mark) (element : T) (count : ℤ) → Keeps o (sequence.insert_call o before element count) }
-    ensures insert_pos { (o : Object ℕ T) (before : Mark) (element : T) (count : ℤ) → Keeps o (sequence.insert_pos_call o before element count) }
+    ensures insert_pos { (o : Object ℕ T) (before : Mark) (element : T) (count : ℤ) →
+        Keeps o (sequence.insert_pos_call o before element count) }
     ensures delete { (o : Object ℕ T) (position : Mark) (count : ℤ) → Keeps o (sequence.delete_call o position count) }
     ensures delete_first { (o : Object ℕ T) (count : ℤ) → Keeps o (sequence.delete_first_call o count) }
     ensures delete_last { (o : Object ℕ T) (count : ℤ) → Keeps o (sequence.delete_last_call o count) }
@@ -48,7 +49,8 @@ pub fn list_calls<T>()
     ensures reverse_elements { (o : Object ℕ T) → Keeps o (list.reverse_elements_call o) }
     ensures sort { (less : T → T → Bool) (o : Object ℕ T) → Keeps o (list.sort_call less o) }
     ensures swap_links { (o : Object ℕ T) (first second : Mark) → Keeps o (list.swap_links_call o first second) }
-    ensures splice { (target : Object ℕ T) (before : Mark) (source : Object ℕ T) → KeepsBoth target source (list.splice_call target before source) }
+    ensures splice { (target : Object ℕ T) (before : Mark) (source : Object ℕ T) →
+        KeepsBoth target source (list.splice_call target before source) }
     ensures splice_self { (o : Object ℕ T) (before : Mark) → Keeps o (list.splice_self_call o before) }
     ensures splice_one { (target : Object ℕ T) (before : Mark) (source : Object ℕ T) (position : Mark) →
         KeepsBoth target source (list.splice_one_call target before source position) }
@@ -63,10 +65,14 @@ pub fn vector_calls<T>()
     ensures set_length { (o : Object ℕ T) (blank : T) (count : ℤ) → Keeps o (vector.set_length_call o blank count) }
     ensures replace_index { (o : Object ℕ T) (index : ℤ) (element : T) → Keeps o (vector.replace_index_call o index element) }
     ensures swap_index { (o : Object ℕ T) (first second : ℤ) → Keeps o (vector.swap_index_call o first second) }
-    ensures insert_index { (o : Object ℕ T) (index : ℤ) (element : T) (count : ℤ) → Keeps o (vector.insert_index_call o index element count) }
-    ensures insert_vector_index { (target : Object ℕ T) (index : ℤ) (source : Object ℕ T) → Keeps target (vector.insert_vector_index_call target index source) }
-    ensures insert_vector { (target : Object ℕ T) (before : Mark) (source : Object ℕ T) → Keeps target (vector.insert_vector_call target before source) }
-    ensures insert_vector_pos { (target : Object ℕ T) (before : Mark) (source : Object ℕ T) → Keeps target (vector.insert_vector_pos_call target before source) }
+    ensures insert_index { (o : Object ℕ T) (index : ℤ) (element : T) (count : ℤ) →
+        Keeps o (vector.insert_index_call o index element count) }
+    ensures insert_vector_index { (target : Object ℕ T) (index : ℤ) (source : Object ℕ T) →
+        Keeps target (vector.insert_vector_index_call target index source) }
+    ensures insert_vector { (target : Object ℕ T) (before : Mark) (source : Object ℕ T) →
+        Keeps target (vector.insert_vector_call target before source) }
+    ensures insert_vector_pos { (target : Object ℕ T) (before : Mark) (source : Object ℕ T) →
+        Keeps target (vector.insert_vector_pos_call target before source) }
     ensures append_vector { (target source : Object ℕ T) → Keeps target (vector.append_vector_call target source) }
     ensures prepend_vector { (target source : Object ℕ T) → Keeps target (vector.prepend_vector_call target source) }
     ensures delete_index { (o : Object ℕ T) (index count : ℤ) → Keeps o (vector.delete_index_call o index count) }
