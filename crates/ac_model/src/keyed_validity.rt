@@ -55,8 +55,8 @@ pub fn set_calls<V>()
 
 /// The calls that sets with keys add: a copy that is written back keeps its set valid whether it keeps its key or not.
 pub fn keyed_set_calls<K, V>()
-    ensures key_replace { InEachOrder (λ (order : Order V). (key : V → K) (alike : K → K →
-        Bool) (o : Object ℕ V) (k : K) (element : V) → KeepsKeyed order o (by_key.key_replace_call key alike order o k element)) }
+    ensures key_replace { InEachOrder (λ (order : Order V). (key : V → K) (alike : K → K → Bool) (o : Object ℕ V) (k : K) (element : V) →
+        KeepsKeyed order o (by_key.key_replace_call key alike order o k element)) }
     ensures hashed_update { (key : V → K) (alike : K → K → Bool) → IsEquivalence alike → (o : Object ℕ V) (c : Mark) (copy : V) →
         IsValidKeyed (by_key.hashed key alike) o → is_named o.rows (name_of c) ≡ true →
         IsValidKeyed (by_key.hashed key alike) (by_key.end_update_key_call key alike o c copy).after }
