@@ -4,6 +4,7 @@
 
 pub mod call_laws;
 pub mod cursor_laws;
+pub mod common_examples;
 mod cursors;
 pub mod guards_apart;
 pub mod holder_examples;
@@ -15,6 +16,7 @@ pub mod plain_validity;
 pub mod queue_examples;
 mod refusals;
 pub mod row_laws;
+pub mod sequence_examples;
 pub mod set_examples;
 pub mod tree_examples;
 pub mod tree_validity;
