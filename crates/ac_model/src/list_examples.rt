@@ -1,6 +1,7 @@
 //! Examples of list calls.
 ghost use Rattle.std.specs.Prelude.{◌≡◌, ◌∷◌, [], ℕ, nat_lt, nat_eq, pos, negsuc, true, false, None, Some};
-ghost use Rattle.ac_base.specs.declared.reason.Reason.TheVariants.{CursorTampering, ElementTampering, NoElement, ForeignCursor, DeadCursor, Empty, SameContainer};
+ghost use Rattle.ac_base.specs.declared.reason.Reason.TheVariants.{CursorTampering, ElementTampering, NoElement, ForeignCursor};
+ghost use Rattle.ac_base.specs.declared.reason.Reason.TheVariants.{DeadCursor, Empty, CapacityFull, SameContainer};
 ghost use Rattle.ac_base.specs.declared.cursor.Cursor.TheVariants.{At};
 ghost use Rattle.ac_base.specs.Rows.{row, names};
 ghost use Rattle.ac_model.specs.Objects.{Object, contents, plain};
@@ -8,7 +9,7 @@ ghost use Rattle.ac_model.specs.Letters.{no_mark, mark_at, stale_mark, mark_of};
 ghost use Rattle.ac_model.specs.Common as common;
 ghost use Rattle.ac_model.specs.Sequences as sequence;
 ghost use Rattle.ac_model.specs.Lists as list;
-ghost use Rattle.ac_model.specs.Examples.{list_of, guarded, name_in_slot};
+ghost use Rattle.ac_model.specs.Examples.{list_of, bounded_vector_of, guarded, with_next, name_in_slot};
 
 /// Elements are appended, singly and in copies, and get the names from the next one on.
 pub fn appended()
@@ -99,4 +100,46 @@ pub fn searched()
     ensures before_the_first { (sequence.previous_call (list_of 1 (4 ∷ 5 ∷ [])) (mark_at 1 1)).answer ≡ no_mark }
     ensures of_none { (sequence.previous_call (list_of 1 (4 ∷ 5 ∷ [])) no_mark).answer ≡ no_mark }
     ensures first_of_none { (sequence.first_element_call (list_of 1 [])).reason ≡ Some Empty }
+{}
+
+/// A splice needs room for what comes and no guard on either list, and one of a list into itself changes nothing.
+pub fn splices_refused()
+    ensures from_a_loop { (list.splice_call (list_of 1 []) (mark_at 1 9) (guarded 1 0 (list_of 2 []))).reason ≡ Some CursorTampering }
+    ensures target_first { (list.splice_call (guarded 0 1 (list_of 1 [])) no_mark (guarded 1 0 (list_of 2 []))).reason ≡ Some ElementTampering }
+    ensures before_dead { (list.splice_call (bounded_vector_of 1 0 []) (mark_at 1 9) (list_of 2 (4 ∷ []))).reason ≡ Some DeadCursor }
+    ensures full { (list.splice_call (bounded_vector_of 1 2 (3 ∷ [])) no_mark (list_of 2 (4 ∷ 5 ∷ []))).reason ≡ Some CapacityFull }
+    ensures just_full { (list.splice_call (bounded_vector_of 1 3 (3 ∷ [])) no_mark (list_of 2 (4 ∷ 5 ∷ []))).reason ≡ None }
+    ensures one_full { (list.splice_one_call (bounded_vector_of 1 1 (3 ∷ [])) no_mark (list_of 2 (4 ∷ [])) (mark_at 2 1)).reason ≡ Some CapacityFull }
+    ensures one_of_none { (list.splice_one_call (list_of 1 []) (mark_at 1 9) (list_of 2 (4 ∷ [])) no_mark).reason ≡ Some NoElement }
+{}
+
+/// A list that is spliced into itself stays as it is, and needs no room and no name.
+pub fn spliced_into_itself()
+    ensures same { let o = with_next 18446744073709551615 (bounded_vector_of 1 2 (4 ∷ 5 ∷ [])) in let c = list.splice_self_call o (mark_at 1 2) in
+        (c.reason ≡ None) × (c.after ≡ o) × (c.memory ≡ false) }
+    ensures before_the_end { (list.splice_self_call (list_of 1 (4 ∷ [])) no_mark).reason ≡ None }
+    ensures before_dead { (list.splice_self_call (list_of 1 (4 ∷ [])) (mark_at 1 9)).reason ≡ Some DeadCursor }
+    ensures in_a_loop { (list.splice_self_call (guarded 1 0 (list_of 1 [])) (mark_at 1 9)).reason ≡ Some CursorTampering }
+{}
+
+/// An element that is spliced within its list keeps its name, and the variable its value.
+pub fn one_spliced_within()
+    ensures moved { let c = list.splice_one_self_call (list_of 1 (4 ∷ 5 ∷ 6 ∷ [])) (mark_at 1 1) (mark_at 1 3) in
+        (c.reason ≡ None) × (c.after.rows ≡ row 3 6 ∷ row 1 4 ∷ row 2 5 ∷ []) × (c.answer ≡ mark_at 1 3) × (c.after.next ≡ 4) }
+    ensures to_the_end { let c = list.splice_one_self_call (list_of 1 (4 ∷ 5 ∷ [])) no_mark (mark_at 1 1) in
+        (c.reason ≡ None) × (c.after.rows ≡ row 2 5 ∷ row 1 4 ∷ []) × (c.answer ≡ mark_at 1 1) }
+    ensures before_itself { (list.splice_one_self_call (list_of 1 (4 ∷ 5 ∷ [])) (mark_at 1 1) (mark_at 1 1)).after ≡ list_of 1 (4 ∷ 5 ∷ []) }
+    ensures none { (list.splice_one_self_call (list_of 1 (4 ∷ [])) (mark_at 1 9) no_mark).reason ≡ Some NoElement }
+    ensures before_dead { (list.splice_one_self_call (list_of 1 (4 ∷ [])) (mark_at 1 9) (mark_at 1 1)).reason ≡ Some DeadCursor }
+    ensures in_a_view { (list.splice_one_self_call (guarded 0 1 (list_of 1 [])) no_mark no_mark).reason ≡ Some ElementTampering }
+    ensures in_a_loop { (list.splice_within_call (guarded 1 0 (list_of 1 [])) no_mark no_mark).reason ≡ Some CursorTampering }
+    ensures of_none { (list.splice_within_call (list_of 1 (4 ∷ [])) (mark_at 1 9) no_mark).reason ≡ Some NoElement }
+{}
+
+/// Elements go in order with their names, equivalent ones as they stood, and a loop forbids it.
+pub fn in_order_with_names()
+    ensures sorted { (list.sort_call nat_lt (list_of 1 (3 ∷ 1 ∷ 2 ∷ []))).after.rows ≡ row 2 1 ∷ row 3 2 ∷ row 1 3 ∷ [] }
+    ensures stable { (list.sort_call nat_lt (list_of 1 (3 ∷ 1 ∷ 3 ∷ []))).after.rows ≡ row 2 1 ∷ row 1 3 ∷ row 3 3 ∷ [] }
+    ensures sorted_in_a_loop { (list.sort_call nat_lt (guarded 1 0 (list_of 1 []))).reason ≡ Some CursorTampering }
+    ensures reversed_in_a_loop { (list.reverse_elements_call (guarded 1 0 (list_of 1 []))).reason ≡ Some CursorTampering }
 {}
