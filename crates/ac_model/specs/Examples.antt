@@ -1,5 +1,5 @@
 -- Objects for the examples.
-use Rattle.std.specs.Prelude.{◌/◌, nat_eq, nat_lt, ℕ, ℤ, true, false, List, length, Option}
+use Rattle.std.specs.Prelude.{◌/◌, ◌==◌, nat_eq, nat_lt, ℕ, ℤ, true, false, List, length, Option}
 use Rattle.ac_base.specs.declared.limit.Limit.TheVariants.{Unbounded, Bounded}
 use Rattle.ac_base.specs.declared.name.Name.{Name}
 use Rattle.ac_model.specs.Maps as maps
@@ -49,6 +49,10 @@ hashed_map_of number entries = vector_holding number entries
 abbrev pub ordered_map_of : ℕ → List (Entry ℕ ℕ) → Object ℕ (Entry ℕ ℕ)
 ordered_map_of number entries = holding number entries
 
+-- numbers with a key, which is all their digits but the last
+abbrev pub tens : ℕ → ℕ
+tens n = n / 10
+
 -- how the examples' maps and sets of numbers are ordered
 abbrev pub hashed_entries : Order (Entry ℕ ℕ)
 hashed_entries = maps.hashed nat_eq
@@ -56,15 +60,15 @@ hashed_entries = maps.hashed nat_eq
 abbrev pub ordered_entries : Order (Entry ℕ ℕ)
 ordered_entries = maps.ordered nat_lt
 
+-- keys that are equivalent where all their digits but the last are the same
+abbrev pub by_tens : Order (Entry ℕ ℕ)
+by_tens = maps.hashed (λ k l. tens k == tens l)
+
 abbrev pub hashed_numbers : Order ℕ
 hashed_numbers = by_arrival nat_eq
 
 abbrev pub ordered_numbers : Order ℕ
 ordered_numbers = ascending nat_lt
-
--- numbers with a key, which is all their digits but the last
-abbrev pub tens : ℕ → ℕ
-tens n = n / 10
 
 abbrev pub hashed_tens : Order ℕ
 hashed_tens = keyed_sets.hashed tens nat_eq
