@@ -8,6 +8,7 @@ pub mod common_examples;
 mod cursors;
 pub mod guards_apart;
 pub mod holder_examples;
+pub mod keyed_set_examples;
 pub mod keyed_validity;
 pub mod list_examples;
 pub mod map_examples;

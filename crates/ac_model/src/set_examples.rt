@@ -19,6 +19,9 @@ pub fn ordered()
     ensures no_floor { set.floor_call nat_lt (list_of 1 (10 ∷ 20 ∷ [])) 9 ≡ no_mark }
     ensures ceiling { set.ceiling_call nat_lt (list_of 1 (10 ∷ 20 ∷ [])) 20 ≡ mark_at 1 2 }
     ensures floor { set.floor_call nat_lt (list_of 1 (10 ∷ 20 ∷ [])) 19 ≡ mark_at 1 1 }
+    ensures floor_there { set.floor_call nat_lt (list_of 1 (10 ∷ 20 ∷ [])) 20 ≡ mark_at 1 2 }
+    ensures ceiling_between { set.ceiling_call nat_lt (list_of 1 (10 ∷ 20 ∷ [])) 11 ≡ mark_at 1 2 }
+    ensures no_ceiling { set.ceiling_call nat_lt (list_of 1 (10 ∷ 20 ∷ [])) 21 ≡ no_mark }
     ensures duplicate { (keyed.replace_element_call ordered_numbers (list_of 1 (10 ∷ 20 ∷ [])) (mark_at 1 1) 20).reason ≡ Some Duplicate }
     ensures replaced { let c = keyed.replace_element_call ordered_numbers (list_of 1 (10 ∷ 20 ∷ [])) (mark_at 1 1) 30 in
         (c.reason ≡ None) × (c.after.rows ≡ row 2 20 ∷ row 1 30 ∷ []) }
@@ -67,4 +70,91 @@ pub fn algebra()
 pub fn guards_of_a_set()
     ensures held { (common.hold_call true kind.Elements (list_of 1 (4 ∷ []))).cursor_guards ≡ 1 }
     ensures of_a_list { (common.hold_call false kind.Elements (list_of 1 (4 ∷ []))).element_guards ≡ 1 }
+{}
+
+/// Elements are looked up, excluded and deleted by equivalence, and guards forbid each change first.
+pub fn by_item()
+    ensures found { set.find_call hashed_tens (vector_of 1 (11 ∷ 25 ∷ [])) 29 ≡ mark_at 1 2 }
+    ensures not_found { set.find_call hashed_tens (vector_of 1 (11 ∷ 25 ∷ [])) 35 ≡ no_mark }
+    ensures not_contained { set.contains_call hashed_tens (vector_of 1 (11 ∷ [])) 21 ≡ false }
+    ensures excluded { let c = set.exclude_call hashed_tens (vector_of 1 (11 ∷ 25 ∷ 31 ∷ [])) 29 in
+        (c.reason ≡ None) × (c.after.rows ≡ row 1 11 ∷ row 3 31 ∷ []) × (c.after.next ≡ 4) }
+    ensures excluded_none { let c = set.exclude_call hashed_tens (vector_of 1 (11 ∷ [])) 29 in (c.reason ≡ None) × (c.after.rows ≡ row 1 11 ∷ []) }
+    ensures exclude_in_a_loop { (set.exclude_call hashed_tens (guarded 1 0 (vector_of 1 [])) 29).reason ≡ Some CursorTampering }
+    ensures deleted { let c = set.delete_item_call hashed_tens (vector_of 1 (11 ∷ 25 ∷ 31 ∷ [])) 29 in
+        (c.reason ≡ None) × (c.after.rows ≡ row 1 11 ∷ row 3 31 ∷ []) × (c.after.next ≡ 4) }
+    ensures deleted_none { (set.delete_item_call hashed_tens (vector_of 1 (11 ∷ [])) 29).reason ≡ Some KeyAbsent }
+    ensures delete_in_a_loop { (set.delete_item_call hashed_tens (guarded 1 0 (vector_of 1 [])) 29).reason ≡ Some CursorTampering }
+{}
+
+/// An equivalent element is replaced in its place under its name, and a guard of any kind forbids it.
+pub fn replaced()
+    ensures in_place { let c = set.replace_call hashed_tens (vector_of 1 (11 ∷ 25 ∷ [])) 19 in
+        (c.reason ≡ None) × (c.after.rows ≡ row 1 19 ∷ row 2 25 ∷ []) }
+    ensures absent { (set.replace_call hashed_tens (vector_of 1 (11 ∷ [])) 25).reason ≡ Some KeyAbsent }
+    ensures in_a_loop { (set.replace_call hashed_tens (guarded 1 0 (vector_of 1 [])) 25).reason ≡ Some CursorTampering }
+    ensures element_in_a_loop { (keyed.replace_element_call ordered_numbers (guarded 1 0 (list_of 1 [])) no_mark 25).reason ≡ Some CursorTampering }
+    ensures element_of_none { (keyed.replace_element_call ordered_numbers (list_of 1 (10 ∷ [])) no_mark 10).reason ≡ Some NoElement }
+    ensures hashed_element { let c = keyed.replace_element_call hashed_numbers (vector_of 1 (10 ∷ 20 ∷ [])) (mark_at 1 1) 30 in
+        (c.reason ≡ None) × (c.after.rows ≡ row 1 30 ∷ row 2 20 ∷ []) × (c.after.next ≡ 3) }
+    ensures included { let c = keyed.include_call hashed_tens (vector_of 1 (11 ∷ 25 ∷ [])) 19 in
+        (c.reason ≡ None) × (c.after.rows ≡ row 1 19 ∷ row 2 25 ∷ []) × (c.after.next ≡ 3) }
+    ensures found { let c = keyed.insert_pos_call hashed_tens (vector_of 1 (11 ∷ 25 ∷ [])) 29 in
+        (c.answer.inserted ≡ false) × (c.answer.position ≡ mark_at 1 2) × (c.after ≡ vector_of 1 (11 ∷ 25 ∷ [])) }
+    ensures inserted { let c = keyed.insert_pos_call ordered_numbers (list_of 1 (20 ∷ [])) 10 in
+        (c.answer.inserted ≡ true) × (c.answer.position ≡ mark_at 1 2) × (c.after.rows ≡ row 2 10 ∷ row 1 20 ∷ []) }
+{}
+
+/// A set against one that has more, or less, or as many.
+pub fn compared()
+    ensures equal { set.equal_call nat_eq (vector_of 1 (4 ∷ 5 ∷ [])) (vector_of 2 (5 ∷ 4 ∷ [])) ≡ true }
+    ensures greater_right { set.equal_call nat_eq (vector_of 1 (4 ∷ [])) (vector_of 2 (5 ∷ 4 ∷ [])) ≡ false }
+    ensures greater_left { set.equal_call nat_eq (vector_of 1 (4 ∷ 5 ∷ [])) (vector_of 2 (4 ∷ [])) ≡ false }
+    ensures one_unequal { set.equal_call nat_eq (vector_of 1 (4 ∷ 5 ∷ [])) (vector_of 2 (4 ∷ 6 ∷ [])) ≡ false }
+    ensures subset_in_part { set.is_subset_call hashed_numbers (vector_of 1 (4 ∷ 5 ∷ [])) (vector_of 2 (4 ∷ 6 ∷ [])) ≡ false }
+    ensures subset_of_less { set.is_subset_call hashed_numbers (vector_of 1 (4 ∷ 5 ∷ [])) (vector_of 2 (4 ∷ [])) ≡ false }
+    ensures none_is_subset { set.is_subset_call hashed_numbers (vector_of 1 []) (vector_of 2 (4 ∷ [])) ≡ true }
+    ensures overlap_in_part { set.overlap_call hashed_numbers (vector_of 1 (4 ∷ 5 ∷ [])) (vector_of 2 (5 ∷ 6 ∷ [])) ≡ true }
+    ensures none_overlaps { set.overlap_call hashed_numbers (vector_of 1 []) (vector_of 2 (5 ∷ [])) ≡ false }
+    ensures equivalent_to_greater { set.equivalent_sets_call hashed_numbers (vector_of 1 (4 ∷ [])) (vector_of 2 (4 ∷ 5 ∷ [])) ≡ false }
+    ensures equivalent_to_less { set.equivalent_sets_call hashed_numbers (vector_of 1 (4 ∷ 5 ∷ [])) (vector_of 2 (4 ∷ [])) ≡ false }
+    ensures equivalent_in_part { set.equivalent_sets_call hashed_numbers (vector_of 1 (4 ∷ 5 ∷ [])) (vector_of 2 (4 ∷ 6 ∷ [])) ≡ false }
+{}
+
+/// The set procedures keep the target's names, and only the target's guards forbid them.
+pub fn algebra_in_steps()
+    ensures union_names { (set.union_call ordered_numbers (list_of 1 (20 ∷ [])) (list_of 2 (10 ∷ 30 ∷ []))).after.next ≡ 4 }
+    ensures intersection { let c = set.intersection_call hashed_tens (vector_of 1 (11 ∷ 21 ∷ 31 ∷ [])) (vector_of 2 (32 ∷ 22 ∷ [])) in
+        (c.reason ≡ None) × (c.after.rows ≡ row 2 21 ∷ row 3 31 ∷ []) × (c.after.next ≡ 4) }
+    ensures difference { let c = set.difference_call hashed_tens (vector_of 1 (11 ∷ 21 ∷ 31 ∷ [])) (vector_of 2 (32 ∷ 12 ∷ [])) in
+        (c.reason ≡ None) × (c.after.rows ≡ row 2 21 ∷ []) × (c.after.next ≡ 4) }
+    ensures symmetric { let c = set.symmetric_difference_call ordered_tens (list_of 1 (11 ∷ 21 ∷ [])) (list_of 2 (12 ∷ 32 ∷ 42 ∷ [])) in
+        (c.reason ≡ None) × (c.after.rows ≡ row 2 21 ∷ row 3 32 ∷ row 4 42 ∷ []) × (c.after.next ≡ 5) }
+    ensures symmetric_full { (set.symmetric_difference_call hashed_numbers (bounded_vector_of 1 2 (1 ∷ 2 ∷ [])) (vector_of 2 (2 ∷ 3 ∷ 4 ∷ []))).reason
+        ≡ Some CapacityFull }
+    ensures union_need { (set.union_call hashed_numbers (bounded_vector_of 1 3 (1 ∷ 2 ∷ [])) (vector_of 2 (2 ∷ 3 ∷ []))).reason ≡ None }
+    ensures union_in_a_loop { (set.union_call hashed_numbers (guarded 1 0 (vector_of 1 [])) (vector_of 2 [])).reason ≡ Some CursorTampering }
+    ensures intersection_in_a_loop { (set.intersection_call hashed_numbers (guarded 1 0 (vector_of 1 [])) (vector_of 2 [])).reason
+        ≡ Some CursorTampering }
+    ensures difference_in_a_loop { (set.difference_call hashed_numbers (guarded 1 0 (vector_of 1 [])) (vector_of 2 [])).reason ≡ Some CursorTampering }
+    ensures symmetric_in_a_loop { (set.symmetric_difference_call hashed_numbers (guarded 1 0 (vector_of 1 [])) (vector_of 2 [])).reason
+        ≡ Some CursorTampering }
+    ensures union_from_a_loop { (set.union_call hashed_numbers (vector_of 1 []) (guarded 1 0 (vector_of 2 (4 ∷ [])))).reason ≡ None }
+    ensures intersection_from_a_loop { (set.intersection_call hashed_numbers (vector_of 1 []) (guarded 1 0 (vector_of 2 []))).reason ≡ None }
+    ensures difference_from_a_loop { (set.difference_call hashed_numbers (vector_of 1 []) (guarded 1 0 (vector_of 2 []))).reason ≡ None }
+    ensures symmetric_from_a_loop { (set.symmetric_difference_call hashed_numbers (vector_of 1 []) (guarded 1 0 (vector_of 2 []))).reason ≡ None }
+{}
+
+/// A set with itself: union and intersection change nothing, the differences leave nothing, and a loop forbids all four.
+pub fn algebra_with_itself()
+    ensures union { let o = vector_of 1 (4 ∷ 5 ∷ []) in let c = set.union_self_call o in (c.reason ≡ None) × (c.after ≡ o) }
+    ensures intersection { let o = vector_of 1 (4 ∷ 5 ∷ []) in let c = set.intersection_self_call o in (c.reason ≡ None) × (c.after ≡ o) }
+    ensures difference { let c = set.difference_self_call (vector_of 1 (4 ∷ 5 ∷ [])) in
+        (c.reason ≡ None) × (c.after.rows ≡ []) × (c.after.next ≡ 3) }
+    ensures symmetric { let c = set.symmetric_difference_self_call (vector_of 1 (4 ∷ 5 ∷ [])) in
+        (c.reason ≡ None) × (c.after.rows ≡ []) × (c.after.next ≡ 3) }
+    ensures union_in_a_loop { (set.union_self_call (guarded 1 0 (vector_of 1 []))).reason ≡ Some CursorTampering }
+    ensures intersection_in_a_loop { (set.intersection_self_call (guarded 1 0 (vector_of 1 []))).reason ≡ Some CursorTampering }
+    ensures difference_in_a_loop { (set.difference_self_call (guarded 1 0 (vector_of 1 []))).reason ≡ Some CursorTampering }
+    ensures symmetric_in_a_loop { (set.symmetric_difference_self_call (guarded 1 0 (vector_of 1 []))).reason ≡ Some CursorTampering }
 {}
