@@ -1,11 +1,11 @@
 -- Objects for the examples.
-use Rattle.std.specs.Prelude.{◌/◌, ◌==◌, nat_eq, nat_lt, ℕ, ℤ, true, false, List, length, Option}
+use Rattle.std.specs.Prelude.{◌/◌, ◌==◌, ◌∷◌, [], nat_eq, nat_lt, ℕ, ℤ, true, false, List, length, Option}
 use Rattle.ac_base.specs.declared.limit.Limit.TheVariants.{Unbounded, Bounded}
 use Rattle.ac_base.specs.declared.name.Name.{Name}
 use Rattle.ac_model.specs.Maps as maps
 use Rattle.ac_model.specs.KeyedSets as keyed_sets
 use Rattle.ac_model.specs.Keyed.{Order, by_arrival, ascending}
-use Rattle.ac_model.specs.Rows.{Entry, Node, fresh}
+use Rattle.ac_model.specs.Rows.{Entry, Node, node, fresh}
 use Rattle.ac_model.specs.Holders.{Holder}
 use Rattle.ac_model.specs.Queues.{Queue}
 use Rattle.ac_model.specs.Objects.{Object, grown, empty_object}
@@ -90,3 +90,13 @@ queue_of items = record { limit = Unbounded; items = items; peak = length items 
 -- a tree of numbers with this outline
 abbrev pub tree_of : ℕ → List (Node ℕ) → Object ℕ (Node ℕ)
 tree_of number nodes = holding number nodes
+
+-- the trees [1 [2]], [1 [2, 3], 4] and [1 [2, 3 [5]], 4], with their names in preorder
+abbrev pub tree_one_two : Object ℕ (Node ℕ)
+tree_one_two = tree_of 1 (node 2 1 ∷ node 3 2 ∷ [])
+
+abbrev pub tree_of_four : Object ℕ (Node ℕ)
+tree_of_four = tree_of 1 (node 2 1 ∷ node 3 2 ∷ node 3 3 ∷ node 2 4 ∷ [])
+
+abbrev pub tree_of_five : Object ℕ (Node ℕ)
+tree_of_five = tree_of 1 (node 2 1 ∷ node 3 2 ∷ node 3 3 ∷ node 4 5 ∷ node 2 4 ∷ [])
