@@ -2,7 +2,8 @@
 ghost use Rattle.std.specs.Prelude.{◌≡◌, ◌∷◌, [], ℕ, pos, negsuc, true, false, None, Some};
 ghost use Rattle.ac_base.specs.declared.guard.GuardKind.TheVariants as kind;
 ghost use Rattle.ac_base.specs.declared.limit.Limit.TheVariants.{Unbounded, Bounded};
-ghost use Rattle.ac_base.specs.declared.reason.Reason.TheVariants.{CursorTampering, ElementTampering, LengthRange, CapacityFull, NamesSpent};
+ghost use Rattle.ac_base.specs.declared.reason.Reason.TheVariants.{CursorTampering, ElementTampering, LengthRange};
+ghost use Rattle.ac_base.specs.declared.reason.Reason.TheVariants.{CapacityFull, NamesSpent};
 ghost use Rattle.ac_base.specs.Rows.{row};
 ghost use Rattle.ac_model.specs.Letters.{no_mark, mark_at, stale_mark};
 ghost use Rattle.ac_model.specs.Common as common;
@@ -51,7 +52,8 @@ pub fn moved()
         (c.reason ≡ None) × (c.after.target.rows ≡ row 2 4 ∷ row 3 5 ∷ []) × (c.after.target.next ≡ 4)
         × (c.after.source.rows ≡ []) × (c.after.source.next ≡ 3) }
     ensures from_a_loop { (common.move_from_call (list_of 1 []) (guarded 1 0 (list_of 2 []))).reason ≡ Some CursorTampering }
-    ensures target_first { (common.move_from_call (guarded 0 1 (list_of 1 [])) (guarded 1 0 (list_of 2 []))).reason ≡ Some ElementTampering }
+    ensures target_first { (common.move_from_call (guarded 0 1 (list_of 1 [])) (guarded 1 0 (list_of 2 []))).reason
+        ≡ Some ElementTampering }
     ensures full { (common.move_from_call (bounded_vector_of 1 1 []) (bounded_vector_of 2 9 (4 ∷ 5 ∷ []))).reason ≡ Some CapacityFull }
     ensures just_full { (common.move_from_call (bounded_vector_of 1 2 (7 ∷ [])) (bounded_vector_of 2 9 (4 ∷ 5 ∷ []))).reason ≡ None }
     ensures itself { let o = list_of 1 (4 ∷ 5 ∷ []) in let c = common.move_from_self_call o in (c.reason ≡ None) × (c.after ≡ o) }

@@ -20,8 +20,10 @@ pub fn bounded()
 pub fn moved()
     ensures moved_from { let c = holder.move_from_call length (holder_of 1 3 None) (holder_of 2 9 (Some (codes "ab"))) in
         (c.reason ≡ None) × (c.after.target.element ≡ Some (codes "ab")) × (c.after.source.element ≡ None) }
-    ensures swapped { (holder.swap_call length (holder_of 1 9 (Some (codes "abcd"))) (holder_of 2 3 (Some (codes "ab")))).reason ≡ Some TooLarge }
-    ensures tampering_first { (holder.swap_call length (holder_of 1 9 (Some (codes "abcd"))) (holder_guarded (holder_of 2 3 None))).reason ≡ Some ElementTampering }
+    ensures swapped { (holder.swap_call length (holder_of 1 9 (Some (codes "abcd"))) (holder_of 2 3 (Some (codes "ab")))).reason
+        ≡ Some TooLarge }
+    ensures tampering_first { (holder.swap_call length (holder_of 1 9 (Some (codes "abcd"))) (holder_guarded (holder_of 2 3 None))).reason
+        ≡ Some ElementTampering }
 {}
 
 /// A write finds no element before it finds the new one too large.
@@ -62,7 +64,8 @@ pub fn assigned()
 pub fn exchanged()
     ensures moved_none { let c = holder.move_from_call length (holder_of 1 3 (Some (codes "x"))) (holder_of 2 9 None) in
         (c.reason ≡ None) × (c.after.target ≡ holder_of 1 3 None) × (c.after.source ≡ holder_of 2 9 None) }
-    ensures moved_too_large { (holder.move_from_call length (holder_of 1 3 None) (holder_of 2 9 (Some (codes "abcd")))).reason ≡ Some TooLarge }
+    ensures moved_too_large { (holder.move_from_call length (holder_of 1 3 None) (holder_of 2 9 (Some (codes "abcd")))).reason
+        ≡ Some TooLarge }
     ensures moved_from_a_view { let source = holder_guarded (holder_of 2 9 (Some (codes "abcd"))) in
         (holder.move_from_call length (holder_of 1 3 None) source).reason ≡ Some ElementTampering }
     ensures moved_in_a_view { let target = holder_guarded (holder_of 1 3 None) in

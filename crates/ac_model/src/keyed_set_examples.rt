@@ -1,6 +1,7 @@
 //! Examples of the calls that sets with keys add. Elements are numbers, and the key is all digits but the last.
 ghost use Rattle.std.specs.Prelude.{◌≡◌, ◌∷◌, [], ℕ, nat_lt, nat_eq, true, false, None, Some};
-ghost use Rattle.ac_base.specs.declared.reason.Reason.TheVariants.{CursorTampering, NoElement, DeadCursor, KeyAbsent, KeyChanged, Duplicate};
+ghost use Rattle.ac_base.specs.declared.reason.Reason.TheVariants.{CursorTampering, NoElement, DeadCursor};
+ghost use Rattle.ac_base.specs.declared.reason.Reason.TheVariants.{KeyAbsent, KeyChanged, Duplicate};
 ghost use Rattle.ac_base.specs.Rows.{row};
 ghost use Rattle.ac_model.specs.Letters.{no_mark, mark_at};
 ghost use Rattle.ac_model.specs.KeyedSets as by_key;
@@ -11,7 +12,8 @@ pub fn looked_up()
     ensures key { let c = by_key.key_call tens (vector_of 1 (11 ∷ 25 ∷ [])) (mark_at 1 2) in (c.reason ≡ None) × (c.answer ≡ Some 2) }
     ensures key_of_none { (by_key.key_call tens (vector_of 1 (11 ∷ [])) no_mark).reason ≡ Some NoElement }
     ensures key_of_dead { (by_key.key_call tens (vector_of 1 (11 ∷ [])) (mark_at 1 2)).reason ≡ Some DeadCursor }
-    ensures element { let c = by_key.key_element_call tens nat_eq (vector_of 1 (11 ∷ 25 ∷ [])) 2 in (c.reason ≡ None) × (c.answer ≡ Some 25) }
+    ensures element { let c = by_key.key_element_call tens nat_eq (vector_of 1 (11 ∷ 25 ∷ [])) 2 in
+        (c.reason ≡ None) × (c.answer ≡ Some 25) }
     ensures element_of_absent { (by_key.key_element_call tens nat_eq (vector_of 1 (11 ∷ 25 ∷ [])) 25).reason ≡ Some KeyAbsent }
     ensures not_found { by_key.key_find_call tens nat_eq (vector_of 1 (11 ∷ 25 ∷ [])) 25 ≡ no_mark }
     ensures contained { by_key.key_contains_call tens nat_eq (vector_of 1 (11 ∷ 25 ∷ [])) 2 ≡ true }
@@ -48,9 +50,11 @@ pub fn replaced()
     ensures ordered { let c = by_key.key_replace_call tens nat_eq ordered_tens (list_of 1 (15 ∷ 25 ∷ [])) 1 35 in
         (c.reason ≡ None) × (c.after.rows ≡ row 2 25 ∷ row 1 35 ∷ []) × (c.after.next ≡ 3) }
     ensures same_key { (by_key.key_replace_call tens nat_eq ordered_tens (list_of 1 (15 ∷ 25 ∷ [])) 1 17).reason ≡ None }
-    ensures absent_before_duplicate { (by_key.key_replace_call tens nat_eq hashed_tens (vector_of 1 (15 ∷ [])) 2 17).reason ≡ Some KeyAbsent }
+    ensures absent_before_duplicate { (by_key.key_replace_call tens nat_eq hashed_tens (vector_of 1 (15 ∷ [])) 2 17).reason
+        ≡ Some KeyAbsent }
     ensures duplicate { (by_key.key_replace_call tens nat_eq ordered_tens (list_of 1 (15 ∷ 25 ∷ [])) 1 27).reason ≡ Some Duplicate }
-    ensures in_a_loop { (by_key.key_replace_call tens nat_eq hashed_tens (guarded 1 0 (vector_of 1 [])) 2 17).reason ≡ Some CursorTampering }
+    ensures in_a_loop { (by_key.key_replace_call tens nat_eq hashed_tens (guarded 1 0 (vector_of 1 [])) 2 17).reason
+        ≡ Some CursorTampering }
 {}
 
 /// A copy is taken where no guard is held, and at the end the other elements and the guards of others stay.

@@ -80,12 +80,18 @@ pub fn merged()
 
 /// Links are exchanged and moved with their names, where values are exchanged under the names.
 pub fn moved_with_names()
-    ensures values { (sequence.swap_call (list_of 1 (4 ∷ 5 ∷ 6 ∷ [])) (mark_at 1 1) (mark_at 1 3)).after.rows ≡ row 1 6 ∷ row 2 5 ∷ row 3 4 ∷ [] }
-    ensures links { (list.swap_links_call (list_of 1 (4 ∷ 5 ∷ 6 ∷ [])) (mark_at 1 1) (mark_at 1 3)).after.rows ≡ row 3 6 ∷ row 2 5 ∷ row 1 4 ∷ [] }
-    ensures within { (list.splice_within_call (list_of 1 (4 ∷ 5 ∷ 6 ∷ [])) (mark_at 1 1) (mark_at 1 3)).after.rows ≡ row 3 6 ∷ row 1 4 ∷ row 2 5 ∷ [] }
-    ensures to_the_end { (list.splice_within_call (list_of 1 (4 ∷ 5 ∷ 6 ∷ [])) no_mark (mark_at 1 1)).after.rows ≡ row 2 5 ∷ row 3 6 ∷ row 1 4 ∷ [] }
-    ensures before_itself { (list.splice_within_call (list_of 1 (4 ∷ 5 ∷ [])) (mark_at 1 1) (mark_at 1 1)).after.rows ≡ row 1 4 ∷ row 2 5 ∷ [] }
-    ensures before_its_next { (list.splice_within_call (list_of 1 (4 ∷ 5 ∷ [])) (mark_at 1 2) (mark_at 1 1)).after.rows ≡ row 1 4 ∷ row 2 5 ∷ [] }
+    ensures values { (sequence.swap_call (list_of 1 (4 ∷ 5 ∷ 6 ∷ [])) (mark_at 1 1) (mark_at 1 3)).after.rows
+        ≡ row 1 6 ∷ row 2 5 ∷ row 3 4 ∷ [] }
+    ensures links { (list.swap_links_call (list_of 1 (4 ∷ 5 ∷ 6 ∷ [])) (mark_at 1 1) (mark_at 1 3)).after.rows
+        ≡ row 3 6 ∷ row 2 5 ∷ row 1 4 ∷ [] }
+    ensures within { (list.splice_within_call (list_of 1 (4 ∷ 5 ∷ 6 ∷ [])) (mark_at 1 1) (mark_at 1 3)).after.rows
+        ≡ row 3 6 ∷ row 1 4 ∷ row 2 5 ∷ [] }
+    ensures to_the_end { (list.splice_within_call (list_of 1 (4 ∷ 5 ∷ 6 ∷ [])) no_mark (mark_at 1 1)).after.rows
+        ≡ row 2 5 ∷ row 3 6 ∷ row 1 4 ∷ [] }
+    ensures before_itself { (list.splice_within_call (list_of 1 (4 ∷ 5 ∷ [])) (mark_at 1 1) (mark_at 1 1)).after.rows
+        ≡ row 1 4 ∷ row 2 5 ∷ [] }
+    ensures before_its_next { (list.splice_within_call (list_of 1 (4 ∷ 5 ∷ [])) (mark_at 1 2) (mark_at 1 1)).after.rows
+        ≡ row 1 4 ∷ row 2 5 ∷ [] }
     ensures backwards { (list.reverse_elements_call (list_of 1 (4 ∷ 5 ∷ []))).after.rows ≡ row 2 5 ∷ row 1 4 ∷ [] }
 {}
 
@@ -105,17 +111,20 @@ pub fn searched()
 /// A splice needs room for what comes and no guard on either list, and one of a list into itself changes nothing.
 pub fn splices_refused()
     ensures from_a_loop { (list.splice_call (list_of 1 []) (mark_at 1 9) (guarded 1 0 (list_of 2 []))).reason ≡ Some CursorTampering }
-    ensures target_first { (list.splice_call (guarded 0 1 (list_of 1 [])) no_mark (guarded 1 0 (list_of 2 []))).reason ≡ Some ElementTampering }
+    ensures target_first { (list.splice_call (guarded 0 1 (list_of 1 [])) no_mark (guarded 1 0 (list_of 2 []))).reason
+        ≡ Some ElementTampering }
     ensures before_dead { (list.splice_call (bounded_vector_of 1 0 []) (mark_at 1 9) (list_of 2 (4 ∷ []))).reason ≡ Some DeadCursor }
     ensures full { (list.splice_call (bounded_vector_of 1 2 (3 ∷ [])) no_mark (list_of 2 (4 ∷ 5 ∷ []))).reason ≡ Some CapacityFull }
     ensures just_full { (list.splice_call (bounded_vector_of 1 3 (3 ∷ [])) no_mark (list_of 2 (4 ∷ 5 ∷ []))).reason ≡ None }
-    ensures one_full { (list.splice_one_call (bounded_vector_of 1 1 (3 ∷ [])) no_mark (list_of 2 (4 ∷ [])) (mark_at 2 1)).reason ≡ Some CapacityFull }
+    ensures one_full { (list.splice_one_call (bounded_vector_of 1 1 (3 ∷ [])) no_mark (list_of 2 (4 ∷ [])) (mark_at 2 1)).reason
+        ≡ Some CapacityFull }
     ensures one_of_none { (list.splice_one_call (list_of 1 []) (mark_at 1 9) (list_of 2 (4 ∷ [])) no_mark).reason ≡ Some NoElement }
 {}
 
 /// A list that is spliced into itself stays as it is, and needs no room and no name.
 pub fn spliced_into_itself()
-    ensures same { let o = with_next 18446744073709551615 (bounded_vector_of 1 2 (4 ∷ 5 ∷ [])) in let c = list.splice_self_call o (mark_at 1 2) in
+    ensures same { let o = with_next 18446744073709551615 (bounded_vector_of 1 2 (4 ∷ 5 ∷ [])) in
+        let c = list.splice_self_call o (mark_at 1 2) in
         (c.reason ≡ None) × (c.after ≡ o) × (c.memory ≡ false) }
     ensures before_the_end { (list.splice_self_call (list_of 1 (4 ∷ [])) no_mark).reason ≡ None }
     ensures before_dead { (list.splice_self_call (list_of 1 (4 ∷ [])) (mark_at 1 9)).reason ≡ Some DeadCursor }
@@ -128,7 +137,8 @@ pub fn one_spliced_within()
         (c.reason ≡ None) × (c.after.rows ≡ row 3 6 ∷ row 1 4 ∷ row 2 5 ∷ []) × (c.answer ≡ mark_at 1 3) × (c.after.next ≡ 4) }
     ensures to_the_end { let c = list.splice_one_self_call (list_of 1 (4 ∷ 5 ∷ [])) no_mark (mark_at 1 1) in
         (c.reason ≡ None) × (c.after.rows ≡ row 2 5 ∷ row 1 4 ∷ []) × (c.answer ≡ mark_at 1 1) }
-    ensures before_itself { (list.splice_one_self_call (list_of 1 (4 ∷ 5 ∷ [])) (mark_at 1 1) (mark_at 1 1)).after ≡ list_of 1 (4 ∷ 5 ∷ []) }
+    ensures before_itself { (list.splice_one_self_call (list_of 1 (4 ∷ 5 ∷ [])) (mark_at 1 1) (mark_at 1 1)).after
+        ≡ list_of 1 (4 ∷ 5 ∷ []) }
     ensures none { (list.splice_one_self_call (list_of 1 (4 ∷ [])) (mark_at 1 9) no_mark).reason ≡ Some NoElement }
     ensures before_dead { (list.splice_one_self_call (list_of 1 (4 ∷ [])) (mark_at 1 9) (mark_at 1 1)).reason ≡ Some DeadCursor }
     ensures in_a_view { (list.splice_one_self_call (guarded 0 1 (list_of 1 [])) no_mark no_mark).reason ≡ Some ElementTampering }

@@ -50,25 +50,35 @@ pub fn stock()
     ensures updated { let o = hashed_map_of 1 (entry 3 4 ∷ entry 2 12 ∷ entry 1 7 ∷ []) in
         contents (map.write_call o (mark_at 1 1) 5).after ≡ entry 3 5 ∷ entry 2 12 ∷ entry 1 7 ∷ [] }
     ensures no_element { (map.element_call (hashed_map_of 1 (entry 3 4 ∷ [])) no_mark).reason ≡ Some NoElement }
-    ensures queried { (map.replace_call hashed_entries (guarded 0 1 (hashed_map_of 1 (entry 3 14 ∷ []))) 3 0).reason ≡ Some ElementTampering }
+    ensures queried { (map.replace_call hashed_entries (guarded 0 1 (hashed_map_of 1 (entry 3 14 ∷ []))) 3 0).reason
+        ≡ Some ElementTampering }
     ensures in_a_loop { (map.replace_call hashed_entries (guarded 1 0 (hashed_map_of 1 (entry 3 14 ∷ []))) 3 0).reason ≡ None }
-    ensures equal { map.equal_call nat_eq nat_eq (hashed_map_of 1 (entry 3 4 ∷ entry 2 5 ∷ [])) (hashed_map_of 2 (entry 2 5 ∷ entry 3 4 ∷ [])) ≡ true }
-    ensures unequal { map.equal_call nat_eq nat_eq (hashed_map_of 1 (entry 3 4 ∷ entry 2 5 ∷ [])) (hashed_map_of 2 (entry 2 5 ∷ entry 3 6 ∷ [])) ≡ false }
+    ensures equal { let o = hashed_map_of 1 (entry 3 4 ∷ entry 2 5 ∷ []) in
+        map.equal_call nat_eq nat_eq o (hashed_map_of 2 (entry 2 5 ∷ entry 3 4 ∷ []))
+        ≡ true }
+    ensures unequal { let o = hashed_map_of 1 (entry 3 4 ∷ entry 2 5 ∷ []) in
+        map.equal_call nat_eq nat_eq o (hashed_map_of 2 (entry 2 5 ∷ entry 3 6 ∷ []))
+        ≡ false }
 {}
 
 /// Tampering comes before a present key, a present key before the room, and a name is needed only where something is inserted.
 pub fn in_steps()
-    ensures tampering { (map.insert_call hashed_entries (guarded 1 0 (hashed_map_of 1 (entry 3 4 ∷ []))) 3 0).reason ≡ Some CursorTampering }
-    ensures present { (map.insert_call hashed_entries (with_next 18446744073709551615 (hashed_map_of 1 (entry 3 4 ∷ []))) 3 0).reason ≡ Some KeyPresent }
-    ensures names { (map.insert_call hashed_entries (with_next 18446744073709551615 (hashed_map_of 1 (entry 3 4 ∷ []))) 2 0).reason ≡ Some NamesSpent }
-    ensures included { (map.include_call hashed_entries (with_next 18446744073709551615 (hashed_map_of 1 (entry 3 4 ∷ []))) 3 0).reason ≡ None }
+    ensures tampering { (map.insert_call hashed_entries (guarded 1 0 (hashed_map_of 1 (entry 3 4 ∷ []))) 3 0).reason
+        ≡ Some CursorTampering }
+    ensures present { (map.insert_call hashed_entries (with_next 18446744073709551615 (hashed_map_of 1 (entry 3 4 ∷ []))) 3 0).reason
+        ≡ Some KeyPresent }
+    ensures names { (map.insert_call hashed_entries (with_next 18446744073709551615 (hashed_map_of 1 (entry 3 4 ∷ []))) 2 0).reason
+        ≡ Some NamesSpent }
+    ensures included { (map.include_call hashed_entries (with_next 18446744073709551615 (hashed_map_of 1 (entry 3 4 ∷ []))) 3 0).reason
+        ≡ None }
     ensures foreign { (keyed.delete_call (hashed_map_of 1 (entry 3 4 ∷ [])) (mark_at 2 1)).reason ≡ Some ForeignCursor }
     ensures memory { (map.include_call hashed_entries (hashed_map_of 1 (entry 3 4 ∷ [])) 3 0).memory ≡ false }
 {}
 
 /// A key and an element are looked up by a cursor or by a key.
 pub fn looked_up()
-    ensures key { let c = map.key_call (hashed_map_of 1 (entry 2 4 ∷ entry 1 7 ∷ [])) (mark_at 1 2) in (c.reason ≡ None) × (c.answer ≡ Some 1) }
+    ensures key { let c = map.key_call (hashed_map_of 1 (entry 2 4 ∷ entry 1 7 ∷ [])) (mark_at 1 2) in
+        (c.reason ≡ None) × (c.answer ≡ Some 1) }
     ensures key_of_none { (map.key_call (hashed_map_of 1 (entry 2 4 ∷ [])) no_mark).reason ≡ Some NoElement }
     ensures key_of_dead { (map.key_call (hashed_map_of 1 (entry 2 4 ∷ [])) (mark_at 1 2)).reason ≡ Some DeadCursor }
     ensures element { (map.element_call (hashed_map_of 1 (entry 2 4 ∷ entry 1 7 ∷ [])) (mark_at 1 2)).answer ≡ Some 7 }
@@ -83,7 +93,8 @@ pub fn looked_up()
 
 /// The ends of an ordered map, and the entries beside a key.
 pub fn ends()
-    ensures first_key { let c = map.first_key_call (ordered_map_of 1 (entry 10 1 ∷ entry 20 2 ∷ [])) in (c.reason ≡ None) × (c.answer ≡ Some 10) }
+    ensures first_key { let c = map.first_key_call (ordered_map_of 1 (entry 10 1 ∷ entry 20 2 ∷ [])) in
+        (c.reason ≡ None) × (c.answer ≡ Some 10) }
     ensures first_element { let c = map.first_element_call (ordered_map_of 1 (entry 10 1 ∷ entry 20 2 ∷ [])) in
         (c.reason ≡ None) × (c.answer ≡ Some 1) }
     ensures last_element { let c = map.last_element_call (ordered_map_of 1 (entry 10 1 ∷ entry 20 2 ∷ [])) in
@@ -95,7 +106,8 @@ pub fn ends()
     ensures floor_there { map.floor_call nat_lt (ordered_map_of 1 (entry 10 1 ∷ entry 20 2 ∷ [])) 20 ≡ mark_at 1 2 }
     ensures ceiling_there { map.ceiling_call nat_lt (ordered_map_of 1 (entry 10 1 ∷ entry 20 2 ∷ [])) 10 ≡ mark_at 1 1 }
     ensures none_less { map.floor_call nat_lt (ordered_map_of 1 (entry 10 1 ∷ entry 20 2 ∷ [])) 9 ≡ no_mark }
-    ensures delete_last { (ordered.delete_last_call (ordered_map_of 1 (entry 10 1 ∷ entry 20 2 ∷ []))).after.rows ≡ row 1 (entry 10 1) ∷ [] }
+    ensures delete_last { (ordered.delete_last_call (ordered_map_of 1 (entry 10 1 ∷ entry 20 2 ∷ []))).after.rows
+        ≡ row 1 (entry 10 1) ∷ [] }
     ensures delete_first_of_none { let c = ordered.delete_first_call (ordered_map_of 1 []) in (c.reason ≡ None) × (c.after.rows ≡ []) }
     ensures delete_first_in_a_loop { (ordered.delete_first_call (guarded 1 0 (ordered_map_of 1 []))).reason ≡ Some CursorTampering }
     ensures delete_last_in_a_loop { (ordered.delete_last_call (guarded 1 0 (ordered_map_of 1 []))).reason ≡ Some CursorTampering }
@@ -118,8 +130,10 @@ pub fn entries_changed()
         (c.reason ≡ None) × (c.after.rows ≡ row 1 (entry 21 4) ∷ row 2 (entry 15 9) ∷ []) }
     ensures included_by_tens { (map.include_call by_tens (hashed_map_of 1 (entry 21 4 ∷ entry 11 7 ∷ [])) 15 9).after.rows
         ≡ row 1 (entry 21 4) ∷ row 2 (entry 15 9) ∷ [] }
-    ensures tampering_before_absent { (map.replace_call hashed_entries (guarded 0 1 (hashed_map_of 1 [])) 3 0).reason ≡ Some ElementTampering }
-    ensures element_replaced { let c = map.replace_element_call (guarded 1 0 (hashed_map_of 1 (entry 2 4 ∷ entry 1 7 ∷ []))) (mark_at 1 2) 9 in
+    ensures tampering_before_absent { (map.replace_call hashed_entries (guarded 0 1 (hashed_map_of 1 [])) 3 0).reason
+        ≡ Some ElementTampering }
+    ensures element_replaced { let o = guarded 1 0 (hashed_map_of 1 (entry 2 4 ∷ entry 1 7 ∷ [])) in
+        let c = map.replace_element_call o (mark_at 1 2) 9 in
         (c.reason ≡ None) × (c.after.rows ≡ row 1 (entry 2 4) ∷ row 2 (entry 1 9) ∷ []) }
     ensures element_in_a_view { (map.replace_element_call (guarded 0 1 (hashed_map_of 1 [])) no_mark 9).reason ≡ Some ElementTampering }
     ensures written { let c = map.write_call (guarded 1 1 (hashed_map_of 1 (entry 2 4 ∷ []))) (mark_at 1 1) 9 in
@@ -134,8 +148,10 @@ pub fn entries_changed()
 pub fn entries_deleted()
     ensures excluded { let c = map.exclude_call nat_eq (hashed_map_of 1 (entry 2 4 ∷ entry 1 7 ∷ entry 3 9 ∷ [])) 1 in
         (c.reason ≡ None) × (c.after.rows ≡ row 1 (entry 2 4) ∷ row 3 (entry 3 9) ∷ []) × (c.after.next ≡ 4) }
-    ensures exclude_in_a_loop { (map.exclude_call nat_eq (guarded 1 0 (hashed_map_of 1 (entry 2 4 ∷ []))) 26).reason ≡ Some CursorTampering }
-    ensures exclude_in_a_view { (map.exclude_call nat_eq (guarded 0 1 (hashed_map_of 1 (entry 2 4 ∷ []))) 26).reason ≡ Some ElementTampering }
+    ensures exclude_in_a_loop { (map.exclude_call nat_eq (guarded 1 0 (hashed_map_of 1 (entry 2 4 ∷ []))) 26).reason
+        ≡ Some CursorTampering }
+    ensures exclude_in_a_view { (map.exclude_call nat_eq (guarded 0 1 (hashed_map_of 1 (entry 2 4 ∷ []))) 26).reason
+        ≡ Some ElementTampering }
     ensures delete_key_in_a_loop { (map.delete_key_call nat_eq (guarded 1 0 (hashed_map_of 1 [])) 26).reason ≡ Some CursorTampering }
     ensures matched { let c = keyed.delete_match_call (nat_eq 5) (vector_of 1 (4 ∷ 5 ∷ 6 ∷ [])) in
         (c.reason ≡ None) × (c.after.rows ≡ row 1 4 ∷ row 3 6 ∷ []) × (c.after.next ≡ 4) }
@@ -148,8 +164,10 @@ pub fn entries_deleted()
 
 /// Two maps are equal where they are as long and each key has an equal element in the other.
 pub fn compared()
-    ensures greater_right { map.equal_call nat_eq nat_eq (hashed_map_of 1 (entry 3 4 ∷ [])) (hashed_map_of 2 (entry 2 5 ∷ entry 3 4 ∷ [])) ≡ false }
-    ensures greater_left { map.equal_call nat_eq nat_eq (hashed_map_of 1 (entry 2 5 ∷ entry 3 4 ∷ [])) (hashed_map_of 2 (entry 3 4 ∷ [])) ≡ false }
+    ensures greater_right { map.equal_call nat_eq nat_eq (hashed_map_of 1 (entry 3 4 ∷ [])) (hashed_map_of 2 (entry 2 5 ∷ entry 3 4 ∷ []))
+        ≡ false }
+    ensures greater_left { map.equal_call nat_eq nat_eq (hashed_map_of 1 (entry 2 5 ∷ entry 3 4 ∷ [])) (hashed_map_of 2 (entry 3 4 ∷ []))
+        ≡ false }
     ensures another_key { map.equal_call nat_eq nat_eq (hashed_map_of 1 (entry 3 4 ∷ [])) (hashed_map_of 2 (entry 2 4 ∷ [])) ≡ false }
     ensures elements_exchanged { let left = hashed_map_of 1 (entry 2 5 ∷ entry 3 4 ∷ []) in
         map.equal_call nat_eq nat_eq left (hashed_map_of 2 (entry 2 4 ∷ entry 3 5 ∷ [])) ≡ false }

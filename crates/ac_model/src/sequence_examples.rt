@@ -101,10 +101,12 @@ pub fn values_changed()
 
 /// A merge needs room for both together, and guards of either forbid it.
 pub fn merged()
-    ensures full { (sequence.merge_call nat_lt (bounded_vector_of 1 2 (1 ∷ [])) (bounded_vector_of 2 2 (2 ∷ 3 ∷ []))).reason ≡ Some CapacityFull }
+    ensures full { (sequence.merge_call nat_lt (bounded_vector_of 1 2 (1 ∷ [])) (bounded_vector_of 2 2 (2 ∷ 3 ∷ []))).reason
+        ≡ Some CapacityFull }
     ensures just_full { (sequence.merge_call nat_lt (bounded_vector_of 1 3 (1 ∷ [])) (bounded_vector_of 2 2 (2 ∷ 3 ∷ []))).reason ≡ None }
     ensures from_a_loop { (sequence.merge_call nat_lt (list_of 1 []) (guarded 1 0 (list_of 2 []))).reason ≡ Some CursorTampering }
-    ensures target_first { (sequence.merge_call nat_lt (guarded 0 1 (list_of 1 [])) (guarded 1 0 (list_of 2 []))).reason ≡ Some ElementTampering }
+    ensures target_first { (sequence.merge_call nat_lt (guarded 0 1 (list_of 1 [])) (guarded 1 0 (list_of 2 []))).reason
+        ≡ Some ElementTampering }
     ensures empty_source { let c = sequence.merge_call nat_lt (list_of 1 (3 ∷ 1 ∷ [])) (list_of 2 []) in
         (c.reason ≡ None) × (c.after.target ≡ list_of 1 (3 ∷ 1 ∷ [])) }
     ensures names { let c = sequence.merge_call nat_lt (vector_of 1 (1 ∷ 3 ∷ [])) (vector_of 2 (2 ∷ 4 ∷ [])) in

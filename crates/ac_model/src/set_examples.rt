@@ -1,6 +1,7 @@
 //! Examples of set calls. Elements are numbers, and in a keyed set the key is all digits but the last.
 ghost use Rattle.std.specs.Prelude.{◌≡◌, ◌∷◌, [], ℕ, nat_lt, nat_eq, pos, true, false, None, Some};
-ghost use Rattle.ac_base.specs.declared.reason.Reason.TheVariants.{CursorTampering, NoElement, DeadCursor, KeyPresent, KeyAbsent, KeyChanged, Duplicate, CapacityFull};
+ghost use Rattle.ac_base.specs.declared.reason.Reason.TheVariants.{CursorTampering, NoElement, DeadCursor, KeyPresent};
+ghost use Rattle.ac_base.specs.declared.reason.Reason.TheVariants.{KeyAbsent, KeyChanged, Duplicate, CapacityFull};
 ghost use Rattle.ac_base.specs.declared.guard.GuardKind.TheVariants as kind;
 ghost use Rattle.ac_base.specs.Rows.{row};
 ghost use Rattle.ac_model.specs.Objects.{contents};
@@ -10,7 +11,8 @@ ghost use Rattle.ac_model.specs.Sequences as sequence;
 ghost use Rattle.ac_model.specs.Keyed as keyed;
 ghost use Rattle.ac_model.specs.Sets as set;
 ghost use Rattle.ac_model.specs.KeyedSets as by_key;
-ghost use Rattle.ac_model.specs.Examples.{list_of, vector_of, bounded_vector_of, guarded, hashed_numbers, ordered_numbers, hashed_tens, ordered_tens, tens};
+ghost use Rattle.ac_model.specs.Examples.{list_of, vector_of, bounded_vector_of, guarded, hashed_numbers};
+ghost use Rattle.ac_model.specs.Examples.{ordered_numbers, hashed_tens, ordered_tens, tens};
 
 /// An ordered set is ascending: an element is put at its place, and one that is replaced goes to its place under its name.
 pub fn ordered()
@@ -46,24 +48,30 @@ pub fn hashed_by_key()
     ensures contained { set.contains_call hashed_tens (vector_of 1 (11 ∷ [])) 19 ≡ true }
     ensures unequal { set.equal_call nat_eq (vector_of 1 (11 ∷ [])) (vector_of 2 (17 ∷ [])) ≡ false }
     ensures equivalent { set.equivalent_sets_call hashed_tens (vector_of 1 (11 ∷ [])) (vector_of 2 (17 ∷ [])) ≡ true }
-    ensures replaced { (by_key.key_replace_call tens nat_eq hashed_tens (vector_of 1 (11 ∷ 25 ∷ [])) 1 35).after.rows ≡ row 1 35 ∷ row 2 25 ∷ [] }
+    ensures replaced { (by_key.key_replace_call tens nat_eq hashed_tens (vector_of 1 (11 ∷ 25 ∷ [])) 1 35).after.rows
+        ≡ row 1 35 ∷ row 2 25 ∷ [] }
     ensures duplicate { (by_key.key_replace_call tens nat_eq hashed_tens (vector_of 1 (11 ∷ 25 ∷ [])) 1 27).reason ≡ Some Duplicate }
     ensures absent { (by_key.key_replace_call tens nat_eq hashed_tens (vector_of 1 (11 ∷ 25 ∷ [])) 7 27).reason ≡ Some KeyAbsent }
 {}
 
 /// The target keeps its own elements, and takes those of the source that have no equivalent.
 pub fn algebra()
-    ensures union { (set.union_call hashed_tens (vector_of 1 (11 ∷ 21 ∷ [])) (vector_of 2 (22 ∷ 32 ∷ []))).after.rows ≡ row 1 11 ∷ row 2 21 ∷ row 3 32 ∷ [] }
+    ensures union { (set.union_call hashed_tens (vector_of 1 (11 ∷ 21 ∷ [])) (vector_of 2 (22 ∷ 32 ∷ []))).after.rows
+        ≡ row 1 11 ∷ row 2 21 ∷ row 3 32 ∷ [] }
     ensures symmetric { let o = (set.union_call hashed_tens (vector_of 1 (11 ∷ 21 ∷ [])) (vector_of 2 (22 ∷ 32 ∷ []))).after in
         contents (set.symmetric_difference_call hashed_tens o (vector_of 2 (22 ∷ 32 ∷ []))).after ≡ 11 ∷ [] }
     ensures overlap { set.overlap_call hashed_tens (vector_of 1 (11 ∷ [])) (vector_of 2 (22 ∷ 32 ∷ [])) ≡ false }
-    ensures intersection { contents (set.intersection_call hashed_tens (vector_of 1 (11 ∷ 21 ∷ [])) (vector_of 2 (22 ∷ 32 ∷ []))).after ≡ 21 ∷ [] }
-    ensures difference { contents (set.difference_call hashed_tens (vector_of 1 (11 ∷ 21 ∷ [])) (vector_of 2 (22 ∷ 32 ∷ []))).after ≡ 11 ∷ [] }
+    ensures intersection { contents (set.intersection_call hashed_tens (vector_of 1 (11 ∷ 21 ∷ [])) (vector_of 2 (22 ∷ 32 ∷ []))).after
+        ≡ 21 ∷ [] }
+    ensures difference { contents (set.difference_call hashed_tens (vector_of 1 (11 ∷ 21 ∷ [])) (vector_of 2 (22 ∷ 32 ∷ []))).after
+        ≡ 11 ∷ [] }
     ensures subset { set.is_subset_call hashed_tens (vector_of 1 (22 ∷ [])) (vector_of 2 (21 ∷ 32 ∷ [])) ≡ true }
     ensures ascending { (set.union_call ordered_numbers (list_of 1 (10 ∷ 30 ∷ [])) (list_of 2 (20 ∷ 30 ∷ 40 ∷ []))).after.rows
         ≡ row 1 10 ∷ row 3 20 ∷ row 2 30 ∷ row 4 40 ∷ [] }
-    ensures need { (set.symmetric_difference_call hashed_numbers (bounded_vector_of 1 2 (1 ∷ 2 ∷ [])) (vector_of 2 (2 ∷ 3 ∷ []))).reason ≡ None }
-    ensures full { (set.union_call hashed_numbers (bounded_vector_of 1 2 (1 ∷ 2 ∷ [])) (vector_of 2 (2 ∷ 3 ∷ []))).reason ≡ Some CapacityFull }
+    ensures need { (set.symmetric_difference_call hashed_numbers (bounded_vector_of 1 2 (1 ∷ 2 ∷ [])) (vector_of 2 (2 ∷ 3 ∷ []))).reason
+        ≡ None }
+    ensures full { (set.union_call hashed_numbers (bounded_vector_of 1 2 (1 ∷ 2 ∷ [])) (vector_of 2 (2 ∷ 3 ∷ []))).reason
+        ≡ Some CapacityFull }
 {}
 
 /// A set has cursor guards alone.
@@ -79,7 +87,8 @@ pub fn by_item()
     ensures not_contained { set.contains_call hashed_tens (vector_of 1 (11 ∷ [])) 21 ≡ false }
     ensures excluded { let c = set.exclude_call hashed_tens (vector_of 1 (11 ∷ 25 ∷ 31 ∷ [])) 29 in
         (c.reason ≡ None) × (c.after.rows ≡ row 1 11 ∷ row 3 31 ∷ []) × (c.after.next ≡ 4) }
-    ensures excluded_none { let c = set.exclude_call hashed_tens (vector_of 1 (11 ∷ [])) 29 in (c.reason ≡ None) × (c.after.rows ≡ row 1 11 ∷ []) }
+    ensures excluded_none { let c = set.exclude_call hashed_tens (vector_of 1 (11 ∷ [])) 29 in
+        (c.reason ≡ None) × (c.after.rows ≡ row 1 11 ∷ []) }
     ensures exclude_in_a_loop { (set.exclude_call hashed_tens (guarded 1 0 (vector_of 1 [])) 29).reason ≡ Some CursorTampering }
     ensures deleted { let c = set.delete_item_call hashed_tens (vector_of 1 (11 ∷ 25 ∷ 31 ∷ [])) 29 in
         (c.reason ≡ None) × (c.after.rows ≡ row 1 11 ∷ row 3 31 ∷ []) × (c.after.next ≡ 4) }
@@ -93,7 +102,8 @@ pub fn replaced()
         (c.reason ≡ None) × (c.after.rows ≡ row 1 19 ∷ row 2 25 ∷ []) }
     ensures absent { (set.replace_call hashed_tens (vector_of 1 (11 ∷ [])) 25).reason ≡ Some KeyAbsent }
     ensures in_a_loop { (set.replace_call hashed_tens (guarded 1 0 (vector_of 1 [])) 25).reason ≡ Some CursorTampering }
-    ensures element_in_a_loop { (keyed.replace_element_call ordered_numbers (guarded 1 0 (list_of 1 [])) no_mark 25).reason ≡ Some CursorTampering }
+    ensures element_in_a_loop { (keyed.replace_element_call ordered_numbers (guarded 1 0 (list_of 1 [])) no_mark 25).reason
+        ≡ Some CursorTampering }
     ensures element_of_none { (keyed.replace_element_call ordered_numbers (list_of 1 (10 ∷ [])) no_mark 10).reason ≡ Some NoElement }
     ensures hashed_element { let c = keyed.replace_element_call hashed_numbers (vector_of 1 (10 ∷ 20 ∷ [])) (mark_at 1 1) 30 in
         (c.reason ≡ None) × (c.after.rows ≡ row 1 30 ∷ row 2 20 ∷ []) × (c.after.next ≡ 3) }
@@ -130,19 +140,24 @@ pub fn algebra_in_steps()
         (c.reason ≡ None) × (c.after.rows ≡ row 2 21 ∷ []) × (c.after.next ≡ 4) }
     ensures symmetric { let c = set.symmetric_difference_call ordered_tens (list_of 1 (11 ∷ 21 ∷ [])) (list_of 2 (12 ∷ 32 ∷ 42 ∷ [])) in
         (c.reason ≡ None) × (c.after.rows ≡ row 2 21 ∷ row 3 32 ∷ row 4 42 ∷ []) × (c.after.next ≡ 5) }
-    ensures symmetric_full { (set.symmetric_difference_call hashed_numbers (bounded_vector_of 1 2 (1 ∷ 2 ∷ [])) (vector_of 2 (2 ∷ 3 ∷ 4 ∷ []))).reason
+    ensures symmetric_full { let o = bounded_vector_of 1 2 (1 ∷ 2 ∷ []) in
+        (set.symmetric_difference_call hashed_numbers o (vector_of 2 (2 ∷ 3 ∷ 4 ∷ []))).reason
         ≡ Some CapacityFull }
     ensures union_need { (set.union_call hashed_numbers (bounded_vector_of 1 3 (1 ∷ 2 ∷ [])) (vector_of 2 (2 ∷ 3 ∷ []))).reason ≡ None }
-    ensures union_in_a_loop { (set.union_call hashed_numbers (guarded 1 0 (vector_of 1 [])) (vector_of 2 [])).reason ≡ Some CursorTampering }
+    ensures union_in_a_loop { (set.union_call hashed_numbers (guarded 1 0 (vector_of 1 [])) (vector_of 2 [])).reason
+        ≡ Some CursorTampering }
     ensures intersection_in_a_loop { (set.intersection_call hashed_numbers (guarded 1 0 (vector_of 1 [])) (vector_of 2 [])).reason
         ≡ Some CursorTampering }
-    ensures difference_in_a_loop { (set.difference_call hashed_numbers (guarded 1 0 (vector_of 1 [])) (vector_of 2 [])).reason ≡ Some CursorTampering }
+    ensures difference_in_a_loop { (set.difference_call hashed_numbers (guarded 1 0 (vector_of 1 [])) (vector_of 2 [])).reason
+        ≡ Some CursorTampering }
     ensures symmetric_in_a_loop { (set.symmetric_difference_call hashed_numbers (guarded 1 0 (vector_of 1 [])) (vector_of 2 [])).reason
         ≡ Some CursorTampering }
     ensures union_from_a_loop { (set.union_call hashed_numbers (vector_of 1 []) (guarded 1 0 (vector_of 2 (4 ∷ [])))).reason ≡ None }
-    ensures intersection_from_a_loop { (set.intersection_call hashed_numbers (vector_of 1 []) (guarded 1 0 (vector_of 2 []))).reason ≡ None }
+    ensures intersection_from_a_loop { (set.intersection_call hashed_numbers (vector_of 1 []) (guarded 1 0 (vector_of 2 []))).reason
+        ≡ None }
     ensures difference_from_a_loop { (set.difference_call hashed_numbers (vector_of 1 []) (guarded 1 0 (vector_of 2 []))).reason ≡ None }
-    ensures symmetric_from_a_loop { (set.symmetric_difference_call hashed_numbers (vector_of 1 []) (guarded 1 0 (vector_of 2 []))).reason ≡ None }
+    ensures symmetric_from_a_loop { (set.symmetric_difference_call hashed_numbers (vector_of 1 []) (guarded 1 0 (vector_of 2 []))).reason
+        ≡ None }
 {}
 
 /// A set with itself: union and intersection change nothing, the differences leave nothing, and a loop forbids all four.

@@ -1,7 +1,8 @@
 //! Examples of tree calls. A row is (depth, element), in preorder.
 ghost use Rattle.std.specs.Prelude.{◌≡◌, ◌∷◌, [], ℕ, nat_eq, pos, negsuc, true, false, None, Some};
 ghost use Rattle.ac_base.specs.declared.reason.Reason.TheVariants.{CursorTampering, ElementTampering, NoElement, ForeignCursor, DeadCursor};
-ghost use Rattle.ac_base.specs.declared.reason.Reason.TheVariants.{RootNode, RootSource, NotLeaf, NotChild, BelowItself, LengthRange, CapacityFull};
+ghost use Rattle.ac_base.specs.declared.reason.Reason.TheVariants.{RootNode, RootSource, NotLeaf, NotChild};
+ghost use Rattle.ac_base.specs.declared.reason.Reason.TheVariants.{BelowItself, LengthRange, CapacityFull};
 ghost use Rattle.ac_base.specs.Rows.{row};
 ghost use Rattle.ac_model.specs.Rows.{node};
 ghost use Rattle.ac_model.specs.Objects.{contents};
@@ -45,20 +46,27 @@ pub fn moved()
         (c.reason ≡ None) × (c.after.rows ≡ row 1 (node 2 1) ∷ []) × (c.after.next ≡ 2) }
     ensures root_source { let o = tree_of 1 (node 2 1 ∷ []) in
         (tree.copy_subtree_call o (mark_at 1 0) no_mark o (mark_at 1 0)).reason ≡ Some RootSource }
-    ensures within { (tree.splice_subtree_call (tree_of 1 (node 2 1 ∷ node 3 2 ∷ node 2 4 ∷ [])) (mark_at 1 3) no_mark (mark_at 1 1)).after.rows
+    ensures within { let o = tree_of 1 (node 2 1 ∷ node 3 2 ∷ node 2 4 ∷ []) in
+        (tree.splice_subtree_call o (mark_at 1 3) no_mark (mark_at 1 1)).after.rows
         ≡ row 3 (node 2 4) ∷ row 1 (node 3 1) ∷ row 2 (node 4 2) ∷ [] }
-    ensures before { (tree.splice_subtree_call (tree_of 1 (node 2 1 ∷ node 2 3 ∷ node 3 4 ∷ [])) (mark_at 1 0) (mark_at 1 1) (mark_at 1 2)).after.rows
+    ensures before { let o = tree_of 1 (node 2 1 ∷ node 2 3 ∷ node 3 4 ∷ []) in
+        (tree.splice_subtree_call o (mark_at 1 0) (mark_at 1 1) (mark_at 1 2)).after.rows
         ≡ row 2 (node 2 3) ∷ row 3 (node 3 4) ∷ row 1 (node 2 1) ∷ [] }
-    ensures before_itself { (tree.splice_subtree_call (tree_of 1 (node 2 1 ∷ node 2 3 ∷ [])) (mark_at 1 0) (mark_at 1 1) (mark_at 1 1)).after.rows
+    ensures before_itself { let o = tree_of 1 (node 2 1 ∷ node 2 3 ∷ []) in
+        (tree.splice_subtree_call o (mark_at 1 0) (mark_at 1 1) (mark_at 1 1)).after.rows
         ≡ row 1 (node 2 1) ∷ row 2 (node 2 3) ∷ [] }
-    ensures from_another { let c = tree.splice_subtree_from_call (tree_of 1 (node 2 7 ∷ [])) (mark_at 1 1) no_mark (tree_of 2 (node 2 1 ∷ node 3 2 ∷ node 2 4 ∷ [])) (mark_at 2 1) in
+    ensures from_another { let o = tree_of 1 (node 2 7 ∷ []) in
+        let c = tree.splice_subtree_from_call o (mark_at 1 1) no_mark (tree_of 2 (node 2 1 ∷ node 3 2 ∷ node 2 4 ∷ [])) (mark_at 2 1) in
         (c.after.target.rows ≡ row 1 (node 2 7) ∷ row 2 (node 3 1) ∷ row 3 (node 4 2) ∷ [])
         × (c.after.source.rows ≡ row 3 (node 2 4) ∷ [])
         × (c.answer ≡ mark_at 1 2) }
-    ensures children { (tree.splice_children_call (tree_of 1 (node 2 1 ∷ node 3 2 ∷ node 2 3 ∷ node 3 4 ∷ [])) (mark_at 1 0) no_mark (mark_at 1 3)).after.rows
+    ensures children { let o = tree_of 1 (node 2 1 ∷ node 3 2 ∷ node 2 3 ∷ node 3 4 ∷ []) in
+        (tree.splice_children_call o (mark_at 1 0) no_mark (mark_at 1 3)).after.rows
         ≡ row 1 (node 2 1) ∷ row 2 (node 3 2) ∷ row 3 (node 2 3) ∷ row 4 (node 2 4) ∷ [] }
     ensures children_of_root { (tree.splice_children_call tree_one_two (mark_at 1 1) no_mark (mark_at 1 0)).reason ≡ Some BelowItself }
-    ensures same_parent { contents (tree.splice_children_call (tree_of 1 (node 2 1 ∷ node 2 2 ∷ [])) (mark_at 1 0) (mark_at 1 1) (mark_at 1 0)).after ≡ node 2 1 ∷ node 2 2 ∷ [] }
+    ensures same_parent { let o = tree_of 1 (node 2 1 ∷ node 2 2 ∷ []) in
+        contents (tree.splice_children_call o (mark_at 1 0) (mark_at 1 1) (mark_at 1 0)).after
+        ≡ node 2 1 ∷ node 2 2 ∷ [] }
 {}
 
 /// The ways from a node: up, down and to its siblings, over [1 [2, 3 [5]], 4].
@@ -74,30 +82,37 @@ pub fn navigated()
     ensures children { (tree.child_count_call tree_of_five (mark_at 1 1)).answer ≡ pos 2 }
     ensures subtree { (tree.subtree_node_count_call tree_of_five (mark_at 1 1)).answer ≡ pos 4 }
     ensures whole { (tree.subtree_node_count_call tree_one_two (mark_at 1 0)).answer ≡ pos 3 }
-    ensures in_subtree { (tree.find_in_subtree_call nat_eq (tree_of 1 (node 2 8 ∷ node 2 1 ∷ node 3 8 ∷ [])) (mark_at 1 2) 8).answer ≡ mark_at 1 3 }
-    ensures itself { (tree.find_in_subtree_call nat_eq (tree_of 1 (node 2 1 ∷ node 2 8 ∷ node 3 8 ∷ [])) (mark_at 1 2) 8).answer ≡ mark_at 1 2 }
-    ensures upwards { (tree.ancestor_find_call nat_eq (tree_of 1 (node 2 8 ∷ node 3 8 ∷ node 4 1 ∷ node 2 8 ∷ [])) (mark_at 1 3) 8).answer ≡ mark_at 1 2 }
+    ensures in_subtree { (tree.find_in_subtree_call nat_eq (tree_of 1 (node 2 8 ∷ node 2 1 ∷ node 3 8 ∷ [])) (mark_at 1 2) 8).answer
+        ≡ mark_at 1 3 }
+    ensures itself { (tree.find_in_subtree_call nat_eq (tree_of 1 (node 2 1 ∷ node 2 8 ∷ node 3 8 ∷ [])) (mark_at 1 2) 8).answer
+        ≡ mark_at 1 2 }
+    ensures upwards { (tree.ancestor_find_call nat_eq (tree_of 1 (node 2 8 ∷ node 3 8 ∷ node 4 1 ∷ node 2 8 ∷ [])) (mark_at 1 3) 8).answer
+        ≡ mark_at 1 2 }
     ensures from_root { (tree.ancestor_find_call nat_eq (tree_of 1 (node 2 8 ∷ [])) (mark_at 1 0) 8).answer ≡ no_mark }
     ensures swapped { (tree.swap_call tree_one_two (mark_at 1 1) (mark_at 1 2)).after.rows ≡ row 1 (node 2 2) ∷ row 2 (node 3 1) ∷ [] }
 {}
 
-/// The steps over several cursors: a dead one comes before a root on its left, a root before the call's own conditions, and these before the room.
+/// The steps over several cursors: a dead one comes before a root on its left, a root before the call's own
+/// conditions, and these before the room.
 pub fn in_steps()
     ensures tampering { (tree.splice_subtree_call (guarded 0 1 (tree_of 1 [])) no_mark no_mark no_mark).reason ≡ Some ElementTampering }
     ensures no_element { (tree.swap_call (tree_of 1 (node 2 1 ∷ [])) (mark_at 1 0) no_mark).reason ≡ Some NoElement }
-    ensures foreign { (tree.splice_subtree_call (tree_of 1 (node 2 1 ∷ [])) (mark_at 1 9) no_mark (mark_at 2 0)).reason ≡ Some ForeignCursor }
+    ensures foreign { (tree.splice_subtree_call (tree_of 1 (node 2 1 ∷ [])) (mark_at 1 9) no_mark (mark_at 2 0)).reason
+        ≡ Some ForeignCursor }
     ensures dead { (tree.swap_call (tree_of 1 (node 2 1 ∷ [])) (mark_at 1 0) (mark_at 1 9)).reason ≡ Some DeadCursor }
     ensures root { (tree.splice_subtree_call (tree_of 1 (node 2 1 ∷ [])) (mark_at 1 1) (mark_at 1 1) (mark_at 1 0)).reason ≡ Some RootNode }
-    ensures root_source { let o = tree_of 1 (node 2 1 ∷ []) in (tree.copy_subtree_call o (mark_at 1 1) (mark_at 1 1) o (mark_at 1 0)).reason ≡ Some RootSource }
+    ensures root_source { let o = tree_of 1 (node 2 1 ∷ []) in
+        (tree.copy_subtree_call o (mark_at 1 1) (mark_at 1 1) o (mark_at 1 0)).reason ≡ Some RootSource }
     ensures own { (tree.splice_subtree_call tree_one_two (mark_at 1 2) (mark_at 1 1) (mark_at 1 1)).reason ≡ Some NotChild }
-    ensures before_count { (tree.insert_child_call (tree_of 1 (node 2 1 ∷ [])) (mark_at 1 1) (mark_at 1 1) 4 (pos 1000001)).reason ≡ Some NotChild }
+    ensures before_count { (tree.insert_child_call (tree_of 1 (node 2 1 ∷ [])) (mark_at 1 1) (mark_at 1 1) 4 (pos 1000001)).reason
+        ≡ Some NotChild }
 {}
 
 /// Children go before a child or last, with their depth, and the variable is set to the first new one.
 pub fn children_inserted()
-    ensures before { let c = tree.insert_child_call tree_of_four (mark_at 1 1) (mark_at 1 3) 9 (pos 2) in
-        (c.reason ≡ None) × (c.after.next ≡ 7)
-        × (c.after.rows ≡ row 1 (node 2 1) ∷ row 2 (node 3 2) ∷ row 5 (node 3 9) ∷ row 6 (node 3 9) ∷ row 3 (node 3 3) ∷ row 4 (node 2 4) ∷ []) }
+    ensures before { let c = tree.insert_child_call tree_of_four (mark_at 1 1) (mark_at 1 3) 9 (pos 1) in
+        (c.reason ≡ None) × (c.after.next ≡ 6)
+        × (c.after.rows ≡ row 1 (node 2 1) ∷ row 2 (node 3 2) ∷ row 5 (node 3 9) ∷ row 3 (node 3 3) ∷ row 4 (node 2 4) ∷ []) }
     ensures last { contents (tree.insert_child_call tree_of_five (mark_at 1 1) no_mark 9 (pos 1)).after
         ≡ node 2 1 ∷ node 3 2 ∷ node 3 3 ∷ node 4 5 ∷ node 3 9 ∷ node 2 4 ∷ [] }
     ensures position { let c = tree.insert_child_pos_call tree_one_two (mark_at 1 1) (mark_at 1 2) 9 (pos 2) in
@@ -108,7 +123,8 @@ pub fn children_inserted()
     ensures no_last_position { (tree.insert_child_pos_call tree_one_two (mark_at 1 1) no_mark 9 (pos 0)).answer ≡ no_mark }
     ensures position_not_child { (tree.insert_child_pos_call tree_one_two (mark_at 1 0) (mark_at 1 2) 9 (negsuc 0)).reason ≡ Some NotChild }
     ensures position_of_none { (tree.insert_child_pos_call tree_one_two no_mark (mark_at 1 9) 9 (negsuc 0)).reason ≡ Some NoElement }
-    ensures position_in_a_loop { (tree.insert_child_pos_call (guarded 1 0 tree_one_two) no_mark no_mark 9 (pos 1)).reason ≡ Some CursorTampering }
+    ensures position_in_a_loop { (tree.insert_child_pos_call (guarded 1 0 tree_one_two) no_mark no_mark 9 (pos 1)).reason
+        ≡ Some CursorTampering }
     ensures position_out_of_range { (tree.insert_child_pos_call tree_one_two (mark_at 1 0) no_mark 9 (negsuc 0)).reason ≡ Some LengthRange }
     ensures insert_in_a_loop { (tree.insert_child_call (guarded 1 0 tree_one_two) no_mark no_mark 9 (pos 1)).reason ≡ Some CursorTampering }
     ensures append_in_a_loop { (tree.append_child_call (guarded 1 0 tree_one_two) no_mark 9 (pos 1)).reason ≡ Some CursorTampering }
@@ -150,7 +166,8 @@ pub fn found()
     ensures not_found { tree.find_call nat_eq tree_one_two 8 ≡ no_mark }
     ensures contained { tree.contains_call nat_eq tree_one_two 2 ≡ true }
     ensures not_contained { tree.contains_call nat_eq tree_one_two 3 ≡ false }
-    ensures first_below { (tree.find_in_subtree_call nat_eq (tree_of 1 (node 2 1 ∷ node 3 8 ∷ node 3 8 ∷ [])) (mark_at 1 1) 8).answer ≡ mark_at 1 2 }
+    ensures first_below { (tree.find_in_subtree_call nat_eq (tree_of 1 (node 2 1 ∷ node 3 8 ∷ node 3 8 ∷ [])) (mark_at 1 1) 8).answer
+        ≡ mark_at 1 2 }
     ensures below_root { (tree.find_in_subtree_call nat_eq tree_one_two (mark_at 1 0) 2).answer ≡ mark_at 1 2 }
     ensures not_below { (tree.find_in_subtree_call nat_eq tree_of_four (mark_at 1 1) 4).answer ≡ no_mark }
     ensures below_none { (tree.find_in_subtree_call nat_eq tree_one_two no_mark 2).reason ≡ Some NoElement }
@@ -197,27 +214,34 @@ pub fn spliced_from_itself()
     ensures moved { let c = tree.splice_subtree_from_self_call tree_of_five (mark_at 1 0) (mark_at 1 1) (mark_at 1 3) in
         (c.reason ≡ None) × (c.answer ≡ mark_at 1 3) × (c.after.next ≡ 6)
         × (c.after.rows ≡ row 3 (node 2 3) ∷ row 4 (node 3 5) ∷ row 1 (node 2 1) ∷ row 2 (node 3 2) ∷ row 5 (node 2 4) ∷ []) }
-    ensures before_itself { (tree.splice_subtree_from_self_call tree_of_five (mark_at 1 1) (mark_at 1 3) (mark_at 1 3)).after ≡ tree_of_five }
-    ensures before_its_next { (tree.splice_subtree_from_self_call tree_of_five (mark_at 1 1) (mark_at 1 3) (mark_at 1 2)).after ≡ tree_of_five }
+    ensures before_itself { (tree.splice_subtree_from_self_call tree_of_five (mark_at 1 1) (mark_at 1 3) (mark_at 1 3)).after
+        ≡ tree_of_five }
+    ensures before_its_next { (tree.splice_subtree_from_self_call tree_of_five (mark_at 1 1) (mark_at 1 3) (mark_at 1 2)).after
+        ≡ tree_of_five }
     ensures not_child { (tree.splice_subtree_from_self_call tree_of_five (mark_at 1 3) (mark_at 1 2) (mark_at 1 1)).reason ≡ Some NotChild }
     ensures below_itself { (tree.splice_subtree_from_self_call tree_of_five (mark_at 1 4) no_mark (mark_at 1 1)).reason ≡ Some BelowItself }
     ensures root { (tree.splice_subtree_from_self_call tree_of_five (mark_at 1 1) (mark_at 1 1) (mark_at 1 0)).reason ≡ Some RootNode }
-    ensures in_a_loop { (tree.splice_subtree_from_self_call (guarded 1 0 tree_of_five) no_mark no_mark no_mark).reason ≡ Some CursorTampering }
+    ensures in_a_loop { (tree.splice_subtree_from_self_call (guarded 1 0 tree_of_five) no_mark no_mark no_mark).reason
+        ≡ Some CursorTampering }
 {}
 
 /// A splice from another tree gives new names in preorder, looks at both trees' guards, and at its conditions before the room.
 pub fn spliced_from_another()
-    ensures children { let c = tree.splice_children_from_call (tree_of 2 (node 2 7 ∷ node 3 8 ∷ [])) (mark_at 2 1) (mark_at 2 2) tree_of_five (mark_at 1 1) in
+    ensures children { let o = tree_of 2 (node 2 7 ∷ node 3 8 ∷ []) in
+        let c = tree.splice_children_from_call o (mark_at 2 1) (mark_at 2 2) tree_of_five (mark_at 1 1) in
         (c.reason ≡ None)
         × (c.after.target.rows ≡ row 1 (node 2 7) ∷ row 3 (node 3 2) ∷ row 4 (node 3 3) ∷ row 5 (node 4 5) ∷ row 2 (node 3 8) ∷ [])
         × (c.after.target.next ≡ 6) × (c.after.source.rows ≡ row 1 (node 2 1) ∷ row 5 (node 2 4) ∷ []) }
     ensures all { let c = tree.splice_children_from_call (tree_of 2 []) (mark_at 2 0) no_mark tree_one_two (mark_at 1 0) in
         (contents c.after.target ≡ node 2 1 ∷ node 3 2 ∷ []) × (c.after.source.rows ≡ []) }
-    ensures children_full { (tree.splice_children_from_call (bounded_holding 2 1 []) (mark_at 2 0) no_mark tree_one_two (mark_at 1 0)).reason
+    ensures children_full { let o = bounded_holding 2 1 [] in
+        (tree.splice_children_from_call o (mark_at 2 0) no_mark tree_one_two (mark_at 1 0)).reason
         ≡ Some CapacityFull }
-    ensures children_not_child { (tree.splice_children_from_call (bounded_holding 2 0 []) (mark_at 2 0) (mark_at 2 0) tree_one_two (mark_at 1 0)).reason
+    ensures children_not_child { let o = bounded_holding 2 0 [] in
+        (tree.splice_children_from_call o (mark_at 2 0) (mark_at 2 0) tree_one_two (mark_at 1 0)).reason
         ≡ Some NotChild }
-    ensures children_of_none { (tree.splice_children_from_call (tree_of 2 []) (mark_at 2 9) no_mark tree_one_two no_mark).reason ≡ Some NoElement }
+    ensures children_of_none { (tree.splice_children_from_call (tree_of 2 []) (mark_at 2 9) no_mark tree_one_two no_mark).reason
+        ≡ Some NoElement }
     ensures children_foreign { (tree.splice_children_from_call (tree_of 2 []) (mark_at 2 0) no_mark tree_one_two (mark_at 2 0)).reason
         ≡ Some ForeignCursor }
     ensures children_from_a_loop { (tree.splice_children_from_call (tree_of 2 []) no_mark no_mark (guarded 1 0 tree_one_two) no_mark).reason
@@ -226,7 +250,8 @@ pub fn spliced_from_another()
         (tree.splice_children_from_call target no_mark no_mark (guarded 1 0 tree_one_two) no_mark).reason ≡ Some ElementTampering }
     ensures subtree_full { (tree.splice_subtree_from_call (bounded_holding 2 1 []) (mark_at 2 0) no_mark tree_one_two (mark_at 1 1)).reason
         ≡ Some CapacityFull }
-    ensures subtree_not_child { (tree.splice_subtree_from_call (bounded_holding 2 0 []) (mark_at 2 0) (mark_at 2 0) tree_one_two (mark_at 1 1)).reason
+    ensures subtree_not_child { let o = bounded_holding 2 0 [] in
+        (tree.splice_subtree_from_call o (mark_at 2 0) (mark_at 2 0) tree_one_two (mark_at 1 1)).reason
         ≡ Some NotChild }
     ensures subtree_of_root { (tree.splice_subtree_from_call (tree_of 2 []) (mark_at 2 0) (mark_at 2 0) tree_one_two (mark_at 1 0)).reason
         ≡ Some RootNode }
@@ -236,13 +261,17 @@ pub fn spliced_from_another()
 
 /// A copy needs room and names for what it copies, and no guard of the source forbids it.
 pub fn copied_in_steps()
-    ensures rows { let c = tree.copy_subtree_call (tree_of 2 (node 2 7 ∷ [])) (mark_at 2 1) no_mark (guarded 1 1 tree_of_five) (mark_at 1 3) in
+    ensures rows { let o = tree_of 2 (node 2 7 ∷ []) in
+        let c = tree.copy_subtree_call o (mark_at 2 1) no_mark (guarded 1 1 tree_of_five) (mark_at 1 3) in
         (c.reason ≡ None) × (c.after.rows ≡ row 1 (node 2 7) ∷ row 2 (node 3 3) ∷ row 3 (node 4 5) ∷ []) × (c.after.next ≡ 4) }
-    ensures full { (tree.copy_subtree_call (bounded_holding 2 1 []) (mark_at 2 0) no_mark tree_one_two (mark_at 1 1)).reason ≡ Some CapacityFull }
+    ensures full { (tree.copy_subtree_call (bounded_holding 2 1 []) (mark_at 2 0) no_mark tree_one_two (mark_at 1 1)).reason
+        ≡ Some CapacityFull }
     ensures not_child { (tree.copy_subtree_call (bounded_holding 2 0 []) (mark_at 2 0) (mark_at 2 0) tree_one_two (mark_at 1 1)).reason
         ≡ Some NotChild }
-    ensures judged_by_source { (tree.copy_subtree_call (tree_of 2 []) (mark_at 2 0) no_mark tree_one_two (mark_at 2 0)).reason ≡ Some ForeignCursor }
-    ensures in_a_loop { (tree.copy_subtree_call (guarded 1 0 (tree_of 2 [])) no_mark no_mark tree_one_two no_mark).reason ≡ Some CursorTampering }
+    ensures judged_by_source { (tree.copy_subtree_call (tree_of 2 []) (mark_at 2 0) no_mark tree_one_two (mark_at 2 0)).reason
+        ≡ Some ForeignCursor }
+    ensures in_a_loop { (tree.copy_subtree_call (guarded 1 0 (tree_of 2 [])) no_mark no_mark tree_one_two no_mark).reason
+        ≡ Some CursorTampering }
     ensures none_without_names { let o = with_next 18446744073709551615 (tree_of 2 []) in
         (tree.copy_subtree_call o (mark_at 2 0) no_mark tree_one_two no_mark).reason ≡ None }
 {}

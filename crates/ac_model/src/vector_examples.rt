@@ -1,6 +1,7 @@
 //! Examples of vector calls.
 ghost use Rattle.std.specs.Prelude.{◌≡◌, ◌∷◌, [], ℕ, nat_lt, nat_eq, pos, negsuc, true, false, None, Some};
-ghost use Rattle.ac_base.specs.declared.reason.Reason.TheVariants.{CursorTampering, ElementTampering, DeadCursor, IndexRange, LengthRange, CapacityFull};
+ghost use Rattle.ac_base.specs.declared.reason.Reason.TheVariants.{CursorTampering, ElementTampering, DeadCursor};
+ghost use Rattle.ac_base.specs.declared.reason.Reason.TheVariants.{IndexRange, LengthRange, CapacityFull};
 ghost use Rattle.ac_base.specs.Rows.{row};
 ghost use Rattle.ac_model.specs.Objects.{contents};
 ghost use Rattle.ac_model.specs.Letters.{no_mark, mark_at, in_range};
@@ -137,7 +138,8 @@ pub fn elements_by_index()
 pub fn vectors_inserted()
     ensures before { let c = vector.insert_vector_call (vector_of 1 (3 ∷ 4 ∷ [])) (mark_at 1 2) (vector_of 2 (8 ∷ 9 ∷ [])) in
         (c.reason ≡ None) × (c.after.rows ≡ row 1 3 ∷ row 3 8 ∷ row 4 9 ∷ row 2 4 ∷ []) × (c.after.next ≡ 5) }
-    ensures at_the_end { (vector.insert_vector_call (vector_of 1 (3 ∷ [])) no_mark (vector_of 2 (8 ∷ []))).after.rows ≡ row 1 3 ∷ row 2 8 ∷ [] }
+    ensures at_the_end { (vector.insert_vector_call (vector_of 1 (3 ∷ [])) no_mark (vector_of 2 (8 ∷ []))).after.rows
+        ≡ row 1 3 ∷ row 2 8 ∷ [] }
     ensures appended { let c = vector.append_vector_call (vector_of 1 (3 ∷ [])) (vector_of 2 (8 ∷ 9 ∷ [])) in
         (c.reason ≡ None) × (c.after.rows ≡ row 1 3 ∷ row 2 8 ∷ row 3 9 ∷ []) × (c.after.next ≡ 4) }
     ensures prepended { let c = vector.prepend_vector_call (vector_of 1 (3 ∷ [])) (vector_of 2 (8 ∷ 9 ∷ [])) in
@@ -150,19 +152,27 @@ pub fn vectors_inserted()
 
 /// Such a copy is refused for the target's guards alone, then for its cursor or index, then for the room.
 pub fn vectors_refused()
-    ensures in_a_loop { (vector.insert_vector_call (guarded 1 0 (vector_of 1 [])) (mark_at 1 9) (vector_of 2 [])).reason ≡ Some CursorTampering }
+    ensures in_a_loop { (vector.insert_vector_call (guarded 1 0 (vector_of 1 [])) (mark_at 1 9) (vector_of 2 [])).reason
+        ≡ Some CursorTampering }
     ensures from_a_loop { (vector.insert_vector_call (vector_of 1 []) no_mark (guarded 1 1 (vector_of 2 (8 ∷ [])))).reason ≡ None }
-    ensures before_dead { (vector.insert_vector_call (bounded_vector_of 1 0 []) (mark_at 1 9) (vector_of 2 (8 ∷ []))).reason ≡ Some DeadCursor }
-    ensures full { (vector.insert_vector_call (bounded_vector_of 1 2 (3 ∷ [])) no_mark (vector_of 2 (8 ∷ 9 ∷ []))).reason ≡ Some CapacityFull }
-    ensures append_full { (vector.append_vector_call (bounded_vector_of 1 2 (3 ∷ [])) (vector_of 2 (8 ∷ 9 ∷ []))).reason ≡ Some CapacityFull }
+    ensures before_dead { (vector.insert_vector_call (bounded_vector_of 1 0 []) (mark_at 1 9) (vector_of 2 (8 ∷ []))).reason
+        ≡ Some DeadCursor }
+    ensures full { (vector.insert_vector_call (bounded_vector_of 1 2 (3 ∷ [])) no_mark (vector_of 2 (8 ∷ 9 ∷ []))).reason
+        ≡ Some CapacityFull }
+    ensures append_full { (vector.append_vector_call (bounded_vector_of 1 2 (3 ∷ [])) (vector_of 2 (8 ∷ 9 ∷ []))).reason
+        ≡ Some CapacityFull }
     ensures append_in_a_view { (vector.append_vector_call (guarded 0 1 (vector_of 1 [])) (vector_of 2 [])).reason ≡ Some ElementTampering }
     ensures append_from_a_loop { (vector.append_vector_call (vector_of 1 []) (guarded 1 1 (vector_of 2 (8 ∷ [])))).reason ≡ None }
-    ensures prepend_full { (vector.prepend_vector_call (bounded_vector_of 1 2 (3 ∷ [])) (vector_of 2 (8 ∷ 9 ∷ []))).reason ≡ Some CapacityFull }
+    ensures prepend_full { (vector.prepend_vector_call (bounded_vector_of 1 2 (3 ∷ [])) (vector_of 2 (8 ∷ 9 ∷ []))).reason
+        ≡ Some CapacityFull }
     ensures prepend_in_a_loop { (vector.prepend_vector_call (guarded 1 0 (vector_of 1 [])) (vector_of 2 [])).reason ≡ Some CursorTampering }
     ensures prepend_from_a_loop { (vector.prepend_vector_call (vector_of 1 []) (guarded 1 1 (vector_of 2 (8 ∷ [])))).reason ≡ None }
-    ensures position_dead { (vector.insert_vector_pos_call (bounded_vector_of 1 0 []) (mark_at 1 9) (vector_of 2 (8 ∷ []))).reason ≡ Some DeadCursor }
-    ensures index_beyond { (vector.insert_vector_index_call (bounded_vector_of 1 0 []) (pos 2) (vector_of 2 (8 ∷ []))).reason ≡ Some IndexRange }
-    ensures index_in_a_loop { (vector.insert_vector_index_call (guarded 1 0 (vector_of 1 [])) (pos 9) (vector_of 2 [])).reason ≡ Some CursorTampering }
+    ensures position_dead { (vector.insert_vector_pos_call (bounded_vector_of 1 0 []) (mark_at 1 9) (vector_of 2 (8 ∷ []))).reason
+        ≡ Some DeadCursor }
+    ensures index_beyond { (vector.insert_vector_index_call (bounded_vector_of 1 0 []) (pos 2) (vector_of 2 (8 ∷ []))).reason
+        ≡ Some IndexRange }
+    ensures index_in_a_loop { (vector.insert_vector_index_call (guarded 1 0 (vector_of 1 [])) (pos 9) (vector_of 2 [])).reason
+        ≡ Some CursorTampering }
 {}
 
 /// A loop over elements forbids a sort and one over cursors too, but not the values turned round.
