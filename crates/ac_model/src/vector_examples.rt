@@ -175,7 +175,7 @@ pub fn vectors_refused()
         ≡ Some CursorTampering }
 {}
 
-/// A loop over elements forbids a sort and one over cursors too, but not the values turned round.
+/// Any loop forbids a sort, and one over cursors lets the values be turned round. A new length needs room and names where it is greater.
 #[tactic(auto, unfolding(ac_base::specs::Growth::pow8))]
 pub fn lengths_and_orders()
     ensures sorted_in_a_loop { (vector.sort_call nat_lt (guarded 1 0 (vector_of 1 []))).reason ≡ Some CursorTampering }
