@@ -173,3 +173,13 @@ pub fn algebra_with_itself()
     ensures difference_in_a_loop { (set.difference_self_call (guarded 1 0 (vector_of 1 []))).reason ≡ Some CursorTampering }
     ensures symmetric_in_a_loop { (set.symmetric_difference_self_call (guarded 1 0 (vector_of 1 []))).reason ≡ Some CursorTampering }
 {}
+
+/// What maps and sets make of a test of their values: here, which are 5, or greater or less than 5.
+pub fn by_a_test()
+    ensures found { keyed.find_call (nat_eq 5) (list_of 1 (4 ∷ 5 ∷ [])) ≡ mark_at 1 2 }
+    ensures contained { keyed.contains_call (nat_eq 5) (list_of 1 (4 ∷ 6 ∷ [])) ≡ false }
+    ensures excluded { (keyed.exclude_call (nat_eq 5) (list_of 1 (4 ∷ 5 ∷ 6 ∷ []))).after.rows ≡ row 1 4 ∷ row 3 6 ∷ [] }
+    ensures floor { keyed.floor_call (nat_lt 5) (list_of 1 (4 ∷ 5 ∷ 6 ∷ [])) ≡ mark_at 1 2 }
+    ensures ceiling { keyed.ceiling_call (λ v. nat_lt v 5) (list_of 1 (4 ∷ 5 ∷ 6 ∷ [])) ≡ mark_at 1 2 }
+    ensures checked_first { (keyed.replace_call (Some NoElement) hashed_numbers (vector_of 1 []) 5).reason ≡ Some NoElement }
+{}
