@@ -56,15 +56,15 @@ plain_mark NoElement = no_mark
 plain_mark (At object name) = mark_at object name.serial
 
 -- what it means to the object with this number, where the test says under which names something stands
-abbrev pub seen_by : ℕ → (ℕ → Bool) → Mark → Mark
-seen_by number is_there no_mark = no_mark
-seen_by number is_there (mark_at object name) =
+abbrev pub seen_where : ℕ → (ℕ → Bool) → Mark → Mark
+seen_where number is_there no_mark = no_mark
+seen_where number is_there (mark_at object name) =
     if (object == number) && not (is_there name) then stale_mark object else mark_at object name
-seen_by number is_there (stale_mark object) = stale_mark object
+seen_where number is_there (stale_mark object) = stale_mark object
 
 -- to an object: one of its own under whose name nothing stands is stale
 abbrev pub seen : {V : Type 0} → Object ℕ V → Mark → Mark
-seen o m = seen_by o.number (is_named o.rows) m
+seen o m = seen_where o.number (is_named o.rows) m
 
 -- a name that the object gave: its serial is below the next, and where a row has the serial, it has the slot too
 pub record IsOwn {V : Type 0} (o : Object Name V) (name : Name) : Type 0 where

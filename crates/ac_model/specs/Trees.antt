@@ -11,7 +11,7 @@ use Rattle.ac_base.specs.Rows.{Row, names, values}
 use Rattle.ac_model.specs.Rows.{Node, node, cut, put, is_named, value_at, with_some_value, place_of}
 use Rattle.ac_model.specs.Objects.{Object, contents, length_of, with_rows}
 use Rattle.ac_model.specs.Letters.{Mark, no_mark, mark_at, stale_mark, mark_of, judged_in, name_of, is_no_mark, tampers_cursors, tampers_elements, count_of, room, reason_if}
-use Rattle.ac_model.specs.Cursors.{seen_by, IsOwn}
+use Rattle.ac_model.specs.Cursors.{seen_where, IsOwn}
 use Rattle.ac_model.specs.Calls.{Call, call, Look, look, Both, both, Done, takes_none, takes_some}
 use Rattle.ac_model.specs.Sequences.{with_new, room_for_copies, copies_take_memory, first_new, are_equal}
 use Rattle.ac_model.specs.Outline.{IsValidTree, Spot, spot, depth_of, run_of, children_of, parent_of, is_in, is_in_subtree, path_to, siblings_of, next_after, last_before, run_start, run_rows, subtree_length, subtree_start, subtree_rows, moved_to_depth}
@@ -30,7 +30,7 @@ is_node o name = (name == 0) || is_named o.rows name
 
 -- what a cursor without its slot means to a tree: at the root something stands
 abbrev pub seen_in_tree : {V : Type 0} → Object ℕ V → Mark → Mark
-seen_in_tree o m = seen_by o.number (is_node o) m
+seen_in_tree o m = seen_where o.number (is_node o) m
 
 -- the cursor's slot is the one that the tree would find: the root's, or that of the element
 abbrev pub AgreesInTree : {V : Type 0} → Object Name V → Cursor → Type 0

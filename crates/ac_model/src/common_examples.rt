@@ -1,11 +1,13 @@
 //! Examples of the calls that all containers with names have.
-ghost use Rattle.std.specs.Prelude.{◌≡◌, ◌∷◌, [], ℕ, pos, negsuc, true, false, None, Some};
+ghost use Rattle.std.specs.Prelude.{◌≡◌, ◌∷◌, [], ℕ, pos, negsuc, nat_eq, true, false, None, Some};
 ghost use Rattle.ac_base.specs.declared.guard.GuardKind.TheVariants as kind;
 ghost use Rattle.ac_base.specs.declared.limit.Limit.TheVariants.{Unbounded, Bounded};
-ghost use Rattle.ac_base.specs.declared.reason.Reason.TheVariants.{CursorTampering, ElementTampering, LengthRange};
+ghost use Rattle.ac_base.specs.declared.reason.Reason.TheVariants.{CursorTampering, ElementTampering, LengthRange, NoElement, DeadCursor};
 ghost use Rattle.ac_base.specs.declared.reason.Reason.TheVariants.{CapacityFull, NamesSpent};
 ghost use Rattle.ac_base.specs.Rows.{row};
-ghost use Rattle.ac_model.specs.Letters.{no_mark, mark_at, stale_mark};
+ghost use Rattle.ac_model.specs.Letters.{no_mark, mark_at, stale_mark, count_left_out, start_left_out, index_left_out, last_index_left_out};
+ghost use Rattle.ac_model.specs.Sequences as sequences;
+ghost use Rattle.ac_model.specs.Vectors as vectors;
 ghost use Rattle.ac_model.specs.Common as common;
 ghost use Rattle.ac_model.specs.Examples.{list_of, vector_of, bounded_vector_of, guarded, with_next};
 
@@ -92,4 +94,20 @@ pub fn guards_counted()
     ensures of_a_set { (common.release_call true kind.Elements (guarded 3 0 (list_of 1 (4 ∷ [])))) ≡ guarded 2 0 (list_of 1 (4 ∷ [])) }
     ensures held { (common.hold_call false kind.Elements (guarded 3 2 (list_of 1 (4 ∷ [])))) ≡ guarded 3 3 (list_of 1 (4 ∷ [])) }
     ensures held_of_a_set { (common.hold_call true kind.Elements (guarded 3 0 (list_of 1 (4 ∷ [])))) ≡ guarded 4 0 (list_of 1 (4 ∷ [])) }
+{}
+
+/// The head of a view looks at its cursor alone, whatever guards are held.
+pub fn viewed()
+    ensures element { common.view_reason (guarded 1 1 (list_of 1 (4 ∷ []))) (mark_at 1 1) ≡ None }
+    ensures none { common.view_reason (list_of 1 (4 ∷ [])) no_mark ≡ Some NoElement }
+    ensures dead { common.view_reason (list_of 1 (4 ∷ [])) (mark_at 1 2) ≡ Some DeadCursor }
+{}
+
+/// An argument that is left out is 1 as a count, and No_Element as where a search starts.
+pub fn left_out()
+    ensures count { (sequences.append_call (list_of 1 (4 ∷ [])) 5 count_left_out).after ≡ list_of 1 (4 ∷ 5 ∷ []) }
+    ensures start { (sequences.find_call nat_eq (list_of 1 (4 ∷ 5 ∷ 4 ∷ [])) 4 start_left_out).answer ≡ mark_at 1 1 }
+    ensures start_back { (sequences.reverse_find_call nat_eq (list_of 1 (4 ∷ 5 ∷ 4 ∷ [])) 4 start_left_out).answer ≡ mark_at 1 3 }
+    ensures index { (vectors.find_index_call nat_eq (vector_of 1 (5 ∷ 4 ∷ 4 ∷ [])) 4 index_left_out).answer ≡ pos 2 }
+    ensures last_index { (vectors.reverse_find_index_call nat_eq (vector_of 1 (5 ∷ 4 ∷ 4 ∷ [])) 4 last_index_left_out).answer ≡ pos 3 }
 {}

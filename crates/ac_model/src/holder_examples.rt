@@ -4,6 +4,7 @@ ghost use Rattle.ac_base.specs.declared.reason.Reason.TheVariants.{ElementTamper
 ghost use Rattle.ac_model.specs.Holders as holder;
 ghost use Rattle.ac_model.specs.Sequences.{are_equal};
 ghost use Rattle.ac_model.specs.Examples.{holder_of, holder_guarded};
+ghost use Rattle.ac_base.specs.declared.guard.GuardKind.TheVariants as kind;
 
 /// A bounded holder refuses what is too large, and a view lets its element be written and not be cleared.
 pub fn bounded()
@@ -88,4 +89,12 @@ pub fn with_itself()
     ensures assigned_in_a_view { (holder.assign_self_call (holder_guarded (holder_of 1 3 None))).reason ≡ Some ElementTampering }
     ensures moved_in_a_view { (holder.move_from_self_call (holder_guarded (holder_of 1 3 None))).reason ≡ Some ElementTampering }
     ensures swapped_in_a_view { (holder.swap_self_call (holder_guarded (holder_of 1 3 None))).reason ≡ Some ElementTampering }
+{}
+
+/// A guard of a holder is counted, and its release counts it off; a view of none is refused.
+pub fn viewed()
+    ensures held { holder.hold_call kind.Elements (holder_of 1 3 None) ≡ holder_guarded (holder_of 1 3 None) }
+    ensures released { holder.release_call kind.Elements (holder_guarded (holder_of 1 3 None)) ≡ holder_of 1 3 None }
+    ensures element { holder.view_reason (holder_guarded (holder_of 1 3 (Some (codes "a")))) ≡ None }
+    ensures none { holder.view_reason (holder_of 1 3 None) ≡ Some Empty }
 {}

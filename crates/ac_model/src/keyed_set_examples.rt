@@ -6,6 +6,7 @@ ghost use Rattle.ac_base.specs.Rows.{row};
 ghost use Rattle.ac_model.specs.Letters.{no_mark, mark_at};
 ghost use Rattle.ac_model.specs.KeyedSets as by_key;
 ghost use Rattle.ac_model.specs.Examples.{list_of, vector_of, guarded, hashed_tens, ordered_tens, tens};
+ghost use Rattle.ac_base.specs.declared.guard.GuardKind.TheVariants as kind;
 
 /// A key is read by a cursor, and an element is looked up by its key.
 pub fn looked_up()
@@ -60,7 +61,9 @@ pub fn replaced()
 /// A copy is taken where no guard is held, and at the end the other elements and the guards of others stay.
 pub fn updated()
     ensures started { let c = by_key.start_update_key_call (vector_of 1 (11 ∷ 25 ∷ [])) (mark_at 1 2) in
-        (c.reason ≡ None) × (c.answer ≡ Some 25) × (c.after ≡ guarded 1 0 (vector_of 1 (11 ∷ 25 ∷ []))) }
+        (c.reason ≡ None) × (c.answer.copy ≡ Some 25) × (c.after ≡ guarded 1 0 (vector_of 1 (11 ∷ 25 ∷ []))) }
+    ensures its_guard { (by_key.start_update_key_call (vector_of 7 (11 ∷ [])) (mark_at 7 1)).answer.guard
+        ≡ record { object = 7; kind = kind.Cursors } }
     ensures started_at_none { (by_key.start_update_key_call (vector_of 1 (11 ∷ [])) no_mark).reason ≡ Some NoElement }
     ensures started_at_dead { (by_key.start_update_key_call (vector_of 1 (11 ∷ [])) (mark_at 1 2)).reason ≡ Some DeadCursor }
     ensures started_in_a_loop { (by_key.start_update_key_call (guarded 1 0 (vector_of 1 [])) no_mark).reason ≡ Some CursorTampering }

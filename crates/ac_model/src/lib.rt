@@ -3,8 +3,8 @@
 #![tactic(auto)]
 
 pub mod call_laws;
-pub mod cursor_laws;
 pub mod common_examples;
+pub mod cursor_laws;
 mod cursors;
 pub mod guards_apart;
 pub mod holder_examples;
