@@ -7,7 +7,7 @@ use Rattle.std.proofs.lemmas.List.{drop-drop}
 use Rattle.ac_base.specs.Rows.{Row, row, values}
 use Rattle.ac_model.specs.Rows.{fresh, cut, put, named, is_named, with_value, row_by}
 use Rattle.ac_model.specs.Objects.{times}
-use Rattle.ac_model.specs.Keyed.{Order, added}
+use Rattle.ac_model.specs.Keyed.{place_in, Order, added}
 
 abbrev pub count : {V : Type 0} → (V → Bool) → List (Row ℕ V) → ℕ
 count p rows = length (filter (λ r. p r.value) rows)
@@ -40,7 +40,7 @@ count-put p xs place more =
 pub count-added : {V : Type 0} (p : V → Bool) (order : Order V) (vs : List V) (rows : List (Row ℕ V)) (next : ℕ) → count p (added order rows next vs) ≡ count p rows + length (filter p vs)
 count-added p order [] rows next = omega arith
 count-added p order (v ∷ vs) rows next =
-    let place = order.place (length rows) (values rows) v in
+    let place = place_in order (length rows) (values rows) v in
     omega (arith, count-added p order vs (put rows place (row next v ∷ [])) (next + 1), count-put p rows place (row next v ∷ []), count-cons p (row next v) [], count_step (p v) v (filter p vs))
 
 filter_case : {V : Type 0} (p : V → Bool) (r : Row ℕ V) (b : Bool) (some rows : List (Row ℕ V)) → count p some ≤ count p rows → count p (cond b (r ∷ some) some) ≤ count p (r ∷ rows)

@@ -7,7 +7,7 @@ use Rattle.ac_model.specs.Rows.{fresh, cut, put, place_of, named, is_named}
 use Rattle.ac_model.specs.Objects.{Object, IsValid, times, with_rows, grown}
 use Rattle.ac_model.specs.Letters.{room, room_for_one}
 use Rattle.ac_model.specs.Lists.{one_row}
-use Rattle.ac_model.specs.Keyed.{Order, added, with_added, without, with_reordered}
+use Rattle.ac_model.specs.Keyed.{place_in, Order, added, with_added, without, with_reordered}
 use Rattle.ac_model.proofs.Times.{times-put}
 use Rattle.ac_model.proofs.Moves.{found, length-put, times-cut_one, length-cut_one}
 use Rattle.ac_model.proofs.Reasons.{room_none}
@@ -17,13 +17,13 @@ use Rattle.ac_model.proofs.SequencesKept.{cut_kept}
 pub times-added : {V : Type 0} (order : Order V) (s : ℕ) (vs : List V) (rows : List (Row ℕ V)) (next : ℕ) → times s (added order rows next vs) ≡ times s rows + times s (fresh next vs)
 times-added order s [] rows next = omega arith
 times-added order s (v ∷ vs) rows next =
-    let place = order.place (length rows) (values rows) v in
+    let place = place_in order (length rows) (values rows) v in
     omega (arith, times-added order s vs (put rows place (row next v ∷ [])) (next + 1), times-put s rows place (row next v ∷ []))
 
 pub length-added : {V : Type 0} (order : Order V) (vs : List V) (rows : List (Row ℕ V)) (next : ℕ) → length (added order rows next vs) ≡ length rows + length vs
 length-added order [] rows next = omega arith
 length-added order (v ∷ vs) rows next =
-    let place = order.place (length rows) (values rows) v in
+    let place = place_in order (length rows) (values rows) v in
     omega (arith, length-added order vs (put rows place (row next v ∷ [])) (next + 1), length-put rows place (row next v ∷ []))
 
 -- rows of the object, and values that are added to them
@@ -48,7 +48,7 @@ times-reordered order s rows name v h =
     let others = cut rows place 1 in
     let r = found name rows h in
     let there : times s (one_row (named rows name)) ≡ (if name == s then 1 else 0) = rw r.1 (rw r.2 (omega arith)) in
-    omega (arith, there, times-cut_one s name rows, times-put s others (order.place place (values others) v) (row name v ∷ []))
+    omega (arith, there, times-cut_one s name rows, times-put s others (place_in order place (values others) v) (row name v ∷ []))
 
 length-reordered : {V : Type 0} (order : Order V) (rows : List (Row ℕ V)) (name : ℕ) (v : V) → is_named rows name ≡ true → length (with_reordered order rows name v) ≡ length rows
 length-reordered order rows name v h =
@@ -56,7 +56,7 @@ length-reordered order rows name v h =
     let others = cut rows place 1 in
     let r = found name rows h in
     let there : length (one_row (named rows name)) ≡ 1 = rw r.1 in
-    omega (arith, there, length-cut_one name rows, length-put others (order.place place (values others) v) (row name v ∷ []))
+    omega (arith, there, length-cut_one name rows, length-put others (place_in order place (values others) v) (row name v ∷ []))
 
 pub reordered_kept : {V : Type 0} (order : Order V) (o : Object ℕ V) (name : ℕ) (w : V) → IsValid o → is_named o.rows name ≡ true → IsValid (with_rows o (with_reordered order o.rows name w))
 reordered_kept order o name w v h =

@@ -11,7 +11,7 @@ use Rattle.ac_model.specs.Objects.{IsValid, Object, times, contents, with_rows, 
 use Rattle.ac_model.specs.Letters.{Mark, room, room_for_one, needs, tampers_cursors, tampers_elements, name_of, reason_if}
 use Rattle.ac_model.specs.Keyed as keyed
 use Rattle.std.specs.Cmp.{IsEquivalence}
-use Rattle.ac_model.specs.Keyed.{Order, IsValidKeyed, by_arrival, ascending, KeepsKeyed, InEachOrder, added, with_added, without, with_replaced, with_reordered, another_is_like, row_like, room_where_absent, with_added_if_absent, with_added_or_replaced, has}
+use Rattle.ac_model.specs.Keyed.{on_key, is_in_order, place_in, Order, IsValidKeyed, by_arrival, ascending, KeepsKeyed, InEachOrder, added, with_added, without, with_replaced, with_reordered, another_is_like, row_like, room_where_absent, with_added_if_absent, with_added_or_replaced, has}
 use Rattle.ac_model.specs.Sets as set
 use Rattle.ac_model.specs.Common as common
 use Rattle.ac_model.specs.Maps as map
@@ -30,12 +30,12 @@ use Rattle.ac_model.proofs.Ascending.{asc_cut, asc_filter, asc_put, asc_replaced
 -- what the proofs need of an order
 pub record Closed {V : Type 0} (order : Order V) : Type 0 where
   pub equal : IsEquivalence order.alike
-  pub in_none : order.is_in_order [] ≡ true
-  pub in_cut : (rows : List (Row ℕ V)) (place n : ℕ) → order.is_in_order (values rows) ≡ true → order.is_in_order (values (cut rows place n)) ≡ true
-  pub in_filter : (test : Row ℕ V → Bool) (rows : List (Row ℕ V)) → order.is_in_order (values rows) ≡ true → order.is_in_order (values (filter test rows)) ≡ true
-  pub in_put : (from : ℕ) (rows : List (Row ℕ V)) (name : ℕ) (v : V) → order.is_in_order (values rows) ≡ true → count (λ w. order.alike w v) rows ≡ 0 → order.is_in_order (values (put rows (order.place from (values rows) v) (row name v ∷ []))) ≡ true
-  pub in_replaced : (rows : List (Row ℕ V)) (name : ℕ) (v : V) (r : Row ℕ V) → order.is_in_order (values rows) ≡ true → times name rows ≤ 1 → named rows name ≡ Some r → order.alike r.value v ≡ true → order.is_in_order (values (with_value rows name v)) ≡ true
-  pub in_added : (vs : List V) (rows : List (Row ℕ V)) (next : ℕ) → order.is_in_order (values rows) ≡ true → ((u : V) → count (λ w. order.alike w u) rows + length (filter (λ w. order.alike w u) vs) ≤ 1) → order.is_in_order (values (added order rows next vs)) ≡ true
+  pub in_none : is_in_order order [] ≡ true
+  pub in_cut : (rows : List (Row ℕ V)) (place n : ℕ) → is_in_order order (values rows) ≡ true → is_in_order order (values (cut rows place n)) ≡ true
+  pub in_filter : (test : Row ℕ V → Bool) (rows : List (Row ℕ V)) → is_in_order order (values rows) ≡ true → is_in_order order (values (filter test rows)) ≡ true
+  pub in_put : (from : ℕ) (rows : List (Row ℕ V)) (name : ℕ) (v : V) → is_in_order order (values rows) ≡ true → count (λ w. order.alike w v) rows ≡ 0 → is_in_order order (values (put rows (place_in order from (values rows) v) (row name v ∷ []))) ≡ true
+  pub in_replaced : (rows : List (Row ℕ V)) (name : ℕ) (v : V) (r : Row ℕ V) → is_in_order order (values rows) ≡ true → times name rows ≤ 1 → named rows name ≡ Some r → order.alike r.value v ≡ true → is_in_order order (values (with_value rows name v)) ≡ true
+  pub in_added : (vs : List V) (rows : List (Row ℕ V)) (next : ℕ) → is_in_order order (values rows) ≡ true → ((u : V) → count (λ w. order.alike w u) rows + length (filter (λ w. order.alike w u) vs) ≤ 1) → is_in_order order (values (added order rows next vs)) ≡ true
 
 pub closed_arrival : {V : Type 0} (alike : V → V → Bool) → IsEquivalence alike → Closed (by_arrival alike)
 closed_arrival alike equal = record {
@@ -170,7 +170,7 @@ module _ {V : Type 0} (order : Order V) (closed : Closed order) where
   difference_keeps target source valid none = filter_valid target (λ r. not (has order (contents source) r.value)) valid
 
   added_valid : (target : Object ℕ V) (some : List (Row ℕ V)) (source : Object ℕ V) → IsValidKeyed order target → IsValidKeyed order source →
-      ((s : ℕ) → times s some ≤ times s target.rows) → ((u : V) → count (λ w. order.alike w u) some ≤ count (λ w. order.alike w u) target.rows) → order.is_in_order (values some) ≡ true →
+      ((s : ℕ) → times s some ≤ times s target.rows) → ((u : V) → count (λ w. order.alike w u) some ≤ count (λ w. order.alike w u) target.rows) → is_in_order order (values some) ≡ true →
       first_reason (room target (length some + length (set.additions order target source)) (length (set.additions order target source))) ≡ None →
       IsValidKeyed order (grown target (added order some target.next (set.additions order target source)) (length (set.additions order target source)))
   added_valid target some source valid source_valid fewer fewer_like in_order none =
@@ -206,10 +206,6 @@ module _ {V : Type 0} (order : Order V) (closed : Closed order) where
       let own = reason_if (another_is_like order o.rows r.name element) Duplicate in
       reordered_valid o r.name element valid (found_name matches o.rows r e)
       (not_if (another_is_like order o.rows r.name element) Duplicate (none_first own [] (after_two (tampers_cursors o) (reason_if false KeyAbsent) (own ∷ []) none)))
-
-  pub key_replace_keeps : {K : Type 0} (key : V → K) (alike : K → K → Bool) (o : Object ℕ V) (k : K) (element : V) → KeepsKeyed order o (by_key.key_replace_call key alike order o k element)
-  key_replace_keeps key alike o k element valid none =
-      reordered_if_found o (by_key.has_key key alike k) element (row_by (by_key.has_key key alike k) o.rows) refl valid none
 
   pub same_key_valid : (o : Object ℕ V) (name : ℕ) (change : V → V) → ((v : V) → order.alike v (change v) ≡ true) → IsValidKeyed order o → is_named o.rows name ≡ true →
       IsValidKeyed order (with_rows o (with_some_value o.rows name (option_map change (value_at o.rows name))))
@@ -262,27 +258,27 @@ ordered_weak less weak = record {
   ties_transitive = λ e f g. weak.ties_transitive e.key f.key g.key;
 }
 
-pub hashed_replace_element_keeps : {K T : Type 0} (alike : K → K → Bool) → IsEquivalence alike → (o : Object ℕ (Entry K T)) (c : Mark) (element : T) → KeepsKeyed (map.hashed alike) o (map.replace_element_call o c element)
+pub hashed_replace_element_keeps : {K T : Type 0} (alike : K → K → Bool) → IsEquivalence alike → (o : Object ℕ (Entry K T)) (c : Mark) (element : T) → KeepsKeyed (map.order_of (by_arrival alike)) o (map.replace_element_call o c element)
 hashed_replace_element_keeps alike equal o c element valid none =
     let entries = hashed_equal alike equal in
-    element_kept (map.hashed alike) (closed_arrival (λ e f. alike e.key f.key) entries) (λ e t. equal.refl e.key) o c element valid
+    element_kept (map.order_of (by_arrival alike)) (closed_arrival (λ e f. alike e.key f.key) entries) (λ e t. equal.refl e.key) o c element valid
     (none_first (needs o c) [] (none_others (tampers_elements o) (needs o c ∷ []) none))
 
-pub ordered_replace_element_keeps : {K T : Type 0} (less : K → K → Bool) → IsWeakOrder less → (o : Object ℕ (Entry K T)) (c : Mark) (element : T) → KeepsKeyed (map.ordered less) o (map.replace_element_call o c element)
+pub ordered_replace_element_keeps : {K T : Type 0} (less : K → K → Bool) → IsWeakOrder less → (o : Object ℕ (Entry K T)) (c : Mark) (element : T) → KeepsKeyed (map.order_of (ascending less)) o (map.replace_element_call o c element)
 ordered_replace_element_keeps less weak o c element valid none =
     let entries = ordered_weak less weak in
-    element_kept (map.ordered less) (closed_ascending (λ e f. less e.key f.key) entries) (λ e t. (level_equal less weak).refl e.key) o c element valid
+    element_kept (map.order_of (ascending less)) (closed_ascending (λ e f. less e.key f.key) entries) (λ e t. (level_equal less weak).refl e.key) o c element valid
     (none_first (needs o c) [] (none_others (tampers_elements o) (needs o c ∷ []) none))
 
-pub hashed_write_keeps : {K T : Type 0} (alike : K → K → Bool) → IsEquivalence alike → (o : Object ℕ (Entry K T)) (c : Mark) (element : T) → KeepsKeyed (map.hashed alike) o (map.write_call o c element)
+pub hashed_write_keeps : {K T : Type 0} (alike : K → K → Bool) → IsEquivalence alike → (o : Object ℕ (Entry K T)) (c : Mark) (element : T) → KeepsKeyed (map.order_of (by_arrival alike)) o (map.write_call o c element)
 hashed_write_keeps alike equal o c element valid none =
     let entries = hashed_equal alike equal in
-    element_kept (map.hashed alike) (closed_arrival (λ e f. alike e.key f.key) entries) (λ e t. equal.refl e.key) o c element valid (none_first (needs o c) [] none)
+    element_kept (map.order_of (by_arrival alike)) (closed_arrival (λ e f. alike e.key f.key) entries) (λ e t. equal.refl e.key) o c element valid (none_first (needs o c) [] none)
 
-pub ordered_write_keeps : {K T : Type 0} (less : K → K → Bool) → IsWeakOrder less → (o : Object ℕ (Entry K T)) (c : Mark) (element : T) → KeepsKeyed (map.ordered less) o (map.write_call o c element)
+pub ordered_write_keeps : {K T : Type 0} (less : K → K → Bool) → IsWeakOrder less → (o : Object ℕ (Entry K T)) (c : Mark) (element : T) → KeepsKeyed (map.order_of (ascending less)) o (map.write_call o c element)
 ordered_write_keeps less weak o c element valid none =
     let entries = ordered_weak less weak in
-    element_kept (map.ordered less) (closed_ascending (λ e f. less e.key f.key) entries) (λ e t. (level_equal less weak).refl e.key) o c element valid (none_first (needs o c) [] none)
+    element_kept (map.order_of (ascending less)) (closed_ascending (λ e f. less e.key f.key) entries) (λ e t. (level_equal less weak).refl e.key) o c element valid (none_first (needs o c) [] none)
 
 -- each law in each order
 pub each_insert : {V : Type 0} → InEachOrder (λ (order : Order V). (o : Object ℕ V) (v : V) → KeepsKeyed order o (keyed.insert_call order o v))
@@ -326,9 +322,6 @@ each_difference {V} = in_each (λ (order : Order V). (target source : Object ℕ
 
 pub each_symmetric_difference : {V : Type 0} → InEachOrder (λ (order : Order V). (target source : Object ℕ V) → IsValidKeyed order source → KeepsKeyed order target (set.symmetric_difference_call order target source))
 each_symmetric_difference {V} = in_each (λ (order : Order V). (target source : Object ℕ V) → IsValidKeyed order source → KeepsKeyed order target (set.symmetric_difference_call order target source)) (λ order closed. symmetric_difference_keeps order closed)
-
-pub each_key_replace : {K V : Type 0} → InEachOrder (λ (order : Order V). (key : V → K) (alike : K → K → Bool) (o : Object ℕ V) (k : K) (element : V) → KeepsKeyed order o (by_key.key_replace_call key alike order o k element))
-each_key_replace {K} {V} = in_each (λ (order : Order V). (key : V → K) (alike : K → K → Bool) (o : Object ℕ V) (k : K) (element : V) → KeepsKeyed order o (by_key.key_replace_call key alike order o k element)) (λ order closed. key_replace_keeps order closed)
 
 pub each_clear : {V : Type 0} → InEachOrder (λ (order : Order V). (o : Object ℕ V) → KeepsKeyed order o (common.clear_call o))
 each_clear {V} = in_each (λ (order : Order V). (o : Object ℕ V) → KeepsKeyed order o (common.clear_call o)) (λ order closed. clear_keeps order closed)
@@ -375,7 +368,7 @@ ended key alike order closed same o c copy r valid there false e = cut_valid ord
 
 -- the end of an update of a keyed set, whether its key was kept or not
 updated : {K V : Type 0} (key : V → K) (alike : K → K → Bool) (order : Order V) → Closed order → ((v w : V) → alike (key v) (key w) ≡ true → order.alike v w ≡ true) → (o : Object ℕ V) (c : Mark) (copy : V) →
-    IsValidKeyed order o → is_named o.rows (name_of c) ≡ true → IsValidKeyed order (by_key.end_update_key_call key alike o c copy).after
+    IsValidKeyed order o → is_named o.rows (name_of c) ≡ true → IsValidKeyed order (by_key.end_update_key_call key (by_arrival alike) o c copy).after
 updated key alike order closed same o c copy valid there =
     let released = record o { cursor_guards = o.cursor_guards - 1 } in
     let r = found (name_of c) o.rows there in
@@ -383,11 +376,27 @@ updated key alike order closed same o c copy valid there =
     rw r.1 (ended key alike order closed same released c copy r.0 free r.1 (alike (key r.0.value) (key copy)) refl)
 
 pub hashed_update_keeps : {K V : Type 0} (key : V → K) (alike : K → K → Bool) → IsEquivalence alike → (o : Object ℕ V) (c : Mark) (copy : V) →
-    IsValidKeyed (by_key.hashed key alike) o → is_named o.rows (name_of c) ≡ true → IsValidKeyed (by_key.hashed key alike) (by_key.end_update_key_call key alike o c copy).after
+    IsValidKeyed (on_key key (by_arrival alike)) o → is_named o.rows (name_of c) ≡ true → IsValidKeyed (on_key key (by_arrival alike)) (by_key.end_update_key_call key (by_arrival alike) o c copy).after
 hashed_update_keeps key alike equal o c copy valid there =
-    updated key alike (by_key.hashed key alike) (closed_arrival (λ v w. alike (key v) (key w)) (keys_equal key alike equal)) (λ v w h. h) o c copy valid there
+    updated key alike (on_key key (by_arrival alike)) (closed_arrival (λ v w. alike (key v) (key w)) (keys_equal key alike equal)) (λ v w h. h) o c copy valid there
 
 pub ordered_update_keeps : {K V : Type 0} (key : V → K) (less : K → K → Bool) → IsWeakOrder less → (o : Object ℕ V) (c : Mark) (copy : V) →
-    IsValidKeyed (by_key.ordered key less) o → is_named o.rows (name_of c) ≡ true → IsValidKeyed (by_key.ordered key less) (by_key.end_update_key_call key (are_level less) o c copy).after
+    IsValidKeyed (on_key key (ascending less)) o → is_named o.rows (name_of c) ≡ true → IsValidKeyed (on_key key (ascending less)) (by_key.end_update_key_call key (ascending less) o c copy).after
 ordered_update_keeps key less weak o c copy valid there =
-    updated key (are_level less) (by_key.ordered key less) (closed_ascending (λ v w. less (key v) (key w)) (keys_weak key less weak)) (λ v w h. h) o c copy valid there
+    updated key (are_level less) (on_key key (ascending less)) (closed_ascending (λ v w. less (key v) (key w)) (keys_weak key less weak)) (λ v w h. h) o c copy valid there
+
+-- a replacement by a key
+key_replace_keeps : {K V : Type 0} (key : V → K) (keys : Order K) → Closed (on_key key keys) → (o : Object ℕ V) (k : K) (element : V) →
+    KeepsKeyed (on_key key keys) o (by_key.key_replace_call key keys o k element)
+key_replace_keeps key keys closed o k element valid none =
+    reordered_if_found (on_key key keys) closed o (by_key.has_key key keys k) element (row_by (by_key.has_key key keys k) o.rows) refl valid none
+
+pub hashed_key_replace_keeps : {K V : Type 0} (key : V → K) (alike : K → K → Bool) → IsEquivalence alike → (o : Object ℕ V) (k : K) (element : V) →
+    KeepsKeyed (on_key key (by_arrival alike)) o (by_key.key_replace_call key (by_arrival alike) o k element)
+hashed_key_replace_keeps key alike equal =
+    key_replace_keeps key (by_arrival alike) (closed_arrival (λ v w. alike (key v) (key w)) (keys_equal key alike equal))
+
+pub ordered_key_replace_keeps : {K V : Type 0} (key : V → K) (less : K → K → Bool) → IsWeakOrder less → (o : Object ℕ V) (k : K) (element : V) →
+    KeepsKeyed (on_key key (ascending less)) o (by_key.key_replace_call key (ascending less) o k element)
+ordered_key_replace_keeps key less weak =
+    key_replace_keeps key (ascending less) (closed_ascending (λ v w. less (key v) (key w)) (keys_weak key less weak))

@@ -9,7 +9,7 @@ use Rattle.ac_base.specs.Rows.{Row, row, values}
 use Rattle.ac_model.specs.Rows.{cut, place_of, named, with_value, row_by}
 use Rattle.ac_model.specs.Objects.{times}
 use Rattle.std.specs.Cmp.{IsEquivalence}
-use Rattle.ac_model.specs.Keyed.{Order, added, with_reordered, another_is_like, has}
+use Rattle.ac_model.specs.Keyed.{place_in, Order, added, with_reordered, another_is_like, has}
 use Rattle.ac_model.proofs.Counts.{count, count_step, count-cons, count-cut, count-put, count-added, count-filter, count_implied, absent_zero, count-replaced, filter_of_filter}
 
 -- no value is equivalent to two rows' values
@@ -90,7 +90,7 @@ differ_reordered order equal rows name v differ once none u =
     let fewer = differ_cut order.alike rows place 1 differ in
     omega (
       arith,
-      count-put (λ w. order.alike w u) others (order.place place (values others) v) (row name v ∷ []),
+      count-put (λ w. order.alike w u) others (place_in order place (values others) v) (row name v ∷ []),
       count-cons (λ w. order.alike w u) (row name v) [],
       one_more order.alike equal others v u zero_like (fewer u) (order.alike v u) refl,
     )

@@ -3,8 +3,7 @@ use Rattle.std.specs.Prelude.{◌/◌, ◌==◌, ◌∷◌, [], nat_eq, nat_lt, 
 use Rattle.ac_base.specs.declared.limit.Limit.TheVariants.{Unbounded, Bounded}
 use Rattle.ac_base.specs.declared.name.Name.{Name}
 use Rattle.ac_model.specs.Maps as maps
-use Rattle.ac_model.specs.KeyedSets as keyed_sets
-use Rattle.ac_model.specs.Keyed.{Order, by_arrival, ascending}
+use Rattle.ac_model.specs.Keyed.{Order, by_arrival, ascending, on_key}
 use Rattle.ac_model.specs.Rows.{Entry, Node, node, fresh}
 use Rattle.ac_model.specs.Holders.{Holder}
 use Rattle.ac_model.specs.Queues.{Queue}
@@ -53,16 +52,26 @@ ordered_map_of number entries = holding number entries
 abbrev pub tens : ℕ → ℕ
 tens n = n / 10
 
+-- how numbers are told apart as keys: in order of arrival, and ascending
+abbrev pub by_arrived : Order ℕ
+by_arrived = by_arrival nat_eq
+
+abbrev pub by_number : Order ℕ
+by_number = ascending nat_lt
+
 -- how the examples' maps and sets of numbers are ordered
 abbrev pub hashed_entries : Order (Entry ℕ ℕ)
-hashed_entries = maps.hashed nat_eq
+hashed_entries = maps.order_of by_arrived
 
 abbrev pub ordered_entries : Order (Entry ℕ ℕ)
-ordered_entries = maps.ordered nat_lt
+ordered_entries = maps.order_of by_number
 
 -- keys that are equivalent where all their digits but the last are the same
+abbrev pub in_tens : Order ℕ
+in_tens = by_arrival (λ k l. tens k == tens l)
+
 abbrev pub by_tens : Order (Entry ℕ ℕ)
-by_tens = maps.hashed (λ k l. tens k == tens l)
+by_tens = maps.order_of in_tens
 
 abbrev pub hashed_numbers : Order ℕ
 hashed_numbers = by_arrival nat_eq
@@ -71,10 +80,10 @@ abbrev pub ordered_numbers : Order ℕ
 ordered_numbers = ascending nat_lt
 
 abbrev pub hashed_tens : Order ℕ
-hashed_tens = keyed_sets.hashed tens nat_eq
+hashed_tens = on_key tens by_arrived
 
 abbrev pub ordered_tens : Order ℕ
-ordered_tens = keyed_sets.ordered tens nat_lt
+ordered_tens = on_key tens by_number
 
 -- a bounded holder of bytes, and one under an element guard
 abbrev pub holder_of : ℕ → ℕ → Option (List ℕ) → Holder (List ℕ)

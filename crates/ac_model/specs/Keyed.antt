@@ -1,7 +1,7 @@
 -- The calls that maps (A.18.4) and sets (A.18.7) have in common: rows whose keys are pairwise not equivalent, in order of arrival or ascending. A set's row holds its element, which is its own key; a keyed set's element has a key.
 --
 -- A look-up takes the test of a row's value that the key or item passes.
-use Rattle.std.specs.Prelude.{◌≡◌, ◌==◌, ◌+◌, ◌≤◌, ℕ, Bool, true, not, ◌&&◌, List, [], ◌∷◌, length, reverse, filter, find, Option, Some, None, is_some}
+use Rattle.std.specs.Prelude.{◌≡◌, ◌==◌, ◌+◌, ◌≤◌, ℕ, Bool, true, false, not, ◌&&◌, List, [], ◌∷◌, length, reverse, filter, find, Option, Some, None, is_some, if◌then◌else◌}
 use Rattle.std.specs.List.{list_any, prefix_len}
 use Rattle.std.specs.Cmp.{IsEquivalence}
 use Rattle.ac_base.specs.declared.reason.Reason.{Reason}
@@ -14,15 +14,23 @@ use Rattle.ac_model.specs.Objects.{Object, IsValid, contents, with_rows, grown, 
 use Rattle.ac_model.specs.Letters.{Mark, no_mark, mark_at, needs, name_of, mark_for, tampers_cursors, room_for_one, reason_if, has_room}
 use Rattle.ac_model.specs.Calls.{Call, call, Done, takes_none}
 
--- how the rows' values are ordered: which are equivalent by their keys; the place of a value among others, where `from` is the end, or the place that a row had; and what holds of their order
+-- how keys are told apart and ordered: which are equivalent, which is less, and whether rows stand ascending by their keys or in order of arrival, where no key is less than another
 pub record Order (V : Type 0) : Type 0 where
   pub alike : V → V → Bool
-  pub place : ℕ → List V → V → ℕ
-  pub is_in_order : List V → Bool
+  pub less : V → V → Bool
+  pub ascends : Bool
 
 -- in order of arrival (A.18.5, A.18.8)
 abbrev pub by_arrival : {V : Type 0} → (V → V → Bool) → Order V
-by_arrival alike = record { alike = alike; place = λ from others v. from; is_in_order = λ vs. true }
+by_arrival alike = record { alike = alike; less = λ v w. false; ascends = false }
+
+-- ascending (A.18.6, A.18.9): keys are equivalent of which neither is less
+abbrev pub ascending : {V : Type 0} → (V → V → Bool) → Order V
+ascending less = record { alike = are_level less; less = less; ascends = true }
+
+-- of values, by their keys
+abbrev pub on_key : {K V : Type 0} → (V → K) → Order K → Order V
+on_key key keys = record { alike = λ v w. keys.alike (key v) (key w); less = λ v w. keys.less (key v) (key w); ascends = keys.ascends }
 
 -- each value is less than the next
 abbrev pub is_strictly_ascending : {V : Type 0} → (V → V → Bool) → List V → Bool
@@ -30,19 +38,19 @@ is_strictly_ascending less [] = true
 is_strictly_ascending less (v ∷ []) = true
 is_strictly_ascending less (v ∷ w ∷ vs) = less v w && is_strictly_ascending less (w ∷ vs)
 
--- strictly ascending (A.18.6, A.18.9)
-abbrev pub ascending : {V : Type 0} → (V → V → Bool) → Order V
-ascending less = record {
-  alike = are_level less;
-  place = λ from others v. prefix_len (λ w. less w v) others;
-  is_in_order = is_strictly_ascending less;
-}
+-- the place of a value among others, where `from` is the end, or the place that a row had
+abbrev pub place_in : {V : Type 0} → Order V → ℕ → List V → V → ℕ
+place_in order from others v = if order.ascends then prefix_len (λ w. order.less w v) others else from
+
+-- the values stand in the order
+abbrev pub is_in_order : {V : Type 0} → Order V → List V → Bool
+is_in_order order vs = if order.ascends then is_strictly_ascending order.less vs else true
 
 -- what holds of a map or a set: no value is equivalent to two rows' values
 pub record IsValidKeyed {V : Type 0} (order : Order V) (o : Object ℕ V) : Type 0 where
   pub as_object : IsValid o
   pub keys_differ : (v : V) → length (filter (λ r. order.alike r.value v) o.rows) ≤ 1
-  pub in_order : order.is_in_order (contents o) ≡ true
+  pub in_order : is_in_order order (contents o) ≡ true
 
 -- a value with an equivalent key
 abbrev pub has : {V : Type 0} → Order V → List V → V → Bool
@@ -55,7 +63,7 @@ row_like order o v = row_by (λ w. order.alike w v) o.rows
 -- the values added in turn, each as a row with the next name, at its place
 abbrev pub added : {V : Type 0} → Order V → List (Row ℕ V) → ℕ → List V → List (Row ℕ V)
 added order rows next [] = rows
-added order rows next (v ∷ vs) = added order (put rows (order.place (length rows) (values rows) v) (row next v ∷ [])) (next + 1) vs
+added order rows next (v ∷ vs) = added order (put rows (place_in order (length rows) (values rows) v) (row next v ∷ [])) (next + 1) vs
 
 -- the object with one value more
 abbrev pub with_added : {V : Type 0} → Order V → Object ℕ V → V → Object ℕ V
@@ -180,7 +188,7 @@ abbrev pub with_reordered : {V : Type 0} → Order V → List (Row ℕ V) → �
 with_reordered order rows name v =
     let place = place_of rows name in
     let others = cut rows place 1 in
-    put others (order.place place (values others) v) (row name v ∷ [])
+    put others (place_in order place (values others) v) (row name v ∷ [])
 
 -- Replace_Element of a set (A.18.7)
 abbrev pub replace_element_call : {V : Type 0} → Order V → Object ℕ V → Mark → V → Call (Object ℕ V) Done

@@ -1,4 +1,4 @@
--- The calls that sets with keys add (Generic_Keys, A.18.8 and A.18.9). `key` is an element's key, `alike` says which keys are equivalent, `less` which is less.
+-- The calls that sets with keys add (Generic_Keys, A.18.8 and A.18.9). `key` is an element's key, `keys` says how keys are told apart and ordered: so the set's order is `on_key key keys`.
 use Rattle.std.specs.Prelude.{◌+◌, ◌-◌, ℕ, Bool, false, not, List, [], ◌∷◌, Option, Some, None, option_map, is_some, if◌then◌else◌}
 use Rattle.ac_base.specs.declared.reason.Reason.TheVariants.{KeyAbsent, KeyChanged, Duplicate}
 use Rattle.ac_base.specs.declared.reason.Reason.{Reason}
@@ -11,41 +11,34 @@ use Rattle.ac_model.specs.Objects.{Object, with_rows}
 use Rattle.ac_model.specs.Letters.{Mark, needs, name_of, tampers_cursors, reason_if}
 use Rattle.ac_model.specs.Calls.{Call, call, Look, look, Done, takes_none, takes_some}
 use Rattle.ac_model.specs.Keyed as keyed
-use Rattle.ac_model.specs.Keyed.{Order, by_arrival, ascending, another_is_like, with_reordered, name_or}
-
--- the order of a hashed keyed set, and of an ordered one
-abbrev pub hashed : {K T : Type 0} → (T → K) → (K → K → Bool) → Order T
-hashed key alike = by_arrival (λ v w. alike (key v) (key w))
-
-abbrev pub ordered : {K T : Type 0} → (T → K) → (K → K → Bool) → Order T
-ordered key less = ascending (λ v w. less (key v) (key w))
+use Rattle.ac_model.specs.Keyed.{Order, on_key, another_is_like, with_reordered, name_or}
 
 -- an element that has the key
-abbrev pub has_key : {K T : Type 0} → (T → K) → (K → K → Bool) → K → T → Bool
-has_key key alike k v = alike (key v) k
+abbrev pub has_key : {K T : Type 0} → (T → K) → Order K → K → T → Bool
+has_key key keys k v = keys.alike (key v) k
 
 -- Key (A.18.8, A.18.9)
 abbrev pub key_call : {K T : Type 0} → (T → K) → Object ℕ T → Mark → Look (Option K)
 key_call key o c = look (first_reason (needs o c ∷ [])) (option_map key (value_at o.rows (name_of c)))
 
 -- Element by a key (A.18.8, A.18.9)
-abbrev pub key_element_call : {K T : Type 0} → (T → K) → (K → K → Bool) → Object ℕ T → K → Look (Option T)
-key_element_call key alike o k =
-    let present = row_by (has_key key alike k) o.rows in
+abbrev pub key_element_call : {K T : Type 0} → (T → K) → Order K → Object ℕ T → K → Look (Option T)
+key_element_call key keys o k =
+    let present = row_by (has_key key keys k) o.rows in
     look (first_reason (reason_if (not (is_some present)) KeyAbsent ∷ [])) (option_map (λ r. r.value) present)
 
 -- Find, Contains, Exclude and Delete by a key (A.18.8, A.18.9)
-abbrev pub key_find_call : {K T : Type 0} → (T → K) → (K → K → Bool) → Object ℕ T → K → Mark
-key_find_call key alike o k = keyed.find_call (has_key key alike k) o
+abbrev pub key_find_call : {K T : Type 0} → (T → K) → Order K → Object ℕ T → K → Mark
+key_find_call key keys o k = keyed.find_call (has_key key keys k) o
 
-abbrev pub key_contains_call : {K T : Type 0} → (T → K) → (K → K → Bool) → Object ℕ T → K → Bool
-key_contains_call key alike o k = keyed.contains_call (has_key key alike k) o
+abbrev pub key_contains_call : {K T : Type 0} → (T → K) → Order K → Object ℕ T → K → Bool
+key_contains_call key keys o k = keyed.contains_call (has_key key keys k) o
 
-abbrev pub key_exclude_call : {K T : Type 0} → (T → K) → (K → K → Bool) → Object ℕ T → K → Call (Object ℕ T) Done
-key_exclude_call key alike o k = keyed.exclude_call (has_key key alike k) o
+abbrev pub key_exclude_call : {K T : Type 0} → (T → K) → Order K → Object ℕ T → K → Call (Object ℕ T) Done
+key_exclude_call key keys o k = keyed.exclude_call (has_key key keys k) o
 
-abbrev pub key_delete_call : {K T : Type 0} → (T → K) → (K → K → Bool) → Object ℕ T → K → Call (Object ℕ T) Done
-key_delete_call key alike o k = keyed.delete_match_call (has_key key alike k) o
+abbrev pub key_delete_call : {K T : Type 0} → (T → K) → Order K → Object ℕ T → K → Call (Object ℕ T) Done
+key_delete_call key keys o k = keyed.delete_match_call (has_key key keys k) o
 
 -- the name of a row that is found, and 0 where none is
 abbrev pub name_found : {T : Type 0} → Option (Row ℕ T) → ℕ
@@ -59,21 +52,21 @@ abbrev pub reordered_where_found : {T : Type 0} → Order T → Object ℕ T →
 reordered_where_found order o present element = with_rows o (reordered_rows order o.rows present element)
 
 -- Replace by a key (A.18.8, A.18.9): then as Replace_Element on the element that has it
-abbrev pub key_replace_call : {K T : Type 0} → (T → K) → (K → K → Bool) → Order T → Object ℕ T → K → T → Call (Object ℕ T) Done
-key_replace_call key alike order o k element =
-    let present = row_by (has_key key alike k) o.rows in
+abbrev pub key_replace_call : {K T : Type 0} → (T → K) → Order K → Object ℕ T → K → T → Call (Object ℕ T) Done
+key_replace_call key keys o k element =
+    let present = row_by (has_key key keys k) o.rows in
     call takes_none
     (first_reason (tampers_cursors o ∷ reason_if (not (is_some present)) KeyAbsent
-    ∷ reason_if (another_is_like order o.rows (name_found present) element) Duplicate ∷ []))
-    (reordered_where_found order o present element)
+    ∷ reason_if (another_is_like (on_key key keys) o.rows (name_found present) element) Duplicate ∷ []))
+    (reordered_where_found (on_key key keys) o present element)
     tt
 
 -- Floor and Ceiling of a key (A.18.9)
-abbrev pub key_floor_call : {K T : Type 0} → (T → K) → (K → K → Bool) → Object ℕ T → K → Mark
-key_floor_call key less o k = keyed.floor_call (λ v. less k (key v)) o
+abbrev pub key_floor_call : {K T : Type 0} → (T → K) → Order K → Object ℕ T → K → Mark
+key_floor_call key keys o k = keyed.floor_call (λ v. keys.less k (key v)) o
 
-abbrev pub key_ceiling_call : {K T : Type 0} → (T → K) → (K → K → Bool) → Object ℕ T → K → Mark
-key_ceiling_call key less o k = keyed.ceiling_call (λ v. less (key v) k) o
+abbrev pub key_ceiling_call : {K T : Type 0} → (T → K) → Order K → Object ℕ T → K → Mark
+key_ceiling_call key keys o k = keyed.ceiling_call (λ v. keys.less (key v) k) o
 
 -- what the start of an update answers: the guard that is held, and a copy of the element
 pub record Started (T : Type 0) : Type 0 where
@@ -92,15 +85,15 @@ start_update_key_call o c =
     (record { guard = record { object = o.number; kind = guard.Cursors }; copy = value_at o.rows (name_of c) })
 
 -- the key of the copy is that of the element
-abbrev pub keeps_key : {K T : Type 0} → (T → K) → (K → K → Bool) → Option T → T → Bool
-keeps_key key alike None copy = false
-keeps_key key alike (Some element) copy = alike (key element) (key copy)
+abbrev pub keeps_key : {K T : Type 0} → (T → K) → Order K → Option T → T → Bool
+keeps_key key keys None copy = false
+keeps_key key keys (Some element) copy = keys.alike (key element) (key copy)
 
 -- its end, with the copy: the guard is released, and the element is the copy, or it goes where the key isn't the same. The object is afterwards as this says also where the end is refused
-abbrev pub end_update_key_call : {K T : Type 0} → (T → K) → (K → K → Bool) → Object ℕ T → Mark → T → Call (Object ℕ T) Done
-end_update_key_call key alike o c copy =
+abbrev pub end_update_key_call : {K T : Type 0} → (T → K) → Order K → Object ℕ T → Mark → T → Call (Object ℕ T) Done
+end_update_key_call key keys o c copy =
     let released = record o { cursor_guards = o.cursor_guards - 1 } in
-    let keeps = keeps_key key alike (value_at o.rows (name_of c)) copy in
+    let keeps = keeps_key key keys (value_at o.rows (name_of c)) copy in
     call takes_none
     (first_reason (reason_if (not keeps) KeyChanged ∷ []))
     (with_rows released (if keeps then with_value o.rows (name_of c) copy else cut o.rows (place_of o.rows (name_of c)) 1))

@@ -1,4 +1,4 @@
--- The calls of hashed and ordered maps (A.18.4, A.18.5, A.18.6). `alike` says which keys are equivalent, `less` which is less.
+-- The calls of hashed and ordered maps (A.18.4, A.18.5, A.18.6). `keys` says how keys are told apart and ordered.
 use Rattle.std.specs.Prelude.{◌==◌, ℕ, Bool, false, ◌&&◌, not, [], ◌∷◌, Option, Some, None, option_map, is_some}
 use Rattle.std.specs.List.{list_all}
 use Rattle.ac_base.specs.declared.reason.Reason.TheVariants.{KeyAbsent}
@@ -9,15 +9,12 @@ use Rattle.ac_model.specs.Objects.{Object, contents, length_of, with_rows}
 use Rattle.ac_model.specs.Letters.{Mark, needs, name_of, tampers_elements, reason_if}
 use Rattle.ac_model.specs.Calls.{Call, call, Look, look, Done, takes_none}
 use Rattle.ac_model.specs.Keyed as keyed
-use Rattle.ac_model.specs.Keyed.{Order, Inserted, by_arrival, ascending, row_like}
+use Rattle.ac_model.specs.Keyed.{Order, Inserted, on_key}
 use Rattle.ac_model.specs.Sequences as sequence
 
--- the order of a hashed map, and of an ordered one
-abbrev pub hashed : {K T : Type 0} → (K → K → Bool) → Order (Entry K T)
-hashed alike = by_arrival (λ e f. alike e.key f.key)
-
-abbrev pub ordered : {K T : Type 0} → (K → K → Bool) → Order (Entry K T)
-ordered less = ascending (λ e f. less e.key f.key)
+-- the order of a map's rows, by their keys
+abbrev pub order_of : {K T : Type 0} → Order K → Order (Entry K T)
+order_of keys = on_key (λ e. e.key) keys
 
 abbrev pub key_of : {K T : Type 0} → Option (Entry K T) → Option K
 key_of e = option_map (λ f. f.key) e
@@ -26,8 +23,8 @@ abbrev pub element_of : {K T : Type 0} → Option (Entry K T) → Option T
 element_of e = option_map (λ f. f.element) e
 
 -- a row that has the key
-abbrev pub has_key : {K T : Type 0} → (K → K → Bool) → K → Entry K T → Bool
-has_key alike key e = alike e.key key
+abbrev pub has_key : {K T : Type 0} → Order K → K → Entry K T → Bool
+has_key keys key e = keys.alike e.key key
 
 -- Key (A.18.4)
 abbrev pub key_call : {K T : Type 0} → Object ℕ (Entry K T) → Mark → Look (Option K)
@@ -38,9 +35,9 @@ abbrev pub element_call : {K T : Type 0} → Object ℕ (Entry K T) → Mark →
 element_call o c = look (first_reason (needs o c ∷ [])) (element_of (value_at o.rows (name_of c)))
 
 -- Element by a key (A.18.4)
-abbrev pub element_key_call : {K T : Type 0} → (K → K → Bool) → Object ℕ (Entry K T) → K → Look (Option T)
-element_key_call alike o key =
-    let present = row_by (has_key alike key) o.rows in
+abbrev pub element_key_call : {K T : Type 0} → Order K → Object ℕ (Entry K T) → K → Look (Option T)
+element_key_call keys o key =
+    let present = row_by (has_key keys key) o.rows in
     look (first_reason (reason_if (not (is_some present)) KeyAbsent ∷ [])) (element_of (option_map (λ r. r.value) present))
 
 abbrev pub with_element : {K T : Type 0} → Option (Entry K T) → T → Option (Entry K T)
@@ -60,41 +57,41 @@ abbrev pub write_call : {K T : Type 0} → Object ℕ (Entry K T) → Mark → T
 write_call o c element = call takes_none (first_reason (needs o c ∷ [])) (element_replaced o c element) tt
 
 -- Insert, Insert with a position, Include (A.18.4)
-abbrev pub insert_call : {K T : Type 0} → Order (Entry K T) → Object ℕ (Entry K T) → K → T → Call (Object ℕ (Entry K T)) Done
-insert_call order o key element = keyed.insert_call order o (entry key element)
+abbrev pub insert_call : {K T : Type 0} → Order K → Object ℕ (Entry K T) → K → T → Call (Object ℕ (Entry K T)) Done
+insert_call keys o key element = keyed.insert_call (order_of keys) o (entry key element)
 
-abbrev pub insert_pos_call : {K T : Type 0} → Order (Entry K T) → Object ℕ (Entry K T) → K → T → Call (Object ℕ (Entry K T)) Inserted
-insert_pos_call order o key element = keyed.insert_pos_call order o (entry key element)
+abbrev pub insert_pos_call : {K T : Type 0} → Order K → Object ℕ (Entry K T) → K → T → Call (Object ℕ (Entry K T)) Inserted
+insert_pos_call keys o key element = keyed.insert_pos_call (order_of keys) o (entry key element)
 
-abbrev pub include_call : {K T : Type 0} → Order (Entry K T) → Object ℕ (Entry K T) → K → T → Call (Object ℕ (Entry K T)) Done
-include_call order o key element = keyed.include_call order o (entry key element)
+abbrev pub include_call : {K T : Type 0} → Order K → Object ℕ (Entry K T) → K → T → Call (Object ℕ (Entry K T)) Done
+include_call keys o key element = keyed.include_call (order_of keys) o (entry key element)
 
 -- Replace (A.18.4): an element is changed, and its key with it
-abbrev pub replace_call : {K T : Type 0} → Order (Entry K T) → Object ℕ (Entry K T) → K → T → Call (Object ℕ (Entry K T)) Done
-replace_call order o key element = keyed.replace_call (tampers_elements o) order o (entry key element)
+abbrev pub replace_call : {K T : Type 0} → Order K → Object ℕ (Entry K T) → K → T → Call (Object ℕ (Entry K T)) Done
+replace_call keys o key element = keyed.replace_call (tampers_elements o) (order_of keys) o (entry key element)
 
 -- Exclude, Delete by a key, Find, Contains (A.18.4)
-abbrev pub exclude_call : {K T : Type 0} → (K → K → Bool) → Object ℕ (Entry K T) → K → Call (Object ℕ (Entry K T)) Done
-exclude_call alike o key = keyed.exclude_call (has_key alike key) o
+abbrev pub exclude_call : {K T : Type 0} → Order K → Object ℕ (Entry K T) → K → Call (Object ℕ (Entry K T)) Done
+exclude_call keys o key = keyed.exclude_call (has_key keys key) o
 
-abbrev pub delete_key_call : {K T : Type 0} → (K → K → Bool) → Object ℕ (Entry K T) → K → Call (Object ℕ (Entry K T)) Done
-delete_key_call alike o key = keyed.delete_match_call (has_key alike key) o
+abbrev pub delete_key_call : {K T : Type 0} → Order K → Object ℕ (Entry K T) → K → Call (Object ℕ (Entry K T)) Done
+delete_key_call keys o key = keyed.delete_match_call (has_key keys key) o
 
-abbrev pub find_call : {K T : Type 0} → (K → K → Bool) → Object ℕ (Entry K T) → K → Mark
-find_call alike o key = keyed.find_call (has_key alike key) o
+abbrev pub find_call : {K T : Type 0} → Order K → Object ℕ (Entry K T) → K → Mark
+find_call keys o key = keyed.find_call (has_key keys key) o
 
-abbrev pub contains_call : {K T : Type 0} → (K → K → Bool) → Object ℕ (Entry K T) → K → Bool
-contains_call alike o key = keyed.contains_call (has_key alike key) o
+abbrev pub contains_call : {K T : Type 0} → Order K → Object ℕ (Entry K T) → K → Bool
+contains_call keys o key = keyed.contains_call (has_key keys key) o
 
 abbrev pub is_equal_element : {K T : Type 0} → (T → T → Bool) → T → Option (Row ℕ (Entry K T)) → Bool
 is_equal_element same element None = false
 is_equal_element same element (Some r) = same element r.value.element
 
 -- "=" (A.18.4): as many, and each key has an equivalent one there with an equal element
-abbrev pub equal_call : {K T : Type 0} → (K → K → Bool) → (T → T → Bool) → Object ℕ (Entry K T) → Object ℕ (Entry K T) → Bool
-equal_call alike same left right =
+abbrev pub equal_call : {K T : Type 0} → Order K → (T → T → Bool) → Object ℕ (Entry K T) → Object ℕ (Entry K T) → Bool
+equal_call keys same left right =
     (length_of left == length_of right)
-    && list_all (λ e. is_equal_element same e.element (row_by (has_key alike e.key) right.rows)) (contents left)
+    && list_all (λ e. is_equal_element same e.element (row_by (has_key keys e.key) right.rows)) (contents left)
 
 -- First_Key, Last_Key, First_Element, Last_Element (A.18.6)
 abbrev pub first_key_call : {K T : Type 0} → Object ℕ (Entry K T) → Look (Option K)
@@ -110,8 +107,8 @@ abbrev pub last_element_call : {K T : Type 0} → Object ℕ (Entry K T) → Loo
 last_element_call o = let last = sequence.last_element_call o in look last.reason (element_of last.answer)
 
 -- Floor, Ceiling (A.18.6)
-abbrev pub floor_call : {K T : Type 0} → (K → K → Bool) → Object ℕ (Entry K T) → K → Mark
-floor_call less o key = keyed.floor_call (λ e. less key e.key) o
+abbrev pub floor_call : {K T : Type 0} → Order K → Object ℕ (Entry K T) → K → Mark
+floor_call keys o key = keyed.floor_call (λ e. keys.less key e.key) o
 
-abbrev pub ceiling_call : {K T : Type 0} → (K → K → Bool) → Object ℕ (Entry K T) → K → Mark
-ceiling_call less o key = keyed.ceiling_call (λ e. less e.key key) o
+abbrev pub ceiling_call : {K T : Type 0} → Order K → Object ℕ (Entry K T) → K → Mark
+ceiling_call keys o key = keyed.ceiling_call (λ e. keys.less e.key key) o

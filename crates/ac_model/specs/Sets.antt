@@ -123,8 +123,8 @@ abbrev pub equivalent_sets_call : {T : Type 0} → Order T → Object ℕ T → 
 equivalent_sets_call order left right = (length_of left == length_of right) && is_subset_call order left right
 
 -- Floor, Ceiling (A.18.9)
-abbrev pub floor_call : {T : Type 0} → (T → T → Bool) → Object ℕ T → T → Mark
-floor_call less o element = keyed.floor_call (λ v. less element v) o
+abbrev pub floor_call : {T : Type 0} → Order T → Object ℕ T → T → Mark
+floor_call order o element = keyed.floor_call (λ v. order.less element v) o
 
-abbrev pub ceiling_call : {T : Type 0} → (T → T → Bool) → Object ℕ T → T → Mark
-ceiling_call less o element = keyed.ceiling_call (λ v. less v element) o
+abbrev pub ceiling_call : {T : Type 0} → Order T → Object ℕ T → T → Mark
+ceiling_call order o element = keyed.ceiling_call (λ v. order.less v element) o

@@ -142,6 +142,6 @@ pub fn map_calls<K, T>()
     ensures replace_element { (c : Mark) (element : T) →
         GuardsApart (λ (o : Object ℕ (Entry K T)). map.replace_element_call o c element) }
     ensures write { (c : Mark) (element : T) → GuardsApart (λ (o : Object ℕ (Entry K T)). map.write_call o c element) }
-    ensures key_replace { (key : T → K) (alike : K → K → Bool) (order : Order T) (k : K) (element : T) →
-        GuardsApart (λ (o : Object ℕ T). by_key.key_replace_call key alike order o k element) }
+    ensures key_replace { (key : T → K) (keys : Order K) (k : K) (element : T) →
+        GuardsApart (λ (o : Object ℕ T). by_key.key_replace_call key keys o k element) }
 {}

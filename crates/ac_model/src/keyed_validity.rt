@@ -8,7 +8,7 @@ ghost use Rattle.ac_model.specs.Letters.{Mark, name_of};
 ghost use Rattle.ac_model.specs.Common as common;
 ghost use Rattle.ac_model.specs.Keyed as keyed;
 ghost use Rattle.std.specs.Cmp.{IsEquivalence};
-ghost use Rattle.ac_model.specs.Keyed.{Order, IsValidKeyed, KeepsKeyed, InEachOrder};
+ghost use Rattle.ac_model.specs.Keyed.{Order, IsValidKeyed, KeepsKeyed, InEachOrder, on_key, by_arrival, ascending};
 ghost use Rattle.ac_model.specs.Maps as map;
 ghost use Rattle.ac_model.specs.Ordered as ordered;
 ghost use Rattle.ac_model.specs.Sets as set;
@@ -55,24 +55,26 @@ pub fn set_calls<V>()
 
 /// The calls that sets with keys add: a copy that is written back keeps its set valid whether it keeps its key or not.
 pub fn keyed_set_calls<K, V>()
-    ensures key_replace { InEachOrder (λ (order : Order V). (key : V → K) (alike : K → K → Bool) (o : Object ℕ V) (k : K) (element : V) →
-        KeepsKeyed order o (by_key.key_replace_call key alike order o k element)) }
+    ensures hashed_key_replace { (key : V → K) (alike : K → K → Bool) → IsEquivalence alike → (o : Object ℕ V) (k : K) (element : V) →
+        KeepsKeyed (on_key key (by_arrival alike)) o (by_key.key_replace_call key (by_arrival alike) o k element) }
+    ensures ordered_key_replace { (key : V → K) (less : K → K → Bool) → IsWeakOrder less → (o : Object ℕ V) (k : K) (element : V) →
+        KeepsKeyed (on_key key (ascending less)) o (by_key.key_replace_call key (ascending less) o k element) }
     ensures hashed_update { (key : V → K) (alike : K → K → Bool) → IsEquivalence alike → (o : Object ℕ V) (c : Mark) (copy : V) →
-        IsValidKeyed (by_key.hashed key alike) o → is_named o.rows (name_of c) ≡ true →
-        IsValidKeyed (by_key.hashed key alike) (by_key.end_update_key_call key alike o c copy).after }
+        IsValidKeyed (on_key key (by_arrival alike)) o → is_named o.rows (name_of c) ≡ true →
+        IsValidKeyed (on_key key (by_arrival alike)) (by_key.end_update_key_call key (by_arrival alike) o c copy).after }
     ensures ordered_update { (key : V → K) (less : K → K → Bool) → IsWeakOrder less → (o : Object ℕ V) (c : Mark) (copy : V) →
-        IsValidKeyed (by_key.ordered key less) o → is_named o.rows (name_of c) ≡ true →
-        IsValidKeyed (by_key.ordered key less) (by_key.end_update_key_call key (are_level less) o c copy).after }
+        IsValidKeyed (on_key key (ascending less)) o → is_named o.rows (name_of c) ≡ true →
+        IsValidKeyed (on_key key (ascending less)) (by_key.end_update_key_call key (ascending less) o c copy).after }
 {}
 
 /// An element of a map is changed under its key.
 pub fn map_calls<K, T>()
     ensures hashed_replace_element { (alike : K → K → Bool) → IsEquivalence alike → (o : Object ℕ (Entry K T)) (c : Mark) (element : T) →
-        KeepsKeyed (map.hashed alike) o (map.replace_element_call o c element) }
+        KeepsKeyed (map.order_of (by_arrival alike)) o (map.replace_element_call o c element) }
     ensures ordered_replace_element { (less : K → K → Bool) → IsWeakOrder less → (o : Object ℕ (Entry K T)) (c : Mark) (element : T) →
-        KeepsKeyed (map.ordered less) o (map.replace_element_call o c element) }
+        KeepsKeyed (map.order_of (ascending less)) o (map.replace_element_call o c element) }
     ensures hashed_write { (alike : K → K → Bool) → IsEquivalence alike → (o : Object ℕ (Entry K T)) (c : Mark) (element : T) →
-        KeepsKeyed (map.hashed alike) o (map.write_call o c element) }
+        KeepsKeyed (map.order_of (by_arrival alike)) o (map.write_call o c element) }
     ensures ordered_write { (less : K → K → Bool) → IsWeakOrder less → (o : Object ℕ (Entry K T)) (c : Mark) (element : T) →
-        KeepsKeyed (map.ordered less) o (map.write_call o c element) }
+        KeepsKeyed (map.order_of (ascending less)) o (map.write_call o c element) }
 {}

@@ -13,7 +13,7 @@ ghost use Rattle.ac_model.specs.Keyed as keyed;
 ghost use Rattle.ac_model.specs.KeyedSets as by_key;
 ghost use Rattle.ac_model.specs.Trees as tree;
 ghost use Rattle.ac_model.specs.Rows.{node};
-ghost use Rattle.ac_model.specs.Examples.{tree_of, tens, ordered_numbers, ordered_tens, list_of};
+ghost use Rattle.ac_model.specs.Examples.{by_number, tree_of, tens, ordered_numbers, ordered_tens, list_of};
 ghost use Rattle.ac_model.specs.Examples.{vector_of, bounded_vector_of, guarded, with_next};
 
 /// Tampering comes first: of the target, then of the source, whichever kind each is.
@@ -56,7 +56,7 @@ pub fn conditions_and_room()
 pub fn own_conditions()
     ensures same_container { (sequence.merge_self_call (guarded 0 1 (list_of 1 (4 ∷ [])))).reason ≡ Some ElementTampering }
     ensures duplicate { (keyed.replace_element_call ordered_numbers (list_of 1 (4 ∷ [])) (mark_at 1 9) 4).reason ≡ Some DeadCursor }
-    ensures key_absent { (by_key.key_replace_call tens nat_eq ordered_tens (list_of 1 (41 ∷ [])) 5 42).reason ≡ Some KeyAbsent }
+    ensures key_absent { (by_key.key_replace_call tens by_number (list_of 1 (41 ∷ [])) 5 42).reason ≡ Some KeyAbsent }
     ensures not_leaf { (tree.delete_leaf_call (tree_of 1 (node 2 4 ∷ node 3 5 ∷ [])) (mark_at 1 0)).reason ≡ Some RootNode }
     ensures below_itself { let o = tree_of 1 (node 2 4 ∷ node 3 5 ∷ []) in
         (tree.splice_subtree_call o (mark_at 1 2) (mark_at 1 9) (mark_at 1 1)).reason

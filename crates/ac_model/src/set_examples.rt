@@ -11,19 +11,19 @@ ghost use Rattle.ac_model.specs.Sequences as sequence;
 ghost use Rattle.ac_model.specs.Keyed as keyed;
 ghost use Rattle.ac_model.specs.Sets as set;
 ghost use Rattle.ac_model.specs.KeyedSets as by_key;
-ghost use Rattle.ac_model.specs.Examples.{list_of, vector_of, bounded_vector_of, guarded, hashed_numbers};
+ghost use Rattle.ac_model.specs.Examples.{by_arrived, by_number, list_of, vector_of, bounded_vector_of, guarded, hashed_numbers};
 ghost use Rattle.ac_model.specs.Examples.{ordered_numbers, hashed_tens, ordered_tens, tens};
 
 /// An ordered set is ascending: an element is put at its place, and one that is replaced goes to its place under its name.
 pub fn ordered()
     ensures inserted { let one = (keyed.insert_call ordered_numbers (list_of 1 []) 20).after in
         (keyed.insert_call ordered_numbers one 10).after.rows ≡ row 2 10 ∷ row 1 20 ∷ [] }
-    ensures no_floor { set.floor_call nat_lt (list_of 1 (10 ∷ 20 ∷ [])) 9 ≡ no_mark }
-    ensures ceiling { set.ceiling_call nat_lt (list_of 1 (10 ∷ 20 ∷ [])) 20 ≡ mark_at 1 2 }
-    ensures floor { set.floor_call nat_lt (list_of 1 (10 ∷ 20 ∷ [])) 19 ≡ mark_at 1 1 }
-    ensures floor_there { set.floor_call nat_lt (list_of 1 (10 ∷ 20 ∷ [])) 20 ≡ mark_at 1 2 }
-    ensures ceiling_between { set.ceiling_call nat_lt (list_of 1 (10 ∷ 20 ∷ [])) 11 ≡ mark_at 1 2 }
-    ensures no_ceiling { set.ceiling_call nat_lt (list_of 1 (10 ∷ 20 ∷ [])) 21 ≡ no_mark }
+    ensures no_floor { set.floor_call by_number (list_of 1 (10 ∷ 20 ∷ [])) 9 ≡ no_mark }
+    ensures ceiling { set.ceiling_call by_number (list_of 1 (10 ∷ 20 ∷ [])) 20 ≡ mark_at 1 2 }
+    ensures floor { set.floor_call by_number (list_of 1 (10 ∷ 20 ∷ [])) 19 ≡ mark_at 1 1 }
+    ensures floor_there { set.floor_call by_number (list_of 1 (10 ∷ 20 ∷ [])) 20 ≡ mark_at 1 2 }
+    ensures ceiling_between { set.ceiling_call by_number (list_of 1 (10 ∷ 20 ∷ [])) 11 ≡ mark_at 1 2 }
+    ensures no_ceiling { set.ceiling_call by_number (list_of 1 (10 ∷ 20 ∷ [])) 21 ≡ no_mark }
     ensures duplicate { (keyed.replace_element_call ordered_numbers (list_of 1 (10 ∷ 20 ∷ [])) (mark_at 1 1) 20).reason ≡ Some Duplicate }
     ensures replaced { let c = keyed.replace_element_call ordered_numbers (list_of 1 (10 ∷ 20 ∷ [])) (mark_at 1 1) 30 in
         (c.reason ≡ None) × (c.after.rows ≡ row 2 20 ∷ row 1 30 ∷ []) }
@@ -32,12 +32,12 @@ pub fn ordered()
 
 /// A copy that keeps the key is written back, and one that doesn't takes the element away, and the end is refused.
 pub fn key_updated()
-    ensures found { by_key.key_find_call tens nat_eq (list_of 1 (11 ∷ [])) 1 ≡ mark_at 1 1 }
+    ensures found { by_key.key_find_call tens by_arrived (list_of 1 (11 ∷ [])) 1 ≡ mark_at 1 1 }
     ensures started { let c = by_key.start_update_key_call (list_of 1 (11 ∷ [])) (mark_at 1 1) in
         (c.reason ≡ None) × (c.answer.copy ≡ Some 11) × ((keyed.insert_call ordered_tens c.after 90).reason ≡ Some CursorTampering) }
-    ensures kept { let c = by_key.end_update_key_call tens nat_eq (guarded 1 0 (list_of 1 (11 ∷ []))) (mark_at 1 1) 12 in
+    ensures kept { let c = by_key.end_update_key_call tens by_arrived (guarded 1 0 (list_of 1 (11 ∷ []))) (mark_at 1 1) 12 in
         (c.reason ≡ None) × (c.after.rows ≡ row 1 12 ∷ []) × (c.after.cursor_guards ≡ 0) }
-    ensures changed { let c = by_key.end_update_key_call tens nat_eq (guarded 1 0 (list_of 1 (12 ∷ []))) (mark_at 1 1) 22 in
+    ensures changed { let c = by_key.end_update_key_call tens by_arrived (guarded 1 0 (list_of 1 (12 ∷ []))) (mark_at 1 1) 22 in
         (c.reason ≡ Some KeyChanged) × (c.after.rows ≡ []) × ((sequence.element_call c.after (mark_at 1 1)).reason ≡ Some DeadCursor) }
 {}
 
@@ -48,10 +48,10 @@ pub fn hashed_by_key()
     ensures contained { set.contains_call hashed_tens (vector_of 1 (11 ∷ [])) 19 ≡ true }
     ensures unequal { set.equal_call nat_eq (vector_of 1 (11 ∷ [])) (vector_of 2 (17 ∷ [])) ≡ false }
     ensures equivalent { set.equivalent_sets_call hashed_tens (vector_of 1 (11 ∷ [])) (vector_of 2 (17 ∷ [])) ≡ true }
-    ensures replaced { (by_key.key_replace_call tens nat_eq hashed_tens (vector_of 1 (11 ∷ 25 ∷ [])) 1 35).after.rows
+    ensures replaced { (by_key.key_replace_call tens by_arrived (vector_of 1 (11 ∷ 25 ∷ [])) 1 35).after.rows
         ≡ row 1 35 ∷ row 2 25 ∷ [] }
-    ensures duplicate { (by_key.key_replace_call tens nat_eq hashed_tens (vector_of 1 (11 ∷ 25 ∷ [])) 1 27).reason ≡ Some Duplicate }
-    ensures absent { (by_key.key_replace_call tens nat_eq hashed_tens (vector_of 1 (11 ∷ 25 ∷ [])) 7 27).reason ≡ Some KeyAbsent }
+    ensures duplicate { (by_key.key_replace_call tens by_arrived (vector_of 1 (11 ∷ 25 ∷ [])) 1 27).reason ≡ Some Duplicate }
+    ensures absent { (by_key.key_replace_call tens by_arrived (vector_of 1 (11 ∷ 25 ∷ [])) 7 27).reason ≡ Some KeyAbsent }
 {}
 
 /// The target keeps its own elements, and takes those of the source that have no equivalent.

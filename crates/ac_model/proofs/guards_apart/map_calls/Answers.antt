@@ -8,4 +8,4 @@ pub returns-clause-write : goal.returns-clause-write
 returns-clause-write g clauses = λ c element o guards. (refl, refl, refl)
 
 pub returns-clause-key_replace : goal.returns-clause-key_replace
-returns-clause-key_replace g clauses = λ key alike order k element o guards. (refl, refl, refl)
+returns-clause-key_replace g clauses = λ key keys k element o guards. (refl, refl, refl)
