@@ -10,7 +10,7 @@ use Rattle.ac_syntax.specs.declared.decl.Decl.TheVariants.{TypeDecl, Object, Cur
 use Rattle.ac_syntax.specs.declared.refusal.RefusalKind.{RefusalKind}
 use Rattle.ac_syntax.specs.declared.refusal.RefusalKind.TheVariants.{Limit, UnknownName, WrongType, Twice}
 use Rattle.ac_syntax.specs.declared.script.Script.{Script}
-use Rattle.ac_check.specs.declared.faults.TheConstants.{MOST_NAMES}
+use Rattle.ac_check.specs.declared.faults.TheConstants.{MOST_NAMES, MOST_ROOM}
 use Rattle.ac_check.specs.Scopes.{Scope, meaning_in, Standing, standings}
 use Rattle.ac_check.specs.Rules.{is_well_typed}
 
@@ -89,10 +89,6 @@ capacity (opens head) = 0
 capacity begins = 0
 capacity (closes _) = 0
 
--- how much room the objects of a text may have in all
-abbrev pub most_room : ℕ
-most_room = 1000000
-
 abbrev pub is_in_scope : Scope → List ℕ → Bool
 is_in_scope scope name = is_some (meaning_in scope name)
 
@@ -115,7 +111,7 @@ fault earlier s =
     if list_any (λ name. not (is_in_scope s.scope name)) (used s.item) then Some UnknownName
     else if not (is_well_typed s) then Some WrongType
     else if is_twice s.scope (declared s.item) then Some Twice
-    else if is_crowded s.scope (declared s.item) || nat_lt most_room (room_of earlier + capacity s.item) then Some Limit
+    else if is_crowded s.scope (declared s.item) || nat_lt MOST_ROOM (room_of earlier + capacity s.item) then Some Limit
     else None
 
 -- no item of these is faulty

@@ -11,7 +11,8 @@ use Rattle.ac_syntax.specs.declared.fault.ScriptFault.{ScriptFault}
 use Rattle.ac_syntax.specs.declared.fault.ScriptFault.TheVariants.{Refused}
 use Rattle.ac_check.specs.Scopes.{Scope, Standing}
 use Rattle.ac_check.specs.Rules.{is_well_typed}
-use Rattle.ac_check.specs.Faults.{used, declared, capacity, is_in_scope, is_twice, is_crowded, most_room}
+use Rattle.ac_check.specs.declared.faults.TheConstants.{MOST_ROOM}
+use Rattle.ac_check.specs.Faults.{used, declared, capacity, is_in_scope, is_twice, is_crowded}
 
 -- a statement's command, or what begins its block
 abbrev pub stmt_item : Stmt → Item
@@ -31,7 +32,7 @@ has_unknown scope names = list_any (λ name. not (is_in_scope scope name)) names
 abbrev pub declared_fault : (room : ℕ) → Scope → (name : Option (List ℕ)) → (capacity : ℕ) → Option RefusalKind
 declared_fault room scope name capacity =
     if is_twice scope name then Some Twice
-    else if is_crowded scope name || nat_lt most_room (room + capacity) then Some Limit
+    else if is_crowded scope name || nat_lt MOST_ROOM (room + capacity) then Some Limit
     else None
 
 -- what is faulty in an item behind items that give so much room

@@ -5,7 +5,7 @@ ghost use Rattle.ac_syntax.specs.Items as items;
 ghost use Rattle.ac_syntax.specs.Items.{declares, item_line};
 ghost use Rattle.ac_check.specs.Scopes.{standing};
 ghost use Rattle.ac_check.specs.Faults as faults;
-ghost use Rattle.ac_check.specs.Faults.{arg_names, args_names, optional_name, used, capacity, most_room, declared};
+ghost use Rattle.ac_check.specs.Faults.{arg_names, args_names, optional_name, used, capacity, declared};
 ghost use Rattle.ac_check.specs.Walks as walks;
 ghost use Rattle.ac_check.specs.Walks.{has_unknown, fault_with, stmt_item};
 
@@ -155,7 +155,7 @@ pub fn stmt_line(stmt: &Stmt) -> u64
 
 /// The objects would have too much room with so much more.
 fn is_roomy(room: u64, capacity: u64) -> bool
-    ensures { result ≡ nat_lt most_room (room + capacity) }
+    ensures { result ≡ nat_lt MOST_ROOM (room + capacity) }
 {
     room.saturating_add(capacity) > MOST_ROOM
 }

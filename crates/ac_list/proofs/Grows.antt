@@ -52,7 +52,7 @@ use Rattle.ac_model.proofs.Plains.{plains-reverse}
 
 module _ {X : Type 0} where
   -- of a list that takes so many more, the chain does too
-  pub takes_few : (g : GuardCounts) (l : Limit) (k : Chained X) (o : Object Name X) → object_of g l k ≡ o → (n : ℕ) → Takes o n → length k.rows + n ≤ 1000000
+  pub takes_few : (g : GuardCounts) (l : Limit) (k : Chained X) (o : Object Name X) → object_of g l k ≡ o → (n : ℕ) → Takes o n → length k.rows + n ≤ GREATEST_LENGTH
   takes_few g l k o view n t = let few = (subst (λ (p : Object Name X). Takes p n) (sym view) t).few in omega arith
 
   pub takes_names : (g : GuardCounts) (l : Limit) (k : Chained X) (o : Object Name X) → object_of g l k ≡ o → (n : ℕ) → Takes o n → k.next_serial + n < 2 ^ 64
@@ -66,7 +66,7 @@ module _ {X : Type 0} where
   has_slots most k n s h = let sum = s.has_slots in let le : length k.rows + n ≤ most = elim (cases_lt most (length k.rows + n)) [ inl lt ↦ absurd (let t = lt-ltb most (length k.rows + n) lt in true≢false (sym t ∙ h)) | inr le ↦ le ] in omega arith
 
   -- a list that takes so many more stays one, whatever the rows are
-  pub list_grown : {A : Type 0} (l : Limit) (k now : Chained X) (n : ℕ) (r : Result A NoMemory) → IsList l k → length k.rows + n ≤ 1000000 → is_past l (length k.rows + n) ≡ false
+  pub list_grown : {A : Type 0} (l : Limit) (k now : Chained X) (n : ℕ) (r : Result A NoMemory) → IsList l k → length k.rows + n ≤ GREATEST_LENGTH → is_past l (length k.rows + n) ≡ false
       → IfOk r (λ _. length now.rows ≡ length k.rows + n) → IfErr r (λ _. now ≡ k) → (n ≤ k.spare → length now.rows + now.spare ≡ length k.rows + k.spare) → IsSound now → IsList l now
   list_grown l k now n (Err x) s few within ok err slots sound = subst (λ c. IsList l c) (sym err) s
   list_grown Unbounded k now n (Ok x) s few within ok err slots sound = record { sound = sound; within_greatest = omega (arith, ok); is_limit = tt; has_slots = tt }
@@ -75,7 +75,7 @@ module _ {X : Type 0} where
       let total : length now.rows + now.spare ≡ most = all ∙ sum in
       record { sound = sound; within_greatest = omega (arith, ok); is_limit = s.is_limit; has_slots = total }
 
-  pub list_after : (l : Limit) (k now : Chained X) (n : ℕ) (place : Option Name) (e : X) (r : Result (Option Name) NoMemory) → IsList l k → length k.rows + n ≤ 1000000 → is_past l (length k.rows + n) ≡ false
+  pub list_after : (l : Limit) (k now : Chained X) (n : ℕ) (place : Option Name) (e : X) (r : Result (Option Name) NoMemory) → IsList l k → length k.rows + n ≤ GREATEST_LENGTH → is_past l (length k.rows + n) ≡ false
       → IfOk r (λ _. IsPut k.rows k.next_serial place (replicate n e) now) → IfErr r (λ _. now ≡ k)
       → (n ≤ k.spare → length now.rows + now.spare ≡ length k.rows + k.spare) → IsSound now → IsList l now
   list_after l k now n place e (Err x) s few within ok err slots sound = list_grown {A = Option Name} l k now n (Err x) s few within ok err slots sound

@@ -5,17 +5,18 @@ use Rattle.ac_first_path.specs.declared.script.Action.{Action}
 use Rattle.ac_first_path.specs.declared.script.Action.TheVariants.{Append, Print}
 use Rattle.ac_first_path.specs.declared.script.Command.{Command}
 use Rattle.ac_first_path.specs.Reading.{script_of}
-use Rattle.ac_top.specs.declared.limits.TheConstants.{INPUT_LIMIT, LENGTH_LIMIT}
+use Rattle.ac_base.specs.declared.limit.TheConstants.{GREATEST_LENGTH}
+use Rattle.ac_top.specs.declared.limits.TheConstants.{INPUT_LIMIT}
 use Rattle.ac_top.specs.Output.{line_of, raised, listing}
 
 -- the list after a command (A.18.3, Append)
 abbrev pub list_after : List ℤ → Action → List ℤ
-list_after list (Append value) = if nat_lt (length list) LENGTH_LIMIT then list ++ value ∷ [] else list
+list_after list (Append value) = if nat_lt (length list) GREATEST_LENGTH then list ++ value ∷ [] else list
 list_after list Print = list
 
 -- what a command answers
 abbrev pub answer : List ℤ → Action → List ℕ
-answer list (Append value) = if nat_lt (length list) LENGTH_LIMIT then codes "ok" else raised LengthRange
+answer list (Append value) = if nat_lt (length list) GREATEST_LENGTH then codes "ok" else raised LengthRange
 answer list Print = listing list
 
 -- the lines of commands, one after another, from this list on

@@ -2,7 +2,7 @@
 use Rattle.std.specs.Prelude.{◌≡◌, ◌<◌, ◌≤◌, ℤ, ◌+◌, List, [], ◌∷◌, ◌++◌, length, Option, Some, None, Result, Ok, Err}
 use Rattle.ac_base.specs.declared.reason.Reason.{Reason}
 use Rattle.ac_base.specs.declared.reason.Reason.TheVariants.{LengthRange}
-use Rattle.ac_top.specs.declared.limits.TheConstants.{LENGTH_LIMIT}
+use Rattle.ac_base.specs.declared.limit.TheConstants.{GREATEST_LENGTH}
 use Rattle.ac_base.specs.declared.limit.Limit.TheVariants.{Unbounded}
 use Rattle.ac_base.specs.declared.name.Name.{Name}
 use Rattle.ac_base.specs.declared.fault.Fault.{Fault}
@@ -21,8 +21,8 @@ pub record IsGrowing (o : Object Name ℤ) : Type 0 where
 
 -- the value is the last one, or it is refused since there are as many values as there may be
 abbrev pub IsAppended : ℤ → List ℤ → List ℤ → Option Reason → Type 0
-IsAppended value old new None = (length old < LENGTH_LIMIT) × (new ≡ old ++ value ∷ [])
-IsAppended value old new (Some reason) = (LENGTH_LIMIT ≤ length old) × (reason ≡ LengthRange) × (new ≡ old)
+IsAppended value old new None = (length old < GREATEST_LENGTH) × (new ≡ old ++ value ∷ [])
+IsAppended value old new (Some reason) = (GREATEST_LENGTH ≤ length old) × (reason ≡ LengthRange) × (new ≡ old)
 
 -- the reason of a refusal, if there is one, unless memory ran out
 abbrev pub Refuses : Result Done Fault → Result (Option Reason) AllocError → Type 0

@@ -17,5 +17,5 @@ pub use entry::run;
 pub use examples::worked_rows;
 pub use gate::{FreeGate, Gate};
 pub use law::one_meaning;
-pub use limits::{INPUT_LIMIT, LENGTH_LIMIT};
+pub use limits::INPUT_LIMIT;
 pub use status::Status;
