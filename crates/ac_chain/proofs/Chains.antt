@@ -18,7 +18,7 @@ use Rattle.ac_base.specs.Rows.{Row, row, names}
 use Rattle.ac_chain.specs.Rows.{Chained, chained, index_of, place_of, IsLive, value_of, name_at, name_before, next_name, prev_name, cleared, no_rows, reserved, inserted, removed, IsFresh, IsSound, walk_from, WalksInOrder}
 use Rattle.ac_chain.specs.ChainFields.{node, links, first_or, last_or, HasName, IsOnce, Linked, StandsFor, walked, rows_in, IsChain, next_of, prev_of, linked_before, unlinked}
 use Rattle.ac_chain.proofs.Cuts.{apart, index_of-cut, name_at_has, HasName-right, HasName-cut, HasName-put, once_cut, once_gone, once_put, has_live, live_has, Cut, cut, cut-row, split, once_at, remove-cut, insert-cut, name_at-first, name_at-after, name_before-cut}
-use Rattle.ac_chain.proofs.Linking.{Linked-same, Linked-at, Linked-live, walked-is}
+use Rattle.ac_chain.proofs.Linking.{Linked-same, Linked-at, Linked-live, walked-is, next_linked, prev_linked}
 use Rattle.ac_chain.proofs.Standing.{Keeps, Ends, unlinked-keeps, linked_before-keeps, unlinked-ends, linked_before-ends}
 
 module _ {X : Type 0} where
@@ -30,7 +30,7 @@ module _ {X : Type 0} where
 
   pub rows_in-is : (l : Links X) (rows : List (Row Name X)) → StandsFor l rows → rows_in l ≡ rows
   unfolding rows_in
-  rows_in-is l rows s = ap (walked (live_count l.nodes) l.nodes) s.first ∙ walked-is l.nodes None rows (live_count l.nodes) s.linked (omega (arith, s.count))
+  rows_in-is l rows s = ap (walked (live_count l.nodes) l.nodes) s.first ∙ walked-is l.nodes s.sound None rows (live_count l.nodes) s.linked (omega (arith, s.count))
 
   pub IsChain-from : (l : Links X) (rows : List (Row Name X)) → StandsFor l rows → IsChain l
   IsChain-from l rows s = subst (λ zs. StandsFor l zs) (sym (rows_in-is l rows s)) s
@@ -70,15 +70,17 @@ module _ {X : Type 0} where
       let same : n ≡ node k.at.value (last_or None k.before) (first_or k.after None) = same_node n _ (sym is ∙ node_at l rows s a k) in
       ap (λ (m : Node X). Some m.value) same ∙ sym (ap (option_map (λ (r : Row Name X). r.value)) (cut-row a rows k))
 
-  pub next_at : (l : Links X) (rows : List (Row Name X)) → StandsFor l rows → (a : Name) → HasName a rows → next_of (pool.value_of l.nodes a) ≡ name_at rows (suc (index_of a rows))
+  pub next_at : (l : Links X) (rows : List (Row Name X)) → StandsFor l rows → (a : Name) → HasName a rows → next_of l.nodes (pool.value_of l.nodes a) ≡ name_at rows (suc (index_of a rows))
   next_at l rows s a h =
       let k = cut a rows h in
-      ap next_of (node_at l rows s a k) ∙ sym (ap (λ i. name_at rows (suc i)) k.place ∙ ap (λ zs. name_at zs (suc (length k.before))) k.is ∙ name_at-after k.before k.at k.after)
+      ap (λ b. next_of l.nodes (pool.value_of l.nodes b)) k.named ∙ next_linked l.nodes s.sound k.before k.at k.after (subst (λ zs. Linked (pool.value_of l.nodes) None zs None) k.is s.linked)
+      ∙ sym (ap (λ i. name_at rows (suc i)) k.place ∙ ap (λ zs. name_at zs (suc (length k.before))) k.is ∙ name_at-after k.before k.at k.after)
 
-  pub prev_at : (l : Links X) (rows : List (Row Name X)) → StandsFor l rows → (a : Name) → HasName a rows → prev_of (pool.value_of l.nodes a) ≡ name_before rows (index_of a rows)
+  pub prev_at : (l : Links X) (rows : List (Row Name X)) → StandsFor l rows → (a : Name) → HasName a rows → prev_of l.nodes (pool.value_of l.nodes a) ≡ name_before rows (index_of a rows)
   prev_at l rows s a h =
       let k = cut a rows h in
-      ap prev_of (node_at l rows s a k) ∙ sym (ap (λ i. name_before rows i) k.place ∙ ap (λ zs. name_before zs (length k.before)) k.is ∙ name_before-cut k.before (k.at ∷ k.after))
+      ap (λ b. prev_of l.nodes (pool.value_of l.nodes b)) k.named ∙ prev_linked l.nodes s.sound k.before k.at k.after (subst (λ zs. Linked (pool.value_of l.nodes) None zs None) k.is s.linked)
+      ∙ sym (ap (λ i. name_before rows i) k.place ∙ ap (λ zs. name_before zs (length k.before)) k.is ∙ name_before-cut k.before (k.at ∷ k.after))
 
   -- no rows
   pub empty_stands : (d : Contents (Node X)) → d.entries ≡ map.empty → pool.IsSound d → StandsFor (links d None None) []
@@ -126,7 +128,7 @@ module _ {X : Type 0} where
       let same : (b : Name) → HasName b (xs ++ ys) → g b ≡ f b = λ b h. others b (λ e. new (subst (λ n. HasName n (xs ++ ys)) e h)) in
       let before : Ends m (xs ++ ys) = record { linked = Linked-same f g None (xs ++ ys) None same s.linked; first = s.first; last = s.last } in
       let here : g a ≡ Some (node v None None) = ap (λ c. pool.value_of c a) is ∙ value_of-added_same l.nodes a (node v None None) in
-      let after = linked_before-ends m xs r ys place None None s.once new here at before in
+      let after = linked_before-ends m sound xs r ys place None None s.once new here at before in
       let keeps = linked_before-keeps m place a in
       let more : live_count d ≡ live_count l.nodes + 1 = ap live_count is ∙ live_count-added l.nodes a (node v None None) dead in
       record {
@@ -150,7 +152,7 @@ module _ {X : Type 0} where
       let f = pool.value_of m.nodes in
       let g = pool.value_of d in
       let keeps = unlinked-keeps l r.name in
-      let e = unlinked-ends l xs r ys s.once (ends_of l (xs ++ r ∷ ys) s) in
+      let e = unlinked-ends l s.sound xs r ys s.once (ends_of l (xs ++ r ∷ ys) s) in
       let gone = once_gone xs r ys s.once in
       let others : (b : Name) → b ≢ r.name → g b ≡ f b = λ b ne. ap (λ c. pool.value_of c b) is ∙ value_of-taken_other m.nodes r.name b ne in
       let n = keeps.value r.name (node r.value (last_or None xs) (first_or ys None)) (Linked-at (pool.value_of l.nodes) None xs r ys None s.linked) in
@@ -179,8 +181,8 @@ module _ {X : Type 0} where
       let once : IsOnce (zs ++ ws) = subst (λ rows. IsOnce rows) same (once_cut xs r ys s.once) in
       let gone : HasName r.name (zs ++ ws) → ⊥ = λ t. once_gone xs r ys s.once (subst (λ rows. HasName r.name rows) (sym same) t) in
       let n = k.value r.name (node r.value (last_or None xs) (first_or ys None)) (Linked-at (pool.value_of l.nodes) None xs r ys None s.linked) in
-      let e : Ends m (zs ++ ws) = subst (λ rows. Ends m rows) same (unlinked-ends l xs r ys s.once (ends_of l (xs ++ r ∷ ys) s)) in
-      let after = linked_before-ends m zs r ws place n.0 n.1 once gone n.2 at e in
+      let e : Ends m (zs ++ ws) = subst (λ rows. Ends m rows) same (unlinked-ends l s.sound xs r ys s.once (ends_of l (xs ++ r ∷ ys) s)) in
+      let after = linked_before-ends m (k.sound s.sound) zs r ws place n.0 n.1 once gone n.2 at e in
       record {
         linked = after.linked;
         first = after.first;
@@ -249,10 +251,10 @@ module _ {X : Type 0} where
       let at : name_at rows (index_of a rows) ≡ Some a = ap (option_map (λ (r : Row Name X). r.name)) (cut-row a rows k) ∙ ap Some (sym k.named) in
       (h, once_at rows once (index_of a rows) i a at e)
 
-  pub next_is : (l : Links X) → IsChain l → (a : Name) → IsLive (view_of l) a → next_of (pool.value_of l.nodes a) ≡ next_name (view_of l) a
+  pub next_is : (l : Links X) → IsChain l → (a : Name) → IsLive (view_of l) a → next_of l.nodes (pool.value_of l.nodes a) ≡ next_name (view_of l) a
   next_is l s a h = next_at l (rows_in l) s a (live_has a (rows_in l) h) ∙ sym (ap (λ i. name_at (rows_in l) i) (add-one (index_of a (rows_in l))))
 
-  pub prev_is : (l : Links X) → IsChain l → (a : Name) → IsLive (view_of l) a → prev_of (pool.value_of l.nodes a) ≡ prev_name (view_of l) a
+  pub prev_is : (l : Links X) → IsChain l → (a : Name) → IsLive (view_of l) a → prev_of l.nodes (pool.value_of l.nodes a) ≡ prev_name (view_of l) a
   prev_is l s a h = prev_at l (rows_in l) s a (live_has a (rows_in l) h)
 
   pub next_in_order : (rows : List (Row Name X)) (next spare : ℕ) → IsOnce rows → (a : Name) (i : ℕ) → name_at rows i ≡ Some a → next_name (chained rows next spare) a ≡ name_at rows (i + 1)

@@ -15,6 +15,7 @@ pub mod Puts
 pub mod Refills
 pub mod Relinked
 pub mod Searches
+pub mod SlotNames
 pub mod Sorts
 pub mod Standing
 pub mod Swaps

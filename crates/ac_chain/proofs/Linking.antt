@@ -2,17 +2,23 @@
 use Rattle.std.proofs.Common.{◌≡◌, ℕ, zero, suc, ◌≤◌, ◌⊎◌, List, [], ◌∷◌, ◌++◌, length, Option, Some, None, IsSome, is_some, refl, sym, ap, ◌∙◌, subst, inl, inr, arith}
 use Rattle.std.specs.Option.{option_map}
 use Rattle.ac_base.specs.declared.name.Name.{Name}
-use Rattle.ac_pool.specs.Contents.{Contents, value_of}
+use Rattle.ac_pool.specs.Contents.{Contents, value_of, IsSound}
 use Rattle.ac_chain.specs.declared.links.Node.{Node}
 use Rattle.ac_base.specs.Rows.{Row}
-use Rattle.ac_chain.specs.ChainFields.{node, first_or, last_or, HasName, IsOnce, Linked, walked, walked_on}
-use Rattle.ac_chain.proofs.Cuts.{once_left, once_right, apart}
+use Rattle.ac_chain.specs.Link.{link_of, name_with}
+use Rattle.ac_chain.specs.ChainFields.{node, node_with, first_or, last_or, HasName, IsOnce, Linked, walked, walked_on, next_of, prev_of}
+use Rattle.ac_chain.proofs.Cuts.{HasName-left, HasName-right, once_left, once_right, apart}
+use Rattle.ac_chain.proofs.SlotNames.{linked_name}
 
 abbrev pub Nodes : Type 0 → Type 0
 Nodes X = Name → Option (Node X)
 
 some_name : (a b : Name) → Some a ≡ Some b → a ≡ b
 some_name a b e = cc
+
+-- a name of the slot
+abbrev pub in_slot : ℕ → Option Name
+in_slot slot = Some (name_with slot 0)
 
 module _ {X : Type 0} where
   -- nodes of no other name are read
@@ -44,28 +50,51 @@ module _ {X : Type 0} where
     | inr q ↦ Linked-live f (Some r.name) rows n h.1 a q
   ]
 
+  pub last_named : (p : Name) (rows : List (Row Name X)) → (a : Name) × (last_or (Some p) rows ≡ Some a) × ((a ≡ p) ⊎ HasName a rows)
+  last_named p [] = (p, refl, inl refl)
+  last_named p (r ∷ rows) = let k = last_named r.name rows in (k.0, k.1, inr k.2)
+
+  pub first_has : (rows : List (Row Name X)) (a : Name) → first_or rows None ≡ Some a → HasName a rows
+  first_has [] a e = cc
+  first_has (r ∷ rows) a e = inl (some_name a r.name (sym e))
+
+  last_has : (rows : List (Row Name X)) (a : Name) → last_or None rows ≡ Some a → HasName a rows
+  last_has [] a e = cc
+  last_has (r ∷ rows) a e = let k = last_named r.name rows in subst (λ b. HasName b (r ∷ rows)) (some_name k.0 a (sym k.1 ∙ e)) k.2
+
   -- the rows are those that a walk by the links to the next one meets
-  pub walked-is : (c : Contents (Node X)) (p : Option Name) (rows : List (Row Name X)) (many : ℕ) → Linked (value_of c) p rows None → length rows ≤ many → walked many c (first_or rows None) ≡ rows
-  walked-is c p [] zero h le = refl
-  walked-is c p [] (suc many) h le = refl
-  walked-is c p (r ∷ rows) zero h le = absurd (omega arith)
-  walked-is c p (r ∷ rows) (suc many) h le =
-      ap (λ o. walked_on r.name o (λ next. walked many c next)) h.0 ∙ ap (λ zs. r ∷ zs) (walked-is c (Some r.name) rows many h.1 (omega arith))
+  pub walked-is : (c : Contents (Node X)) → IsSound c → (p : Option Name) (rows : List (Row Name X)) (many : ℕ) → Linked (value_of c) p rows None → length rows ≤ many → walked many c (first_or rows None) ≡ rows
+  walked-is c sound p [] zero h le = refl
+  walked-is c sound p [] (suc many) h le = refl
+  walked-is c sound p (r ∷ rows) zero h le = absurd (omega arith)
+  walked-is c sound p (r ∷ rows) (suc many) h le =
+      let live = λ (a : Name) (e : first_or rows None ≡ Some a). Linked-live (value_of c) (Some r.name) rows None h.1 a (first_has rows a e) in
+      ap (λ o. walked_on c r.name o (λ next. walked many c next)) h.0 ∙ ap (λ o. r ∷ walked many c o) (linked_name c sound (first_or rows None) live)
+      ∙ ap (λ zs. r ∷ zs) (walked-is c sound (Some r.name) rows many h.1 (omega arith))
+
+  -- the links of a row's node lead to the rows beside it
+  pub next_linked : (c : Contents (Node X)) → IsSound c → (xs : List (Row Name X)) (r : Row Name X) (ys : List (Row Name X)) → Linked (value_of c) None (xs ++ r ∷ ys) None
+      → next_of c (value_of c r.name) ≡ first_or ys None
+  next_linked c sound xs r ys h =
+      let live = λ (a : Name) (e : first_or ys None ≡ Some a). Linked-live (value_of c) None (xs ++ r ∷ ys) None h a (HasName-right a xs (r ∷ ys) (inr (first_has ys a e))) in
+      ap (next_of c) (Linked-at (value_of c) None xs r ys None h) ∙ linked_name c sound (first_or ys None) live
+
+  pub prev_linked : (c : Contents (Node X)) → IsSound c → (xs : List (Row Name X)) (r : Row Name X) (ys : List (Row Name X)) → Linked (value_of c) None (xs ++ r ∷ ys) None
+      → prev_of c (value_of c r.name) ≡ last_or None xs
+  prev_linked c sound xs r ys h =
+      let live = λ (a : Name) (e : last_or None xs ≡ Some a). Linked-live (value_of c) None (xs ++ r ∷ ys) None h a (HasName-left a xs (r ∷ ys) (last_has xs a e)) in
+      ap (prev_of c) (Linked-at (value_of c) None xs r ys None h) ∙ linked_name c sound (last_or None xs) live
 
   abbrev pub next_put : Option Name → Node X → Node X
-  next_put to n = node n.value n.prev to
+  next_put to n = node_with n.value n.prev (link_of to)
 
   abbrev pub prev_put : Option Name → Node X → Node X
-  prev_put to n = node n.value to n.next
+  prev_put to n = node_with n.value (link_of to) n.next
 
   -- g is f but for the node of the name o, if there is one
   pub record Writes (f g : Nodes X) (o : Option Name) (w : Node X → Node X) : Type 0 where
     pub here : (a : Name) → o ≡ Some a → g a ≡ option_map w (f a)
     pub there : (a : Name) → (o ≡ Some a → ⊥) → g a ≡ f a
-
-  pub last_named : (p : Name) (rows : List (Row Name X)) → (a : Name) × (last_or (Some p) rows ≡ Some a) × ((a ≡ p) ⊎ HasName a rows)
-  last_named p [] = (p, refl, inl refl)
-  last_named p (r ∷ rows) = let k = last_named r.name rows in (k.0, k.1, inr k.2)
 
   -- the last of the rows is linked with another
   pub Linked-last : (f g : Nodes X) (p : Option Name) (rows : List (Row Name X)) (n to : Option Name) → IsOnce rows → Writes f g (last_or None rows) (next_put to) → Linked f p rows n → Linked g p rows to
@@ -81,14 +110,6 @@ module _ {X : Type 0} where
   Linked-first f g p to [] n once w h = tt
   Linked-first f g p to (r ∷ rows) n once w h =
       (w.here r.name refl ∙ ap (option_map (prev_put to)) h.0, Linked-same f g (Some r.name) rows n (λ a t. w.there a (λ e. once.0 (subst (λ k. HasName k rows) (sym (some_name r.name a e)) t))) h.1)
-
-  pub first_has : (rows : List (Row Name X)) (a : Name) → first_or rows None ≡ Some a → HasName a rows
-  first_has [] a e = cc
-  first_has (r ∷ rows) a e = inl (some_name a r.name (sym e))
-
-  last_has : (rows : List (Row Name X)) (a : Name) → last_or None rows ≡ Some a → HasName a rows
-  last_has [] a e = cc
-  last_has (r ∷ rows) a e = let k = last_named r.name rows in subst (λ b. HasName b (r ∷ rows)) (some_name k.0 a (sym k.1 ∙ e)) k.2
 
   -- two parts become one
   pub Linked-join : (f g h : Nodes X) (xs ys : List (Row Name X)) (n p q to : Option Name) → IsOnce (xs ++ ys)

@@ -11,7 +11,7 @@ use Rattle.ac_chain.specs.declared.links.Links.{Links}
 use Rattle.ac_base.specs.Rows.{Row}
 use Rattle.ac_chain.specs.ChainFields.{node, first_or, last_or, HasName, IsOnce, Linked, next_of, prev_of, next_written, prev_written, with_next, with_prev, joined, before_in, linked_before, unlinked}
 use Rattle.ac_chain.proofs.Cuts.{last_or-append, HasName-left, HasName-right, once_left, apart, once-append, once_cut, once_put}
-use Rattle.ac_chain.proofs.Linking.{Linked-left, Linked-right, Linked-at, next_put, prev_put, Writes, last_named, Linked-join, Linked-aside}
+use Rattle.ac_chain.proofs.Linking.{in_slot, Linked-left, Linked-right, next_put, prev_put, Writes, last_named, next_linked, prev_linked, Linked-join, Linked-aside}
 
 value_in : {X : Type 0} → Option (Node X) → Option X
 value_in None = None
@@ -31,7 +31,7 @@ some_name a b e = cc
 
 module _ {X : Type 0} where
   keeps_all : (c : Contents (Node X)) → Keeps c c
-  keeps_all c = record { live = λ a h. h; count = refl; next = refl; spare = refl; sound = λ s. s; value = λ a n e. (n.prev, n.next, e) }
+  keeps_all c = record { live = λ a h. h; count = refl; next = refl; spare = refl; sound = λ s. s; value = λ a n e. (in_slot n.prev, in_slot n.next, e) }
 
   keeps_both : (c d e : Contents (Node X)) → Keeps c d → Keeps d e → Keeps c e
   keeps_both c d e k l = record {
@@ -60,17 +60,17 @@ module _ {X : Type 0} where
         ap (value_of (pool.with_value c a (node n.value p q))) same ∙ value_of-with_value_same c a (node n.value p q)
             ∙ ap (λ v. Some (node v p q)) (let both : Some n ≡ Some m = sym is ∙ ap (value_of c) (sym same) ∙ e in let it : n ≡ m = cc in ap (λ (k : Node X). k.value) it),
       )
-      | inr ne ↦ (m.prev, m.next, value_of-with_value_other c a b (node n.value p q) ne ∙ e)
+      | inr ne ↦ (in_slot m.prev, in_slot m.next, value_of-with_value_other c a b (node n.value p q) ne ∙ e)
     ];
   }
 
   next_written-keeps : (c : Contents (Node X)) (a : Name) (to : Option Name) (o : Option (Node X)) → value_of c a ≡ o → Keeps c (next_written c a to o)
   next_written-keeps c a to None is = keeps_all c
-  next_written-keeps c a to (Some n) is = keeps-write c a n n.prev to is
+  next_written-keeps c a to (Some n) is = keeps-write c a n (in_slot n.prev) to is
 
   prev_written-keeps : (c : Contents (Node X)) (a : Name) (to : Option Name) (o : Option (Node X)) → value_of c a ≡ o → Keeps c (prev_written c a to o)
   prev_written-keeps c a to None is = keeps_all c
-  prev_written-keeps c a to (Some n) is = keeps-write c a n to n.next is
+  prev_written-keeps c a to (Some n) is = keeps-write c a n to (in_slot n.next) is
 
   next_written-writes : (c : Contents (Node X)) (a : Name) (to : Option Name) (o : Option (Node X)) → value_of c a ≡ o → Writes (value_of c) (value_of (next_written c a to o)) (Some a) (next_put to)
   next_written-writes c a to None is = record { here = λ b e. let none : value_of c b ≡ None = ap (value_of c) (sym (some_name a b e)) ∙ is in none ∙ ap (option_map (next_put to)) (sym none); there = λ b n. refl }
@@ -104,7 +104,7 @@ module _ {X : Type 0} where
 
   pub unlinked-keeps : (l : Links X) (a : Name) → Keeps l.nodes (unlinked l a).nodes
   unfolding unlinked
-  unlinked-keeps l a = joined-keeps l (prev_of (value_of l.nodes a)) (next_of (value_of l.nodes a))
+  unlinked-keeps l a = joined-keeps l (prev_of l.nodes (value_of l.nodes a)) (next_of l.nodes (value_of l.nodes a))
 
   pub linked_before-keeps : (l : Links X) (place : Option Name) (a : Name) → Keeps l.nodes (linked_before l place a).nodes
   unfolding linked_before
@@ -183,16 +183,16 @@ module _ {X : Type 0} where
   last-kept l xs [] h = refl
   last-kept l xs (y ∷ ys) h = h ∙ last_or-append None xs (y ∷ ys)
 
-  pub unlinked-is : (l : Links X) (xs : List (Row Name X)) (r : Row Name X) (ys : List (Row Name X)) → Linked (value_of l.nodes) None (xs ++ r ∷ ys) None → unlinked l r.name ≡ joined l (last_or None xs) (first_or ys None)
+  pub unlinked-is : (l : Links X) → IsSound l.nodes → (xs : List (Row Name X)) (r : Row Name X) (ys : List (Row Name X)) → Linked (value_of l.nodes) None (xs ++ r ∷ ys) None → unlinked l r.name ≡ joined l (last_or None xs) (first_or ys None)
   unfolding unlinked
-  unlinked-is l xs r ys h = let at = Linked-at (value_of l.nodes) None xs r ys None h in λ i. joined l (prev_of (at i)) (next_of (at i))
+  unlinked-is l sound xs r ys h = let prev = prev_linked l.nodes sound xs r ys h in let next = next_linked l.nodes sound xs r ys h in λ i. joined l (prev i) (next i)
 
   -- the rows without one
-  pub unlinked-ends : (l : Links X) (xs : List (Row Name X)) (r : Row Name X) (ys : List (Row Name X)) → IsOnce (xs ++ r ∷ ys) → Ends l (xs ++ r ∷ ys) → Ends (unlinked l r.name) (xs ++ ys)
-  unlinked-ends l xs r ys once e =
+  pub unlinked-ends : (l : Links X) → IsSound l.nodes → (xs : List (Row Name X)) (r : Row Name X) (ys : List (Row Name X)) → IsOnce (xs ++ r ∷ ys) → Ends l (xs ++ r ∷ ys) → Ends (unlinked l r.name) (xs ++ ys)
+  unlinked-ends l sound xs r ys once e =
       let left = Linked-left (value_of l.nodes) None xs (r ∷ ys) None e.linked in
       let right = (Linked-right (value_of l.nodes) None xs (r ∷ ys) None e.linked).1 in
-      subst (λ m. Ends m (xs ++ ys)) (sym (unlinked-is l xs r ys e.linked)) (record {
+      subst (λ m. Ends m (xs ++ ys)) (sym (unlinked-is l sound xs r ys e.linked)) (record {
         linked = joined-linked l xs ys (Some r.name) (Some r.name) None (first_or ys None) (once_cut xs r ys once) refl refl left right;
         first = first-joined l xs ys (first_or ys None) refl (first-kept l xs (r ∷ ys) e.first);
         last = last-joined l xs ys (first_or ys None) refl (last_after l xs r ys e.last);
@@ -202,16 +202,16 @@ module _ {X : Type 0} where
       last_after l xs r [] h = refl
       last_after l xs r (y ∷ ys) h = h ∙ last_or-append None xs (r ∷ y ∷ ys)
 
-  before_in-is : (l : Links X) (xs ys : List (Row Name X)) → Ends l (xs ++ ys) → before_in l (first_or ys None) ≡ last_or None xs
-  before_in-is l xs [] e = e.last ∙ last_or-append None xs []
-  before_in-is l xs (y ∷ ys) e = ap prev_of (Linked-at (value_of l.nodes) None xs y ys None e.linked)
+  before_in-is : (l : Links X) → IsSound l.nodes → (xs ys : List (Row Name X)) → Ends l (xs ++ ys) → before_in l (first_or ys None) ≡ last_or None xs
+  before_in-is l sound xs [] e = e.last ∙ last_or-append None xs []
+  before_in-is l sound xs (y ∷ ys) e = prev_linked l.nodes sound xs y ys e.linked
 
   -- the rows with one more
-  pub linked_before-ends : (l : Links X) (xs : List (Row Name X)) (r : Row Name X) (ys : List (Row Name X)) (place p q : Option Name) → IsOnce (xs ++ ys) → (HasName r.name (xs ++ ys) → ⊥)
+  pub linked_before-ends : (l : Links X) → IsSound l.nodes → (xs : List (Row Name X)) (r : Row Name X) (ys : List (Row Name X)) (place p q : Option Name) → IsOnce (xs ++ ys) → (HasName r.name (xs ++ ys) → ⊥)
       → value_of l.nodes r.name ≡ Some (node r.value p q) → place ≡ first_or ys None → Ends l (xs ++ ys) → Ends (linked_before l place r.name) (xs ++ r ∷ ys)
   unfolding linked_before
-  linked_before-ends l xs r ys place p q once new is at e =
-      let before : before_in l place ≡ last_or None xs = ap (before_in l) at ∙ before_in-is l xs ys e in
+  linked_before-ends l sound xs r ys place p q once new is at e =
+      let before : before_in l place ≡ last_or None xs = ap (before_in l) at ∙ before_in-is l sound xs ys e in
       let one = joined l (last_or None xs) (Some r.name) in
       let two = joined one (Some r.name) place in
       let n_left : (a : Name) → HasName a xs → a ≡ r.name → ⊥ = λ a t same. new (HasName-left r.name xs ys (subst (λ k. HasName k xs) same t)) in

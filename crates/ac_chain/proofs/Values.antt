@@ -1,5 +1,5 @@
 -- What a write of a value leaves of a chain, and the exchange of two values.
-use Rattle.std.proofs.Common.{◌≡◌, ◌≢◌, suc, List, [], ◌∷◌, ◌++◌, length, set, Option, Some, None, is_some, refl, sym, ap, ◌∙◌, subst, inl, inr}
+use Rattle.std.proofs.Common.{◌≡◌, ◌≢◌, ℕ, suc, List, [], ◌∷◌, ◌++◌, length, set, Option, Some, None, is_some, refl, sym, ap, ◌∙◌, subst, inl, inr}
 use Rattle.std.proofs.lemmas.List.{set_at}
 use Rattle.ac_base.specs.declared.name.Name.{Name}
 use Rattle.ac_pool.specs.Contents as pool
@@ -10,7 +10,7 @@ use Rattle.ac_chain.specs.declared.links.Node.{Node}
 use Rattle.ac_chain.specs.declared.links.Links.{Links}
 use Rattle.ac_base.specs.Rows.{Row, row}
 use Rattle.ac_chain.specs.Rows.{chained, index_of, IsLive, with_value, values_swapped, values_exchanged}
-use Rattle.ac_chain.specs.ChainFields.{node, links, first_or, last_or, HasName, IsOnce, Linked, StandsFor, rows_in, IsChain, next_of, prev_of, value_written, with_node_value, links_written, with_links, exchanged_in}
+use Rattle.ac_chain.specs.ChainFields.{node, node_with, links, first_or, last_or, HasName, IsOnce, Linked, StandsFor, rows_in, IsChain, next_link, prev_link, value_written, with_node_value, links_written, with_links, exchanged_in}
 use Rattle.ac_chain.proofs.Cuts.{last_or-append, HasName-cut, HasName-put, HasName-right, once_cut, once_gone, once_put, live_has, cut}
 use Rattle.ac_chain.proofs.Linking.{Nodes, Linked-same}
 use Rattle.ac_chain.proofs.Chains.{view_of, rows_in-is, IsChain-from, node_at, value_at, live_in, live_from}
@@ -51,7 +51,7 @@ module _ {X : Type 0} where
         sound = IsSound-with_value l.nodes r.name (node w p q) live s.sound;
       }
 
-  with_node_value-is : (l : Links X) (a : Name) (w : X) (n : Node X) → pool.value_of l.nodes a ≡ Some n → with_node_value l a w ≡ links (pool.with_value l.nodes a (node w n.prev n.next)) l.first l.last
+  with_node_value-is : (l : Links X) (a : Name) (w : X) (n : Node X) → pool.value_of l.nodes a ≡ Some n → with_node_value l a w ≡ links (pool.with_value l.nodes a (node_with w n.prev n.next)) l.first l.last
   with_node_value-is l a w n is = ap (λ o. links (value_written l.nodes a w o) l.first l.last) is
 
   pub written_chain : (l : Links X) → IsChain l → (a : Name) (w : X) → IsLive (view_of l) a → IsChain (with_node_value l a w) × (view_of (with_node_value l a w) ≡ with_value (view_of l) a w)
@@ -84,19 +84,19 @@ module _ {X : Type 0} where
   puts-with_value : (c : Contents (Node X)) (a : Name) (n : Node X) → Puts c (pool.with_value c a n) a n
   puts-with_value c a n = record { here = value_of-with_value_same c a n; there = λ b ne. value_of-with_value_other c a b n ne; next = refl; spare = refl }
 
-  puts-links : (c : Contents (Node X)) (a : Name) (p q : Option Name) (m : Node X) → pool.value_of c a ≡ Some m → Puts c (links_written c a p q (pool.value_of c a)) a (node m.value p q)
-  puts-links c a p q m is = subst (λ o. Puts c (links_written c a p q o) a (node m.value p q)) (sym is) (puts-with_value c a (node m.value p q))
+  puts-links : (c : Contents (Node X)) (a : Name) (p q : ℕ) (m : Node X) → pool.value_of c a ≡ Some m → Puts c (links_written c a p q (pool.value_of c a)) a (node_with m.value p q)
+  puts-links c a p q m is = subst (λ o. Puts c (links_written c a p q o) a (node_with m.value p q)) (sym is) (puts-with_value c a (node_with m.value p q))
 
-  puts-value : (c : Contents (Node X)) (a : Name) (w : X) (m : Node X) → pool.value_of c a ≡ Some m → Puts c (value_written c a w (pool.value_of c a)) a (node w m.prev m.next)
-  puts-value c a w m is = subst (λ o. Puts c (value_written c a w o) a (node w m.prev m.next)) (sym is) (puts-with_value c a (node w m.prev m.next))
+  puts-value : (c : Contents (Node X)) (a : Name) (w : X) (m : Node X) → pool.value_of c a ≡ Some m → Puts c (value_written c a w (pool.value_of c a)) a (node_with w m.prev m.next)
+  puts-value c a w m is = subst (λ o. Puts c (value_written c a w o) a (node_with w m.prev m.next)) (sym is) (puts-with_value c a (node_with w m.prev m.next))
 
   same_contents : (c d : Contents (Node X)) → ((q : Name) → pool.value_of c q ≡ pool.value_of d q) → c.next_serial ≡ d.next_serial → c.spare ≡ d.spare → c ≡ d
   same_contents c d each next spare = let entries = same_names c.entries d.entries each in λ i. contents (entries i) (next i) (spare i)
 
   -- the two ways to write both nodes
   exchanged_nodes : (c : Contents (Node X)) (a b : Name) (m n : Node X) → pool.value_of c a ≡ Some m → pool.value_of c b ≡ Some n → (d e f g : Contents (Node X))
-      → Puts (swapped c a b) d a (node n.value m.prev m.next) → Puts d e b (node m.value n.prev n.next)
-      → Puts c f a (node n.value m.prev m.next) → Puts f g b (node m.value n.prev n.next) → e ≡ g
+      → Puts (swapped c a b) d a (node_with n.value m.prev m.next) → Puts d e b (node_with m.value n.prev n.next)
+      → Puts c f a (node_with n.value m.prev m.next) → Puts f g b (node_with m.value n.prev n.next) → e ≡ g
   exchanged_nodes c a b m n is_a is_b d e f g one two three four =
       let sw = swapped_live c a b m n is_a is_b in
       let between = λ (q : Name) (na : q ≢ a) (nb : q ≢ b). ap (λ x. pool.value_of x q) sw ∙ value_of-with_value_other (pool.with_value c a n) b q m nb ∙ value_of-with_value_other c a q n na in
@@ -130,26 +130,26 @@ module _ {X : Type 0} where
   exchanged-is l a b m n is_a is_b =
       let c = l.nodes in
       let sw = swapped c a b in
-      let d = links_written sw a (prev_of (pool.value_of c a)) (next_of (pool.value_of c a)) (pool.value_of sw a) in
-      let e = links_written d b (prev_of (pool.value_of c b)) (next_of (pool.value_of c b)) (pool.value_of d b) in
+      let d = links_written sw a (prev_link (pool.value_of c a)) (next_link (pool.value_of c a)) (pool.value_of sw a) in
+      let e = links_written d b (prev_link (pool.value_of c b)) (next_link (pool.value_of c b)) (pool.value_of d b) in
       let f = value_written c a n.value (pool.value_of c a) in
       let g = value_written f b m.value (pool.value_of f b) in
-      let one : Puts sw d a (node n.value m.prev m.next) = subst (λ o. Puts sw d a (node n.value (prev_of o) (next_of o))) is_a (puts-links sw a (prev_of (pool.value_of c a)) (next_of (pool.value_of c a)) n (swapped_at_a c a b m n is_a is_b)) in
-      let three : Puts c f a (node n.value m.prev m.next) = puts-value c a n.value m is_a in
-      let two : Puts d e b (node m.value n.prev n.next) = elim (cases_name b a) [
+      let one : Puts sw d a (node_with n.value m.prev m.next) = subst (λ o. Puts sw d a (node_with n.value (prev_link o) (next_link o))) is_a (puts-links sw a (prev_link (pool.value_of c a)) (next_link (pool.value_of c a)) n (swapped_at_a c a b m n is_a is_b)) in
+      let three : Puts c f a (node_with n.value m.prev m.next) = puts-value c a n.value m is_a in
+      let two : Puts d e b (node_with m.value n.prev n.next) = elim (cases_name b a) [
         | inl at ↦
             let same : n ≡ m = some_node n m (sym is_b ∙ ap (pool.value_of c) at ∙ is_a) in
-            let k = node n.value m.prev m.next in
-            subst (λ o. Puts d e b (node m.value (prev_of o) (next_of o))) is_b
-            (subst (λ (j : Node X). Puts d e b (node j.value (prev_of (pool.value_of c b)) (next_of (pool.value_of c b)))) same
-            (puts-links d b (prev_of (pool.value_of c b)) (next_of (pool.value_of c b)) k (ap (pool.value_of d) at ∙ one.here)))
-        | inr ne ↦ subst (λ o. Puts d e b (node m.value (prev_of o) (next_of o))) is_b
-            (puts-links d b (prev_of (pool.value_of c b)) (next_of (pool.value_of c b)) m (one.there b ne ∙ swapped_at_b c a b m n is_a is_b))
+            let k = node_with n.value m.prev m.next in
+            subst (λ o. Puts d e b (node_with m.value (prev_link o) (next_link o))) is_b
+            (subst (λ (j : Node X). Puts d e b (node_with j.value (prev_link (pool.value_of c b)) (next_link (pool.value_of c b)))) same
+            (puts-links d b (prev_link (pool.value_of c b)) (next_link (pool.value_of c b)) k (ap (pool.value_of d) at ∙ one.here)))
+        | inr ne ↦ subst (λ o. Puts d e b (node_with m.value (prev_link o) (next_link o))) is_b
+            (puts-links d b (prev_link (pool.value_of c b)) (next_link (pool.value_of c b)) m (one.there b ne ∙ swapped_at_b c a b m n is_a is_b))
       ] in
-      let four : Puts f g b (node m.value n.prev n.next) = elim (cases_name b a) [
+      let four : Puts f g b (node_with m.value n.prev n.next) = elim (cases_name b a) [
         | inl at ↦
             let same : n ≡ m = some_node n m (sym is_b ∙ ap (pool.value_of c) at ∙ is_a) in
-            subst (λ (j : Node X). Puts f g b (node m.value j.prev j.next)) (sym same) (puts-value f b m.value (node n.value m.prev m.next) (ap (pool.value_of f) at ∙ three.here))
+            subst (λ (j : Node X). Puts f g b (node_with m.value j.prev j.next)) (sym same) (puts-value f b m.value (node_with n.value m.prev m.next) (ap (pool.value_of f) at ∙ three.here))
         | inr ne ↦ puts-value f b m.value n (three.there b ne ∙ is_b)
       ] in
       links_same e g l.first l.last (exchanged_nodes c a b m n is_a is_b d e f g one two three four)

@@ -2,13 +2,18 @@
 use Rattle.std.specs.Prelude.{◌≡◌, ℕ, zero, suc, ◌⊎◌, List, [], ◌∷◌, length, Option, Some, None}
 use Rattle.ac_base.specs.declared.name.Name.{Name}
 use Rattle.ac_pool.specs.Contents.{Contents, value_of, IsLive, live_count, with_value, swapped, IsSound}
+use Rattle.ac_chain.specs.Link.{link_of, name_in}
 use Rattle.ac_chain.specs.declared.links.Node.{Node}
 use Rattle.ac_chain.specs.declared.links.Links.{Links}
 use Rattle.ac_base.specs.Rows.{Row, row}
 
 module _ {X : Type 0} where
+  -- a node with these slots as its links, and one that is linked with these names
+  abbrev pub node_with : X → ℕ → ℕ → Node X
+  node_with v prev next = record { value = v; prev = prev; next = next }
+
   abbrev pub node : X → Option Name → Option Name → Node X
-  node v prev next = record { value = v; prev = prev; next = next }
+  node v prev next = node_with v (link_of prev) (link_of next)
 
   abbrev pub links : Contents (Node X) → Option Name → Option Name → Links X
   links nodes first last = record { nodes = nodes; first = first; last = last }
@@ -44,15 +49,30 @@ module _ {X : Type 0} where
     pub count : length rows ≡ live_count l.nodes
     pub sound : IsSound l.nodes
 
-  abbrev pub walked_on : Name → Option (Node X) → (Option Name → List (Row Name X)) → List (Row Name X)
-  walked_on a None rest = []
-  walked_on a (Some n) rest = row a n.value ∷ rest n.next
+  -- the node's links, and the names that they lead to
+  abbrev pub next_link : Option (Node X) → ℕ
+  next_link None = link_of None
+  next_link (Some n) = n.next
+
+  abbrev pub prev_link : Option (Node X) → ℕ
+  prev_link None = link_of None
+  prev_link (Some n) = n.prev
+
+  abbrev pub next_of : Contents (Node X) → Option (Node X) → Option Name
+  next_of c o = name_in c (next_link o)
+
+  abbrev pub prev_of : Contents (Node X) → Option (Node X) → Option Name
+  prev_of c o = name_in c (prev_link o)
+
+  abbrev pub walked_on : Contents (Node X) → Name → Option (Node X) → (Option Name → List (Row Name X)) → List (Row Name X)
+  walked_on c a None rest = []
+  walked_on c a (Some n) rest = row a n.value ∷ rest (name_in c n.next)
 
   -- the rows from the name on, by the links to the next one, at most so many
   abbrev pub walked : ℕ → Contents (Node X) → Option Name → List (Row Name X)
   walked zero c o = []
   walked (suc many) c None = []
-  walked (suc many) c (Some a) = walked_on a (value_of c a) (λ o. walked many c o)
+  walked (suc many) c (Some a) = walked_on c a (value_of c a) (λ o. walked many c o)
 
   unfoldable pub rows_in : Links X → List (Row Name X)
   rows_in l = walked (live_count l.nodes) l.nodes l.first
@@ -61,21 +81,13 @@ module _ {X : Type 0} where
   IsChain l = StandsFor l (rows_in l)
 
   -- what the writes of single links leave
-  abbrev pub next_of : Option (Node X) → Option Name
-  next_of None = None
-  next_of (Some n) = n.next
-
-  abbrev pub prev_of : Option (Node X) → Option Name
-  prev_of None = None
-  prev_of (Some n) = n.prev
-
   abbrev pub next_written : Contents (Node X) → Name → Option Name → Option (Node X) → Contents (Node X)
   next_written c a to None = c
-  next_written c a to (Some n) = with_value c a (node n.value n.prev to)
+  next_written c a to (Some n) = with_value c a (node_with n.value n.prev (link_of to))
 
   abbrev pub prev_written : Contents (Node X) → Name → Option Name → Option (Node X) → Contents (Node X)
   prev_written c a to None = c
-  prev_written c a to (Some n) = with_value c a (node n.value to n.next)
+  prev_written c a to (Some n) = with_value c a (node_with n.value (link_of to) n.next)
 
   unfoldable pub with_next : Links X → Option Name → Option Name → Links X
   with_next l None to = links l.nodes to l.last
@@ -91,31 +103,31 @@ module _ {X : Type 0} where
 
   abbrev pub before_in : Links X → Option Name → Option Name
   before_in l None = l.last
-  before_in l (Some a) = prev_of (value_of l.nodes a)
+  before_in l (Some a) = prev_of l.nodes (value_of l.nodes a)
 
   unfoldable pub linked_before : Links X → Option Name → Name → Links X
   linked_before l place a = joined (joined l (before_in l place) (Some a)) (Some a) place
 
   unfoldable pub unlinked : Links X → Name → Links X
-  unlinked l a = joined l (prev_of (value_of l.nodes a)) (next_of (value_of l.nodes a))
+  unlinked l a = joined l (prev_of l.nodes (value_of l.nodes a)) (next_of l.nodes (value_of l.nodes a))
 
   -- another value in the name's node, and other links
   abbrev pub value_written : Contents (Node X) → Name → X → Option (Node X) → Contents (Node X)
   value_written c a w None = c
-  value_written c a w (Some n) = with_value c a (node w n.prev n.next)
+  value_written c a w (Some n) = with_value c a (node_with w n.prev n.next)
 
   abbrev pub with_node_value : Links X → Name → X → Links X
   with_node_value l a w = links (value_written l.nodes a w (value_of l.nodes a)) l.first l.last
 
-  abbrev pub links_written : Contents (Node X) → Name → Option Name → Option Name → Option (Node X) → Contents (Node X)
+  abbrev pub links_written : Contents (Node X) → Name → ℕ → ℕ → Option (Node X) → Contents (Node X)
   links_written c a prev next None = c
-  links_written c a prev next (Some n) = with_value c a (node n.value prev next)
+  links_written c a prev next (Some n) = with_value c a (node_with n.value prev next)
 
-  unfoldable pub with_links : Links X → Name → Option Name → Option Name → Links X
+  unfoldable pub with_links : Links X → Name → ℕ → ℕ → Links X
   with_links l a prev next = links (links_written l.nodes a prev next (value_of l.nodes a)) l.first l.last
 
   -- the two nodes' values change places, and their links stay
   unfoldable pub exchanged_in : Links X → Name → Name → Links X
   exchanged_in l a b =
-      with_links (with_links (links (swapped l.nodes a b) l.first l.last) a (prev_of (value_of l.nodes a)) (next_of (value_of l.nodes a)))
-      b (prev_of (value_of l.nodes b)) (next_of (value_of l.nodes b))
+      with_links (with_links (links (swapped l.nodes a b) l.first l.last) a (prev_link (value_of l.nodes a)) (next_link (value_of l.nodes a)))
+      b (prev_link (value_of l.nodes b)) (next_link (value_of l.nodes b))

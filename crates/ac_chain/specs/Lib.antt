@@ -1,5 +1,6 @@
 pub mod ChainFields
 pub mod ChainLends
+pub mod Link
 pub mod LinksLends
 pub mod Rows
 pub mod Put

@@ -5,7 +5,7 @@ ghost use Rattle.std.specs.Borrow.{sem};
 ghost use Rattle.ac_base.specs.Rows.{row, names};
 ghost use Rattle.ac_chain.specs.Rows.{Chained, index_of, IsLive, value_of, name_at, name_before, next_name, prev_name, no_rows, reserved, inserted, removed, cleared, values_swapped, links_swapped, moved, reversed, WalksInOrder, IsOrderOf, Reorders, IsFresh, IsSound};
 
-use crate::links::{Links, Node};
+use crate::links::{Links, NO_SLOT, Node};
 use ac_base::{Name, NoMemory};
 use ac_pool::Pool;
 use std::alloc::Global;
@@ -152,8 +152,8 @@ impl<T> Chain<T> {
     {
         let name = self.links.nodes.put_reserved(Node {
             value: v,
-            prev: None,
-            next: None,
+            prev: NO_SLOT,
+            next: NO_SLOT,
         });
         self.links.link(place, name);
         name

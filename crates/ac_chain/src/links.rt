@@ -1,18 +1,33 @@
 //! Nodes in a pool, each with links to the one before and the one after it. The writes of single links.
+//! A link is a slot, and leads to the live name of the slot: the serial stands in the pool alone.
 ghost use Rattle.std.specs.Prelude.{◌≡◌};
 ghost use Rattle.ac_pool.specs.Contents.{value_of, IsLive};
-ghost use Rattle.ac_chain.specs.ChainFields.{next_of, prev_of, before_in, with_next, with_prev, joined, linked_before, unlinked, with_links, exchanged_in};
+ghost use Rattle.ac_chain.specs.Link.{link_of, name_in};
+ghost use Rattle.ac_chain.specs.ChainFields.{next_of, prev_of, before_in, with_next, with_prev, joined, linked_before, unlinked, next_link, prev_link, with_links, exchanged_in};
 ghost use Rattle.std.specs.Option.{option_map};
 ghost use Rattle.std.specs.Borrow.{sem};
 
 use ac_base::Name;
 use ac_pool::Pool;
 
+/// A link to no node: no pool has so many slots.
+pub const NO_SLOT: u32 = u32::MAX;
+
+/// The link to a live name.
+fn link_to(to: Option<Name>) -> u32
+    ensures { result ≡ link_of to }
+{
+    match to {
+        Some(name) => name.slot,
+        None => NO_SLOT,
+    }
+}
+
 #[derive(Drop)]
 pub struct Node<T> {
     pub value: T,
-    pub prev: Option<Name>,
-    pub next: Option<Name>,
+    pub prev: u32,
+    pub next: u32,
 }
 
 #[derive(Drop)]
@@ -26,22 +41,41 @@ impl<T> Links<T> {
     ghost use Rattle.ac_chain.specs.LinksLends.{lends_node_value};
     ghost use Rattle.ac_chain.specs.declared.links.Node.{Node};
 
-    pub fn next(&self, name: Name) -> Option<Name>
-        ensures { result ≡ next_of (value_of self.now.nodes name) }
+    fn next_link(&self, name: Name) -> u32
+        ensures { result ≡ next_link (value_of self.now.nodes name) }
     {
         match self.nodes.get(name) {
             Some(node) => node.next,
-            None => None,
+            None => NO_SLOT,
         }
     }
 
-    pub fn prev(&self, name: Name) -> Option<Name>
-        ensures { result ≡ prev_of (value_of self.now.nodes name) }
+    fn prev_link(&self, name: Name) -> u32
+        ensures { result ≡ prev_link (value_of self.now.nodes name) }
     {
         match self.nodes.get(name) {
             Some(node) => node.prev,
-            None => None,
+            None => NO_SLOT,
         }
+    }
+
+    /// The name to which a link leads.
+    fn name_in(&self, slot: u32) -> Option<Name>
+        ensures { result ≡ name_in self.now.nodes slot }
+    {
+        self.nodes.name_in(slot)
+    }
+
+    pub fn next(&self, name: Name) -> Option<Name>
+        ensures { result ≡ next_of self.now.nodes (value_of self.now.nodes name) }
+    {
+        self.name_in(self.next_link(name))
+    }
+
+    pub fn prev(&self, name: Name) -> Option<Name>
+        ensures { result ≡ prev_of self.now.nodes (value_of self.now.nodes name) }
+    {
+        self.name_in(self.prev_link(name))
     }
 
     /// The name after which a row before the place is linked.
@@ -59,7 +93,7 @@ impl<T> Links<T> {
         ensures { self.new ≡ with_next self.old (Some at) to }
     {
         if let Some(node) = self.nodes.get_mut(at) {
-            node.next = to;
+            node.next = link_to(to);
         }
     }
 
@@ -68,7 +102,7 @@ impl<T> Links<T> {
         ensures { self.new ≡ with_prev self.old (Some at) to }
     {
         if let Some(node) = self.nodes.get_mut(at) {
-            node.prev = to;
+            node.prev = link_to(to);
         }
     }
 
@@ -131,7 +165,7 @@ impl<T> Links<T> {
     }
 
     #[tactic(auto, unfolding(crate::specs::ChainFields::with_links))]
-    fn set_links(&mut self, at: Name, prev: Option<Name>, next: Option<Name>)
+    fn set_links(&mut self, at: Name, prev: u32, next: u32)
         ensures { self.new ≡ with_links self.old at prev next }
     {
         if let Some(node) = self.nodes.get_mut(at) {
@@ -145,10 +179,10 @@ impl<T> Links<T> {
     pub fn exchange(&mut self, a: Name, b: Name)
         ensures { self.new ≡ exchanged_in self.old a b }
     {
-        let prev_a = self.prev(a);
-        let next_a = self.next(a);
-        let prev_b = self.prev(b);
-        let next_b = self.next(b);
+        let prev_a = self.prev_link(a);
+        let next_a = self.next_link(a);
+        let prev_b = self.prev_link(b);
+        let next_b = self.next_link(b);
         self.nodes.swap(a, b);
         self.set_links(a, prev_a, next_a);
         self.set_links(b, prev_b, next_b);

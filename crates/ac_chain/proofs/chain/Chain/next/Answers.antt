@@ -8,7 +8,7 @@ use Rattle.ac_chain.proofs.chain.Chain.next.Goals as goal
 pub returns-clause-name : goal.returns-clause-name
 returns-clause-name g c =
     let l = c.self.inside.links in let a = c.args.name in
-    c.next.ensures ∙ subst (λ x. next_of (value_of l.nodes a) ≡ next_name x a) c.self.view_is (next_is l c.self.invariant a (subst (λ x. IsLive x a) (sym c.self.view_is) c.requires))
+    c.next.ensures ∙ subst (λ x. next_of l.nodes (value_of l.nodes a) ≡ next_name x a) c.self.view_is (next_is l c.self.invariant a (subst (λ x. IsLive x a) (sym c.self.view_is) c.requires))
 
 pub returns-clause-in_order : goal.returns-clause-in_order
 returns-clause-in_order g c =

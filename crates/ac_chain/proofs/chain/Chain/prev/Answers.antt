@@ -8,7 +8,7 @@ use Rattle.ac_chain.proofs.chain.Chain.prev.Goals as goal
 pub returns-clause-name : goal.returns-clause-name
 returns-clause-name g c =
     let l = c.self.inside.links in let a = c.args.name in
-    c.prev.ensures ∙ subst (λ x. prev_of (value_of l.nodes a) ≡ prev_name x a) c.self.view_is (prev_is l c.self.invariant a (subst (λ x. IsLive x a) (sym c.self.view_is) c.requires))
+    c.prev.ensures ∙ subst (λ x. prev_of l.nodes (value_of l.nodes a) ≡ prev_name x a) c.self.view_is (prev_is l c.self.invariant a (subst (λ x. IsLive x a) (sym c.self.view_is) c.requires))
 
 pub returns-clause-in_order : goal.returns-clause-in_order
 returns-clause-in_order g c =
