@@ -23,3 +23,4 @@ pub mod Transfers
 pub mod Valid
 pub mod Values
 pub mod Walks
+pub mod Writes

@@ -126,6 +126,16 @@ impl<T> Links<T> {
         }
     }
 
+    #[tactic(auto, unfolding(crate::specs::ChainFields::with_links))]
+    fn set_links(&mut self, at: Name, prev: u32, next: u32)
+        ensures { self.new ≡ with_links self.old at prev next }
+    {
+        if let Some(node) = self.nodes.get_mut(at) {
+            node.prev = prev;
+            node.next = next;
+        }
+    }
+
     #[inline(always)]
     #[tactic(auto, unfolding(crate::specs::ChainFields::joined))]
     fn join(&mut self, left: Option<Name>, right: Option<Name>)
@@ -135,14 +145,14 @@ impl<T> Links<T> {
         self.set_prev(right, left);
     }
 
-    #[tactic(auto, unfolding(crate::specs::ChainFields::linked_before))]
     /// Links the node that no other is linked with before the place.
     pub fn link(&mut self, place: Option<Name>, name: Name)
         ensures { self.new ≡ linked_before self.old place name }
     {
         let before = self.before(place);
-        self.join(before, Some(name));
-        self.join(Some(name), place);
+        self.set_next(before, Some(name));
+        self.set_links(name, link_to(before), link_to(place));
+        self.set_prev(place, Some(name));
     }
 
     #[tactic(auto, unfolding(crate::specs::ChainFields::unlinked))]
@@ -162,16 +172,6 @@ impl<T> Links<T> {
         ensures value { option_map (λ (n : Node T). n.value) (value_of self.old.nodes name) ≡ Some result.now }
     {
         &mut self.nodes.get_mut(name).unwrap().value
-    }
-
-    #[tactic(auto, unfolding(crate::specs::ChainFields::with_links))]
-    fn set_links(&mut self, at: Name, prev: u32, next: u32)
-        ensures { self.new ≡ with_links self.old at prev next }
-    {
-        if let Some(node) = self.nodes.get_mut(at) {
-            node.prev = prev;
-            node.next = next;
-        }
     }
 
     /// Exchanges the values of two nodes, which keep their links.
