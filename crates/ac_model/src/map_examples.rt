@@ -164,10 +164,10 @@ pub fn entries_deleted()
 
 /// Two maps are equal where they are as long and each key has an equal element in the other.
 pub fn compared()
-    ensures greater_right { map.equal_call by_arrived nat_eq (hashed_map_of 1 (entry 3 4 ∷ [])) (hashed_map_of 2 (entry 2 5 ∷ entry 3 4 ∷ []))
-        ≡ false }
-    ensures greater_left { map.equal_call by_arrived nat_eq (hashed_map_of 1 (entry 2 5 ∷ entry 3 4 ∷ [])) (hashed_map_of 2 (entry 3 4 ∷ []))
-        ≡ false }
+    ensures greater_right { let right = hashed_map_of 2 (entry 2 5 ∷ entry 3 4 ∷ []) in
+        map.equal_call by_arrived nat_eq (hashed_map_of 1 (entry 3 4 ∷ [])) right ≡ false }
+    ensures greater_left { let left = hashed_map_of 1 (entry 2 5 ∷ entry 3 4 ∷ []) in
+        map.equal_call by_arrived nat_eq left (hashed_map_of 2 (entry 3 4 ∷ [])) ≡ false }
     ensures another_key { map.equal_call by_arrived nat_eq (hashed_map_of 1 (entry 3 4 ∷ [])) (hashed_map_of 2 (entry 2 4 ∷ [])) ≡ false }
     ensures elements_exchanged { let left = hashed_map_of 1 (entry 2 5 ∷ entry 3 4 ∷ []) in
         map.equal_call by_arrived nat_eq left (hashed_map_of 2 (entry 2 4 ∷ entry 3 5 ∷ [])) ≡ false }
