@@ -1,7 +1,7 @@
 #!/usr/bin/env python3
 """Times the built programs beside plain Rust programs on the same machine in the same run.
 
-Prints the program's time for each generated script, the ratio to the baseline's, and the growth from half the script to the whole: 2 is linear. Then the time of `--check` on inputs of 1 MiB that are the worst of their sorts, and the growth. Then the time of a put and a take of the pool, and the ratio; and of an insertion and a removal in the middle of a chain, which stays flat where the chain grows. Then the times of a list's calls, and their growth from 10,000 elements to 1,000,000. Needs rustc; isn't part of the gate.
+Prints the program's time for each generated script, the ratio to the baseline's, and the growth from half the script to the whole: 2 is linear. Then the time of `--check` on inputs of 1 MiB that are the worst of their sorts, and the growth. Then the time of a put and a take of the pool, and the ratio; and of an insertion and a removal in the middle of a chain, which stays flat where the chain grows. Then the times of a list's calls, and their growth from 10,000 elements to 1,000,000, and the memory of a slot. Needs rustc; isn't part of the gate.
 """
 import os
 import subprocess
@@ -90,6 +90,15 @@ def workload(program, *words, rounds):
     return (seconds(command + [str(rounds)]) - seconds(command + ["0"])) / rounds
 
 
+def peak(command):
+    """The most memory that a program had, in bytes."""
+    running = subprocess.Popen(command, stdin=subprocess.DEVNULL, stdout=subprocess.DEVNULL)
+    _, status, usage = os.wait4(running.pid, 0)
+    if status != 0:
+        sys.exit(f"{command} failed")
+    return usage.ru_maxrss * 1024
+
+
 def scripts(place):
     program = os.path.join(TOP, "crates/adacont/out/adacont")
     baseline = build("baseline.rs", place)
@@ -152,6 +161,12 @@ def lists(program):
         print(f"{name:<40}" + "".join(f"{each * 1e9:>12.1f}" for each in took) + f"{took[-1] / took[0]:>8.2f}")
 
 
+def memory(program):
+    """What a slot takes: a list of 1,000,000 integers has twice as many as one of 500,000. Two lists are compared, since the peak of a short one is this script's own."""
+    more = peak([program, "append", "1000000", "1"]) - peak([program, "append", "500000", "1"])
+    print(f"{'bytes for each slot of a list':<40}{more / (1 << 19):>12.1f}")
+
+
 def main():
     subprocess.run([os.path.join(TOP, "adacont")], stdin=subprocess.DEVNULL, check=True)
     folder = os.path.join(TOP, "crates/ac_bench")
@@ -162,6 +177,7 @@ def main():
         churn(os.path.join(folder, "out/ac_bench"), place)
     middle(os.path.join(folder, "out/ac_bench"))
     lists(os.path.join(folder, "out/ac_bench"))
+    memory(os.path.join(folder, "out/ac_bench"))
     return 0
 
 

@@ -32,9 +32,9 @@ fn fill_ascending(list: &mut List<i64>, first: u64, rows: u64) -> Result<(), Fau
     Ok(())
 }
 
-/// The sum of the elements, met one after another.
-fn sum(list: &List<i64>) -> i64 {
-    let mut total = 0i64;
+/// A number and the elements, met one after another, in one sum.
+fn sum(list: &List<i64>, start: i64) -> i64 {
+    let mut total = start;
     let mut place = list.first();
     for _i in 0..list.live_nodes() {
         if let Ok(value) = list.element(place) {
@@ -55,17 +55,16 @@ pub fn append(alloc: Global, rows: u64, rounds: u64) -> Result<u64, Fault> {
     Ok(list.live_nodes())
 }
 
-/// Walks over so many elements, so many times, and gives the length, or 0 where a sum changes.
+/// Walks over so many elements, so many times, and gives the length, or 0 where they come to 0.
+/// Each walk goes on from the last one's sum, so that the compiler leaves none out.
 pub fn walk(alloc: Global, rows: u64, rounds: u64) -> Result<u64, Fault> {
     let mut list = made(alloc, &mut TagMint::new())?;
     fill(&mut list, rows)?;
-    let first = sum(&list);
+    let mut total = 0;
     for _i in 0..rounds {
-        if sum(&list) != first {
-            return Ok(0);
-        }
+        total = sum(&list, total);
     }
-    Ok(list.live_nodes())
+    Ok(if rounds > 0 && total == 0 { 0 } else { list.live_nodes() })
 }
 
 /// Deletes an element at each end and adds one there, so many times, and gives the length.
