@@ -3,9 +3,10 @@ use Rattle.std.proofs.Common.{◌≡◌, ℕ, zero, suc, ◌≤◌, ◌⊎◌, L
 use Rattle.std.specs.Option.{option_map}
 use Rattle.ac_base.specs.declared.name.Name.{Name}
 use Rattle.ac_pool.specs.Contents.{Contents, value_of, IsSound}
+use Rattle.ac_pool.specs.PoolFields.{name_at}
 use Rattle.ac_chain.specs.declared.links.Node.{Node}
 use Rattle.ac_base.specs.Rows.{Row}
-use Rattle.ac_chain.specs.Link.{link_of, name_with}
+use Rattle.ac_chain.specs.Link.{link_of}
 use Rattle.ac_chain.specs.ChainFields.{node, node_with, first_or, last_or, HasName, IsOnce, Linked, walked, walked_on, next_of, prev_of}
 use Rattle.ac_chain.proofs.Cuts.{HasName-left, HasName-right, once_left, once_right, apart}
 use Rattle.ac_chain.proofs.SlotNames.{linked_name}
@@ -18,7 +19,7 @@ some_name a b e = cc
 
 -- a name of the slot
 abbrev pub in_slot : ℕ → Option Name
-in_slot slot = Some (name_with slot 0)
+in_slot slot = Some (name_at slot 0)
 
 module _ {X : Type 0} where
   -- nodes of no other name are read

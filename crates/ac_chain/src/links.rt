@@ -11,7 +11,7 @@ use ac_base::Name;
 use ac_pool::Pool;
 
 /// A link to no node: no pool has so many slots.
-pub const NO_SLOT: u32 = u32::MAX;
+pub(crate) const NO_SLOT: u32 = u32::MAX;
 
 /// The link to a live name.
 fn link_to(to: Option<Name>) -> u32
