@@ -64,7 +64,11 @@ pub fn walk(alloc: Global, rows: u64, rounds: u64) -> Result<u64, Fault> {
     for _i in 0..rounds {
         total = sum(&list, total);
     }
-    Ok(if rounds > 0 && total == 0 { 0 } else { list.live_nodes() })
+    Ok(if rounds > 0 && total == 0 {
+        0
+    } else {
+        list.live_nodes()
+    })
 }
 
 /// Deletes an element at each end and adds one there, so many times, and gives the length.

@@ -1,11 +1,9 @@
 -- Rows that are taken out one after another, and what a list is after that.
-use Rattle.std.proofs.Common.{◌≡◌, ℕ, suc, ◌+◌, ◌-◌, ◌<◌, ◌≤◌, List, [], ◌∷◌, ◌++◌, length, take, drop, map, Option, Some, None, refl, sym, ap, ◌∙◌, subst, inl, inr, arith, append_assoc, append-nil, length-append}
-use Rattle.std.specs.Prelude.{IsTrue}
+use Rattle.std.proofs.Common.{◌≡◌, ℕ, suc, ◌+◌, ◌-◌, ◌≤◌, List, ◌∷◌, ◌++◌, length, take, drop, Option, Some, None, refl, sym, ap, ◌∙◌, subst, inl, inr, arith, append_assoc, append-nil, length-append, []}
 use Rattle.std.specs.List.{remove}
 use Rattle.std.proofs.lemmas.Bool.{cases_eq}
-use Rattle.std.proofs.lemmas.List.{drop_all, take-map, drop-map, take-append-drop}
+use Rattle.std.proofs.lemmas.List.{drop_all, take-append-drop}
 use Rattle.std.proofs.Math.Seq.{take-append_seam, drop-append_seam, drop-append-add}
-use Rattle.ac_base.specs.declared.limit.Limit.{Limit}
 use Rattle.ac_base.specs.declared.name.Name.{Name}
 use Rattle.ac_chain.specs.Rows as chain
 use Rattle.ac_chain.specs.Rows.{Chained, IsLive, IsSound, place_of, index_of, removed, next_name, name_before}
@@ -13,17 +11,8 @@ use Rattle.ac_chain.specs.ChainFields.{first_or, HasName, IsOnce}
 use Rattle.ac_chain.proofs.Cuts.{split, apart, index_here, index_of-cut, remove-cut, name_at-after, live_has, has_live, HasName-left, HasName-right, HasName-either}
 use Rattle.ac_chain.proofs.Moves.{once_from}
 use Rattle.ac_chain.proofs.Linking.{first_has}
-use Rattle.ac_base.specs.Guards.{GuardCounts}
-use Rattle.ac_base.specs.declared.cursor.Cursor.{Cursor}
-use Rattle.ac_base.specs.Rows.{Row, names}
-use Rattle.ac_model.specs.Rows.{cut}
-use Rattle.ac_model.specs.Objects.{Object, plain, plain_row, with_rows, length_of}
-use Rattle.ac_model.specs.Letters.{is_among, place_at}
-use Rattle.ac_model.specs.Calls.{IsAfter}
+use Rattle.ac_base.specs.Rows.{Row}
 use Rattle.ac_chain.specs.Cut.{IsCut}
-use Rattle.ac_model.specs.Objects.{plains}
-use Rattle.ac_model.specs.Cursors.{needs_cursor, mark, place_in, name_in}
-use Rattle.ac_model.proofs.Plains.{plains-append}
 
 module _ {X : Type 0} where
   -- so far: so many rows from the place on are gone

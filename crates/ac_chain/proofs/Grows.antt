@@ -1,46 +1,17 @@
 -- What a list is after copies were put into it.
-use Rattle.std.proofs.Common.{◌≡◌, ℕ, zero, suc, ◌+◌, ◌<◌, ◌≤◌, ◌&&◌, not, true, false, List, [], ◌∷◌, ◌++◌, length, map, reverse, replicate, Option, Some, None, Result, Ok, Err, IsTrue, refl, sym, ap, ◌∙◌, subst, inl, inr, arith, eqb-true, lt-ltb, true≢false, ◌^◌, ne_eqb}
-use Rattle.std.specs.Prelude.{◌==◌, IfOk, IfErr, All, nat_lt, max}
-use Rattle.std.specs.Option.{ForSome}
-use Rattle.std.proofs.lemmas.Bool.{cases_Bool, cond-false, cases_lt}
-use Rattle.std.proofs.lemmas.List.{length-map, length-replicate, reverse-append}
-use Rattle.ac_base.specs.declared.limit.Limit.{Limit}
-use Rattle.ac_base.specs.declared.limit.Limit.TheVariants.{Unbounded, Bounded}
+use Rattle.std.proofs.Common.{◌≡◌, ℕ, zero, suc, ◌+◌, ◌<◌, ◌≤◌, List, ◌∷◌, ◌++◌, length, reverse, Option, refl, sym, ap, ◌∙◌, subst, inl, inr, arith, ne_eqb, []}
+use Rattle.std.specs.Prelude.{All}
+use Rattle.std.proofs.lemmas.Bool.{cond-false}
+use Rattle.std.proofs.lemmas.List.{reverse-append}
 use Rattle.ac_base.specs.declared.name.Name.{Name}
-use Rattle.ac_base.specs.declared.reason.Reason.{Reason}
-use Rattle.ac_base.specs.declared.reason.Reason.TheVariants.{LengthRange, CapacityFull, NamesSpent}
-use Rattle.ac_base.specs.declared.fault.Fault.{Fault}
-use Rattle.ac_base.specs.declared.fault.NoMemory.{NoMemory}
-use Rattle.ac_base.specs.declared.fault.Fault.TheVariants as fault
-use Rattle.ac_base.specs.Tampering.{forbids}
-use Rattle.ac_base.specs.Guards.{GuardCounts}
-use Rattle.ac_base.specs.declared.guard.Class.TheVariants as class
-use Rattle.ac_base.specs.declared.cursor.Cursor.{Cursor}
-use Rattle.ac_base.specs.declared.cursor.Cursor.TheVariants.{NoElement, At}
-use Rattle.ac_base.specs.FirstReason.{first_reason, earlier}
-use Rattle.ac_base.proofs.Earlier.{with_none_later}
-use Rattle.ac_base.specs.Growth.{pow8}
-use Rattle.ac_chain.specs.Rows as chain
-use Rattle.ac_chain.specs.Rows.{Chained, IsLive, IsSound, place_of, index_of, name_at, reversed}
+use Rattle.ac_chain.specs.Rows.{Chained, place_of}
 use Rattle.ac_chain.specs.ChainFields.{HasName}
-use Rattle.ac_chain.proofs.Cuts.{HasName-left, HasName-right, HasName-either, has_live, live_has, index_here}
+use Rattle.ac_chain.proofs.Cuts.{HasName-left, HasName-right, HasName-either}
 use Rattle.ac_model.specs.Rows as model
 use Rattle.ac_base.specs.Rows.{Row, row, names}
 use Rattle.ac_model.specs.Rows.{fresh, put}
-use Rattle.ac_base.specs.Limits.{is_past, numbers_end}
-use Rattle.ac_base.specs.declared.limit.TheConstants.{GREATEST_LENGTH}
-use Rattle.ac_model.specs.Objects.{Object, plain, plain_row, length_of, capacity_after, with_rows, grown}
-use Rattle.ac_model.specs.Letters.{room_in, no_mark, mark_at, mark_of, is_among, has_room, tampers_cursors, room, in_range, count_of, reason_if, place_at}
-use Rattle.ac_model.specs.Calls.{Call, call, Changing, IsAfter, Same, Marks, Done}
-use Rattle.ac_model.specs.Sequences.{with_new, first_new, room_for_copies, copies_take_memory, with_copies}
-use Rattle.ac_model.proofs.Reasons.{after_two, none_first, none_others, room_none}
-use Rattle.ac_model.specs.Cursors.{spot, IsNamed}
-use Rattle.ac_model.specs.Containers.{Grows, slots_of}
 use Rattle.ac_model.specs.Objects.{plains}
-use Rattle.ac_chain.specs.Put.{IsPut, HasFirst}
-use Rattle.ac_model.specs.Cursors.{may_cursor, mark, place_in, cursor_at}
-use Rattle.ac_model.specs.Containers.{Container, container}
-use Rattle.ac_model.proofs.Plains.{plains-append}
+use Rattle.ac_chain.specs.Put.{IsPut}
 
 module _ {X : Type 0} where
   pub all_from : (P : Name → Type 0) (rows : List (Row Name X)) → ((a : Name) → HasName a rows → P a) → All P (names rows)

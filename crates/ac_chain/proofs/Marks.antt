@@ -1,13 +1,11 @@
 -- Where a cursor stands: the rows of the chain, and the same rows as the definitions see them.
-use Rattle.std.proofs.Common.{◌≡◌, ℕ, zero, suc, Bool, true, false, not, ◌&&◌, ◌||◌, true≢false, List, [], ◌∷◌, map, Option, Some, None, refl, sym, ap, ◌∙◌, subst, inl, inr, eq-eqb, ne_eqb, eqb-true}
+use Rattle.std.proofs.Common.{◌≡◌, ℕ, suc, Bool, true, false, not, ◌&&◌, ◌||◌, true≢false, List, ◌∷◌, map, Option, Some, None, refl, sym, ap, ◌∙◌, subst, inl, inr, eq-eqb, ne_eqb, eqb-true, []}
 use Rattle.std.specs.Prelude.{◌==◌, slice_get}
 use Rattle.std.specs.Option.{option_map}
 use Rattle.std.proofs.lemmas.Bool.{cases_Bool, cases_eq, cond-true, cond-false}
-use Rattle.ac_base.specs.declared.limit.Limit.{Limit}
 use Rattle.ac_base.specs.declared.name.Name.{Name}
 use Rattle.ac_base.specs.declared.cursor.Cursor.{Cursor}
-use Rattle.ac_base.specs.declared.cursor.Cursor.TheVariants.{NoElement, At}
-use Rattle.ac_base.specs.Guards.{GuardCounts}
+use Rattle.ac_base.specs.declared.cursor.Cursor.TheVariants.{At}
 use Rattle.ac_pool.proofs.NameLaws.{same_name}
 use Rattle.ac_chain.specs.Rows as chain
 use Rattle.ac_chain.specs.Rows.{Chained, index_of, IsLive, IsSound, name_at}

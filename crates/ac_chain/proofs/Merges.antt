@@ -1,13 +1,11 @@
 -- What a merge of one chain's values into another's rows has done so far, and what it leaves of the two lists.
-use Rattle.std.proofs.Common.{◌≡◌, ℕ, ◌+◌, ◌-◌, ◌<◌, ◌≤◌, ◌^◌, Bool, List, [], ◌∷◌, ◌++◌, length, drop, Option, Some, None, refl, sym, ap, ◌∙◌, subst, inl, inr, arith, append_assoc, length-append}
+use Rattle.std.proofs.Common.{◌≡◌, ℕ, ◌+◌, ◌-◌, ◌<◌, ◌≤◌, ◌^◌, Bool, List, ◌∷◌, ◌++◌, length, drop, Option, Some, None, refl, sym, ap, ◌∙◌, subst, inl, inr, arith, append_assoc, length-append, []}
 use Rattle.std.specs.List.{insert}
 use Rattle.std.specs.Option.{ForSome}
 use Rattle.std.proofs.lemmas.Bool.{cases_Bool, cond-true, cond-false}
 use Rattle.std.proofs.lemmas.List.{length-map}
 use Rattle.std.proofs.Math.Seq.{drop-append_seam}
-use Rattle.ac_base.specs.declared.limit.Limit.{Limit}
 use Rattle.ac_base.specs.declared.name.Name.{Name}
-use Rattle.ac_base.specs.Guards.{GuardCounts}
 use Rattle.ac_chain.specs.Rows as chain
 use Rattle.ac_chain.specs.Rows.{Chained, place_of, name_at, IsLive, IsSound, IsFresh, inserted, reserved, index_of}
 use Rattle.ac_chain.specs.ChainFields.{first_or, HasName, IsOnce}
@@ -16,12 +14,7 @@ use Rattle.ac_chain.proofs.Linking.{first_has}
 use Rattle.ac_chain.proofs.Moves.{once_from}
 use Rattle.ac_base.specs.Rows.{names, Row, row}
 use Rattle.ac_model.specs.Rows.{fresh, merged}
-use Rattle.ac_model.specs.Objects.{Object, plain, length_of, contents, grown}
-use Rattle.ac_model.specs.Letters.{tampers_cursors, room}
-use Rattle.ac_model.specs.Calls.{IsAfter}
-use Rattle.ac_model.specs.Sequences.{merge_call}
 use Rattle.ac_model.proofs.Lengths.{length-merged, length-fresh}
-use Rattle.ac_model.proofs.Reasons.{after_two}
 use Rattle.ac_model.proofs.RowLaws.{merged_with_none, merged_heads}
 use Rattle.ac_chain.specs.Merging.{KeepsNames, IsMerged, is_behind}
 use Rattle.ac_model.specs.Objects.{plains}

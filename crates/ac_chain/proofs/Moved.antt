@@ -1,43 +1,17 @@
 -- What two lists are after elements of one moved into the other.
-use Rattle.std.proofs.Common.{◌≡◌, ℕ, ◌+◌, ◌<◌, ◌≤◌, ◌^◌, List, [], ◌∷◌, length, Option, Some, None, Result, Ok, Err, IsTrue, false, refl, sym, ap, ◌∙◌, subst, arith}
-use Rattle.std.specs.Prelude.{IfOk, IfErr, max}
-use Rattle.std.specs.Option.{option_map, ForSome}
-use Rattle.std.proofs.lemmas.List.{length-map}
+use Rattle.std.proofs.Common.{◌≡◌, ℕ, ◌+◌, ◌<◌, ◌≤◌, ◌^◌, length, Option, Some, false, refl, ap, ◌∙◌, subst, arith}
+use Rattle.std.specs.Option.{option_map}
 use Rattle.ac_base.specs.declared.limit.Limit.{Limit}
-use Rattle.ac_base.specs.declared.limit.Limit.TheVariants.{Unbounded, Bounded}
 use Rattle.ac_base.specs.declared.name.Name.{Name}
-use Rattle.ac_base.specs.declared.fault.Fault.{Fault}
-use Rattle.ac_base.specs.declared.cursor.Cursor.TheVariants.{At}
-use Rattle.ac_base.specs.declared.fault.NoMemory.{NoMemory}
-use Rattle.ac_base.specs.Guards.{GuardCounts}
-use Rattle.ac_base.specs.FirstReason.{first_reason}
-use Rattle.ac_base.specs.declared.cursor.Cursor.{Cursor}
-use Rattle.ac_base.specs.Growth.{pow8}
-use Rattle.ac_chain.specs.Rows as chain
 use Rattle.ac_chain.specs.Rows.{Chained, IsLive, IsSound, value_of, index_of, removed, cleared, next_name}
 use Rattle.ac_chain.proofs.Cuts.{cut, cut-row, live_has}
-use Rattle.ac_base.specs.Rows.{row, Row, names}
-use Rattle.ac_model.specs.Rows.{fresh, merged, value_at, put}
-use Rattle.ac_model.specs.Rows as model
+use Rattle.ac_base.specs.Rows.{Row, names}
 use Rattle.ac_base.specs.Limits.{is_past}
 use Rattle.ac_base.specs.declared.limit.TheConstants.{GREATEST_LENGTH}
-use Rattle.ac_model.specs.Objects.{Object, plain, length_of, contents, with_rows}
-use Rattle.ac_model.specs.Letters.{mark_at, name_of, place_at, tampers_cursors, room, room_for_one}
-use Rattle.ac_model.specs.Calls.{Call, ChangingBoth, Same, Marks, Both, both, IsAfter, Done}
-use Rattle.ac_model.specs.Sequences.{with_new}
-use Rattle.ac_model.specs.Lists as lists
+use Rattle.ac_model.specs.Letters.{room}
 use Rattle.ac_model.specs.Lists.{one_value}
-use Rattle.ac_model.specs.Common as common
-use Rattle.ac_model.proofs.Reasons.{after_two, after_three, after_four, none_first, room_none}
-use Rattle.ac_model.specs.Containers.{Grows, slots_of}
-use Rattle.ac_model.specs.Objects.{plains}
-use Rattle.ac_chain.specs.Put.{IsPut, IsFirst, HasGrown}
+use Rattle.ac_chain.specs.Put.{IsPut}
 use Rattle.ac_chain.specs.Cut.{IsCut}
-use Rattle.ac_model.specs.Forms.{as_fault, cursor_of}
-use Rattle.ac_chain.specs.Refill.{IsRefilled}
-use Rattle.ac_base.specs.Rows.{values}
-use Rattle.ac_model.specs.Cursors.{may_cursor, needs_cursor, mark, place_in, name_in}
-use Rattle.ac_model.specs.Containers.{Container, container}
 use Rattle.ac_chain.proofs.Puts.{put_length}
 use Rattle.ac_chain.proofs.Deletes.{cutting_start, cutting_more, cutting_end}
 

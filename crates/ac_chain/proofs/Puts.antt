@@ -1,11 +1,10 @@
 -- Rows that are put before a place, one after another.
-use Rattle.std.proofs.Common.{◌≡◌, ℕ, zero, suc, ◌+◌, ◌-◌, ◌^◌, ◌<◌, ◌≤◌, List, [], ◌∷◌, ◌++◌, length, reverse, replicate, Option, Some, None, refl, sym, ap, ◌∙◌, subst, inl, inr, arith, append_assoc, append-nil, length-append, le-leb}
+use Rattle.std.proofs.Common.{◌≡◌, ℕ, zero, suc, ◌+◌, ◌-◌, ◌^◌, ◌<◌, ◌≤◌, List, ◌∷◌, ◌++◌, length, reverse, replicate, Option, Some, None, refl, sym, ap, ◌∙◌, subst, inl, inr, arith, append_assoc, append-nil, length-append, le-leb, []}
 use Rattle.std.proofs.lemmas.List.{reverse-append, length-reverse, replicate_more, length-replicate}
 use Rattle.std.specs.Prelude.{max}
 use Rattle.std.specs.List.{insert}
 use Rattle.std.proofs.Math.Nat.{le-max_left, le-max_right}
 use Rattle.ac_base.specs.declared.name.Name.{Name}
-use Rattle.ac_chain.specs.Rows as chain
 use Rattle.ac_chain.specs.Rows.{Chained, IsLive, IsSound, IsFresh, place_of, inserted, reserved, chained, index_of}
 use Rattle.ac_chain.specs.ChainFields.{first_or, HasName, IsOnce}
 use Rattle.ac_chain.proofs.Cuts.{split, apart, index_of-cut, insert-cut, live_has, has_live, HasName-right, HasName-put}
@@ -15,7 +14,6 @@ use Rattle.ac_model.specs.Rows.{fresh}
 use Rattle.ac_base.specs.Growth.{pow8}
 use Rattle.ac_base.proofs.Powers.{pow8-enough}
 use Rattle.std.proofs.lemmas.Bool.{cond-true, cond-false, cases_lt, cases_eq, lt-leb}
-use Rattle.ac_model.specs.Objects.{plains}
 use Rattle.ac_chain.specs.Put.{IsPut, IsFirst, HasFirst, HasGrown}
 use Rattle.ac_model.proofs.Plains.{plains-append, length-plains, fresh-append}
 

@@ -1,15 +1,12 @@
 -- Rows that give way to copies, and what a list is after that.
-use Rattle.std.proofs.Common.{◌≡◌, ℕ, zero, suc, ◌+◌, ◌-◌, ◌<◌, ◌≤◌, List, [], ◌∷◌, ◌++◌, length, take, reverse, Option, Some, None, Result, Ok, Err, false, true≢false, lt-ltb, refl, sym, ap, ◌∙◌, subst, inl, inr, arith, append_assoc, append-nil, length-append}
-use Rattle.std.specs.Prelude.{max, IfOk, IfErr}
+use Rattle.std.proofs.Common.{◌≡◌, ℕ, zero, suc, ◌+◌, ◌-◌, ◌<◌, ◌≤◌, List, ◌∷◌, ◌++◌, length, take, reverse, Option, Some, None, refl, sym, ap, ◌∙◌, subst, inl, inr, arith, append_assoc, append-nil, length-append, []}
+use Rattle.std.specs.Prelude.{max}
 use Rattle.std.specs.List.{slice_get}
 use Rattle.std.specs.Option.{option_map}
 use Rattle.std.proofs.lemmas.Bool.{cases_lt}
 use Rattle.std.proofs.lemmas.List.{reverse-append, reverse-reverse, length-reverse, length-map, nil_from_length}
 use Rattle.std.proofs.Math.Nat.{le-max_left}
 use Rattle.ac_base.specs.declared.name.Name.{Name}
-use Rattle.ac_base.specs.declared.fault.NoMemory.{NoMemory}
-use Rattle.ac_base.specs.declared.limit.Limit.{Limit}
-use Rattle.ac_base.specs.declared.limit.Limit.TheVariants.{Unbounded, Bounded}
 use Rattle.ac_base.specs.Growth.{pow8}
 use Rattle.ac_chain.specs.Rows as chain
 use Rattle.ac_chain.specs.Rows.{Chained, IsLive, IsSound, index_of, name_before, prev_name, reserved, cleared}
@@ -17,22 +14,13 @@ use Rattle.ac_chain.specs.ChainFields.{HasName, IsOnce, last_or}
 use Rattle.ac_chain.proofs.Cuts.{apart, index_of-cut, name_before-cut, slice_get-cut, has_live, HasName-right}
 use Rattle.ac_chain.proofs.Chains.{index_at}
 use Rattle.ac_chain.proofs.Moves.{once_from}
-use Rattle.ac_base.specs.Guards.{GuardCounts}
-use Rattle.ac_base.specs.FirstReason.{first_reason}
 use Rattle.ac_base.specs.Rows.{Row, row, values}
 use Rattle.ac_model.specs.Rows.{fresh}
-use Rattle.ac_base.specs.Limits.{is_past}
-use Rattle.ac_base.specs.declared.limit.TheConstants.{GREATEST_LENGTH}
-use Rattle.ac_model.specs.Objects.{Object, plain, contents, length_of, grown}
-use Rattle.ac_model.specs.Letters.{tampers_cursors, room}
-use Rattle.ac_model.specs.Calls.{Changing, IsAfter, Same, Done}
-use Rattle.ac_model.specs.Common.{assign_call}
+use Rattle.ac_model.specs.Objects.{grown}
 use Rattle.ac_model.proofs.Lengths.{length-fresh}
-use Rattle.ac_model.proofs.Reasons.{none_others, room_none}
 use Rattle.ac_model.specs.Objects.{plains}
 use Rattle.ac_chain.specs.Put.{IsPut}
 use Rattle.ac_chain.specs.Refill.{IsRefilled}
-use Rattle.ac_model.specs.Forms.{as_fault}
 use Rattle.ac_base.specs.Rows.{values}
 use Rattle.ac_model.proofs.Plains.{length-plains}
 use Rattle.ac_chain.proofs.Puts.{put_none, put_length, reserved_enough, reserved_slots, reserved_kept}

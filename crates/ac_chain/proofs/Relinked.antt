@@ -1,5 +1,5 @@
 -- What a list is after rows changed places, each with its name.
-use Rattle.std.proofs.Common.{◌≡◌, ◌≢◌, ◌⊎◌, ℕ, suc, ◌+◌, ◌<◌, List, [], ◌∷◌, ◌++◌, length, map, Option, Some, None, Result, Ok, Err, IsTrue, refl, sym, ap, ◌∙◌, subst, inl, inr, arith, eq-eqb, ne_eqb, append-nil, append_assoc}
+use Rattle.std.proofs.Common.{◌≡◌, ◌≢◌, ◌⊎◌, ℕ, suc, ◌+◌, ◌<◌, List, ◌∷◌, ◌++◌, length, Option, Some, None, Result, Ok, Err, refl, sym, ap, ◌∙◌, subst, inl, inr, arith, eq-eqb, ne_eqb, append-nil, append_assoc, []}
 use Rattle.std.specs.Prelude.{◌==◌, slice_get, if◌then◌else◌}
 use Rattle.std.specs.Option.{option_map, ForSome}
 use Rattle.std.specs.List.{swap}
@@ -7,31 +7,25 @@ use Rattle.std.proofs.Math.Nat.{suc-add}
 use Rattle.std.proofs.lemmas.Bool.{cases_eq, cases_lt, cond-true, cond-false}
 use Rattle.std.proofs.lemmas.Option.{none-some, slice_get-get_or, slice_get-map, slice_get_past}
 use Rattle.std.proofs.lemmas.List.Edits.{length-swap, swapped_from_swap}
-use Rattle.ac_base.specs.declared.limit.Limit.{Limit}
-use Rattle.ac_base.specs.declared.limit.Limit.TheVariants.{Unbounded, Bounded}
 use Rattle.ac_base.specs.declared.name.Name.{Name}
 use Rattle.ac_base.specs.declared.fault.Fault.{Fault}
 use Rattle.ac_base.specs.declared.fault.Fault.TheVariants as fault
 use Rattle.ac_base.specs.declared.cursor.Cursor.{Cursor}
-use Rattle.ac_base.specs.declared.cursor.Cursor.TheVariants.{NoElement, At}
-use Rattle.ac_base.specs.Guards.{GuardCounts}
-use Rattle.ac_chain.specs.Rows as chain
-use Rattle.ac_chain.specs.Rows.{Chained, index_of, place_of, name_at, IsLive, IsSound, links_swapped, moved, moved_rows}
+use Rattle.ac_chain.specs.Rows.{Chained, index_of, place_of, name_at, IsLive, IsSound, moved, moved_rows}
 use Rattle.ac_chain.specs.ChainFields.{HasName, IsOnce, first_or}
 use Rattle.ac_chain.proofs.Cuts.{live_has, has_live, cut as cut_at, cut-row, name_at_has, index_of-cut, apart, once_cut, HasName-put, HasName-cut, HasName-right}
 use Rattle.ac_chain.proofs.Chains.{index_at}
 use Rattle.ac_chain.proofs.Moves.{once_from, move, moved_itself}
-use Rattle.ac_chain.proofs.Orders.{length_moved, live_moved}
 use Rattle.ac_model.specs.Rows as model
-use Rattle.ac_base.specs.Rows.{Row, row, names}
+use Rattle.ac_base.specs.Rows.{Row, row}
 use Rattle.ac_model.specs.Rows.{named, cut, put, with_exchanged_rows}
-use Rattle.ac_model.specs.Objects.{Object, plain, with_rows}
-use Rattle.ac_model.specs.Letters.{mark_at, name_of, is_among}
+use Rattle.ac_model.specs.Objects.{Object, plain}
+use Rattle.ac_model.specs.Letters.{mark_at}
 use Rattle.ac_model.specs.Lists.{moved_before, one_row, splice_within_call, splice_one_self_call}
-use Rattle.ac_model.specs.Calls.{IsAfter, Changing, Same, Marks, Done}
+use Rattle.ac_model.specs.Calls.{Changing, Same, Marks, Done}
 use Rattle.ac_model.proofs.RowLaws.{at_its_place}
 use Rattle.ac_model.specs.Objects.{plains}
-use Rattle.ac_model.specs.Cursors.{needs_cursor, may_cursor, mark, name_in, place_in}
+use Rattle.ac_model.specs.Cursors.{mark}
 use Rattle.ac_chain.proofs.Marks.{Alone, alone, place_is}
 use Rattle.ac_model.proofs.Plains.{slice_get-plains}
 use Rattle.ac_model.proofs.Plains.{plains-append, length-plains}

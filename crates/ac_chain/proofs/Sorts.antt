@@ -1,5 +1,5 @@
 -- The names of a chain's rows in the order of their values, and the list after a sort.
-use Rattle.std.proofs.Common.{◌≡◌, ℕ, zero, suc, ◌-◌, ◌<◌, Bool, List, [], ◌∷◌, ◌++◌, length, map, Option, Some, None, refl, sym, ap, ◌∙◌, subst, inl, inr, arith, append-nil, append_assoc, IsPermutation}
+use Rattle.std.proofs.Common.{◌≡◌, ℕ, zero, suc, ◌-◌, ◌<◌, Bool, List, ◌∷◌, ◌++◌, length, map, Option, Some, None, refl, sym, ap, ◌∙◌, subst, inl, inr, arith, append-nil, append_assoc, IsPermutation, []}
 use Rattle.std.specs.Prelude.{slice_get}
 use Rattle.std.specs.Option.{option_map}
 use Rattle.std.specs.Prelude.{Result, Ok, Err, IfOk, Vec}
@@ -12,10 +12,7 @@ use Rattle.std.proofs.lemmas.List.{map-append, length-map}
 use Rattle.std.proofs.lemmas.List.Sorted.{IsPermutation-map, IsPermutation-keeps, length_permutation}
 use Rattle.ac_base.specs.declared.fault.NoMemory.{NoMemory}
 use Rattle.ac_base.specs.Order.{IsWeakOrder}
-use Rattle.ac_base.specs.declared.limit.Limit.{Limit}
 use Rattle.ac_base.specs.declared.name.Name.{Name}
-use Rattle.ac_base.specs.Guards.{GuardCounts}
-use Rattle.ac_chain.specs.Rows as chain
 use Rattle.ac_base.specs.Rows.{names}
 use Rattle.ac_chain.specs.Rows.{Chained, place_of, name_at, next_name, IsLive, IsSound, value_of, IsOrderOf, Reorders}
 use Rattle.ac_chain.specs.ChainFields.{HasName, IsOnce}
@@ -27,8 +24,6 @@ use Rattle.ac_model.specs.Rows as model
 use Rattle.ac_base.specs.Rows.{Row, row}
 use Rattle.ac_model.specs.Objects.{plains}
 use Rattle.ac_chain.specs.Sorting.{row_at, IsSortedOrder}
-use Rattle.ac_model.specs.Objects.{Object, plain, with_rows}
-use Rattle.ac_model.specs.Calls.{IsAfter}
 use Rattle.ac_chain.proofs.Relinked.{WasAt, swap_was, swap_had}
 use Rattle.ac_chain.proofs.Searches.{some_value}
 use Rattle.ac_model.proofs.StableSorts.{strict_order, sort_is}
@@ -149,3 +144,19 @@ module _ {X : Type 0} where
       let value : x.value ≡ y.value = some_value x.value y.value (sym (h 0 x refl) ∙ ap f name ∙ k 0 y refl) in
       let rest = by_names f xs ys others (λ i. h (suc i)) (λ i. k (suc i)) in
       λ i. row (name i) (value i) ∷ rest i
+
+  -- a chain that is relinked by the names in order
+  module _ (less : X → X → Bool) (k : Chained X) (sound : IsSound k) (order : List Name) (s : IsSortedOrder less k.rows order) where
+    name_there : (i : ℕ) (a : Name) → slice_get order i ≡ Some a → name_at s.to i ≡ Some a
+    name_there i a e = sym (slice_get-map (λ (r : Row Name X). r.name) s.to i) ∙ ap (λ o. slice_get o i) (sym s.named) ∙ e
+
+    pub order_of : IsOrderOf order k
+    order_of = record {
+      live = λ i a e. has_live a k.rows (moved_had k.rows s.to s.moves a (name_at_has s.to i a (name_there i a e)));
+      once = λ i j a ei ej. once_moved k.rows s.to (once_from k.rows sound.once) s.moves i j a (name_there i a ei) (name_there j a ej);
+      all = ap length s.named ∙ length-map s.to (λ (r : Row Name X). r.name) ∙ length_permutation k.rows s.to s.moves;
+    }
+
+    pub relinked_rows : (now : Chained X) → IsSound now → names now.rows ≡ order → Reorders k now → now.rows ≡ s.to
+    relinked_rows now t e same = by_names (value_of k) now.rows s.to (e ∙ s.named)
+        (λ i r q. sym (same.values r.name) ∙ own_values now (once_from now.rows t.once) i r q) (moved_values k s.to (once_from k.rows sound.once) s.moves)

@@ -1,9 +1,9 @@
 -- What the writes of single links leave: the rows without one, and with one more.
-use Rattle.std.proofs.Common.{◌≡◌, List, [], ◌∷◌, ◌++◌, Option, Some, None, is_some, refl, sym, ap, ◌∙◌, subst, inl, inr, append-nil, append_assoc}
+use Rattle.std.proofs.Common.{◌≡◌, List, ◌∷◌, ◌++◌, Option, Some, None, is_some, refl, sym, ap, ◌∙◌, subst, inl, inr, append-nil, append_assoc, []}
 use Rattle.std.specs.Option.{option_map}
 use Rattle.ac_base.specs.declared.name.Name.{Name}
 use Rattle.ac_pool.specs.Contents as pool
-use Rattle.ac_pool.specs.Contents.{Contents, value_of, IsLive, live_count, IsSound, IsFresh, added, taken}
+use Rattle.ac_pool.specs.Contents.{Contents, value_of, IsLive, live_count, IsSound}
 use Rattle.ac_pool.proofs.NameLaws.{cases_name}
 use Rattle.ac_pool.proofs.ContentsLaws.{value_of-with_value_same, value_of-with_value_other, live_count-with_value, IsSound-with_value}
 use Rattle.ac_chain.specs.declared.links.Node.{Node}

@@ -1,21 +1,11 @@
 -- What holds of every list, in the words of the definitions.
-use Rattle.std.proofs.Common.{◌≡◌, ◌≢◌, ℕ, ◌+◌, ◌≤◌, false, List, [], ◌∷◌, length, map, refl, sym, ◌∙◌, subst, inl, inr, arith, eq-eqb, ne_eqb, le_of_eq}
+use Rattle.std.proofs.Common.{◌≡◌, ◌≢◌, ℕ, ◌+◌, ◌≤◌, List, ◌∷◌, refl, sym, ◌∙◌, subst, inl, inr, arith, eq-eqb, ne_eqb, le_of_eq, []}
 use Rattle.std.specs.Prelude.{◌==◌, if◌then◌else◌}
-use Rattle.std.proofs.lemmas.Bool.{cases_eq, cond-true, cond-false, le-ltb}
-use Rattle.std.proofs.lemmas.List.{length-map}
-use Rattle.ac_base.specs.declared.limit.Limit.{Limit}
-use Rattle.ac_base.specs.declared.limit.Limit.TheVariants.{Unbounded, Bounded}
+use Rattle.std.proofs.lemmas.Bool.{cases_eq, cond-true, cond-false}
 use Rattle.ac_base.specs.declared.name.Name.{Name}
-use Rattle.ac_base.specs.Guards.{GuardCounts}
-use Rattle.ac_chain.specs.Rows as chain
-use Rattle.ac_chain.specs.Rows.{Chained}
 use Rattle.ac_chain.specs.ChainFields.{HasName, IsOnce}
-use Rattle.ac_chain.proofs.Cuts.{has_live}
-use Rattle.ac_chain.proofs.Moves.{once_from}
-use Rattle.ac_base.specs.Limits.{is_past}
-use Rattle.ac_model.specs.Objects.{Object, plain, times, IsValid}
+use Rattle.ac_model.specs.Objects.{times}
 use Rattle.ac_model.specs.Objects.{plains}
-use Rattle.ac_model.specs.Containers.{HasSlots}
 use Rattle.ac_base.specs.Rows.{Row}
 
 module _ {X : Type 0} where

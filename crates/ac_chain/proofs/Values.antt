@@ -1,9 +1,9 @@
 -- What a write of a value leaves of a chain, and the exchange of two values.
-use Rattle.std.proofs.Common.{◌≡◌, ◌≢◌, ℕ, suc, List, [], ◌∷◌, ◌++◌, length, set, Option, Some, None, is_some, refl, sym, ap, ◌∙◌, subst, inl, inr}
+use Rattle.std.proofs.Common.{◌≡◌, ◌≢◌, ℕ, suc, List, ◌∷◌, ◌++◌, length, set, Option, Some, None, is_some, refl, sym, ap, ◌∙◌, subst, inl, inr, []}
 use Rattle.std.proofs.lemmas.List.{set_at}
 use Rattle.ac_base.specs.declared.name.Name.{Name}
 use Rattle.ac_pool.specs.Contents as pool
-use Rattle.ac_pool.specs.Contents.{Contents, contents, live_count, swapped}
+use Rattle.ac_pool.specs.Contents.{Contents, contents, swapped}
 use Rattle.ac_pool.proofs.NameLaws.{cases_name, same_names}
 use Rattle.ac_pool.proofs.ContentsLaws.{live_value, value_of-with_value_same, value_of-with_value_other, live_count-with_value, IsSound-with_value, swapped_live}
 use Rattle.ac_chain.specs.declared.links.Node.{Node}

@@ -1,10 +1,9 @@
 -- What is found among a chain's rows.
-use Rattle.std.specs.Prelude.{◌≡◌, ◌↔◌, ℕ, ◌+◌, ◌==◌, ◌&&◌, List, length, map, Bool, true, false, IsTrue, Option, None, Some, find}
+use Rattle.std.specs.Prelude.{ℕ, ◌+◌, List, length, Bool, Option, None, Some, find}
 use Rattle.std.specs.Option.{option_map}
 use Rattle.ac_base.specs.declared.name.Name.{Name}
 use Rattle.ac_base.specs.declared.cursor.Cursor.{Cursor}
 use Rattle.ac_base.specs.declared.cursor.Cursor.TheVariants.{NoElement, At}
-use Rattle.ac_chain.specs.Rows as chain
 use Rattle.ac_chain.specs.Rows.{index_of, name_at, name_before}
 use Rattle.ac_base.specs.Rows.{Row}
 

@@ -1,22 +1,14 @@
 -- What a comparison of a list's elements has found so far: of two lists one by one, and of each element with the one before it.
-use Rattle.std.proofs.Common.{◌≡◌, suc, ◌-◌, ◌<◌, Bool, true, false, not, List, [], ◌∷◌, length, Option, Some, None, is_none, is_some, IsTrue, refl, sym, ap, ◌∙◌, subst, arith}
-use Rattle.std.specs.Prelude.{◌↔◌}
-use Rattle.std.specs.Coded.{Coded}
-use Rattle.std.proofs.lemmas.Bool.{and_parts}
+use Rattle.std.proofs.Common.{◌≡◌, ◌-◌, Bool, true, List, ◌∷◌, None, refl, ap, ◌∙◌, []}
 use Rattle.std.proofs.lemmas.Option.{none-some}
 use Rattle.ac_base.specs.declared.limit.Limit.{Limit}
 use Rattle.ac_base.specs.declared.name.Name.{Name}
 use Rattle.ac_base.specs.Guards.{GuardCounts}
-use Rattle.ac_chain.specs.Rows as chain
-use Rattle.ac_chain.specs.Rows.{Chained, index_of, place_of, name_at, next_name, IsLive, IsSound, value_of}
-use Rattle.ac_chain.specs.ChainFields.{first_or}
-use Rattle.ac_chain.proofs.Moves.{once_from}
+use Rattle.ac_chain.specs.Rows.{Chained, name_at}
 use Rattle.ac_base.specs.Rows.{Row, values}
 use Rattle.ac_model.specs.Rows.{is_ascending}
 use Rattle.ac_model.specs.Objects.{Object, plain}
 use Rattle.ac_model.specs.Sequences as sequences
-use Rattle.ac_model.specs.Sequences.{are_equal}
-use Rattle.ac_model.specs.Objects.{plains}
 use Rattle.ac_list.specs.State.{object_of}
 use Rattle.ac_base.specs.Rows.{values}
 use Rattle.ac_model.proofs.Plains.{values-plains}

@@ -1,24 +1,19 @@
 -- What a search in a list answers, from what was found among the chain's rows.
-use Rattle.std.proofs.Common.{◌≡◌, ℕ, zero, suc, ◌+◌, Bool, true, false, ◌||◌, List, [], ◌∷◌, length, map, reverse, take, drop, Option, Some, None, is_some, Ok, refl, sym, ap, ◌∙◌, subst, arith, cond, inl, inr, take-append-drop}
+use Rattle.std.proofs.Common.{◌≡◌, ℕ, ◌+◌, Bool, ◌∷◌, length, reverse, take, drop, Option, None, is_some, Ok, refl, sym, ap, ◌∙◌, subst, arith, []}
 use Rattle.std.specs.Prelude.{find, if◌then◌else◌}
-use Rattle.std.specs.List.{list_any}
-use Rattle.std.specs.Option.{option_map, ForSome}
-use Rattle.std.proofs.lemmas.List.{take-map, drop-map, take_all}
-use Rattle.std.proofs.lemmas.Option.{none-some}
+use Rattle.std.specs.Option.{ForSome}
+use Rattle.std.proofs.lemmas.List.{take_all}
 use Rattle.ac_base.specs.declared.limit.Limit.{Limit}
 use Rattle.ac_base.specs.declared.name.Name.{Name}
 use Rattle.ac_base.specs.declared.cursor.Cursor.{Cursor}
 use Rattle.ac_base.specs.declared.cursor.Cursor.TheVariants.{NoElement, At}
 use Rattle.ac_base.specs.Guards.{GuardCounts}
 use Rattle.ac_base.specs.FirstReason.{first_reason}
-use Rattle.ac_chain.specs.Rows as chain
 use Rattle.ac_chain.specs.Rows.{Chained, index_of, place_of, name_at, name_before, IsLive, IsSound}
-use Rattle.ac_chain.specs.ChainFields.{HasName, IsOnce}
-use Rattle.ac_chain.proofs.Cuts.{index_here, name_at_has, has_live, HasName-left, HasName-right}
-use Rattle.ac_chain.proofs.Chains.{index_at}
+use Rattle.ac_chain.proofs.Cuts.{has_live}
 use Rattle.ac_chain.proofs.Moves.{once_from}
-use Rattle.ac_base.specs.Rows.{Row, row, names, values}
-use Rattle.ac_model.specs.Objects.{Object, plain, plain_row}
+use Rattle.ac_base.specs.Rows.{Row, names}
+use Rattle.ac_model.specs.Objects.{Object, plain}
 use Rattle.ac_model.specs.Letters.{mark_of, mark_for, place_at, is_no_mark}
 use Rattle.ac_model.specs.Calls.{Looking, Marks}
 use Rattle.ac_model.specs.Sequences as sequences

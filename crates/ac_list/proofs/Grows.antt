@@ -1,15 +1,13 @@
 -- What a list is after copies were put into it.
-use Rattle.std.proofs.Common.{◌≡◌, ℕ, zero, suc, ◌+◌, ◌<◌, ◌≤◌, ◌&&◌, not, true, false, List, [], ◌∷◌, ◌++◌, length, map, reverse, replicate, Option, Some, None, Result, Ok, Err, IsTrue, refl, sym, ap, ◌∙◌, subst, inl, inr, arith, eqb-true, lt-ltb, true≢false, ◌^◌, ne_eqb}
-use Rattle.std.specs.Prelude.{◌==◌, IfOk, IfErr, All, nat_lt, max}
+use Rattle.std.proofs.Common.{◌≡◌, ℕ, zero, suc, ◌+◌, ◌<◌, ◌≤◌, ◌&&◌, not, true, false, List, ◌∷◌, ◌++◌, length, reverse, replicate, Option, Some, None, Result, Ok, Err, IsTrue, refl, sym, ap, ◌∙◌, subst, inl, inr, arith, eqb-true, lt-ltb, true≢false, ◌^◌, []}
+use Rattle.std.specs.Prelude.{◌==◌, IfOk, IfErr, max}
 use Rattle.std.specs.Option.{ForSome}
-use Rattle.std.proofs.lemmas.Bool.{cases_Bool, cond-false, cases_lt}
-use Rattle.std.proofs.lemmas.List.{length-map, length-replicate, reverse-append}
+use Rattle.std.proofs.lemmas.Bool.{cases_Bool, cases_lt}
+use Rattle.std.proofs.lemmas.List.{length-replicate}
 use Rattle.ac_base.specs.declared.limit.Limit.{Limit}
 use Rattle.ac_base.specs.declared.limit.Limit.TheVariants.{Unbounded, Bounded}
 use Rattle.ac_base.specs.declared.name.Name.{Name}
 use Rattle.ac_base.specs.declared.reason.Reason.{Reason}
-use Rattle.ac_base.specs.declared.reason.Reason.TheVariants.{LengthRange, CapacityFull, NamesSpent}
-use Rattle.ac_base.specs.declared.fault.Fault.{Fault}
 use Rattle.ac_base.specs.declared.fault.NoMemory.{NoMemory}
 use Rattle.ac_base.specs.declared.fault.Fault.TheVariants as fault
 use Rattle.ac_base.specs.Tampering.{forbids}
@@ -20,25 +18,22 @@ use Rattle.ac_base.specs.declared.cursor.Cursor.TheVariants.{NoElement, At}
 use Rattle.ac_base.specs.FirstReason.{first_reason, earlier}
 use Rattle.ac_base.proofs.Earlier.{with_none_later}
 use Rattle.ac_base.specs.Growth.{pow8}
-use Rattle.ac_chain.specs.Rows as chain
 use Rattle.ac_chain.specs.Rows.{Chained, IsLive, IsSound, place_of, index_of, name_at, reversed}
 use Rattle.ac_chain.specs.ChainFields.{HasName}
-use Rattle.ac_chain.proofs.Cuts.{HasName-left, HasName-right, HasName-either, has_live, live_has, index_here}
-use Rattle.ac_model.specs.Rows as model
-use Rattle.ac_base.specs.Rows.{Row, row, names}
+use Rattle.ac_chain.proofs.Cuts.{has_live, live_has, index_here}
+use Rattle.ac_base.specs.Rows.{Row, names}
 use Rattle.ac_model.specs.Rows.{fresh, put}
-use Rattle.ac_base.specs.Limits.{is_past, numbers_end}
+use Rattle.ac_base.specs.Limits.{is_past}
 use Rattle.ac_base.specs.declared.limit.TheConstants.{GREATEST_LENGTH}
-use Rattle.ac_model.specs.Objects.{Object, plain, plain_row, length_of, capacity_after, with_rows, grown}
-use Rattle.ac_model.specs.Letters.{room_in, no_mark, mark_at, mark_of, is_among, has_room, tampers_cursors, room, in_range, count_of, reason_if, place_at}
-use Rattle.ac_model.specs.Calls.{Call, call, Changing, IsAfter, Same, Marks, Done}
-use Rattle.ac_model.specs.Sequences.{with_new, first_new, room_for_copies, copies_take_memory, with_copies}
-use Rattle.ac_model.proofs.Reasons.{after_two, none_first, none_others, room_none}
+use Rattle.ac_model.specs.Objects.{Object, plain, length_of, with_rows, grown}
+use Rattle.ac_model.specs.Letters.{room_in, no_mark, mark_at, mark_of, is_among, has_room, tampers_cursors, room, in_range, count_of, place_at}
+use Rattle.ac_model.specs.Calls.{Changing, IsAfter, Marks}
+use Rattle.ac_model.specs.Sequences.{with_new, first_new, room_for_copies}
 use Rattle.ac_model.specs.Cursors.{spot, IsNamed}
-use Rattle.ac_model.specs.Containers.{Grows, slots_of}
+use Rattle.ac_model.specs.Containers.{slots_of}
 use Rattle.ac_model.specs.Objects.{plains}
 use Rattle.ac_chain.specs.Put.{IsPut, HasFirst}
-use Rattle.ac_model.specs.Putting.{Takes, put_call, done}
+use Rattle.ac_model.specs.Putting.{Takes, put_call}
 use Rattle.ac_model.specs.Cursors.{may_cursor, mark, place_in, cursor_at}
 use Rattle.ac_model.specs.Containers.{Container, container}
 use Rattle.ac_list.specs.State.{object_of, IsList}
@@ -46,7 +41,7 @@ use Rattle.ac_chain.proofs.Marks.{among_has, has_among, place_live, may_by_name,
 use Rattle.ac_list.proofs.Standing.{stands}
 use Rattle.ac_model.proofs.Plains.{plains-append, length-plains}
 use Rattle.ac_chain.proofs.Puts.{put_length}
-use Rattle.ac_model.proofs.Changes.{accepted, no_capacity}
+use Rattle.ac_model.proofs.Changes.{no_capacity}
 use Rattle.ac_chain.proofs.Grows.{all_from, put_cut, put_kept, past_end, reverse_has}
 use Rattle.ac_model.proofs.Plains.{plains-reverse}
 

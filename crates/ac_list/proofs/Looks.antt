@@ -1,12 +1,10 @@
 -- What the calls that only look answer, from what the chain answers.
-use Rattle.std.proofs.Common.{◌≡◌, ℕ, zero, suc, ◌+◌, ◌-◌, Bool, true, false, List, [], ◌∷◌, length, map, Option, Some, None, Ok, refl, sym, ap, ◌∙◌, subst, arith, eq-eqb, ne_eqb, not, Bor, IsTrue}
+use Rattle.std.proofs.Common.{◌≡◌, ℕ, zero, suc, ◌+◌, ◌-◌, Bool, true, false, List, ◌∷◌, length, Option, Some, None, Ok, refl, sym, ap, ◌∙◌, subst, Bor, IsTrue, []}
 use Rattle.std.specs.Prelude.{◌==◌, slice_get, ◌↔◌, if◌then◌else◌}
 use Rattle.std.specs.Option.{option_map}
-use Rattle.std.proofs.lemmas.List.{length-map}
-use Rattle.std.proofs.lemmas.Bool.{cond-true}
 use Rattle.ac_base.specs.declared.limit.Limit.{Limit}
 use Rattle.ac_base.specs.declared.name.Name.{Name}
-use Rattle.ac_base.specs.declared.reason.Reason.TheVariants.{Empty, DeadCursor}
+use Rattle.ac_base.specs.declared.reason.Reason.TheVariants.{Empty}
 use Rattle.ac_base.specs.declared.cursor.Cursor.{Cursor}
 use Rattle.ac_base.specs.declared.cursor.Cursor.TheVariants.{At}
 use Rattle.ac_base.specs.Guards.{GuardCounts}
@@ -19,7 +17,7 @@ use Rattle.ac_chain.proofs.Moves.{once_from}
 use Rattle.ac_base.specs.Rows.{Row, names, values}
 use Rattle.ac_model.specs.Rows.{value_at}
 use Rattle.ac_model.specs.Objects.{Object, plain, length_of}
-use Rattle.ac_model.specs.Letters.{no_mark, mark_at, mark_of, is_among, judged_in, mark_in, place_at, is_no_mark, name_of, reason_if}
+use Rattle.ac_model.specs.Letters.{no_mark, mark_at, mark_of, is_among, judged_in, mark_in, place_at, is_no_mark, name_of}
 use Rattle.ac_model.specs.Calls.{Looking, Marks, Lends}
 use Rattle.ac_model.specs.Sequences as sequences
 use Rattle.ac_model.specs.Sequences.{mark_before}
@@ -29,7 +27,7 @@ use Rattle.ac_base.specs.declared.reason.Reason.{Reason}
 use Rattle.ac_list.specs.State.{object_of}
 use Rattle.ac_chain.proofs.Marks.{among_has, has_among, judged_by_name, may_by_name, marked_at, place_live, value_live}
 use Rattle.ac_list.proofs.Standing.{stands}
-use Rattle.ac_chain.proofs.Looks.{bool_is}
+use Rattle.ac_chain.proofs.Looks.{bool_is, last_place, values_at, some_rows, no_rows, no_rows_before}
 
 module _ {X : Type 0} (g : GuardCounts) (l : Limit) (k : Chained X) (o : Object Name X) (view : object_of g l k ≡ o) where
   -- a cursor is judged by its number, and by whether the chain has its name
@@ -46,10 +44,6 @@ module _ {X : Type 0} (g : GuardCounts) (l : Limit) (k : Chained X) (o : Object 
   marks_at i name r n e =
       subst (λ (p : Object Name X). r ≡ cursor_at p.number name → Marks p r (mark_in (plain p) i)) view
       (λ q. ap (mark_of g.number (names k.rows)) (q ∙ ap (cursor_at g.number) n) ∙ marked_at g.number k.rows i) e
-
-  last_place : (rows : List (Row Name X)) → name_before rows (length rows) ≡ name_at rows (length (plains rows) - 1)
-  last_place [] = refl
-  last_place (r ∷ rows) = let e : length rows ≡ length (plains (r ∷ rows)) - 1 = simp (length-map) (omega arith) in ap (name_at (r ∷ rows)) e
 
   pub marks_last : (name : Option Name) (r : Cursor) → name ≡ name_before k.rows (length k.rows) → r ≡ cursor_at o.number name → Marks o r (sequences.last_call (plain o))
   marks_last name r n e =
@@ -104,11 +98,6 @@ module _ {X : Type 0} (g : GuardCounts) (l : Limit) (k : Chained X) (o : Object 
             ∙ ap (λ (m : Name). value_at (plains k.rows) m.serial) (sym is) ∙ value_live k a s live ∙ sym v,
       )
 
-  slice_get-values : (rows : List (Row Name X)) (i : ℕ) → slice_get (values (plains rows)) i ≡ option_map (λ (r : Row Name X). r.value) (slice_get rows i)
-  slice_get-values [] i = refl
-  slice_get-values (r ∷ rows) zero = refl
-  slice_get-values (r ∷ rows) (suc i) = slice_get-values rows i
-
   pub live_name : (i : ℕ) (a : Name) → IsSound k → Some a ≡ name_at k.rows i → IsLive k a
   live_name i a s e = has_live a k.rows (index_at k.rows (once_from k.rows s.once) i a (sym e)).0
 
@@ -116,25 +105,7 @@ module _ {X : Type 0} (g : GuardCounts) (l : Limit) (k : Chained X) (o : Object 
   value_there i a v s e is =
       let at = (index_at k.rows (once_from k.rows s.once) i a (sym e)).1 in
       subst (λ (p : Object Name X). slice_get (values (plain p).rows) i ≡ Some v) view
-      (slice_get-values k.rows i ∙ ap (λ j. option_map (λ (r : Row Name X). r.value) (slice_get k.rows j)) (sym at) ∙ sym is)
-
-  some_rows : (rows : List (Row Name X)) (i : ℕ) (a : Name) → Some a ≡ name_at rows i → (length (plains rows) == 0) ≡ false
-  some_rows [] i a e = absurd (let q : Some a ≡ None = e in cc)
-  some_rows (r ∷ rows) i a e = ne_eqb (length (plains (r ∷ rows))) 0 (λ z. let q : suc (length (plains rows)) ≡ 0 = z in omega arith)
-
-  no_rows : (rows : List (Row Name X)) → None ≡ name_at rows 0 → rows ≡ []
-  no_rows [] e = refl
-  no_rows (r ∷ rows) e = absurd (let q : None ≡ Some r.name = e in cc)
-
-  no_rows_before : (rows : List (Row Name X)) → None ≡ name_at rows (length (plains rows) - 1) → rows ≡ []
-  no_rows_before [] e = refl
-  no_rows_before (r ∷ rows) e = absurd (let at = last_named r rows in let q : None ≡ Some at.0 = e ∙ at.1 in cc)
-    where
-      last_named : (r : Row Name X) (rows : List (Row Name X)) → (b : Name) × (name_at (r ∷ rows) (length (plains (r ∷ rows)) - 1) ≡ Some b)
-      last_named r [] = (r.name, refl)
-      last_named r (q ∷ rows) = let one = last_named q rows in
-          let e : length (plains (r ∷ q ∷ rows)) - 1 ≡ suc (length (plains (q ∷ rows)) - 1) = omega arith in
-          (one.0, ap (name_at (r ∷ q ∷ rows)) e ∙ one.1)
+      (values_at k.rows i ∙ ap (λ j. option_map (λ (r : Row Name X). r.value) (slice_get k.rows j)) (sym at) ∙ sym is)
 
   pub first_element_looks : (a : Name) (lent : Bor X) → IsSound k → Some a ≡ name_at k.rows 0 → Some lent.now ≡ chain.value_of k a → Looking Lends (sequences.first_element_call (plain o)) (Ok lent)
   first_element_looks a lent s e v =

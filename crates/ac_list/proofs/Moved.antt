@@ -1,7 +1,7 @@
 -- What two lists are after elements of one moved into the other.
-use Rattle.std.proofs.Common.{◌≡◌, ℕ, ◌+◌, ◌<◌, ◌≤◌, ◌^◌, List, [], ◌∷◌, length, Option, Some, None, Result, Ok, Err, IsTrue, false, refl, sym, ap, ◌∙◌, subst, arith}
+use Rattle.std.proofs.Common.{◌≡◌, ℕ, ◌+◌, ◌≤◌, List, ◌∷◌, length, Option, Some, None, Result, Ok, Err, IsTrue, refl, sym, ap, ◌∙◌, subst, arith, []}
 use Rattle.std.specs.Prelude.{IfOk, IfErr, max}
-use Rattle.std.specs.Option.{option_map, ForSome}
+use Rattle.std.specs.Option.{ForSome}
 use Rattle.std.proofs.lemmas.List.{length-map}
 use Rattle.ac_base.specs.declared.limit.Limit.{Limit}
 use Rattle.ac_base.specs.declared.limit.Limit.TheVariants.{Unbounded, Bounded}
@@ -13,14 +13,11 @@ use Rattle.ac_base.specs.Guards.{GuardCounts}
 use Rattle.ac_base.specs.FirstReason.{first_reason}
 use Rattle.ac_base.specs.declared.cursor.Cursor.{Cursor}
 use Rattle.ac_base.specs.Growth.{pow8}
-use Rattle.ac_chain.specs.Rows as chain
-use Rattle.ac_chain.specs.Rows.{Chained, IsLive, IsSound, value_of, index_of, removed, cleared, next_name}
-use Rattle.ac_chain.proofs.Cuts.{cut, cut-row, live_has}
-use Rattle.ac_base.specs.Rows.{row, Row, names}
-use Rattle.ac_model.specs.Rows.{fresh, merged, value_at, put}
+use Rattle.ac_chain.specs.Rows.{Chained, IsLive, IsSound, value_of, index_of, removed, cleared}
+use Rattle.ac_chain.proofs.Cuts.{cut, live_has}
+use Rattle.ac_base.specs.Rows.{Row, names}
+use Rattle.ac_model.specs.Rows.{value_at, put}
 use Rattle.ac_model.specs.Rows as model
-use Rattle.ac_base.specs.Limits.{is_past}
-use Rattle.ac_base.specs.declared.limit.TheConstants.{GREATEST_LENGTH}
 use Rattle.ac_model.specs.Objects.{Object, plain, length_of, contents, with_rows}
 use Rattle.ac_model.specs.Letters.{mark_at, name_of, place_at, tampers_cursors, room, room_for_one}
 use Rattle.ac_model.specs.Calls.{Call, ChangingBoth, Same, Marks, Both, both, IsAfter, Done}
@@ -32,7 +29,6 @@ use Rattle.ac_model.proofs.Reasons.{after_two, after_three, after_four, none_fir
 use Rattle.ac_model.specs.Containers.{Grows, slots_of}
 use Rattle.ac_model.specs.Objects.{plains}
 use Rattle.ac_chain.specs.Put.{IsPut, IsFirst, HasGrown}
-use Rattle.ac_chain.specs.Cut.{IsCut}
 use Rattle.ac_model.specs.Forms.{as_fault, cursor_of}
 use Rattle.ac_chain.specs.Refill.{IsRefilled}
 use Rattle.ac_base.specs.Rows.{values}
@@ -126,9 +122,6 @@ module _ {X : Type 0} (g h : GuardCounts) (l m : Limit) (k from : Chained X) (o 
       by (Ok x) ok gone same same_source = (sym e, record { target = target ok; source = after gone }, refl)
       by (Err q) ok gone same same_source = (wants, sym e, λ i. both ((ap (object_of g l) same ∙ view) i) ((ap (object_of h m) same_source ∙ source) i))
 
-  count_contents : length (contents (plain p)) ≡ length_of (plain p)
-  count_contents = length-map (plain p).rows (λ (r : Row ℕ X). r.value)
-
   pub both_lengths : length_of (plain o) + length_of (plain p) ≡ length k.rows + length from.rows
   both_lengths = λ i. (source_is g l k o view).1 i + (source_is h m from p source).1 i
 
@@ -142,7 +135,7 @@ module _ {X : Type 0} (g h : GuardCounts) (l m : Limit) (k from : Chained X) (o 
       room_fits g l k o view n n (length from.rows) (length from.rows) count count (after_two (tampers_cursors (plain o)) (tampers_cursors (plain p)) (room (plain o) n n) (sym e))
 
   pub moved : (now : Chained X) → IsRefilled k (values from.rows) now → IsAfter o (object_of g l now) (common.move_from_call (plain o) (plain p)).after.target
-  moved now f = refill_after g l k now o (contents (plain p)) (length_of (plain p)) view count_contents (subst (λ vs. IsRefilled k vs now) (sym (source_is h m from p source).0) f)
+  moved now f = refill_after g l k now o (contents (plain p)) (length_of (plain p)) view (length-map (plain p).rows (λ (r : Row ℕ X). r.value)) (subst (λ vs. IsRefilled k vs now) (sym (source_is h m from p source).0) f)
 
   -- Splice of all elements
   pub record SpliceFits (b : Cursor) : Type 0 where
@@ -161,7 +154,7 @@ module _ {X : Type 0} (g h : GuardCounts) (l m : Limit) (k from : Chained X) (o 
   pub spliced : (now : Chained X) (b : Cursor) (place : Option Name) → IsSound k → None ≡ (lists.splice_call (plain o) (mark o b) (plain p)).reason → place ≡ place_in b → IsPut k.rows k.next_serial place (values from.rows) now
       → IsAfter o (object_of g l now) (lists.splice_call (plain o) (mark o b) (plain p)).after.target
   spliced now b place s e is put =
-      placed_after g l k now o view s b place (contents (plain p)) (length_of (plain p)) count_contents is (splice_fits b e).place (subst (λ vs. IsPut k.rows k.next_serial place vs now) (sym (source_is h m from p source).0) put)
+      placed_after g l k now o view s b place (contents (plain p)) (length_of (plain p)) (length-map (plain p).rows (λ (r : Row ℕ X). r.value)) is (splice_fits b e).place (subst (λ vs. IsPut k.rows k.next_serial place vs now) (sym (source_is h m from p source).0) put)
 
   -- Splice of one element
   pub record OneFits (b q : Cursor) : Type 0 where

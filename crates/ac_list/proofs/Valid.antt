@@ -1,24 +1,19 @@
 -- What holds of every list, in the words of the definitions.
-use Rattle.std.proofs.Common.{◌≡◌, ◌≢◌, ℕ, ◌+◌, ◌≤◌, false, List, [], ◌∷◌, length, map, refl, sym, ◌∙◌, subst, inl, inr, arith, eq-eqb, ne_eqb, le_of_eq}
-use Rattle.std.specs.Prelude.{◌==◌, if◌then◌else◌}
-use Rattle.std.proofs.lemmas.Bool.{cases_eq, cond-true, cond-false, le-ltb}
-use Rattle.std.proofs.lemmas.List.{length-map}
+use Rattle.std.proofs.Common.{◌≡◌, false, length, refl, subst, arith}
+use Rattle.std.proofs.lemmas.Bool.{le-ltb}
 use Rattle.ac_base.specs.declared.limit.Limit.{Limit}
 use Rattle.ac_base.specs.declared.limit.Limit.TheVariants.{Unbounded, Bounded}
 use Rattle.ac_base.specs.declared.name.Name.{Name}
 use Rattle.ac_base.specs.Guards.{GuardCounts}
-use Rattle.ac_chain.specs.Rows as chain
 use Rattle.ac_chain.specs.Rows.{Chained}
-use Rattle.ac_chain.specs.ChainFields.{HasName, IsOnce}
 use Rattle.ac_chain.proofs.Cuts.{has_live}
 use Rattle.ac_chain.proofs.Moves.{once_from}
 use Rattle.ac_base.specs.Limits.{is_past}
-use Rattle.ac_model.specs.Objects.{Object, plain, times, IsValid}
+use Rattle.ac_model.specs.Objects.{Object, plain, IsValid}
 use Rattle.ac_model.specs.Objects.{plains}
 use Rattle.ac_model.specs.Containers.{HasSlots}
 use Rattle.ac_list.specs.State.{object_of, IsList}
 use Rattle.ac_model.proofs.Plains.{length-plains}
-use Rattle.ac_base.specs.Rows.{Row}
 use Rattle.ac_chain.proofs.Valid.{times_none, times_once}
 
 module _ {X : Type 0} where

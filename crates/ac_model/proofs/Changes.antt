@@ -24,12 +24,11 @@ use Rattle.ac_model.specs.Forms.{Makes}
 use Rattle.ac_model.specs.Letters.{count_of, in_range, no_mark, reason_if, room, tampers_cursors}
 use Rattle.ac_model.specs.Objects.{Object, capacity_after, contents, empty_object, length_of, plain, plain_row}
 use Rattle.ac_model.specs.Sequences.{copies_take_memory, first_new, room_for_copies, with_copies}
-use Rattle.std.proofs.Common.{Err, IsTrue, List, None, Ok, Option, Result, Some, [], ap, arith, eqb-true, false, inl, inr, length, lt-ltb, map, ne_eqb, not, refl, replicate, reverse, subst, suc, sym, true, true≢false, zero, ℕ, ◌&&◌, ◌++◌, ◌+◌, ◌<◌, ◌^◌, ◌∙◌, ◌∷◌, ◌≡◌, ◌≤◌}
+use Rattle.std.proofs.Common.{Err, None, Ok, Option, Result, Some, ap, arith, false, inl, inr, length, lt-ltb, map, refl, subst, suc, sym, true, zero, ℕ, ◌&&◌, ◌+◌, ◌∙◌, ◌∷◌, ◌≡◌, ◌≤◌, []}
 use Rattle.std.proofs.Math.Nat.{le-max_left, max-le}
-use Rattle.std.proofs.lemmas.Bool.{cases_Bool, cases_lt, cond-false, le-ltb}
-use Rattle.std.proofs.lemmas.List.{length-map, length-replicate, reverse-append}
-use Rattle.std.specs.Option.{ForSome}
-use Rattle.std.specs.Prelude.{All, IfErr, IfOk, max, nat_lt, ◌==◌}
+use Rattle.std.proofs.lemmas.Bool.{cases_lt, le-ltb}
+use Rattle.std.proofs.lemmas.List.{length-map}
+use Rattle.std.specs.Prelude.{max, nat_lt}
 use Rattle.ac_base.specs.declared.fault.Fault.TheVariants as fault
 
 pub accepted : {V X A : Type 0} (Answers : X → A → Type 0) (memory : _) (reason : Option Reason) (after : Object ℕ V) (answer : A) (old new : Object Name V) (r : Result X Fault) → reason ≡ None

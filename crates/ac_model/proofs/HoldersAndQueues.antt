@@ -1,5 +1,5 @@
 -- The calls of holders and queues keep them valid.
-use Rattle.std.proofs.Common.{◌≡◌, ◌==◌, ◌+◌, ◌≤◌, ℕ, ℤ, Bool, cond, true, false, not, ◌&&◌, List, [], ◌∷◌, ◌++◌, length, take, drop, refl, ap, arith, Option, Some, None, one-add, if◌then◌else◌}
+use Rattle.std.proofs.Common.{◌≡◌, ◌==◌, ◌+◌, ◌≤◌, ℕ, ℤ, Bool, cond, true, false, not, ◌&&◌, List, ◌∷◌, ◌++◌, length, take, drop, refl, ap, arith, Option, Some, None, one-add, if◌then◌else◌, []}
 use Rattle.std.specs.Prelude.{int_lt, is_none}
 use Rattle.std.specs.List.{prefix_len}
 use Rattle.std.proofs.lemmas.Bool.Decides.{nat_tests}
@@ -12,9 +12,9 @@ use Rattle.ac_base.specs.Limits.{is_past}
 use Rattle.ac_base.specs.declared.limit.TheConstants.{GREATEST_LENGTH}
 use Rattle.ac_model.specs.Letters.{reason_if}
 use Rattle.ac_model.specs.Holders as holder
-use Rattle.ac_model.specs.Holders.{Holder, IsValidHolder, KeepsHolder, KeepsBothHolders, is_too_large, fits, tampers}
+use Rattle.ac_model.specs.Holders.{Holder, KeepsHolder, KeepsBothHolders, is_too_large, fits, tampers}
 use Rattle.ac_model.specs.Queues as queue
-use Rattle.ac_model.specs.Queues.{Queue, Discipline, by_arrival, by_priority, IsValidQueue, KeepsQueue, LimitInRange, are_in_line, are_in_line_by, comes_before, priority, lined_up, is_full, is_too_long, has_at_least}
+use Rattle.ac_model.specs.Queues.{Queue, Discipline, by_arrival, by_priority, IsValidQueue, KeepsQueue, LimitInRange, are_in_line, are_in_line_by, comes_before, priority, lined_up, is_too_long, has_at_least}
 use Rattle.ac_model.proofs.Reasons.{none_first, none_others, after_two, not_if}
 
 fits_none : {T : Type 0} (size : T → ℕ) (h : Holder T) (element : Option T) → fits size h element ≡ None → is_too_large size h.limit element ≡ false

@@ -3,16 +3,10 @@ use Rattle.ac_base.specs.Rows.{Row, row, values}
 use Rattle.ac_base.specs.declared.name.Name.{Name}
 use Rattle.ac_model.specs.Objects.{plain_row, plains}
 use Rattle.ac_model.specs.Rows.{cut, fresh}
-use Rattle.std.proofs.Common.{Bool, Err, IsTrue, List, None, Ok, Option, Result, Some, [], ap, append-nil, append_assoc, arith, drop, eq-eqb, eqb-true, false, inl, inr, is_none, is_some, le-leb, length, length-append, lt-ltb, map, ne_eqb, not, refl, replicate, reverse, subst, suc, sym, take, true, true≢false, zero, ℕ, ◌&&◌, ◌++◌, ◌+◌, ◌-◌, ◌<◌, ◌^◌, ◌||◌, ◌∙◌, ◌∷◌, ◌≡◌, ◌≤◌}
-use Rattle.std.proofs.Math.Nat.{le-max_left, le-max_right}
-use Rattle.std.proofs.Math.Seq.{drop-append-add, drop-append_seam, take-append_seam}
-use Rattle.std.proofs.lemmas.Bool.{and_parts, cases_Bool, cases_eq, cases_lt, cond-false, cond-true, lt-leb}
-use Rattle.std.proofs.lemmas.List.{drop-map, drop_all, length-map, length-replicate, length-reverse, replicate_more, reverse-append, take-append-drop, take-map}
-use Rattle.std.proofs.lemmas.Option.{none-some}
-use Rattle.std.specs.Coded.{Coded}
-use Rattle.std.specs.List.{insert, remove}
-use Rattle.std.specs.Option.{ForSome, option_map}
-use Rattle.std.specs.Prelude.{All, IfErr, IfOk, IsTrue, max, nat_lt, slice_get, ◌==◌, ◌↔◌}
+use Rattle.std.proofs.Common.{List, ap, arith, drop, length, refl, reverse, suc, sym, take, zero, ℕ, ◌++◌, ◌+◌, ◌-◌, ◌∙◌, ◌∷◌, ◌≡◌, []}
+use Rattle.std.proofs.lemmas.List.{drop-map, reverse-append, take-map}
+use Rattle.std.specs.Option.{option_map}
+use Rattle.std.specs.Prelude.{slice_get}
 
 module _ {X : Type 0} where
   pub length-plains : (xs : List (Row Name X)) → length (plains xs) ≡ length xs

@@ -1,5 +1,5 @@
 -- The calls that vectors and lists have in common, and those of all kinds, keep a valid object valid.
-use Rattle.std.proofs.Common.{◌≡◌, ◌+◌, ◌-◌, ℕ, ℤ, Bool, [], ◌∷◌, length, replicate, arith, Option, None}
+use Rattle.std.proofs.Common.{◌≡◌, ◌+◌, ◌-◌, ℕ, ℤ, Bool, ◌∷◌, length, replicate, arith, Option, None, []}
 use Rattle.std.proofs.lemmas.List.{length-replicate}
 use Rattle.ac_base.specs.declared.reason.Reason.{Reason}
 use Rattle.ac_base.specs.declared.reason.Reason.TheVariants.{CapacityFull}
@@ -11,7 +11,7 @@ use Rattle.ac_model.specs.Letters.{reason_if, Mark, room, count_of, may, in_rang
 use Rattle.ac_model.specs.Calls.{Keeps, KeepsBoth}
 use Rattle.ac_model.specs.Common as common
 use Rattle.ac_model.specs.Sequences as sequence
-use Rattle.ac_model.specs.Sequences.{with_new, with_copies}
+use Rattle.ac_model.specs.Sequences.{with_copies}
 use Rattle.ac_model.proofs.Times.{times-cut, times-with_value, times-with_some_value, times-merged}
 use Rattle.ac_model.proofs.Lengths.{length-fresh, length-cut, length-with_value, length-with_some_value, length-merged, length-values}
 use Rattle.ac_model.proofs.Reasons.{in_range_none, none_first, none_others, after_two, after_three, room_none}

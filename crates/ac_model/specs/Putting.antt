@@ -1,16 +1,11 @@
 -- Copies that are put before a place of a list.
-use Rattle.std.specs.Prelude.{◌≡◌, ℕ, zero, suc, ◌+◌, max, List, ◌++◌, length, map, replicate, Option, None, Some, ◌≤◌, ◌==◌, ◌&&◌, false, not, IsTrue, Result, Ok, Err}
+use Rattle.std.specs.Prelude.{◌≡◌, ℕ, ◌+◌, replicate, Option, None, ◌≤◌, ◌==◌, ◌&&◌, false, not, Result, Ok, Err}
 use Rattle.ac_base.specs.declared.name.Name.{Name}
 use Rattle.ac_base.specs.declared.fault.Fault.{Fault}
-use Rattle.ac_base.specs.declared.cursor.Cursor.{Cursor}
-use Rattle.ac_base.specs.Growth.{pow8}
-use Rattle.ac_model.specs.Rows as model
-use Rattle.ac_base.specs.Rows.{row, Row, names}
-use Rattle.ac_model.specs.Rows.{fresh}
 use Rattle.ac_base.specs.Limits.{is_past, numbers_end}
 use Rattle.ac_base.specs.declared.limit.TheConstants.{GREATEST_LENGTH}
-use Rattle.ac_model.specs.Objects.{Object, plain_row, plain, length_of}
-use Rattle.ac_model.specs.Letters.{Mark, no_mark, is_among, has_room}
+use Rattle.ac_model.specs.Objects.{Object, plain, length_of}
+use Rattle.ac_model.specs.Letters.{Mark, no_mark, has_room}
 use Rattle.ac_model.specs.Calls.{Call, call, Done}
 use Rattle.ac_model.specs.Sequences.{with_new, first_new}
 use Rattle.ac_model.specs.Cursors.{spot}

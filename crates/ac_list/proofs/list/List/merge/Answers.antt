@@ -1,4 +1,4 @@
-use Rattle.std.proofs.Common.{refl, sym, ap, ◌∙◌, length}
+use Rattle.std.proofs.Common.{refl, ap, length}
 use Rattle.ac_model.specs.Objects.{plain}
 use Rattle.ac_model.specs.Sequences as sequences
 use Rattle.ac_model.specs.Containers.{Container}

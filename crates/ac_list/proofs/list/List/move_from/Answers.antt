@@ -1,4 +1,4 @@
-use Rattle.std.proofs.Common.{refl, sym, ap, ◌∙◌}
+use Rattle.std.proofs.Common.{refl, ap}
 use Rattle.ac_model.specs.Objects.{plain}
 use Rattle.ac_model.specs.Common as common
 use Rattle.ac_model.specs.Containers.{Container}

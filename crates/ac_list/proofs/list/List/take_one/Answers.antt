@@ -1,4 +1,4 @@
-use Rattle.std.proofs.Common.{sym, ap, ◌∙◌}
+use Rattle.std.proofs.Common.{ap}
 use Rattle.ac_model.specs.Containers.{Container}
 use Rattle.ac_list.proofs.Looks.{live_needed}
 use Rattle.ac_chain.proofs.Moved.{one_length, removed_fewer, removed_slots}
