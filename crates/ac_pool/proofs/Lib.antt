@@ -3,5 +3,4 @@ pub mod ContentsLaws
 pub mod Entries
 pub mod Laid
 pub mod NameLaws
-pub mod Placed
 pub mod Pooled

@@ -1,12 +1,11 @@
 //! How many slots a growth makes, and the free slots that it brings.
-ghost use Rattle.std.specs.Prelude.{◌≡◌, ℕ, ◌+◌, ◌*◌, ◌^◌, ◌<◌, ◌≤◌, length, slice_index};
+ghost use Rattle.std.specs.Prelude.{◌≡◌, ℕ, ◌+◌, ◌^◌, ◌<◌, ◌≤◌, length, slice_index};
 ghost use Rattle.ac_base.specs.Growth.{pow8};
 
 /// The least `8 * 2^k` that is not below `wanted`.
 pub(crate) fn least_slots(wanted: usize) -> usize
     requires { wanted ≤ 2 ^ 30 }
     ensures slots { result ≡ pow8 wanted }
-    ensures eights { (k : ℕ) × (result ≡ 8 * k) }
     ensures bounds { (wanted ≤ result) × (result ≤ 2 ^ 30) }
 {
     let mut slots: usize = 8;

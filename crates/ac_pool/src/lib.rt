@@ -10,4 +10,4 @@ mod slots;
 pub use chunk::Chunk;
 pub use pool::{Pool, PutFault};
 #[doc(hidden)]
-pub use slots::{Group, Place, Slots};
+pub use slots::Slots;

@@ -2,7 +2,6 @@
 ghost use Rattle.std.specs.Prelude.{◌≡◌, ◌≢◌, ℕ, ◌+◌, ◌-◌, ◌^◌, ◌<◌, ◌≤◌, ◌↔◌, IsTrue, IsOk, IfSome, IfNone, IfOk, IfErr, OnOk, OnErr, option_copied};
 ghost use Rattle.std.specs.Option.{option_copied_mut};
 ghost use Rattle.std.specs.Borrow.{sem};
-ghost use Rattle.ac_pool.specs.Slots.{ToEights};
 ghost use Rattle.ac_pool.specs.Contents.{contents, value_of, IsLive, live_count, slot_count, no_values, added, taken, swapped, reserved, cleared, IsFresh, IsSound, Vacates};
 ghost use Rattle.ac_base.specs.declared.name.Name.{Name};
 
@@ -72,9 +71,7 @@ impl<T> Pool<T> {
 
     /// Adds spare slots.
     fn grow(&mut self, by: usize) -> Result<(), NoMemory>
-        requires some { 0 < by }
-        requires few { slot_count self.old + by ≤ 2 ^ 30 }
-        requires eights { ToEights (slot_count self.old) by }
+        requires { slot_count self.old + by ≤ 2 ^ 30 }
         ensures ok { OnOk result (self.new ≡ contents self.old.entries self.old.next_serial (self.old.spare + by)) }
         ensures err { OnErr result (self.new ≡ self.old) }
         ensures sound { IsSound self.new }

@@ -1,56 +1,42 @@
-//! The slots of a pool: chunks that never move, to which a growth adds one. A contract sees their cells as one list.
-ghost use Rattle.std.specs.Prelude.{◌≡◌, ℕ, ◌+◌, ◌^◌, ◌<◌, ◌≤◌, get_or, slice_index_or, List, [], ◌++◌, Option, Some, None, length, map, replicate, slice_set, OnOk, OnErr};
+//! The slots of a pool: chunks that never move, to which a growth adds more. A contract sees their cells as one list.
+ghost use Rattle.std.specs.Prelude.{◌≡◌, ℕ, ◌+◌, ◌*◌, ◌^◌, ◌<◌, ◌≤◌, get_or, List, [], ◌++◌, Option, Some, None, length, replicate, slice_set, OnOk, OnErr};
 ghost use Rattle.std.specs.Borrow.{sem};
 ghost use Rattle.ac_pool.specs.Cell.{serial_in, serial_of, serial_at, IsFull, IsKept};
 ghost use Rattle.ac_pool.specs.CellLends.{lends_kept};
-ghost use Rattle.ac_pool.specs.Slots.{ToEights, InGroup, IsAt, Finds};
 
 use crate::chunk::Chunk;
 use std::alloc::{AllocError, Global};
 use std::marker::Model;
 
-/// A chunk, and its first slot.
-#[derive(Clone, Copy)]
-pub struct Place {
-    chunk: usize,
-    start: usize,
-}
+/// Every chunk has so many cells.
+const CELLS: usize = 32;
 
-/// Where the eight slots of a group lie: in a chunk, or, those before its start, in the chunk before, which begins so many slots earlier.
-#[derive(Clone, Copy)]
-pub struct Group {
-    last: Place,
-    step: usize,
-}
-
-/// Eight slots in a row are a group.
-fn group_of(slot: usize) -> usize
-    ensures { InGroup result slot }
+fn chunk_of(slot: usize) -> usize
+    ensures { (32 * result ≤ slot) × (slot < 32 * result + 32) }
 {
-    slot / 8
+    slot / CELLS
 }
 
-/// The chunk of a slot. It is found without a branch, so that several reads of one slot find it once.
-fn place_of(groups: &[Group], slot: usize) -> Place
-    requires { (sizes : List ℕ) × Finds sizes groups.now slot }
-    ensures { (sizes : List ℕ) → Finds sizes groups.now slot → IsAt sizes result slot }
+/// How many chunks hold so many slots.
+fn chunks_for(slots: usize) -> usize
+    requires { slots ≤ 2 ^ 30 }
+    ensures { slots ≤ 32 * result }
 {
-    let group = groups[group_of(slot)];
-    let back = (slot < group.last.start) as usize;
-    Place {
-        chunk: group.last.chunk - back,
-        start: group.last.start - back * group.step,
+    (slots + (CELLS - 1)) / CELLS
+}
+
+/// Adds so many chunks of empty cells. Where it fails it may have added some.
+fn add_chunks<T>(chunks: &mut Vec<Chunk<T>>, count: usize) -> Result<(), AllocError>
+    ensures ok { OnOk result (chunks.new.items ≡ chunks.old.items ++ replicate count (replicate 32 None)) }
+    ensures err { OnErr result ((n : ℕ) × (chunks.new.items ≡ chunks.old.items ++ replicate n (replicate 32 None))) }
+{
+    let alloc = *chunks.allocator();
+    chunks.reserve(count)?;
+    for _ in 0..count {
+        let chunk = Chunk::new(alloc, CELLS)?;
+        chunks.push_reserved(chunk);
     }
-}
-
-/// Makes `group` that of each number from `from` on.
-fn set_from(groups: &mut [Group], from: usize, group: Group)
-    ensures below { (k : ℕ) (d : Group) → k < from → slice_index_or groups.new k d ≡ slice_index_or groups.old k d }
-    ensures above { (k : ℕ) (d : Group) → from ≤ k → k < length groups.old → slice_index_or groups.new k d ≡ group }
-{
-    for k in from..groups.len() {
-        groups[k] = group;
-    }
+    Ok(())
 }
 
 fn kept<T>(cell: &Option<(u64, T)>) -> &T
@@ -76,26 +62,24 @@ fn kept_mut<T>(cell: &mut Option<(u64, T)>) -> &mut T
 
 #[derive(Drop)]
 pub struct Slots<T> {
+    // The newest may have cells past the last slot, and a failed growth may leave more of them.
     chunks: Vec<Chunk<T>>,
-    groups: Vec<Group>,
-    // The first slot of the newest chunk.
-    newest: usize,
     len: usize,
 }
 
 impl<T> Model for Slots<T> {
-    ghost use Rattle.std.specs.Prelude.{ℕ, List, Option, map, length};
+    ghost use Rattle.std.specs.Prelude.{ℕ, List, Option};
     ghost use Rattle.std.specs.Coded.{coded×, coded_list, coded_option, coded_ℕ};
 
     ghost Value = { List (Option (ℕ × T)) };
 
     ghost coded = { coded_list (coded_option (coded× coded_ℕ T.code)) };
 
-    ghost use Rattle.ac_pool.specs.Slots.{all_cells, IsLaid};
+    ghost use Rattle.ac_pool.specs.Slots.{cells_in, IsSlots};
 
-    ghost view = { λ s. all_cells s.chunks.items };
+    ghost view = { λ s. cells_in s.chunks.items s.len };
 
-    ghost invariant = { λ s. IsLaid (map length s.chunks.items) s.groups.items s.newest s.len };
+    ghost invariant = { λ s. IsSlots s.chunks.items s.len };
 }
 
 impl<T> Slots<T> {
@@ -106,36 +90,19 @@ impl<T> Slots<T> {
     {
         Slots {
             chunks: Vec::new(alloc),
-            groups: Vec::new(alloc),
-            newest: 0,
             len: 0,
         }
     }
 
-    /// Adds a chunk of empty cells. No cell moves.
+    /// Adds empty cells. No cell moves.
     pub(crate) fn grow(&mut self, by: usize) -> Result<(), AllocError>
-        requires some { 0 < by }
-        requires few { length self.old + by ≤ 2 ^ 30 }
-        requires eights { ToEights (length self.old) by }
+        requires { length self.old + by ≤ 2 ^ 30 }
         ensures ok { OnOk result (self.new ≡ self.old ++ replicate by None) }
         ensures err { OnErr result (self.new ≡ self.old) }
     {
-        let alloc = *self.chunks.allocator();
-        let first = group_of(self.len);
-        let group = Group {
-            last: Place {
-                chunk: self.chunks.len(),
-                start: self.len,
-            },
-            step: self.len - self.newest,
-        };
-        let top = group_of(self.len + (by - 1));
-        self.chunks.reserve(1)?;
-        self.groups.resize(top + 1, group)?;
-        let chunk = Chunk::new(alloc, by)?;
-        self.chunks.push_reserved(chunk);
-        set_from(self.groups.as_mut_slice(), first, group);
-        self.newest = self.len;
+        let end = chunks_for(self.len + by);
+        let more = end.saturating_sub(self.chunks.len());
+        add_chunks(&mut self.chunks, more)?;
         self.len += by;
         Ok(())
     }
@@ -147,13 +114,13 @@ impl<T> Slots<T> {
         self.len
     }
 
+    // Without a branch or a table, so that several reads of one slot find its cell once.
     fn cell(&self, slot: usize) -> &Option<(u64, T)>
         requires { slot < length self.now }
         ensures { result.now ≡ get_or self.now slot None }
     {
-        let place = place_of(self.groups.as_slice(), slot);
-        let chunk = &self.chunks[place.chunk];
-        chunk.cell(slot - place.start)
+        let chunk = &self.chunks[chunk_of(slot)];
+        chunk.cell(slot % CELLS)
     }
 
     fn cell_mut(&mut self, slot: usize) -> &mut Option<(u64, T)>
@@ -161,9 +128,8 @@ impl<T> Slots<T> {
         ensures* writes_back { sem 𝓛 (lends_slot T.row self.entry slot result) }
         ensures value { result.now ≡ get_or self.old slot None }
     {
-        let place = place_of(self.groups.as_slice(), slot);
-        let chunk = &mut self.chunks[place.chunk];
-        chunk.cell_mut(slot - place.start)
+        let chunk = &mut self.chunks[chunk_of(slot)];
+        chunk.cell_mut(slot % CELLS)
     }
 
     /// The serial of the value in the slot, if there is such a slot and it keeps one.

@@ -17,6 +17,5 @@ returns c =
     let s = c.loop-slots.slots in let h = c.loop-slots.invariant in
     record {
       slots = pow8-unique c.args.wanted s (IsLeastPow8-low c.args.wanted s h.low c.loop-slots-test.false);
-      eights = (2 ^ h.low.power.0, h.low.power.1);
       bounds = (c.loop-slots-test.false, h.small);
     }

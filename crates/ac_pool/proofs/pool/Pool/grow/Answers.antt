@@ -1,20 +1,14 @@
 use Rattle.std.proofs.Common.{◌≡◌, ◌≤◌, ◌^◌, ◌+◌, ◌++◌, length, get_or, replicate, None, sym, ap, ◌∙◌, subst, arith}
 use Rattle.std.proofs.lemmas.List.{with_items_is}
 use Rattle.ac_pool.specs.Contents.{contents, slot_count, IsSound}
-use Rattle.ac_pool.specs.Slots.{ToEights}
 use Rattle.ac_pool.specs.PoolFields.{entries_in, IsPool}
 use Rattle.ac_pool.proofs.Entries.{entries_in-grown}
 use Rattle.ac_pool.proofs.Pooled.{sound, slot_count-cells, empty_count_within, IsPool-relist, IsPool-grow}
 use Rattle.ac_pool.proofs.pool.Pool.grow.Goals as goal
 
-pub grow-requires-clause-few : goal.grow-requires-clause-few
-grow-requires-clause-few g c =
-    let a = c.self.inside in let h = c.self.invariant in let fits : slot_count (contents (entries_in a.slots) a.next_serial a.spare) + c.args.by ≤ 2 ^ 30 = subst (λ x. slot_count x + c.args.by ≤ 2 ^ 30) (sym c.self.view_is) c.requires.few in omega (arith, slot_count-cells a.slots a.free.items a.spare a.next_serial h)
-
-pub grow-requires-clause-eights : goal.grow-requires-clause-eights
-grow-requires-clause-eights g c =
-    let a = c.self.inside in let even : ToEights (slot_count (contents (entries_in a.slots) a.next_serial a.spare)) c.args.by = subst (λ x. ToEights (slot_count x) c.args.by) (sym c.self.view_is) c.requires.eights in
-    subst (λ n. ToEights n c.args.by) (slot_count-cells a.slots a.free.items a.spare a.next_serial c.self.invariant) even
+pub grow-requires : goal.grow-requires
+grow-requires g c =
+    let a = c.self.inside in let h = c.self.invariant in let fits : slot_count (contents (entries_in a.slots) a.next_serial a.spare) + c.args.by ≤ 2 ^ 30 = subst (λ x. slot_count x + c.args.by ≤ 2 ^ 30) (sym c.self.view_is) c.requires in omega (arith, slot_count-cells a.slots a.free.items a.spare a.next_serial h)
 
 pub invariant_of-self-in_err-grow : goal.invariant_of-self-in_err-grow
 invariant_of-self-in_err-grow g c =
@@ -28,11 +22,11 @@ list_free-requires-clause-room g c =
 
 pub list_free-requires-clause-small : goal.list_free-requires-clause-small
 list_free-requires-clause-small g c =
-    let a = c.self.inside in let h = c.self.invariant in let fits : slot_count (contents (entries_in a.slots) a.next_serial a.spare) + c.args.by ≤ 2 ^ 30 = subst (λ x. slot_count x + c.args.by ≤ 2 ^ 30) (sym c.self.view_is) c.requires.few in omega (arith, slot_count-cells a.slots a.free.items a.spare a.next_serial h, c.len-len.ensures.count)
+    let a = c.self.inside in let h = c.self.invariant in let fits : slot_count (contents (entries_in a.slots) a.next_serial a.spare) + c.args.by ≤ 2 ^ 30 = subst (λ x. slot_count x + c.args.by ≤ 2 ^ 30) (sym c.self.view_is) c.requires in omega (arith, slot_count-cells a.slots a.free.items a.spare a.next_serial h, c.len-len.ensures.count)
 
 pub invariant_of-self-2 : goal.invariant_of-self-2
 invariant_of-self-2 g c =
-    let a = c.self.inside in let h = c.self.invariant in let fits : slot_count (contents (entries_in a.slots) a.next_serial a.spare) + c.args.by ≤ 2 ^ 30 = subst (λ x. slot_count x + c.args.by ≤ 2 ^ 30) (sym c.self.view_is) c.requires.few in let ws = c.list_free.new.free in let v = c.resize.new.self in
+    let a = c.self.inside in let h = c.self.invariant in let fits : slot_count (contents (entries_in a.slots) a.next_serial a.spare) + c.args.by ≤ 2 ^ 30 = subst (λ x. slot_count x + c.args.by ≤ 2 ^ 30) (sym c.self.view_is) c.requires in let ws = c.list_free.new.free in let v = c.resize.new.self in
     let e = c.in_ok-resize.ensures in let l = c.as_mut_slice.ensures in let f = c.list_free.ensures in
     let grown : IsPool (a.slots ++ replicate c.args.by None) ws (a.spare + c.args.by) a.next_serial = IsPool-grow a.slots a.free.items a.spare a.next_serial h ws c.args.by
     (omega (arith, slot_count-cells a.slots a.free.items a.spare a.next_serial h)) (omega (arith, e.len, c.len-len.ensures.count, c.list_free.auto.free, l.len))
@@ -58,7 +52,7 @@ returns-in_err-grow-clause-sound g c =
 
 pub returns-clause-sound : goal.returns-clause-sound
 returns-clause-sound g c =
-    let a = c.self.inside in let h = c.self.invariant in let fits : slot_count (contents (entries_in a.slots) a.next_serial a.spare) + c.args.by ≤ 2 ^ 30 = subst (λ x. slot_count x + c.args.by ≤ 2 ^ 30) (sym c.self.view_is) c.requires.few in let ws = c.list_free.new.free in let v = c.resize.new.self in
+    let a = c.self.inside in let h = c.self.invariant in let fits : slot_count (contents (entries_in a.slots) a.next_serial a.spare) + c.args.by ≤ 2 ^ 30 = subst (λ x. slot_count x + c.args.by ≤ 2 ^ 30) (sym c.self.view_is) c.requires in let ws = c.list_free.new.free in let v = c.resize.new.self in
     let e = c.in_ok-resize.ensures in let l = c.as_mut_slice.ensures in let f = c.list_free.ensures in
     let grown : IsPool (a.slots ++ replicate c.args.by None) ws (a.spare + c.args.by) a.next_serial = IsPool-grow a.slots a.free.items a.spare a.next_serial h ws c.args.by
     (omega (arith, slot_count-cells a.slots a.free.items a.spare a.next_serial h)) (omega (arith, e.len, c.len-len.ensures.count, c.list_free.auto.free, l.len))

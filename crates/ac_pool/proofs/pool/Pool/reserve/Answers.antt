@@ -1,4 +1,4 @@
-use Rattle.std.proofs.Common.{◌≡◌, ◌≤◌, ◌^◌, ◌+◌, ◌-◌, length, sym, ap, ◌∙◌, subst, inr, arith}
+use Rattle.std.proofs.Common.{◌≡◌, ◌≤◌, ◌^◌, ◌+◌, ◌-◌, length, sym, ap, ◌∙◌, subst, arith}
 use Rattle.std.specs.Result.{OnOk}
 use Rattle.ac_base.specs.Growth.{pow8}
 use Rattle.ac_pool.specs.Contents.{contents, live_count, slot_count, reserved, IsSound}
@@ -19,20 +19,10 @@ pub least_slots-slots-requires : goal.least_slots-slots-requires
 least_slots-slots-requires g c =
     let a = c.self.inside in let h = c.self.invariant in let fits : live_count (contents (entries_in a.slots) a.next_serial a.spare) + c.args.n ≤ 2 ^ 30 = subst (λ x. live_count x + c.args.n ≤ 2 ^ 30) (sym c.self.view_is) c.requires in let live = live_count-cells a.slots a.free.items a.spare a.next_serial h in let len = c.len-len.ensures.count in omega arith
 
-pub grow-requires-clause-some : goal.grow-requires-clause-some
-grow-requires-clause-some g c =
-    let a = c.self.inside in let h = c.self.invariant in let fits : live_count (contents (entries_in a.slots) a.next_serial a.spare) + c.args.n ≤ 2 ^ 30 = subst (λ x. live_count x + c.args.n ≤ 2 ^ 30) (sym c.self.view_is) c.requires in let live = live_count-cells a.slots a.free.items a.spare a.next_serial h in let len = c.len-len.ensures.count in let b = c.least_slots-slots.ensures.bounds in let all : slot_count c.args.self.now ≡ length a.slots = subst (λ x. slot_count x ≡ length a.slots) c.self.view_is (slot_count-cells a.slots a.free.items a.spare a.next_serial h) in
-    omega (arith, c.if-wanted-self.false, b.0)
-
-pub grow-requires-clause-few : goal.grow-requires-clause-few
-grow-requires-clause-few g c =
+pub grow-requires : goal.grow-requires
+grow-requires g c =
     let a = c.self.inside in let h = c.self.invariant in let fits : live_count (contents (entries_in a.slots) a.next_serial a.spare) + c.args.n ≤ 2 ^ 30 = subst (λ x. live_count x + c.args.n ≤ 2 ^ 30) (sym c.self.view_is) c.requires in let live = live_count-cells a.slots a.free.items a.spare a.next_serial h in let len = c.len-len.ensures.count in let b = c.least_slots-slots.ensures.bounds in let all : slot_count c.args.self.now ≡ length a.slots = subst (λ x. slot_count x ≡ length a.slots) c.self.view_is (slot_count-cells a.slots a.free.items a.spare a.next_serial h) in
     omega (arith, b.1, b.0, c.if-wanted-self.false)
-
-pub grow-requires-clause-eights : goal.grow-requires-clause-eights
-grow-requires-clause-eights g c =
-    let a = c.self.inside in let h = c.self.invariant in let fits : live_count (contents (entries_in a.slots) a.next_serial a.spare) + c.args.n ≤ 2 ^ 30 = subst (λ x. live_count x + c.args.n ≤ 2 ^ 30) (sym c.self.view_is) c.requires in let live = live_count-cells a.slots a.free.items a.spare a.next_serial h in let len = c.len-len.ensures.count in let b = c.least_slots-slots.ensures.bounds in let all : slot_count c.args.self.now ≡ length a.slots = subst (λ x. slot_count x ≡ length a.slots) c.self.view_is (slot_count-cells a.slots a.free.items a.spare a.next_serial h) in
-    let eights = c.least_slots-slots.ensures.eights in record { eights = inr (eights.0, omega (arith, eights.1, b.0, c.if-wanted-self.false)) }
 
 pub returns-clause-ok : goal.returns-clause-ok
 returns-clause-ok g c =
