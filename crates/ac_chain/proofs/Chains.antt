@@ -16,10 +16,13 @@ use Rattle.ac_chain.specs.declared.links.Node.{Node}
 use Rattle.ac_chain.specs.declared.links.Links.{Links}
 use Rattle.ac_base.specs.Rows.{Row, row, names}
 use Rattle.ac_chain.specs.Rows.{Chained, chained, index_of, place_of, IsLive, value_of, name_at, name_before, next_name, prev_name, cleared, no_rows, reserved, inserted, removed, IsFresh, IsSound, walk_from, WalksInOrder}
-use Rattle.ac_chain.specs.ChainFields.{node, links, first_or, last_or, HasName, IsOnce, Linked, StandsFor, walked, rows_in, IsChain, next_of, prev_of, linked_before, unlinked}
-use Rattle.ac_chain.proofs.Cuts.{apart, index_of-cut, name_at_has, HasName-right, HasName-cut, HasName-put, once_cut, once_gone, once_put, has_live, live_has, Cut, cut, cut-row, split, once_at, remove-cut, insert-cut, name_at-first, name_at-after, name_before-cut}
-use Rattle.ac_chain.proofs.Linking.{Linked-same, Linked-at, Linked-live, walked-is, next_linked, prev_linked}
-use Rattle.ac_chain.proofs.Standing.{Keeps, Ends, unlinked-keeps, linked_before-keeps, unlinked-ends, linked_before-ends}
+use Rattle.ac_chain.specs.ChainFields.{node, node_with, links, first_or, last_or, HasName, IsOnce, Linked, StandsFor, walked, rows_in, IsChain, next_of, prev_of, before_in, link_before, linked_before, attached, unlinked}
+use Rattle.ac_chain.specs.Link.{link_of, name_in}
+use Rattle.ac_chain.proofs.Cuts.{apart, index_of-cut, name_at_has, HasName-left, HasName-right, HasName-cut, HasName-put, once_cut, once_gone, once_put, has_live, live_has, Cut, cut, cut-row, split, once_at, remove-cut, insert-cut, name_at-first, name_at-after, name_before-cut}
+use Rattle.ac_chain.proofs.Linking.{in_slot, last_has, Linked-same, Linked-at, Linked-live, walked-is, next_linked, prev_linked}
+use Rattle.ac_chain.proofs.SlotNames.{linked_name}
+use Rattle.ac_chain.proofs.Writes.{attached-is}
+use Rattle.ac_chain.proofs.Standing.{Keeps, Ends, before_in-is, link_before-is, unlinked-keeps, linked_before-keeps, unlinked-ends, linked_before-ends}
 
 module _ {X : Type 0} where
   abbrev pub view_of : Links X → Chained X
@@ -113,24 +116,50 @@ module _ {X : Type 0} where
   length_cut [] r ys = refl
   length_cut (x ∷ xs) r ys = ap suc (length_cut xs r ys)
 
+  -- no row has the name of a node that is put in, and the nodes of the rows are as before
+  new_name : (l : Links X) (rows : List (Row Name X)) (a : Name) → StandsFor l rows → pool.IsFresh l.nodes a → HasName a rows → ⊥
+  new_name l rows a s fresh h = let e : is_some {T = Node X} None ≡ is_some (pool.value_of l.nodes a) = ap is_some (sym (fresh_is_dead l.nodes a fresh)) in let live = named_live l rows s a h in cc
+
+  other_nodes : (l : Links X) (a : Name) (n : Node X) (d : Contents (Node X)) → d ≡ added l.nodes a n → (b : Name) → b ≢ a → pool.value_of d b ≡ pool.value_of l.nodes b
+  other_nodes l a n d is b ne = ap (λ c. pool.value_of c b) is ∙ value_of-added_other l.nodes a b n ne
+
+  row_nodes : (l : Links X) (rows : List (Row Name X)) (a : Name) (n : Node X) (d : Contents (Node X)) → StandsFor l rows → pool.IsFresh l.nodes a → d ≡ added l.nodes a n
+      → (b : Name) → HasName b rows → pool.value_of d b ≡ pool.value_of l.nodes b
+  row_nodes l rows a n d s fresh is b h = other_nodes l a n d is b (λ e. new_name l rows a s fresh (subst (λ k. HasName k rows) e h))
+
+  ends_added : (l : Links X) (rows : List (Row Name X)) (a : Name) (n : Node X) (d : Contents (Node X)) → StandsFor l rows → pool.IsFresh l.nodes a → d ≡ added l.nodes a n → Ends (links d l.first l.last) rows
+  ends_added l rows a n d s fresh is = record { linked = Linked-same (pool.value_of l.nodes) (pool.value_of d) None rows None (row_nodes l rows a n d s fresh is) s.linked; first = s.first; last = s.last }
+
+  -- a node that is put in with its own links is linked with those on both sides
+  attached_links : (l : Links X) (xs ys : List (Row Name X)) (place : Option Name) (a : Name) (v : X) (d : Contents (Node X)) → StandsFor l (xs ++ ys) → pool.IsFresh l.nodes a
+      → d ≡ added l.nodes a (node_with v (link_before l place) (link_of place)) → pool.IsSound d → place ≡ first_or ys None
+      → attached (links d l.first l.last) (link_before l place) place a ≡ linked_before (links d l.first l.last) place a
+  attached_links l xs ys place a v d s fresh is sound at =
+      let rows = xs ++ ys in
+      let n = node_with v (link_before l place) (link_of place) in
+      let before = last_or None xs in
+      let there : (b : Name) → before ≡ Some b → HasName b rows = λ b e. HasName-left b xs ys (last_has xs b e) in
+      let link : link_before l place ≡ link_of before = ap (link_before l) at ∙ link_before-is l xs ys (ends_of l rows s) in
+      let live : (b : Name) → before ≡ Some b → pool.IsLive d b = λ b e. ap is_some (row_nodes l rows a n d s fresh is b (there b e)) ∙ named_live l rows s b (there b e) in
+      let here : pool.value_of d a ≡ Some (node v before place) = ap (λ c. pool.value_of c a) is ∙ value_of-added_same l.nodes a n ∙ ap (λ k. Some (node_with v k (link_of place))) link in
+      attached-is (links d l.first l.last) place a v (link_before l place) before (ap (name_in d) link ∙ linked_name d sound before live)
+      (sym (ap (before_in (links d l.first l.last)) at ∙ before_in-is (links d l.first l.last) sound xs ys (ends_added l rows a n d s fresh is)))
+      (λ b e same. new_name l rows a s fresh (subst (λ k. HasName k rows) (sym same) (there b e))) here
+
   -- a row more
-  pub inserted_stands : (l : Links X) (xs ys : List (Row Name X)) (place : Option Name) (a : Name) (v : X) (d : Contents (Node X)) → StandsFor l (xs ++ ys) → pool.IsFresh l.nodes a
-      → d ≡ added l.nodes a (node v None None) → pool.IsSound d → place ≡ first_or ys None → StandsFor (linked_before (links d l.first l.last) place a) (xs ++ row a v ∷ ys)
-  inserted_stands l xs ys place a v d s fresh is sound at =
-      let f = pool.value_of l.nodes in
-      let g = pool.value_of d in
+  pub inserted_stands : (l : Links X) (xs ys : List (Row Name X)) (place : Option Name) (a : Name) (v : X) (p q : Option Name) (d : Contents (Node X)) → StandsFor l (xs ++ ys) → pool.IsFresh l.nodes a
+      → d ≡ added l.nodes a (node v p q) → pool.IsSound d → place ≡ first_or ys None → StandsFor (linked_before (links d l.first l.last) place a) (xs ++ row a v ∷ ys)
+  inserted_stands l xs ys place a v p q d s fresh is sound at =
       let m = links d l.first l.last in
       let r = row a v in
       let dead = fresh_is_dead l.nodes a fresh in
-      let no_some : pool.IsLive l.nodes a → ⊥ = λ h. let e : is_some {T = Node X} None ≡ is_some (f a) = ap is_some (sym dead) in cc in
-      let new : HasName a (xs ++ ys) → ⊥ = λ h. no_some (named_live l (xs ++ ys) s a h) in
-      let others : (b : Name) → b ≢ a → g b ≡ f b = λ b ne. ap (λ c. pool.value_of c b) is ∙ value_of-added_other l.nodes a b (node v None None) ne in
-      let same : (b : Name) → HasName b (xs ++ ys) → g b ≡ f b = λ b h. others b (λ e. new (subst (λ n. HasName n (xs ++ ys)) e h)) in
-      let before : Ends m (xs ++ ys) = record { linked = Linked-same f g None (xs ++ ys) None same s.linked; first = s.first; last = s.last } in
-      let here : g a ≡ Some (node v None None) = ap (λ c. pool.value_of c a) is ∙ value_of-added_same l.nodes a (node v None None) in
-      let after = linked_before-ends m sound xs r ys place None None s.once new here at before in
+      let new = new_name l (xs ++ ys) a s fresh in
+      let others = other_nodes l a (node v p q) d is in
+      let before = ends_added l (xs ++ ys) a (node v p q) d s fresh is in
+      let here : pool.value_of d a ≡ Some (node v p q) = ap (λ c. pool.value_of c a) is ∙ value_of-added_same l.nodes a (node v p q) in
+      let after = linked_before-ends m sound xs r ys place p q s.once new here at before in
       let keeps = linked_before-keeps m place a in
-      let more : live_count d ≡ live_count l.nodes + 1 = ap live_count is ∙ live_count-added l.nodes a (node v None None) dead in
+      let more : live_count d ≡ live_count l.nodes + 1 = ap live_count is ∙ live_count-added l.nodes a (node v p q) dead in
       record {
         linked = after.linked;
         first = after.first;
@@ -267,20 +296,22 @@ module _ {X : Type 0} where
   placed l place h b e = live_has b (rows_in l) (h b e)
 
   pub inserted_chain : (l : Links X) → IsChain l → (place : Option Name) → ((b : Name) → place ≡ Some b → IsLive (view_of l) b) → (a : Name) (v : X) (d : Contents (Node X))
-      → pool.IsFresh l.nodes a → d ≡ added l.nodes a (node v None None) → pool.IsSound d
-      → IsChain (linked_before (links d l.first l.last) place a) × (view_of (linked_before (links d l.first l.last) place a) ≡ inserted (view_of l) place (row a v))
+      → pool.IsFresh l.nodes a → d ≡ added l.nodes a (node_with v (link_before l place) (link_of place)) → pool.IsSound d
+      → IsChain (attached (links d l.first l.last) (link_before l place) place a) × (view_of (attached (links d l.first l.last) (link_before l place) place a) ≡ inserted (view_of l) place (row a v))
   inserted_chain l s place h a v d fresh is sound =
       let rows = rows_in l in
       let k = split place rows (placed l place h) in
+      let stands : StandsFor l (k.before ++ k.after) = subst (λ zs. StandsFor l zs) k.is s in
       let m = linked_before (links d l.first l.last) place a in
+      let same : attached (links d l.first l.last) (link_before l place) place a ≡ m = attached_links l k.before k.after place a v d stands fresh is sound k.named in
       let r = row a v in
-      let t : StandsFor m (k.before ++ r ∷ k.after) = inserted_stands l k.before k.after place a v d (subst (λ zs. StandsFor l zs) k.is s) fresh is sound k.named in
+      let t : StandsFor m (k.before ++ r ∷ k.after) = inserted_stands l k.before k.after place a v (in_slot (link_before l place)) place d stands fresh is sound k.named in
       let keeps = linked_before-keeps (links d l.first l.last) place a in
       let next : m.nodes.next_serial ≡ l.nodes.next_serial + 1 = keeps.next ∙ ap (λ (c : Contents (Node X)). c.next_serial) is in
       let spare : m.nodes.spare ≡ l.nodes.spare - 1 = keeps.spare ∙ ap (λ (c : Contents (Node X)). c.spare) is in
       let put : insert rows (place_of place rows) r ≡ k.before ++ r ∷ k.after = ap (λ i. insert rows i r) k.at ∙ ap (λ zs. insert zs (length k.before) r) k.is ∙ insert-cut k.before r k.after in
       let all : rows_in m ≡ insert rows (place_of place rows) r = rows_in-is m (k.before ++ r ∷ k.after) t ∙ sym put in
-      (IsChain-from m (k.before ++ r ∷ k.after) t, λ i. chained (all i) (next i) (spare i))
+      (subst (λ (x : Links X). IsChain x) (sym same) (IsChain-from m (k.before ++ r ∷ k.after) t), ap (λ (x : Links X). view_of x) same ∙ (λ i. chained (all i) (next i) (spare i)))
 
   pub fresh_name : (l : Links X) → IsChain l → (a : Name) (n : Node X) (d : Contents (Node X)) → pool.IsFresh l.nodes a → d ≡ added l.nodes a n → pool.IsSound d → IsFresh (view_of l) a
   fresh_name l s a n d fresh is sound = record {

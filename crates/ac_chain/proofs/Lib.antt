@@ -19,6 +19,7 @@ pub mod SlotNames
 pub mod Sorts
 pub mod Standing
 pub mod Swaps
+pub mod TakenOut
 pub mod Transfers
 pub mod Valid
 pub mod Values

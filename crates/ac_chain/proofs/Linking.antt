@@ -59,7 +59,7 @@ module _ {X : Type 0} where
   first_has [] a e = cc
   first_has (r ∷ rows) a e = inl (some_name a r.name (sym e))
 
-  last_has : (rows : List (Row Name X)) (a : Name) → last_or None rows ≡ Some a → HasName a rows
+  pub last_has : (rows : List (Row Name X)) (a : Name) → last_or None rows ≡ Some a → HasName a rows
   last_has [] a e = cc
   last_has (r ∷ rows) a e = let k = last_named r.name rows in subst (λ b. HasName b (r ∷ rows)) (some_name k.0 a (sym k.1 ∙ e)) k.2
 

@@ -9,9 +9,10 @@ use Rattle.ac_pool.proofs.ContentsLaws.{value_of-with_value_same, value_of-with_
 use Rattle.ac_chain.specs.declared.links.Node.{Node}
 use Rattle.ac_chain.specs.declared.links.Links.{Links}
 use Rattle.ac_base.specs.Rows.{Row}
-use Rattle.ac_chain.specs.ChainFields.{node, first_or, last_or, HasName, IsOnce, Linked, next_of, prev_of, next_written, prev_written, with_next, with_prev, joined, before_in, linked_before, unlinked}
+use Rattle.ac_chain.specs.Link.{link_of}
+use Rattle.ac_chain.specs.ChainFields.{node, first_or, last_or, HasName, IsOnce, Linked, next_of, prev_of, next_written, prev_written, with_next, with_prev, joined, prev_link, before_in, link_before, linked_before, unlinked}
 use Rattle.ac_chain.proofs.Cuts.{last_or-append, HasName-left, HasName-right, once_left, apart, once-append, once_cut, once_put}
-use Rattle.ac_chain.proofs.Linking.{in_slot, Linked-left, Linked-right, next_put, prev_put, Writes, last_named, next_linked, prev_linked, Linked-join, Linked-aside}
+use Rattle.ac_chain.proofs.Linking.{in_slot, Linked-at, Linked-left, Linked-right, next_put, prev_put, Writes, last_named, next_linked, prev_linked, Linked-join, Linked-aside}
 
 value_in : {X : Type 0} → Option (Node X) → Option X
 value_in None = None
@@ -88,7 +89,7 @@ module _ {X : Type 0} where
     there = λ b ne. value_of-with_value_other c a b (prev_put to n) (λ e. ne (ap Some (sym e)));
   }
 
-  with_next-keeps : (l : Links X) (o to : Option Name) → Keeps l.nodes (with_next l o to).nodes
+  pub with_next-keeps : (l : Links X) (o to : Option Name) → Keeps l.nodes (with_next l o to).nodes
   unfolding with_next
   with_next-keeps l None to = keeps_all l.nodes
   with_next-keeps l (Some a) to = next_written-keeps l.nodes a to (value_of l.nodes a) refl
@@ -202,9 +203,13 @@ module _ {X : Type 0} where
       last_after l xs r [] h = refl
       last_after l xs r (y ∷ ys) h = h ∙ last_or-append None xs (r ∷ y ∷ ys)
 
-  before_in-is : (l : Links X) → IsSound l.nodes → (xs ys : List (Row Name X)) → Ends l (xs ++ ys) → before_in l (first_or ys None) ≡ last_or None xs
+  pub before_in-is : (l : Links X) → IsSound l.nodes → (xs ys : List (Row Name X)) → Ends l (xs ++ ys) → before_in l (first_or ys None) ≡ last_or None xs
   before_in-is l sound xs [] e = e.last ∙ last_or-append None xs []
   before_in-is l sound xs (y ∷ ys) e = prev_linked l.nodes sound xs y ys e.linked
+
+  pub link_before-is : (l : Links X) (xs ys : List (Row Name X)) → Ends l (xs ++ ys) → link_before l (first_or ys None) ≡ link_of (last_or None xs)
+  link_before-is l xs [] e = ap link_of (e.last ∙ last_or-append None xs [])
+  link_before-is l xs (y ∷ ys) e = ap prev_link (Linked-at (value_of l.nodes) None xs y ys None e.linked)
 
   -- the rows with one more
   pub linked_before-ends : (l : Links X) → IsSound l.nodes → (xs : List (Row Name X)) (r : Row Name X) (ys : List (Row Name X)) (place p q : Option Name) → IsOnce (xs ++ ys) → (HasName r.name (xs ++ ys) → ⊥)

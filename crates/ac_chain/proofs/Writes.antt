@@ -1,14 +1,14 @@
 -- Both links of a node, written at once.
-use Rattle.std.proofs.Common.{◌≡◌, Option, Some, None, refl, sym, ap, ◌∙◌, inl, inr}
+use Rattle.std.proofs.Common.{◌≡◌, ◌≢◌, ℕ, Option, Some, None, refl, sym, ap, ◌∙◌, inl, inr}
 use Rattle.std.specs.FinMap as map
 use Rattle.ac_base.specs.declared.name.Name.{Name}
 use Rattle.ac_pool.specs.Contents.{Contents, contents, value_of, with_value}
 use Rattle.ac_pool.proofs.NameLaws.{cases_name, same_names}
-use Rattle.ac_pool.proofs.ContentsLaws.{value_of-with_value_same, value_of-with_value_other}
+use Rattle.ac_pool.proofs.ContentsLaws.{value_of-with_value_same, value_of-with_value_other, with_value-same}
 use Rattle.ac_chain.specs.declared.links.Node.{Node}
 use Rattle.ac_chain.specs.declared.links.Links.{Links}
-use Rattle.ac_chain.specs.Link.{link_of}
-use Rattle.ac_chain.specs.ChainFields.{node_with, links, prev_written, next_written, links_written, with_next, with_prev, with_links, joined, before_in, linked_before}
+use Rattle.ac_chain.specs.Link.{link_of, name_in}
+use Rattle.ac_chain.specs.ChainFields.{node, node_with, links, prev_written, next_written, links_written, with_next, with_prev, with_links, joined, before_in, linked_before, attached}
 
 module _ {X : Type 0} where
   written_twice : (c : Contents (Node X)) (a : Name) (m k : Node X) → with_value (with_value c a m) a k ≡ with_value c a k
@@ -37,3 +37,26 @@ module _ {X : Type 0} where
   linked_before-is l place a before is =
       ap (λ m. with_prev m place (Some a)) (both_written (with_next l before (Some a)) a before place)
       ∙ ap (λ o. with_prev (with_next (with_prev (with_next l o (Some a)) (Some a) o) (Some a) place) place (Some a)) is
+
+  -- a node that has its links already
+  links_kept : (l : Links X) (a : Name) (v : X) (prev next : ℕ) → value_of l.nodes a ≡ Some (node_with v prev next) → with_links l a prev next ≡ l
+  unfolding with_links
+  links_kept l a v prev next is = ap (λ c. links c l.first l.last) (ap (links_written l.nodes a prev next) is ∙ with_value-same l.nodes a (node_with v prev next) is)
+
+  node_kept : (c : Contents (Node X)) (a b : Name) (to : Option Name) (n : Node X) (o : Option (Node X)) → a ≢ b → value_of c a ≡ Some n → value_of (next_written c b to o) a ≡ Some n
+  node_kept c a b to n None ne is = is
+  node_kept c a b to n (Some m) ne is = value_of-with_value_other c b a (node_with m.value m.prev (link_of to)) ne ∙ is
+
+  next_kept : (l : Links X) (o to : Option Name) (a : Name) (n : Node X) → ((b : Name) → o ≡ Some b → a ≢ b) → value_of l.nodes a ≡ Some n → value_of (with_next l o to).nodes a ≡ Some n
+  unfolding with_next
+  next_kept l None to a n apart is = is
+  next_kept l (Some b) to a n apart is = node_kept l.nodes a b to n (value_of l.nodes b) (apart b refl) is
+
+  pub attached-is : (l : Links X) (place : Option Name) (a : Name) (v : X) (link : ℕ) (before : Option Name) → name_in l.nodes link ≡ before → before ≡ before_in l place → ((b : Name) → before ≡ Some b → a ≢ b)
+      → value_of l.nodes a ≡ Some (node v before place) → attached l link place a ≡ linked_before l place a
+  unfolding attached
+  attached-is l place a v link before leads is apart at =
+      let one = with_next l before (Some a) in
+      ap (λ o. with_prev (with_next l o (Some a)) place (Some a)) leads
+      ∙ ap (λ m. with_prev m place (Some a)) (sym (links_kept one a v (link_of before) (link_of place) (next_kept l before (Some a) a (node v before place) apart at)))
+      ∙ linked_before-is l place a before is

@@ -105,8 +105,21 @@ module _ {X : Type 0} where
   before_in l None = l.last
   before_in l (Some a) = prev_of l.nodes (value_of l.nodes a)
 
+  -- the link that leads from a row before the place to the one before it
+  abbrev pub link_before : Links X → Option Name → ℕ
+  link_before l None = link_of l.last
+  link_before l (Some a) = prev_link (value_of l.nodes a)
+
+  -- the nodes on both sides are linked with the name
+  unfoldable pub attached : Links X → ℕ → Option Name → Name → Links X
+  attached l before place a = with_prev (with_next l (name_in l.nodes before) (Some a)) place (Some a)
+
   unfoldable pub linked_before : Links X → Option Name → Name → Links X
   linked_before l place a = joined (joined l (before_in l place) (Some a)) (Some a) place
+
+  -- the nodes to which the two links lead stand side by side
+  abbrev pub closed : Links X → ℕ → ℕ → Links X
+  closed l prev next = joined l (name_in l.nodes prev) (name_in l.nodes next)
 
   unfoldable pub unlinked : Links X → Name → Links X
   unlinked l a = joined l (prev_of l.nodes (value_of l.nodes a)) (next_of l.nodes (value_of l.nodes a))

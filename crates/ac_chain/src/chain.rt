@@ -5,7 +5,7 @@ ghost use Rattle.std.specs.Borrow.{sem};
 ghost use Rattle.ac_base.specs.Rows.{row, names};
 ghost use Rattle.ac_chain.specs.Rows.{Chained, index_of, IsLive, value_of, name_at, name_before, next_name, prev_name, no_rows, reserved, inserted, removed, cleared, values_swapped, links_swapped, moved, reversed, WalksInOrder, IsOrderOf, Reorders, IsFresh, IsSound};
 
-use crate::links::{Links, NO_SLOT, Node};
+use crate::links::{Links, Node, link_to};
 use ac_base::{Name, NoMemory};
 use ac_pool::Pool;
 use std::alloc::Global;
@@ -150,12 +150,13 @@ impl<T> Chain<T> {
         ensures inserted { self.new ≡ inserted self.old place (row result v) }
         ensures sound { IsSound self.new }
     {
+        let before = self.links.link_before(place);
         let name = self.links.nodes.put_reserved(Node {
             value: v,
-            prev: NO_SLOT,
-            next: NO_SLOT,
+            prev: before,
+            next: link_to(place),
         });
-        self.links.link(place, name);
+        self.links.attach(before, place, name);
         name
     }
 
@@ -166,12 +167,8 @@ impl<T> Chain<T> {
         ensures removed { self.new ≡ removed self.old name }
         ensures sound { IsSound self.new }
     {
-        self.links.unlink(name);
-        let Node {
-            value,
-            prev: _,
-            next: _,
-        } = self.links.nodes.take(name).unwrap();
+        let Node { value, prev, next } = self.links.nodes.take(name).unwrap();
+        self.links.close(prev, next);
         value
     }
 

@@ -3,7 +3,7 @@
 ghost use Rattle.std.specs.Prelude.{◌≡◌};
 ghost use Rattle.ac_pool.specs.Contents.{value_of, IsLive};
 ghost use Rattle.ac_chain.specs.Link.{link_of, name_in};
-ghost use Rattle.ac_chain.specs.ChainFields.{next_of, prev_of, before_in, with_next, with_prev, joined, linked_before, unlinked, next_link, prev_link, with_links, exchanged_in};
+ghost use Rattle.ac_chain.specs.ChainFields.{next_of, prev_of, before_in, link_before, with_next, with_prev, joined, linked_before, attached, closed, unlinked, next_link, prev_link, with_links, exchanged_in};
 ghost use Rattle.std.specs.Option.{option_map};
 ghost use Rattle.std.specs.Borrow.{sem};
 
@@ -14,7 +14,7 @@ use ac_pool::Pool;
 pub(crate) const NO_SLOT: u32 = u32::MAX;
 
 /// The link to a live name.
-fn link_to(to: Option<Name>) -> u32
+pub(crate) fn link_to(to: Option<Name>) -> u32
     ensures { result ≡ link_of to }
 {
     match to {
@@ -88,6 +88,16 @@ impl<T> Links<T> {
         }
     }
 
+    /// The link that leads from a row before the place to the one before it.
+    pub fn link_before(&self, place: Option<Name>) -> u32
+        ensures { result ≡ link_before self.now place }
+    {
+        match place {
+            Some(name) => self.prev_link(name),
+            None => link_to(self.last),
+        }
+    }
+
     #[tactic(auto, unfolding(crate::specs::ChainFields::with_next))]
     fn set_node_next(&mut self, at: Name, to: Option<Name>)
         ensures { self.new ≡ with_next self.old (Some at) to }
@@ -146,13 +156,34 @@ impl<T> Links<T> {
     }
 
     /// Links the node that no other is linked with before the place.
-    pub fn link(&mut self, place: Option<Name>, name: Name)
-        ensures { self.new ≡ linked_before self.old place name }
+    pub fn link(&mut self, place: Option<Name>, moved: Name)
+        ensures { self.new ≡ linked_before self.old place moved }
     {
         let before = self.before(place);
+        self.set_next(before, Some(moved));
+        self.set_links(moved, link_to(before), link_to(place));
+        self.set_prev(place, Some(moved));
+    }
+
+    /// Links the nodes on both sides of a new one, which has its own links, with it.
+    #[inline(always)]
+    #[tactic(auto, unfolding(crate::specs::ChainFields::attached))]
+    pub fn attach(&mut self, before: u32, place: Option<Name>, name: Name)
+        ensures { self.new ≡ attached self.old before place name }
+    {
+        let before = self.name_in(before);
         self.set_next(before, Some(name));
-        self.set_links(name, link_to(before), link_to(place));
         self.set_prev(place, Some(name));
+    }
+
+    /// Links the nodes to which the two links lead with each other.
+    #[inline(always)]
+    pub fn close(&mut self, prev: u32, next: u32)
+        ensures { self.new ≡ closed self.old prev next }
+    {
+        let left = self.name_in(prev);
+        let right = self.name_in(next);
+        self.join(left, right);
     }
 
     #[tactic(auto, unfolding(crate::specs::ChainFields::unlinked))]
@@ -160,9 +191,9 @@ impl<T> Links<T> {
     pub fn unlink(&mut self, name: Name)
         ensures { self.new ≡ unlinked self.old name }
     {
-        let prev = self.prev(name);
-        let next = self.next(name);
-        self.join(prev, next);
+        let prev = self.prev_link(name);
+        let next = self.next_link(name);
+        self.close(prev, next);
     }
 
     /// The value of a live name's node, for writing.
