@@ -2,7 +2,10 @@
 """Times the built programs beside plain Rust programs on the same machine in the same run.
 
 Prints the program's time for each generated script, the ratio to the baseline's, and the growth from half the script to the whole: 2 is linear. Then the time of `--check` on inputs of 1 MiB that are the worst of their sorts, and the growth. Then the time of a put and a take of the pool, and the ratio; and of an insertion and a removal in the middle of a chain, which stays flat where the chain grows. Then the times of a list's calls, and their growth from 10,000 elements to 1,000,000, and the memory of a slot. Needs rustc; isn't part of the gate.
+
+With `--before PROGRAM`, where PROGRAM is `crates/ac_bench/out/ac_bench` of another checkout, built there by `rt run`, it prints instead the times of each workload with that program and with this checkout's, which run in turn, beside one another, and the ratio: below 1 is faster than before.
 """
+import argparse
 import os
 import subprocess
 import sys
@@ -12,6 +15,7 @@ import time
 TOP = os.path.dirname(os.path.dirname(os.path.abspath(__file__)))
 HEAD = "type L is list (integer);\nA : L;\n"
 RUNS = 5
+SIZES = (10_000, 100_000, 1_000_000)
 
 
 def appends(size):
@@ -58,16 +62,16 @@ WORST = [
 ]
 
 
+def once(command, script=os.devnull, status=True):
+    with open(script) as text, open(os.devnull, "w") as nowhere:
+        start = time.perf_counter()
+        subprocess.run(command, stdin=text, stdout=nowhere, check=status)
+        return time.perf_counter() - start
+
+
 def seconds(command, script=os.devnull, status=True):
     """The least time of some runs."""
-    best = None
-    for _ in range(RUNS):
-        with open(script) as text, open(os.devnull, "w") as nowhere:
-            start = time.perf_counter()
-            subprocess.run(command, stdin=text, stdout=nowhere, check=status)
-            took = time.perf_counter() - start
-        best = took if best is None else min(best, took)
-    return best
+    return min(once(command, script, status) for _ in range(RUNS))
 
 
 def build(source, place):
@@ -150,13 +154,12 @@ def middle(program):
 def lists(program):
     """Of each element, and of a deletion and an insertion at each end: what is appended for a sort or a merge is taken off."""
     print(f"{'list, ns for each element':<40}{'10,000':>12}{'100,000':>12}{'1,000,000':>12}{'growth':>8}")
-    sizes = (10_000, 100_000, 1_000_000)
-    append = [workload(program, "append", str(rows), rounds=3_000_000 // rows) / rows for rows in sizes]
+    append = [workload(program, "append", str(rows), rounds=3_000_000 // rows) / rows for rows in SIZES]
     kinds = [("append", append)]
     for name in ("walk", "sort", "merge"):
-        took = [workload(program, name, str(rows), rounds=3_000_000 // rows) / rows for rows in sizes]
+        took = [workload(program, name, str(rows), rounds=3_000_000 // rows) / rows for rows in SIZES]
         kinds.append((name, took if name == "walk" else [all_of_it - a for all_of_it, a in zip(took, append)]))
-    kinds.append(("deletions and insertions at both ends", [workload(program, "ends", str(rows), rounds=1_000_000) for rows in sizes]))
+    kinds.append(("deletions and insertions at both ends", [workload(program, "ends", str(rows), rounds=1_000_000) for rows in SIZES]))
     for name, took in kinds:
         print(f"{name:<40}" + "".join(f"{each * 1e9:>12.1f}" for each in took) + f"{took[-1] / took[0]:>8.2f}")
 
@@ -167,7 +170,50 @@ def memory(program):
     print(f"{'bytes for each slot of a list':<40}{more / (1 << 19):>12.1f}")
 
 
+def workloads():
+    """Each workload's name, its words, how many rounds it is timed for, and for how many each round counts."""
+    yield "a put and a take, 1,000 live", ["pool"], 10_000_000, 1
+    for rows in SIZES:
+        yield f"an insertion and a removal, {rows:,} rows", ["chain", str(rows)], 2_000_000, 1
+    for name in ("append", "walk", "sort", "merge"):
+        for rows in SIZES:
+            yield f"{name}, each of {rows:,} elements", [name, str(rows)], 3_000_000 // rows, rows
+    for rows in SIZES:
+        yield f"both ends of {rows:,} elements", ["ends", str(rows)], 3_000_000, 1
+
+
+def in_turn(programs, words, rounds, runs):
+    """Seconds for each round of a workload with each program, which run in turn."""
+    least = {}
+    for _ in range(runs):
+        for program in programs:
+            for count in (rounds, 0):
+                took = once([program, *words, str(count)])
+                least[program, count] = min(took, least.get((program, count), took))
+    return [(least[program, rounds] - least[program, 0]) / rounds for program in programs]
+
+
+def beside(before, now, runs):
+    print(f"{'workload, ns':<45}{'before':>10}{'now':>10}{'ratio':>8}")
+    for name, words, rounds, units in workloads():
+        was, took = (each / units * 1e9 for each in in_turn((before, now), words, rounds, runs))
+        print(f"{name:<45}{was:>10.1f}{took:>10.1f}{took / was:>8.2f}", flush=True)
+
+
+def wanted():
+    parser = argparse.ArgumentParser(description=__doc__, formatter_class=argparse.RawDescriptionHelpFormatter)
+    parser.add_argument("--before", metavar="PROGRAM", help="the ac_bench of another checkout, to time beside this one's")
+    parser.add_argument("--runs", metavar="N", type=int, default=RUNS, help="with --before: the least of so many runs of each counts (%(default)s)")
+    return parser.parse_args()
+
+
 def main():
+    asked = wanted()
+    if asked.before:
+        folder = os.path.join(TOP, "crates/ac_bench")
+        prove_and_build(folder, "pool", "0")
+        beside(os.path.abspath(asked.before), os.path.join(folder, "out/ac_bench"), asked.runs)
+        return 0
     subprocess.run([os.path.join(TOP, "adacont")], stdin=subprocess.DEVNULL, check=True)
     folder = os.path.join(TOP, "crates/ac_bench")
     prove_and_build(folder, "pool", "0")
