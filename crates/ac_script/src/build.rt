@@ -1,9 +1,9 @@
 //! Scripts from their items.
-ghost use Rattle.std.specs.Prelude.{◌≡◌, ◌∷◌, [], ◌++◌, map, All, false, IfOk, OnOk, Some};
+ghost use Rattle.std.specs.Prelude.{◌≡◌, [], map, All, false, IfOk, OnOk};
 ghost use Rattle.ac_syntax.specs.Code.{Code, Simple, block};
 ghost use Rattle.ac_syntax.specs.declared.closing.Closing.{Closing};
 ghost use Rattle.ac_syntax.specs.Items.{script_items, declares, commands, opens, begins, closes};
-ghost use Rattle.ac_syntax.specs.Order.{next_after, at_front, AreInOrder};
+ghost use Rattle.ac_syntax.specs.Order.{at_front, AreInOrder};
 ghost use Rattle.ac_syntax.specs.Statements.{before};
 ghost use Rattle.ac_script.specs.Arguments.{argument_view};
 ghost use Rattle.ac_script.specs.Views.{item_view, command_view, head_view};

@@ -1,12 +1,11 @@
 //! Commands, from behind their first name on.
-ghost use Rattle.std.specs.Prelude.{IfOk};
 ghost use Rattle.std.specs.Option.{option_copied};
 ghost use Rattle.ac_script.specs.Outcomes.{Reads, Finds};
 ghost use Rattle.ac_script.specs.Arguments.{argument_view};
 ghost use Rattle.ac_script.specs.Views.{command_view};
 ghost use Rattle.ac_script.specs.Commands as commands;
 
-use crate::argument::{Argument, Arguments, arguments_end, constant};
+use crate::argument::{Argument, arguments_end, constant};
 use crate::item::Command;
 use crate::names::copy_any;
 use crate::reader::{find_mark, mark, name, number};

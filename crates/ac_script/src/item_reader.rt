@@ -1,5 +1,4 @@
 //! The reader of one item, where it may come.
-ghost use Rattle.std.specs.Prelude.{◌≡◌};
 ghost use Rattle.ac_script.specs.Outcomes.{Reads};
 ghost use Rattle.ac_script.specs.Views.{item_view, stage_view};
 ghost use Rattle.ac_script.specs.ItemReader as readers;

@@ -1,4 +1,4 @@
-ghost use Rattle.std.specs.Prelude.{◌≡◌, ◌∷◌, ◌++◌, [], codes, OnOk};
+ghost use Rattle.std.specs.Prelude.{◌≡◌, ◌∷◌, [], OnOk};
 ghost use Rattle.ac_syntax.specs.Code.{loop_at, view_at, stable_at, declare_at};
 ghost use Rattle.ac_syntax.specs.Items.{opens, begins, closes, declared};
 ghost use Rattle.ac_syntax.specs.Parts.{says, names, place_parts, needed_place, query_parts, keyed_parts, view_parts};

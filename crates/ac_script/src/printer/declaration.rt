@@ -1,8 +1,7 @@
 ghost use Rattle.std.specs.Prelude.{◌≡◌, ◌∷◌, [], Some, map, OnOk, if◌then◌else◌};
 ghost use Rattle.ac_syntax.specs.Items.{declares};
-ghost use Rattle.ac_syntax.specs.Parts.{says, marks, names, second_parts, type_parts, capacity_parts, variable_parts};
+ghost use Rattle.ac_syntax.specs.Parts.{says, second_parts, type_parts, capacity_parts, variable_parts};
 ghost use Rattle.ac_syntax.specs.declared.decl.Decl.TheVariants.{TypeDecl, Object, CursorVar};
-ghost use Rattle.ac_syntax.specs.declared.token.Mark.TheVariants.{Colon, Semicolon};
 ghost use Rattle.ac_script.specs.Page.{begin_item, put_parts, put_item, put_items};
 
 use crate::printer::page::Page;
