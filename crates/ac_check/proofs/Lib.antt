@@ -2,6 +2,8 @@ pub mod Groups
 pub mod Names
 pub mod Outcomes
 pub mod Blocks
+pub mod Resolving
+pub mod NamePlaces
 pub mod FirstFaults
 pub mod EachScript
 pub mod Verdicts

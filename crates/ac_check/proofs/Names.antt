@@ -1,12 +1,16 @@
 -- Names in a map and in a scope: what is looked up, and where a new one goes.
-use Rattle.std.proofs.Common.{◌≡◌, ℕ, Bool, true, false, cond, is_some, List, [], ◌∷◌, find, nat_eq, option_map, Option, None, Some, Vec, Bor, refl, ap, ◌∙◌, true≢false}
+use Rattle.std.proofs.Common.{◌≡◌, ℕ, Bool, true, false, cond, is_some, List, [], ◌∷◌, map, find, not, ◌+◌, nat_eq, nat_lt, length, position, arith, sym, option_map, Option, None, Some, Vec, Bor, refl, ap, ◌∙◌, true≢false}
+use Rattle.std.proofs.lemmas.List.Sums.{prefix_len-le-length}
+use Rattle.std.proofs.lemmas.Option.{none-some}
 use Rattle.std.specs.Option.{option_copied}
 use Rattle.std.specs.Cmp.Lexicographic.{pointwise, nat_list_eq_equiv}
+use Rattle.std.specs.List.{position_or_len}
 use Rattle.std.specs.Map.{lookup}
 use Rattle.std.specs.Str.{bytes_eq}
 use Rattle.ac_check.specs.declared.meaning.Meaning.{Meaning as Kept}
 use Rattle.ac_check.specs.Scopes.{Entry, entry, meaning_in}
 use Rattle.ac_check.specs.Faults.{is_in_scope}
+use Rattle.ac_check.specs.Resolved.{place_of}
 use Rattle.ac_check.specs.Meanings.{meaning_view, entries_view}
 
 found : (key : List ℕ) (meaning : Kept) (rest : Option Kept) (others : Option Entry)
@@ -38,3 +42,28 @@ pub not_among : {A : Type 0} (name : List ℕ) (named : List (Vec ℕ A × Kept)
     → lookup (λ (key : Vec ℕ A). pointwise nat_eq name key.items) named ≡ None
 not_among {A} name named h =
     none_of (lookup (λ (key : Vec ℕ A). pointwise nat_eq name key.items) named) (ap is_some (lookup_meaning name named) ∙ h)
+
+-- the place of a name among the names is its place in scope
+pub place_among : {A : Type 0} (name : List ℕ) (named : List (Vec ℕ A × Kept))
+    → position_or_len (λ (key : Vec ℕ A). pointwise nat_eq name key.items) (map (λ n. n.0) named) ≡ place_of (entries_view named) name
+place_among name [] = refl
+place_among {A} name (n ∷ named) =
+    let others = position_or_len (λ (key : Vec ℕ A). pointwise nat_eq name key.items) (map (λ n. n.0) named) in
+    ap (λ b. cond (not b) (1 + others) 0) (nat_list_eq_equiv.symm name n.0.items)
+    ∙ ap (λ p. cond (not (bytes_eq n.0.items name)) (1 + p) 0) (place_among name named)
+
+-- the place that a search finds
+pub position_found : {X : Type 0} (test : X → Bool) (xs : List X) (i : ℕ) → position test xs ≡ Some i → i ≡ position_or_len test xs
+position_found test xs i = by (nat_lt (position_or_len test xs) (length xs))
+  where
+    by : (b : Bool) → cond b (Some (position_or_len test xs)) None ≡ Some i → i ≡ position_or_len test xs
+    by true h = let same : position_or_len test xs ≡ i = cc in sym same
+    by false h = absurd (none-some i h)
+
+-- and where there is none
+pub position_none : {X : Type 0} (test : X → Bool) (xs : List X) → position test xs ≡ None → length xs ≡ position_or_len test xs
+position_none test xs = by (nat_lt (position_or_len test xs) (length xs)) refl
+  where
+    by : (b : Bool) → nat_lt (position_or_len test xs) (length xs) ≡ b → cond b (Some (position_or_len test xs)) None ≡ None → length xs ≡ position_or_len test xs
+    by true e h = absurd (none-some (position_or_len test xs) (sym h))
+    by false e h = grind (arith, e, prefix_len-le-length (λ x. not (test x)) xs)

@@ -7,16 +7,19 @@ use Rattle.ac_syntax.specs.Code.{Head}
 use Rattle.ac_syntax.specs.Items.{opens, item_line}
 use Rattle.ac_syntax.specs.declared.refusal.RefusalKind.{RefusalKind}
 use Rattle.ac_syntax.specs.declared.fault.ScriptFault.{ScriptFault}
+use Rattle.ac_syntax.specs.declared.fault.ScriptFault.TheVariants.{Refused}
 use Rattle.ac_check.specs.Scopes.{Scope, Standing, standing}
 use Rattle.ac_check.specs.Faults.{capacity}
 use Rattle.ac_check.specs.Walks.{Outcome, goes_on, refused, step, outcome, behind, fault_with, StopsAs}
 
 -- what a `?` hands on
-pub passed_on : {X : Type 0} (result : Result X ScriptFault) (inner : Result X ScriptFault) (fault : ScriptFault) (o : Outcome)
+pub passed_on : {X Y : Type 0} (result : Result X ScriptFault) (inner : Result Y ScriptFault) (fault : ScriptFault) (o : Outcome)
     → IsErrAnd result (λ e. e ≡ fault) → inner ≡ Err fault → StopsAs inner o → StopsAs result o
 passed_on result inner fault o exit was stops line kind h =
     let p = err_from_is_err_and result exit in
-    stops line kind (was ∙ sym (ap Err p.2) ∙ sym p.1 ∙ h)
+    let both : Err p.0 ≡ Err (Refused line kind) = sym p.1 ∙ h in
+    let same : p.0 ≡ Refused line kind = cc in
+    stops line kind (was ∙ ap Err (sym p.2 ∙ same))
 
 -- what is left of a list begins with its next item
 pub next_item : {X : Type 0} (xs : List X) (i : ℕ) (x : X) → i < length xs → x ≡ get_or xs i x → drop i xs ≡ x ∷ drop (i + 1) xs

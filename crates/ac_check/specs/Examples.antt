@@ -46,55 +46,55 @@ call target object word args = Call 1 target object word args
 abbrev done : (object word : List ℕ) → List Arg → Stmt
 done object word args = call None object word args
 
-abbrev number : ℕ → Arg
+abbrev pub number : ℕ → Arg
 number n = Lit (value.Int (pos n))
 
-abbrev text : List ℕ → Arg
+abbrev pub text : List ℕ → Arg
 text bytes = Lit (value.Text bytes)
 
 -- the names of the examples
 
-abbrev A : List ℕ
+abbrev pub A : List ℕ
 A = codes "a"
 
-abbrev B : List ℕ
+abbrev pub B : List ℕ
 B = codes "b"
 
-abbrev C : List ℕ
+abbrev pub C : List ℕ
 C = codes "c"
 
-abbrev D : List ℕ
+abbrev pub D : List ℕ
 D = codes "d"
 
-abbrev E : List ℕ
+abbrev pub E : List ℕ
 E = codes "e"
 
-abbrev N : List ℕ
+abbrev pub N : List ℕ
 N = codes "n"
 
-abbrev O : List ℕ
+abbrev pub O : List ℕ
 O = codes "o"
 
-abbrev S : List ℕ
+abbrev pub S : List ℕ
 S = codes "s"
 
-abbrev V : List ℕ
+abbrev pub V : List ℕ
 V = codes "v"
 
-abbrev X : List ℕ
+abbrev pub X : List ℕ
 X = codes "x"
 
-abbrev Y : List ℕ
+abbrev pub Y : List ℕ
 Y = codes "y"
 
-abbrev def : (bounded : Bool) → Kind → ElemKind → Option ElemKind → (keyed : Bool) → TypeDef
+abbrev pub def : (bounded : Bool) → Kind → ElemKind → Option ElemKind → (keyed : Bool) → TypeDef
 def bounded k first second keyed = record { bounded = bounded; kind = k; first = first; second = second; keyed = keyed }
 
-abbrev list_of : ElemKind → TypeDef
+abbrev pub list_of : ElemKind → TypeDef
 list_of elem = def false kind.List elem None false
 
 -- A and B are lists of integers of one type, O of another, and S is of strings; D and E are cursors of A's and of S's; X is an integer, Y a string
-abbrev scope : Scope
+abbrev pub scope : Scope
 scope = with_decls [] (
     TypeDecl 1 (codes "l") (list_of Integer) ∷ TypeDecl 1 (codes "m") (list_of Integer) ∷ TypeDecl 1 (codes "t") (list_of Str)
     ∷ Object 1 A (codes "l") None ∷ Object 1 B (codes "l") None ∷ Object 1 O (codes "m") None ∷ Object 1 S (codes "t") None

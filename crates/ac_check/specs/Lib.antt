@@ -10,3 +10,9 @@ pub mod Faults
 pub mod Walks
 pub mod Kept
 pub mod Operations
+pub mod Resolved
+pub mod ResolvedCoded
+pub mod ResolvedStatements
+pub mod ResolvedFall
+pub mod ResolvedExamples
+pub mod BlockHeads

@@ -1,9 +1,11 @@
 -- The row of the table that a call is, and so the operation that it means.
 use Rattle.std.specs.Prelude.{◌≡◌, ◌↔◌, ℕ, List, find, IsTrue, Contains, Option, Some, None, option_map}
 use Rattle.ac_syntax.specs.declared.arg.Arg.{Arg}
+use Rattle.ac_syntax.specs.declared.stmt.Stmt.{Stmt}
+use Rattle.ac_syntax.specs.declared.stmt.Stmt.TheVariants.{Call, Set, Sum, Loop, View, Stable, Declare}
 use Rattle.ac_check.specs.declared.operation.Operation.{Operation}
 use Rattle.ac_check.specs.Table.{Row, rows_of}
-use Rattle.ac_check.specs.Scopes.{Scope, Typed}
+use Rattle.ac_check.specs.Scopes.{Scope, Typed, object_of}
 use Rattle.ac_check.specs.Rules.{is_row, all_fit, takes_answer, answered}
 
 module _ (scope : Scope) (typed : Typed) (target : Option (List ℕ)) (word : List ℕ) (args : List Arg) where
@@ -26,6 +28,16 @@ module _ (scope : Scope) (typed : Typed) (target : Option (List ℕ)) (word : Li
 abbrev pub operation_of : Scope → Option Typed → (target : Option (List ℕ)) → (word : List ℕ) → List Arg → Option Operation
 operation_of scope None target word args = None
 operation_of scope (Some typed) target word args = option_map (λ (row : Row). row.operation) (row_for scope typed target word args)
+
+-- what a statement means, if it is a call of the table
+abbrev pub meant : Scope → Stmt → Option Operation
+meant scope (Call line target object word args) = operation_of scope (object_of scope object) target word args
+meant scope (Set line target from) = None
+meant scope (Sum line target from minus number) = None
+meant scope (Loop line name elements backward object body) = None
+meant scope (View line view object at name body) = None
+meant scope (Stable line object body) = None
+meant scope (Declare line decls body) = None
 
 -- a call that keeps the rules: on an object, a row of its type's, whose letters its arguments are and whose answer the target takes
 pub record CallKept (scope : Scope) (typed : Option Typed) (target : Option (List ℕ)) (word : List ℕ) (args : List Arg) : Type 0 where

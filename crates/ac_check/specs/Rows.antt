@@ -1,8 +1,8 @@
 -- The table of calls in code, as contracts see it.
-use Rattle.std.specs.Prelude.{Bool, List, [], ◌∷◌, ◌++◌, map}
-use Rattle.std.specs.List.{list_any}
+use Rattle.std.specs.Prelude.{Bool, List, [], ◌∷◌, ◌++◌, map, find, Option, option_map}
 use Rattle.std.specs.Borrow.{Bor}
 use Rattle.ac_check.specs.Table.{Row}
+use Rattle.ac_check.specs.declared.operation.Operation.{Operation}
 use Rattle.ac_check.specs.declared.table.Row.{Row as Kept}
 
 abbrev pub row_view : Kept → Row
@@ -14,10 +14,13 @@ abbrev pub joined : List (Bor (List Kept)) → List Row
 joined [] = []
 joined (rows ∷ groups) = map row_view rows.now ++ joined groups
 
--- whether a row passes the test
-abbrev pub any_row : (Row → Bool) → List Kept → Bool
-any_row passes = list_any (λ row. passes (row_view row))
+-- the first row that passes the test
+abbrev pub first_row : (Row → Bool) → List Kept → Option Row
+first_row passes rows = option_map row_view (find (λ row. passes (row_view row)) rows)
 
--- whether a row of some group passes the test
-abbrev pub any_grouped : (Row → Bool) → List (Bor (List Kept)) → Bool
-any_grouped passes = list_any (λ rows. any_row passes rows.now)
+-- the first that does in the groups in order
+abbrev pub first_grouped : (Row → Bool) → List (Bor (List Kept)) → Option Row
+first_grouped passes groups = find passes (joined groups)
+
+abbrev pub row_operation : Row → Operation
+row_operation row = row.operation

@@ -1,16 +1,20 @@
 //! Calls against the table.
 ghost use Rattle.std.specs.Prelude.{◌≡◌};
-ghost use Rattle.std.specs.Option.{option_map};
-ghost use Rattle.ac_check.specs.Rows.{row_view, any_row, any_grouped};
+ghost use Rattle.std.specs.Option.{option_map, option_copied};
+ghost use Rattle.ac_check.specs.Operations as operations;
+ghost use Rattle.ac_check.specs.Rows.{row_view, row_operation, first_row, first_grouped};
 ghost use Rattle.ac_check.specs.Rules as rules;
 ghost use Rattle.ac_check.specs.Views.{given_view, typed_view};
 
-use crate::given::{Given, Typed, given_by, is_cursor, is_object, is_value, is_variable, takes};
+use crate::given::{
+    Given, Typed, given_by, is_cursor, is_object, is_value, is_variable, object_of, takes,
+};
 use crate::kinds::element_of;
+use crate::operation::Operation;
 use crate::rows::{Answer, Letter};
 use crate::scope::Scope;
 use crate::table::{Row, rows_of};
-use ac_syntax::{Arg, ElemKind, Ident};
+use ac_syntax::{Arg, ElemKind, Ident, Stmt};
 
 /// Whether an argument is what the letter asks of a call on an object of the type.
 fn fits(scope: &Scope, typed: Typed<'_>, letter: Letter, arg: &Arg) -> bool
@@ -92,50 +96,74 @@ fn is_row(
         && takes_answer(scope, target, answered(typed, row.answer))
 }
 
-/// Whether a call is one of the rows'.
-fn has_row(
+/// The first of the rows whose a call is.
+fn row_in<'a>(
     scope: &Scope,
     typed: Typed<'_>,
     target: &Option<Ident>,
     word: &[u8],
     args: &[Arg],
-    rows: &[Row],
-) -> bool
-    ensures { result ≡ any_row (rules.is_row scope.now (typed_view typed.entry) target.now word.now args.now) rows.now }
+    rows: &'a [Row],
+) -> Option<&'a Row>
+    ensures { option_map row_view (option_copied result)
+        ≡ first_row (rules.is_row scope.now (typed_view typed.entry) target.now word.now args.now) rows.now }
 {
     rows.iter()
-        .any(|row| is_row(scope, typed, target, word, args, row))
+        .find(|row| is_row(scope, typed, target, word, args, row))
 }
 
-/// Whether a call is a row's of some group.
-fn is_among(
+/// What a call means by the first row of the groups whose it is.
+fn operation_among(
     scope: &Scope,
     typed: Typed<'_>,
     target: &Option<Ident>,
     word: &[u8],
     args: &[Arg],
     groups: &[&[Row]],
-) -> bool
-    ensures { result ≡ any_grouped (rules.is_row scope.now (typed_view typed.entry) target.now word.now args.now) groups.now }
+) -> Option<Operation>
+    ensures { result
+        ≡ option_map row_operation
+        (first_grouped (rules.is_row scope.now (typed_view typed.entry) target.now word.now args.now) groups.now) }
 {
-    groups
-        .iter()
-        .any(|rows| has_row(scope, typed, target, word, args, rows))
+    for rows in groups {
+        if let Some(row) = row_in(scope, typed, target, word, args, rows) {
+            return Some(row.operation);
+        }
+    }
+    None
 }
 
-/// Whether a call on an object of the type is in the table.
-#[tactic(auto, using(crate::proofs::Groups::any_joined))]
-pub fn is_call(
+/// What a call on an object of the type means, if it is in the table.
+fn operation_of(
     scope: &Scope,
     typed: Option<Typed<'_>>,
     target: &Option<Ident>,
     word: &[u8],
     args: &[Arg],
-) -> bool
-    ensures { result ≡ rules.is_call scope.now (option_map typed_view typed.entry) target.now word.now args.now }
+) -> Option<Operation>
+    ensures { result ≡ operations.operation_of scope.now (option_map typed_view typed.entry) target.now word.now args.now }
 {
     match typed {
-        Some(typed) => is_among(scope, typed, target, word, args, rows_of(&typed.def)),
-        None => false,
+        Some(typed) => operation_among(scope, typed, target, word, args, rows_of(&typed.def)),
+        None => None,
+    }
+}
+
+/// What a statement means, if it is a call of the table.
+pub fn meant(scope: &Scope, stmt: &Stmt) -> Option<Operation>
+    ensures { result ≡ operations.meant scope.now stmt.now }
+{
+    match stmt {
+        Stmt::Call {
+            target,
+            object,
+            op,
+            args,
+            ..
+        } => {
+            let typed = object_of(scope, object.bytes());
+            operation_of(scope, typed, target, op.bytes(), args.items())
+        }
+        _ => None,
     }
 }

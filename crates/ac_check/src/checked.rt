@@ -1,10 +1,13 @@
 //! Scripts that can run.
-ghost use Rattle.std.specs.Prelude.{◌≡◌, ◌⊎◌, ℕ, Ok, Err, IfOk, OnOk};
+ghost use Rattle.std.specs.Prelude.{◌≡◌, ◌⊎◌, [], ℕ, Ok, Err, IfOk, OnOk};
 ghost use Rattle.ac_syntax.specs.declared.refusal.RefusalKind.{RefusalKind};
 ghost use Rattle.ac_syntax.specs.declared.fault.ScriptFault.TheVariants.{Refused, NoMemory};
 ghost use Rattle.ac_check.specs.Faults.{IsChecked, IsFirstFault};
+ghost use Rattle.ac_check.specs.Resolved.{resolve_decls, resolve};
+ghost use Rattle.ac_check.specs.Scopes.{with_decls};
 
-use crate::walk::walk_script;
+use crate::resolved::{ResolvedDecl, ResolvedStmts};
+use crate::walk::{Resolved, walk_script};
 use ac_syntax::{Script, ScriptFault};
 use std::alloc::Global;
 use std::marker::Model;
@@ -14,6 +17,7 @@ use std::marker::Model;
 #[derive(Debug, Drop)]
 pub struct Checked {
     script: Script,
+    resolved: Resolved,
 }
 
 impl Model for Checked {
@@ -28,7 +32,9 @@ impl Model for Checked {
 
     ghost view = { λ checked. checked.script };
 
-    ghost invariant = { λ checked. IsChecked checked.script };
+    ghost use Rattle.ac_check.specs.Resolved.{IsResolved};
+
+    ghost invariant = { λ checked. IsChecked checked.script × IsResolved checked.script checked.resolved.decls checked.resolved.stmts };
 }
 
 impl Checked {
@@ -37,6 +43,20 @@ impl Checked {
         ensures valid { IsChecked self.now }
     {
         &self.script
+    }
+
+    /// What its outermost declarations are resolved to.
+    pub fn decls(&self) -> &[ResolvedDecl]
+        ensures { result.now ≡ resolve_decls [] self.now.decls }
+    {
+        self.resolved.decls.items()
+    }
+
+    /// What its statements are resolved to.
+    pub fn statements(&self) -> &ResolvedStmts
+        ensures { result.now ≡ resolve (with_decls [] self.now.decls) self.now.stmts }
+    {
+        &self.resolved.stmts
     }
 }
 
@@ -49,6 +69,6 @@ pub fn check(alloc: Global, script: Script) -> Result<Checked, ScriptFault>
     ensures faulty { (line : ℕ) (kind : RefusalKind) → IsFirstFault script line kind →
         (result ≡ Err (Refused line kind)) ⊎ (result ≡ Err NoMemory) }
 {
-    walk_script(alloc, &script)?;
-    Ok(Checked { script })
+    let resolved = walk_script(alloc, &script)?;
+    Ok(Checked { script, resolved })
 }

@@ -3,6 +3,7 @@ ghost use Rattle.ac_check.specs.Examples.{TakesElements, CountsArguments, Splice
 ghost use Rattle.ac_check.specs.Examples.{KeepsLoopCursor, WritesNothingQueried, WritesUpdated, WritesLooped, WritesNoSet, LoopsOverCursors};
 ghost use Rattle.ac_check.specs.Examples.{ViewsElements, ViewsSets, UpdatesNoKey, ViewsHolders, FitsCapacity, NeedsCursors, MakesLists};
 ghost use Rattle.ac_check.specs.Examples.{CountsNames, MeansByArguments, MeansByKind};
+ghost use Rattle.ac_check.specs.ResolvedExamples.{PlacesInBlocks, PlacesNoName, ResolvesArguments, ResolvesByArguments, ResolvesObjects, ResolvesScript};
 
 /// Commands that keep the rules, and beside them some that break them.
 pub fn command_examples()
@@ -41,4 +42,14 @@ pub fn declaration_examples()
 pub fn operation_examples()
     ensures by_arguments { MeansByArguments }
     ensures by_kind { MeansByKind }
+{}
+
+/// What statements and declarations are resolved to.
+pub fn resolved_examples()
+    ensures places_in_blocks { PlacesInBlocks }
+    ensures places_no_name { PlacesNoName }
+    ensures arguments { ResolvesArguments }
+    ensures by_arguments { ResolvesByArguments }
+    ensures objects { ResolvesObjects }
+    ensures script { ResolvesScript }
 {}

@@ -6,9 +6,11 @@ ghost use Rattle.ac_syntax.specs.Items.{declares, item_line};
 ghost use Rattle.ac_check.specs.Scopes.{standing};
 ghost use Rattle.ac_check.specs.Faults as faults;
 ghost use Rattle.ac_check.specs.Faults.{arg_names, args_names, optional_name, used, capacity, declared};
+ghost use Rattle.ac_check.specs.Operations.{meant};
 ghost use Rattle.ac_check.specs.Walks as walks;
 ghost use Rattle.ac_check.specs.Walks.{has_unknown, fault_with, stmt_item};
 
+use crate::operation::Operation;
 use crate::rules::{is_well_typed_decl, is_well_typed_stmt};
 use crate::scope::Scope;
 use ac_syntax::{Arg, Decl, Ident, RefusalKind, Stmt};
@@ -190,13 +192,19 @@ pub fn decl_fault(scope: &Scope, room: u64, decl: &Decl) -> Option<RefusalKind>
     }
 }
 
-/// What is faulty in a command, or in what begins a block, behind objects with so much room.
-pub fn stmt_fault(scope: &Scope, room: u64, stmt: &Stmt) -> Option<RefusalKind>
+/// What is faulty in a command that means this operation, or in what begins a block, behind objects with so much room.
+pub fn stmt_fault(
+    scope: &Scope,
+    room: u64,
+    stmt: &Stmt,
+    operation: Option<Operation>,
+) -> Option<RefusalKind>
+    requires { operation ≡ meant scope.now stmt.now }
     ensures { result ≡ fault_with room (standing (stmt_item stmt.now) scope.now) }
 {
     if has_unknown_stmt(scope, stmt) {
         Some(RefusalKind::UnknownName)
-    } else if !is_well_typed_stmt(scope, stmt) {
+    } else if !is_well_typed_stmt(scope, stmt, operation) {
         Some(RefusalKind::WrongType)
     } else {
         declared_fault(scope, room, stmt_name(stmt), 0)

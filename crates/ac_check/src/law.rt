@@ -1,13 +1,14 @@
 //! What holds of scripts, whatever looks for their faults.
-ghost use Rattle.std.specs.Prelude.{◌≡◌, ◌⊎◌, ℕ, List, Option, is_some, IsTrue};
+ghost use Rattle.std.specs.Prelude.{◌≡◌, ◌⊎◌, ◌<◌, ◌++◌, ◌∷◌, ℕ, List, length, slice_get, Option, Some, is_some, IsTrue, false};
 ghost use Rattle.ac_syntax.specs.declared.refusal.RefusalKind.{RefusalKind};
 ghost use Rattle.ac_syntax.specs.declared.script.Script.{Script};
-ghost use Rattle.ac_check.specs.Faults.{IsChecked, IsFirstFault};
+ghost use Rattle.ac_check.specs.Faults.{IsChecked, IsFirstFault, is_in_scope};
 ghost use Rattle.ac_syntax.specs.declared.arg.Arg.{Arg};
 ghost use Rattle.ac_check.specs.Kept.{ScriptKept};
 ghost use Rattle.ac_check.specs.Operations.{HasOneRow, FindsRow, operation_of, CallKept};
+ghost use Rattle.ac_check.specs.Resolved.{place_of};
 ghost use Rattle.ac_check.specs.Rules.{is_call};
-ghost use Rattle.ac_check.specs.Scopes.{Scope, Typed};
+ghost use Rattle.ac_check.specs.Scopes.{Scope, Typed, Meaning, entry, meaning_in};
 
 /// A script has at most one first fault, and none where it is checked.
 pub fn one_fault()
@@ -36,4 +37,15 @@ pub fn one_row()
         is_some (operation_of scope typed target word args) ≡ is_call scope typed target word args }
     ensures kept { (scope : Scope) (typed : Option Typed) (target : Option (List ℕ)) (word : List ℕ) (args : List Arg) →
         IsTrue (is_call scope typed target word args) → CallKept scope typed target word args }
+{}
+
+/// At the place of a name in scope stands its entry; scopes grow behind it, and a new name has the place behind all others.
+pub fn places()
+    ensures found { (scope : Scope) (name : List ℕ) (meaning : Meaning) → meaning_in scope name ≡ Some meaning →
+        slice_get scope (place_of scope name) ≡ Some (entry name meaning) }
+    ensures below { (scope : Scope) (name : List ℕ) → IsTrue (is_in_scope scope name) → place_of scope name < length scope }
+    ensures stays { (scope more : Scope) (name : List ℕ) → IsTrue (is_in_scope scope name) →
+        place_of (scope ++ more) name ≡ place_of scope name }
+    ensures new { (scope more : Scope) (name : List ℕ) (meaning : Meaning) → is_in_scope scope name ≡ false →
+        place_of (scope ++ entry name meaning ∷ more) name ≡ length scope }
 {}

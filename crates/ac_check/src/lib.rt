@@ -12,6 +12,8 @@ mod kinds;
 mod law;
 mod meaning;
 mod operation;
+mod resolve;
+mod resolved;
 mod rows;
 mod rules;
 mod scope;
@@ -19,12 +21,17 @@ mod table;
 mod walk;
 
 pub use checked::{Checked, check};
-pub use examples::{block_examples, command_examples, declaration_examples, operation_examples};
-pub use law::{each_script, one_fault, one_row, rules_kept};
+pub use examples::{
+    block_examples, command_examples, declaration_examples, operation_examples, resolved_examples,
+};
+pub use law::{each_script, one_fault, one_row, places, rules_kept};
 pub use operation::{
     CapacityCall, CommonCall, HolderCall, KeyedCall, ListCall, MapCall, Operation, OrderedCall,
     OrderedMapCall, OrderedSetCall, QueueCall, SequenceCall, SetCall, TreeCall, TreeChangeCall,
     VectorCall, WalkCall,
+};
+pub use resolved::{
+    ResolvedArg, ResolvedArgs, ResolvedDecl, ResolvedDecls, ResolvedStmt, ResolvedStmts,
 };
 pub use rows::{Answer, Letter};
 pub use table::{Row, rows_of};

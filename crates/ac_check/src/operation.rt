@@ -1,7 +1,7 @@
 //! The operations that calls mean, each one call of the library: an overloaded word of scripts means several.
 
 /// Of vectors, lists, maps, sets and trees (A.18.2 to A.18.10); the last of all but trees.
-#[derive(Clone, Copy)]
+#[derive(Clone, Copy, Debug)]
 pub enum CommonCall {
     IsEmpty,
     Clear,
@@ -16,7 +16,7 @@ pub enum CommonCall {
 }
 
 /// Of vectors (A.18.2) and lists (A.18.3).
-#[derive(Clone, Copy)]
+#[derive(Clone, Copy, Debug)]
 pub enum SequenceCall {
     Append,
     Prepend,
@@ -42,14 +42,14 @@ pub enum SequenceCall {
 }
 
 /// Of what has a Capacity: vectors, and hashed maps and sets.
-#[derive(Clone, Copy)]
+#[derive(Clone, Copy, Debug)]
 pub enum CapacityCall {
     Capacity,
     ReserveCapacity,
 }
 
 /// Of vectors alone (A.18.2): by index, and of another vector's elements.
-#[derive(Clone, Copy)]
+#[derive(Clone, Copy, Debug)]
 pub enum VectorCall {
     SetLength,
     ToCursor,
@@ -71,7 +71,7 @@ pub enum VectorCall {
 }
 
 /// Of lists alone (A.18.3).
-#[derive(Clone, Copy)]
+#[derive(Clone, Copy, Debug)]
 pub enum ListCall {
     SwapLinks,
     Splice,
@@ -80,7 +80,7 @@ pub enum ListCall {
 }
 
 /// Of maps and sets (A.18.4, A.18.7).
-#[derive(Clone, Copy)]
+#[derive(Clone, Copy, Debug)]
 pub enum WalkCall {
     First,
     Next,
@@ -88,7 +88,7 @@ pub enum WalkCall {
 }
 
 /// Of maps (A.18.4).
-#[derive(Clone, Copy)]
+#[derive(Clone, Copy, Debug)]
 pub enum MapCall {
     Key,
     ElementKey,
@@ -103,7 +103,7 @@ pub enum MapCall {
 }
 
 /// Of sets (A.18.7).
-#[derive(Clone, Copy)]
+#[derive(Clone, Copy, Debug)]
 pub enum SetCall {
     Insert,
     InsertPos,
@@ -123,7 +123,7 @@ pub enum SetCall {
 }
 
 /// Of keyed sets (A.18.8, A.18.9); the last two of ordered ones alone.
-#[derive(Clone, Copy)]
+#[derive(Clone, Copy, Debug)]
 pub enum KeyedCall {
     Key,
     KeyElement,
@@ -137,7 +137,7 @@ pub enum KeyedCall {
 }
 
 /// Of ordered maps (A.18.6) and sets (A.18.9).
-#[derive(Clone, Copy)]
+#[derive(Clone, Copy, Debug)]
 pub enum OrderedCall {
     Last,
     Previous,
@@ -148,7 +148,7 @@ pub enum OrderedCall {
 }
 
 /// Of ordered maps alone (A.18.6).
-#[derive(Clone, Copy)]
+#[derive(Clone, Copy, Debug)]
 pub enum OrderedMapCall {
     FirstKey,
     LastKey,
@@ -157,14 +157,14 @@ pub enum OrderedMapCall {
 }
 
 /// Of ordered sets alone (A.18.9).
-#[derive(Clone, Copy)]
+#[derive(Clone, Copy, Debug)]
 pub enum OrderedSetCall {
     Floor,
     Ceiling,
 }
 
 /// Of multiway trees (A.18.10).
-#[derive(Clone, Copy)]
+#[derive(Clone, Copy, Debug)]
 pub enum TreeCall {
     NodeCount,
     Root,
@@ -185,7 +185,7 @@ pub enum TreeCall {
 }
 
 /// Of trees: what changes them.
-#[derive(Clone, Copy)]
+#[derive(Clone, Copy, Debug)]
 pub enum TreeChangeCall {
     InsertChild,
     InsertChildPos,
@@ -203,7 +203,7 @@ pub enum TreeChangeCall {
 }
 
 /// Of holders (A.18.18).
-#[derive(Clone, Copy)]
+#[derive(Clone, Copy, Debug)]
 pub enum HolderCall {
     IsEmpty,
     Element,
@@ -217,7 +217,7 @@ pub enum HolderCall {
 }
 
 /// Of queues (A.18.27 to A.18.31); the last of priority queues alone.
-#[derive(Clone, Copy)]
+#[derive(Clone, Copy, Debug)]
 pub enum QueueCall {
     Enqueue,
     Dequeue,
@@ -228,7 +228,7 @@ pub enum QueueCall {
 }
 
 /// What a call means, by the kinds whose objects have it.
-#[derive(Clone, Copy)]
+#[derive(Clone, Copy, Debug)]
 pub enum Operation {
     Common(CommonCall),
     Sequence(SequenceCall),

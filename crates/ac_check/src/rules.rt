@@ -1,12 +1,13 @@
 //! The rules of types.
 ghost use Rattle.std.specs.Prelude.{◌≡◌};
+ghost use Rattle.ac_check.specs.Operations.{meant};
 ghost use Rattle.ac_check.specs.Rules as rules;
 ghost use Rattle.ac_check.specs.Scopes as scopes;
 
 use crate::block::{is_looped, is_view};
-use crate::call::is_call;
 use crate::given::{Given, given_by, given_in, is_value, object_of, takes, type_of};
 use crate::kinds::{has_cursors, is_type};
+use crate::operation::Operation;
 use crate::scope::Scope;
 use ac_syntax::{Arg, Decl, ElemKind, Ident, Stmt, TypeDef};
 
@@ -58,24 +59,14 @@ fn is_sum_right(scope: &Scope, target: &Ident, from: &Ident) -> bool
     ) && is_value(ElemKind::Integer, given_in(scope.meaning(from.bytes())))
 }
 
-/// Whether a command keeps the rules, or a block by its head alone.
-pub fn is_well_typed_stmt(scope: &Scope, stmt: &Stmt) -> bool
+/// Whether a command that means this operation keeps the rules, or a block by its head alone.
+#[tactic(auto, using(crate::proofs::Found::means_one))]
+pub fn is_well_typed_stmt(scope: &Scope, stmt: &Stmt, operation: Option<Operation>) -> bool
+    requires { operation ≡ meant scope.now stmt.now }
     ensures { result ≡ rules.is_stmt scope.now stmt.now }
 {
     match stmt {
-        Stmt::Call {
-            target,
-            object,
-            op,
-            args,
-            ..
-        } => is_call(
-            scope,
-            object_of(scope, object.bytes()),
-            target,
-            op.bytes(),
-            args.items(),
-        ),
+        Stmt::Call { .. } => operation.is_some(),
         Stmt::Set { target, from, .. } => is_set_right(scope, target, from),
         Stmt::Sum { target, from, .. } => is_sum_right(scope, target, from),
         Stmt::Loop {

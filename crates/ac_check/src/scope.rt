@@ -4,6 +4,7 @@ ghost use Rattle.std.specs.Option.{option_map};
 ghost use Rattle.ac_check.specs.Scopes.{entry, meaning_in};
 ghost use Rattle.ac_check.specs.Meanings.{meaning_view};
 ghost use Rattle.ac_check.specs.Faults.{is_in_scope};
+ghost use Rattle.ac_check.specs.Resolved.{place_of};
 
 use crate::meaning::Meaning;
 use ac_base::NoMemory;
@@ -45,6 +46,16 @@ impl Scope {
         ensures { option_map (λ m. meaning_view m.now) result ≡ meaning_in self.now name.now }
     {
         self.names.get(name)
+    }
+
+    /// The place of the name, or how many names there are if it isn't in scope.
+    pub fn place(&self, name: &[u8]) -> usize
+        ensures { result ≡ place_of self.now name.now }
+    {
+        match self.names.get_index_of(name) {
+            Some(place) => place,
+            None => self.names.len(),
+        }
     }
 
     pub fn len(&self) -> usize

@@ -1,7 +1,7 @@
 //! A walk over the items of a script in the order of the text, up to the first faulty one.
-ghost use Rattle.std.specs.Prelude.{◌≡◌, ◌∷◌, [], ℕ, List, take, false, Some, None, Err, OnOk};
+ghost use Rattle.std.specs.Prelude.{◌≡◌, ◌∷◌, [], ℕ, List, take, false, Some, None, Err, IfOk, OnOk};
 ghost use Rattle.std.specs.Option.{option_map};
-ghost use Rattle.ac_syntax.specs.Code.{stop};
+ghost use Rattle.ac_syntax.specs.Code.{stop, loop_at, view_at};
 ghost use Rattle.ac_syntax.specs.Items.{declares};
 ghost use Rattle.ac_syntax.specs.Statements.{before};
 ghost use Rattle.ac_syntax.specs.declared.refusal.RefusalKind.{RefusalKind};
@@ -10,11 +10,20 @@ ghost use Rattle.ac_check.specs.Scopes.{with_entry, with_name, with_decls, decl_
 ghost use Rattle.ac_check.specs.Scopes.{standing, standing_decls, standings_from, standings};
 ghost use Rattle.ac_check.specs.Faults.{is_in_scope, AreFaultless, IsFirstFault, IsChecked};
 ghost use Rattle.ac_check.specs.Meanings.{meaning_view};
+ghost use Rattle.ac_check.specs.Operations.{meant};
+ghost use Rattle.ac_check.specs.Resolved as resolved;
+ghost use Rattle.ac_check.specs.Resolved.{no_statement, a_block, IsResolved};
+ghost use Rattle.ac_check.specs.ResolvedStatements.{resolved_before};
+ghost use Rattle.ac_check.specs.BlockHeads.{head_view};
 ghost use Rattle.ac_check.specs.Walks.{fault_with, outcome, goes_on, refused, stmt_item, StopsAs, StopsAt};
 
+use crate::call::meant;
 use crate::entry::{decl_meaning, loop_meaning, view_meaning};
 use crate::faults::{decl_capacity, decl_fault, decl_line, decl_name, stmt_fault, stmt_line};
 use crate::meaning::Meaning;
+use crate::operation::Operation;
+use crate::resolve::{BlockHead, keep, place_of, resolve_command, resolve_decl};
+use crate::resolved::{ResolvedDecl, ResolvedDecls, ResolvedStmt, ResolvedStmts};
 use crate::scope::Scope;
 use ac_base::NoMemory;
 use ac_syntax::{Decl, Ident, RefusalKind, Script, ScriptFault, Stmt, Stmts, ViewKind};
@@ -60,126 +69,204 @@ impl Walk {
         }
     }
 
-    fn walk_decl(&mut self, decl: &Decl) -> Result<(), ScriptFault>
+    fn walk_decl(&mut self, decl: &Decl) -> Result<ResolvedDecl, ScriptFault>
         ensures ok { OnOk result (outcome self.old.room (standing (declares decl.now) self.old.scope ∷ []) ≡ goes_on self.new.room) }
         ensures refused { StopsAt result self.old.room (standing (declares decl.now) self.old.scope) }
         ensures scope { OnOk result (self.new.scope ≡ with_entry self.old.scope (decl_entry self.old.scope decl.now)) }
+        ensures resolved { IfOk result (λ made. made ≡ resolved.resolve_decl self.old.scope decl.now) }
     {
         refuse(decl_line(decl), decl_fault(&self.scope, self.room, decl))?;
+        let resolved = resolve_decl(&self.scope, decl);
         let meaning = decl_meaning(&self.scope, decl)?;
         declare(&mut self.scope, decl_name(decl), meaning)?;
         self.room += decl_capacity(decl);
-        Ok(())
+        Ok(resolved)
     }
 
-    fn walk_decls(&mut self, decls: &[Decl]) -> Result<(), ScriptFault>
+    fn walk_decls(&mut self, decls: &[Decl]) -> Result<ResolvedDecls, ScriptFault>
         ensures ok { OnOk result (outcome self.old.room (standing_decls self.old.scope decls.now) ≡ goes_on self.new.room) }
         ensures refused { StopsAs result (outcome self.old.room (standing_decls self.old.scope decls.now)) }
         ensures scope { OnOk result (self.new.scope ≡ with_decls self.old.scope decls.now) }
+        ensures resolved { IfOk result (λ made. made ≡ resolved.resolve_decls self.old.scope decls.now) }
     {
+        let mut made = Vec::new(self.scope.alloc());
         for decl in decls {
-            self.walk_decl(decl)?;
+            let resolved = self.walk_decl(decl)?;
+            keep(&mut made, resolved)?;
         }
-        Ok(())
+        Ok(ResolvedDecls::from_vec(made))
     }
 
-    /// Judges a command, or what begins a block.
-    fn judge(&self, stmt: &Stmt) -> Result<(), ScriptFault>
+    /// Judges a command, or what begins a block, and says what a call means.
+    fn judge(&self, stmt: &Stmt) -> Result<Option<Operation>, ScriptFault>
         ensures ok { OnOk result (fault_with self.now.room (standing (stmt_item stmt.now) self.now.scope) ≡ None) }
         ensures refused { StopsAt result self.now.room (standing (stmt_item stmt.now) self.now.scope) }
+        ensures operation { IfOk result (λ operation. operation ≡ meant self.now.scope stmt.now) }
     {
-        refuse(stmt_line(stmt), stmt_fault(&self.scope, self.room, stmt))
+        let operation = meant(&self.scope, stmt);
+        refuse(
+            stmt_line(stmt),
+            stmt_fault(&self.scope, self.room, stmt, operation),
+        )?;
+        Ok(operation)
     }
 
     /// Takes in the name of a loop over an object.
-    fn enter_loop(&mut self, name: &Ident, elements: bool, object: &Ident) -> Result<(), NoMemory>
+    fn enter_loop(
+        &mut self,
+        line: u64,
+        name: &Ident,
+        elements: bool,
+        backward: bool,
+        object: &Ident,
+    ) -> Result<BlockHead, NoMemory>
         requires { is_in_scope self.old.scope name.now ≡ false }
         ensures scope { OnOk result (self.new.scope ≡ with_name self.old.scope name.now (loop_on self.old.scope elements object.now)) }
         ensures room { self.new.room ≡ self.old.room }
+        ensures resolved { IfOk result (λ head. head_view head
+            ≡ resolved.resolve_head self.old.scope (loop_at line name.now elements backward object.now)) }
     {
+        let place = self.scope.place(object.bytes());
         let meaning = loop_meaning(&self.scope, elements, object)?;
-        declare(&mut self.scope, name, meaning)
+        declare(&mut self.scope, name, meaning)?;
+        Ok(BlockHead::Loop {
+            line,
+            elements,
+            backward,
+            object: place,
+        })
     }
 
     /// Takes in the name of a view of an object's element.
-    fn enter_view(&mut self, name: &Ident, view: ViewKind, object: &Ident) -> Result<(), NoMemory>
+    fn enter_view(
+        &mut self,
+        line: u64,
+        kind: ViewKind,
+        object: &Ident,
+        at: &Option<Ident>,
+        name: &Ident,
+    ) -> Result<BlockHead, NoMemory>
         requires { is_in_scope self.old.scope name.now ≡ false }
-        ensures scope { OnOk result (self.new.scope ≡ with_name self.old.scope name.now (view_on self.old.scope view object.now)) }
+        ensures scope { OnOk result (self.new.scope ≡ with_name self.old.scope name.now (view_on self.old.scope kind object.now)) }
         ensures room { self.new.room ≡ self.old.room }
+        ensures resolved { IfOk result (λ head. head_view head
+            ≡ resolved.resolve_head self.old.scope (view_at line kind object.now at.now name.now)) }
     {
-        let meaning = view_meaning(&self.scope, view, object);
-        declare(&mut self.scope, name, meaning)
+        let head = BlockHead::View {
+            line,
+            kind,
+            object: self.scope.place(object.bytes()),
+            at: place_of(&self.scope, at),
+        };
+        let meaning = view_meaning(&self.scope, kind, object);
+        declare(&mut self.scope, name, meaning)?;
+        Ok(head)
     }
 
     /// Walks the statements in a block, behind which the first so many names are in scope.
     #[cycle(statements)]
-    fn walk_body(&mut self, body: &Stmts, outside: usize) -> Result<(), ScriptFault>
+    fn walk_body(
+        &mut self,
+        head: BlockHead,
+        body: &Stmts,
+        outside: usize,
+    ) -> Result<ResolvedStmt, ScriptFault>
         ensures ok { OnOk result (outcome self.old.room (standings_from self.old.scope body.now) ≡ goes_on self.new.room) }
         ensures refused { StopsAs result (outcome self.old.room (standings_from self.old.scope body.now)) }
         ensures scope { OnOk result (self.new.scope ≡ take outside self.old.scope) }
+        ensures resolved { IfOk result (λ made. resolved_before made no_statement
+            ≡ a_block (head_view head) (resolved.resolve self.old.scope body.now) no_statement) }
     {
-        self.walk_statements(body)?;
+        let made = self.walk_statements(body)?;
         self.scope.leave(outside);
-        Ok(())
+        Ok(head.with_body(made))
     }
 
     #[cycle(statements)]
-    fn walk_statement(&mut self, stmt: &Stmt) -> Result<(), ScriptFault>
+    fn walk_statement(&mut self, stmt: &Stmt) -> Result<ResolvedStmt, ScriptFault>
         ensures ok { OnOk result (outcome self.old.room (standings_from self.old.scope (before stmt.now stop)) ≡ goes_on self.new.room) }
         ensures refused { StopsAs result (outcome self.old.room (standings_from self.old.scope (before stmt.now stop))) }
         ensures scope { OnOk result (self.new.scope ≡ self.old.scope) }
+        ensures resolved { IfOk result (λ made. resolved_before made no_statement
+            ≡ resolved.resolve self.old.scope (before stmt.now stop)) }
     {
-        self.judge(stmt)?;
+        let operation = self.judge(stmt)?;
         let outside = self.scope.len();
         match stmt {
-            Stmt::Call { .. } | Stmt::Set { .. } | Stmt::Sum { .. } => Ok(()),
+            Stmt::Call { .. } | Stmt::Set { .. } | Stmt::Sum { .. } => {
+                Ok(resolve_command(&self.scope, stmt, operation)?)
+            }
             Stmt::Loop {
+                line,
                 name,
                 elements,
+                backward,
                 object,
                 body,
-                ..
             } => {
-                self.enter_loop(name, *elements, object)?;
-                self.walk_body(body, outside)
+                let head = self.enter_loop(*line, name, *elements, *backward, object)?;
+                self.walk_body(head, body, outside)
             }
             Stmt::View {
+                line,
                 kind,
                 object,
+                at,
                 name,
                 body,
-                ..
             } => {
-                self.enter_view(name, *kind, object)?;
-                self.walk_body(body, outside)
+                let head = self.enter_view(*line, *kind, object, at, name)?;
+                self.walk_body(head, body, outside)
             }
-            Stmt::Stable { body, .. } => self.walk_body(body, outside),
-            Stmt::Declare { decls, body, .. } => {
-                self.walk_decls(decls.items())?;
-                self.walk_body(body, outside)
+            Stmt::Stable { line, object, body } => {
+                let object = self.scope.place(object.bytes());
+                self.walk_body(
+                    BlockHead::Stable {
+                        line: *line,
+                        object,
+                    },
+                    body,
+                    outside,
+                )
+            }
+            Stmt::Declare { line, decls, body } => {
+                let decls = self.walk_decls(decls.items())?;
+                self.walk_body(BlockHead::Declare { line: *line, decls }, body, outside)
             }
         }
     }
 
     #[cycle(statements)]
-    fn walk_statements(&mut self, stmts: &Stmts) -> Result<(), ScriptFault>
+    fn walk_statements(&mut self, stmts: &Stmts) -> Result<ResolvedStmts, ScriptFault>
         ensures ok { OnOk result (outcome self.old.room (standings_from self.old.scope stmts.now) ≡ goes_on self.new.room) }
         ensures refused { StopsAs result (outcome self.old.room (standings_from self.old.scope stmts.now)) }
         ensures scope { OnOk result (self.new.scope ≡ self.old.scope) }
+        ensures resolved { IfOk result (λ made. made ≡ resolved.resolve self.old.scope stmts.now) }
     {
+        let mut made = Vec::new(self.scope.alloc());
         for stmt in stmts.items() {
-            self.walk_statement(stmt)?;
+            let resolved = self.walk_statement(stmt)?;
+            keep(&mut made, resolved)?;
         }
-        Ok(())
+        Ok(ResolvedStmts::from_vec(made))
     }
 }
 
-/// Looks for the first faulty item of a script.
-pub fn walk_script(alloc: Global, script: &Script) -> Result<(), ScriptFault>
+/// What a script is resolved to.
+#[derive(Debug, Drop)]
+pub struct Resolved {
+    pub decls: ResolvedDecls,
+    pub stmts: ResolvedStmts,
+}
+
+/// Resolves a script up to its first faulty item.
+pub fn walk_script(alloc: Global, script: &Script) -> Result<Resolved, ScriptFault>
     ensures ok { OnOk result (IsChecked script.now) }
     ensures refused { (line : ℕ) (kind : RefusalKind) → result ≡ Err (Refused line kind) → IsFirstFault script.now line kind }
+    ensures resolved { IfOk result (λ made. IsResolved script.now made.decls made.stmts) }
 {
     let mut walk = Walk::new(alloc);
-    walk.walk_decls(script.decls.items())?;
-    walk.walk_statements(&script.stmts)
+    let decls = walk.walk_decls(script.decls.items())?;
+    let stmts = walk.walk_statements(&script.stmts)?;
+    Ok(Resolved { decls, stmts })
 }

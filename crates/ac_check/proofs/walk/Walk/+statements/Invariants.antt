@@ -2,7 +2,9 @@ use Rattle.std.proofs.Common.{◌≡◌, ◌+◌, ◌*◌, drop}
 use Rattle.ac_syntax.specs.Code.{code_size, stop}
 use Rattle.ac_syntax.specs.Statements.{before, code_of}
 use Rattle.ac_check.specs.Scopes.{standings_from}
+use Rattle.ac_check.specs.Resolved.{resolve}
 use Rattle.ac_check.specs.Walks.{outcome}
+use Rattle.ac_check.proofs.Resolving.{listed_before}
 use Rattle.ac_check.proofs.walk.Walk.+statements.Given as goal
 
 abbrev pub decreases-walk_body : goal.decreases-walk_body
@@ -18,3 +20,4 @@ abbrev pub invariant-walk_statements-loop-stmt : goal.invariant-walk_statements-
 invariant-walk_statements-loop-stmt l =
     (outcome l.self.room (standings_from l.self.scope (code_of (drop l.stmt-index l.stmt-items))) ≡ outcome l.initial.self.room (standings_from l.initial.self.scope l.stmts))
     × (l.self.scope ≡ l.initial.self.scope)
+    × (listed_before l.made.items (resolve l.self.scope (code_of (drop l.stmt-index l.stmt-items))) ≡ resolve l.initial.self.scope l.stmts)

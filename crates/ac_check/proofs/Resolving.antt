@@ -1,0 +1,103 @@
+-- Items resolved one after another.
+use Rattle.std.proofs.Common.{◌≡◌, ◌+◌, ◌<◌, ◌≤◌, ℕ, List, [], ◌∷◌, ◌++◌, length, drop, get_or, refl, sym, ap, ◌∙◌}
+use Rattle.std.proofs.lemmas.List.{append_assoc, at_drop_all}
+use Rattle.ac_syntax.specs.Code.{Code, stop}
+use Rattle.ac_syntax.specs.Items.{declares}
+use Rattle.ac_syntax.specs.Statements.{before, code_of}
+use Rattle.ac_syntax.specs.declared.decl.Decl.{Decl}
+use Rattle.ac_syntax.specs.declared.stmt.Stmt.{Stmt}
+use Rattle.ac_syntax.specs.declared.stmt.Stmt.TheVariants.{Call, Set, Sum, Loop, View, Stable, Declare}
+use Rattle.ac_check.specs.declared.resolved.ResolvedDecl.{ResolvedDecl}
+use Rattle.ac_check.specs.declared.resolved.ResolvedStmt.{ResolvedStmt}
+use Rattle.ac_check.specs.declared.resolved.ResolvedStmt.TheVariants as made
+use Rattle.ac_check.specs.Scopes.{Scope, standing, with_entry, with_decls, decl_entry, standing_decls}
+use Rattle.ac_check.specs.Walks.{goes_on, outcome}
+use Rattle.ac_check.specs.Resolved.{ResolvedCode, no_statement, a_command, a_block, resolve_decl, resolve_decls, resolve}
+use Rattle.ac_check.specs.ResolvedStatements.{resolved_before, resolved_of}
+use Rattle.ac_check.proofs.Outcomes.{gone_on, next_item}
+
+-- behind the next of some declarations
+module _ (scope now : Scope) (decls : List Decl) (i : ℕ) (decl : Decl) (within : i < length decls) (is : decl ≡ get_or decls i decl)
+    (moved : now ≡ with_entry scope (decl_entry scope decl)) where
+  front : drop i decls ≡ decl ∷ drop (i + 1) decls
+  front = next_item decls i decl within is
+
+  pub outcome_on : (room after : ℕ) → outcome room (standing (declares decl) scope ∷ []) ≡ goes_on after
+      → outcome after (standing_decls now (drop (i + 1) decls)) ≡ outcome room (standing_decls scope (drop i decls))
+  outcome_on room after known =
+      ap (λ s. outcome after (standing_decls s (drop (i + 1) decls))) moved
+      ∙ sym (gone_on room after (standing (declares decl) scope ∷ []) (standing_decls (with_entry scope (decl_entry scope decl)) (drop (i + 1) decls)) known)
+      ∙ sym (ap (λ (l : List Decl). outcome room (standing_decls scope l)) front)
+
+  pub scope_on : with_decls now (drop (i + 1) decls) ≡ with_decls scope (drop i decls)
+  scope_on = ap (λ (s : Scope). with_decls s (drop (i + 1) decls)) moved ∙ sym (ap (λ (l : List Decl). with_decls scope l) front)
+
+  pub resolved_on : (kept more : List ResolvedDecl) (made : ResolvedDecl) → more ≡ kept ++ made ∷ [] → made ≡ resolve_decl scope decl
+      → more ++ resolve_decls now (drop (i + 1) decls) ≡ kept ++ resolve_decls scope (drop i decls)
+  resolved_on kept more made grown one =
+      ap (λ (l : List ResolvedDecl). l ++ resolve_decls now (drop (i + 1) decls)) grown
+      ∙ append_assoc kept (made ∷ []) (resolve_decls now (drop (i + 1) decls))
+      ∙ ap (λ (d : ResolvedDecl). kept ++ d ∷ resolve_decls now (drop (i + 1) decls)) one
+      ∙ ap (λ (s : Scope). kept ++ resolve_decl scope decl ∷ resolve_decls s (drop (i + 1) decls)) moved
+      ∙ sym (ap (λ (l : List Decl). kept ++ resolve_decls scope l) front)
+
+-- statements behind others
+abbrev followed : ResolvedCode → ResolvedCode → ResolvedCode
+followed no_statement more = more
+followed (a_command simple rest) more = a_command simple (followed rest more)
+followed (a_block head body rest) more = a_block head body (followed rest more)
+
+resolve_before : (scope : Scope) (stmt : Stmt) (rest : Code) → resolve scope (before stmt rest) ≡ followed (resolve scope (before stmt stop)) (resolve scope rest)
+resolve_before scope (Call _ _ _ _ _) rest = refl
+resolve_before scope (Set _ _ _) rest = refl
+resolve_before scope (Sum _ _ _ _ _) rest = refl
+resolve_before scope (Loop _ _ _ _ _ _) rest = refl
+resolve_before scope (View _ _ _ _ _ _) rest = refl
+resolve_before scope (Stable _ _ _) rest = refl
+resolve_before scope (Declare _ _ _) rest = refl
+
+before_followed : (stmt : ResolvedStmt) (rest : ResolvedCode) → resolved_before stmt rest ≡ followed (resolved_before stmt no_statement) rest
+before_followed (made.Call _ _ _ _ _) rest = refl
+before_followed (made.Set _ _ _) rest = refl
+before_followed (made.Sum _ _ _ _ _) rest = refl
+before_followed (made.Loop _ _ _ _ _) rest = refl
+before_followed (made.View _ _ _ _ _) rest = refl
+before_followed (made.Stable _ _ _) rest = refl
+before_followed (made.Declare _ _ _) rest = refl
+
+-- statements in a list before others
+abbrev pub listed_before : List ResolvedStmt → ResolvedCode → ResolvedCode
+listed_before [] rest = rest
+listed_before (stmt ∷ stmts) rest = resolved_before stmt (listed_before stmts rest)
+
+pub listed_all : (stmts : List ResolvedStmt) → listed_before stmts no_statement ≡ resolved_of stmts
+listed_all [] = refl
+listed_all (stmt ∷ stmts) = ap (resolved_before stmt) (listed_all stmts)
+
+listed_push : (stmts : List ResolvedStmt) (stmt : ResolvedStmt) (rest : ResolvedCode)
+    → listed_before (stmts ++ stmt ∷ []) rest ≡ listed_before stmts (resolved_before stmt rest)
+listed_push [] stmt rest = refl
+listed_push (first ∷ stmts) stmt rest = ap (resolved_before first) (listed_push stmts stmt rest)
+
+-- behind the next of some statements
+pub statements_on : (scope now : Scope) (stmts : List Stmt) (i : ℕ) (stmt : Stmt) (within : i < length stmts) (is : stmt ≡ get_or stmts i stmt) → now ≡ scope
+    → (kept more : List ResolvedStmt) (made : ResolvedStmt) → more ≡ kept ++ made ∷ [] → resolved_before made no_statement ≡ resolve scope (before stmt stop)
+    → listed_before more (resolve now (code_of (drop (i + 1) stmts))) ≡ listed_before kept (resolve scope (code_of (drop i stmts)))
+statements_on scope now stmts i stmt within is same kept more made grown one =
+    let rest = code_of (drop (i + 1) stmts) in
+    ap (λ (s : Scope). listed_before more (resolve s rest)) same
+    ∙ ap (λ (l : List ResolvedStmt). listed_before l (resolve scope rest)) grown
+    ∙ listed_push kept made (resolve scope rest)
+    ∙ ap (listed_before kept) (
+    before_followed made (resolve scope rest)
+    ∙ ap (λ c. followed c (resolve scope rest)) one
+    ∙ sym (resolve_before scope stmt rest)
+    ∙ sym (ap (λ (l : List Stmt). resolve scope (code_of l)) (next_item stmts i stmt within is)))
+
+-- behind all of them
+pub statements_done : (scope : Scope) (stmts : List Stmt) (i : ℕ) (all : ResolvedCode) → length stmts ≤ i → (kept : List ResolvedStmt)
+    → listed_before kept (resolve scope (code_of (drop i stmts))) ≡ all → resolved_of kept ≡ all
+statements_done scope stmts i all end kept h =
+    sym (listed_all kept)
+    ∙ sym (at_drop_all (λ (l : List Stmt). listed_before kept (resolve scope (code_of l))) stmts i end)
+    ∙ h
