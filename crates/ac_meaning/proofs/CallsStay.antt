@@ -1,0 +1,98 @@
+-- What stays of an object through a call: the parts.
+use Rattle.std.proofs.Common.{◌≡◌, ◌==◌, ℕ, Bool, true, false, List, [], ◌∷◌, refl, sym, ◌∙◌, arith, Option, Some, None, if◌then◌else◌}
+use Rattle.ac_base.specs.declared.reason.Reason.{Reason}
+use Rattle.ac_base.specs.FirstReason.{first_reason, earlier}
+use Rattle.ac_base.specs.Rows.{Row, row, names}
+use Rattle.ac_model.specs.Rows.{with_value, with_some_value, with_exchanged_values, value_at}
+use Rattle.ac_model.specs.Objects.{Object, with_rows, grown}
+use Rattle.ac_model.specs.Letters.{tampers_cursors}
+use Rattle.ac_meaning.specs.Replies.{Arguments, Source, without, itself, another, by_source, Reply}
+use Rattle.ac_meaning.specs.Stays.{Stays, SourceStays, ReplyStays}
+
+pub none_some : {A : Type 0} {B : Type 0} (x : A) → None ≡ Some x → B
+none_some x e = absurd (cc)
+
+earlier_none : (a b : Option Reason) → earlier a b ≡ None → (a ≡ None) × (b ≡ None)
+earlier_none None b h = (refl, h)
+earlier_none (Some r) None h = cc
+earlier_none (Some r) (Some q) h = grind arith
+
+pub first_none : (a : Option Reason) (others : List (Option Reason)) → first_reason (a ∷ others) ≡ None → a ≡ None
+first_none a others h = (earlier_none a (first_reason others) h).0
+
+pub second_none : (a b : Option Reason) (others : List (Option Reason)) → first_reason (a ∷ b ∷ others) ≡ None → b ≡ None
+second_none a b others h = first_none b others (earlier_none a (first_reason (b ∷ others)) h).1
+
+-- where no call with this check goes on
+abbrev pub Checked : {V : Type 0} → Object ℕ V → Option Reason → Type 0
+Checked o reason = reason ≡ None → tampers_cursors o ≡ None
+
+pub first_check : {V : Type 0} (o : Object ℕ V) (others : List (Option Reason)) → Checked o (first_reason (tampers_cursors o ∷ others))
+first_check o others h = first_none (tampers_cursors o) others h
+
+pub second_check : {V : Type 0} (o : Object ℕ V) (first : Option Reason) (others : List (Option Reason)) →
+    Checked o (first_reason (first ∷ tampers_cursors o ∷ others))
+second_check o first others h = second_none first (tampers_cursors o) others h
+
+pub same : {V : Type 0} (o : Object ℕ V) (reason : Option Reason) → Stays o reason o
+same o reason =
+    record { number = refl; next = omega arith; cursor_guards = refl; element_guards = refl; names = λ h tampering t. refl }
+
+pub renamed : {V : Type 0} (o : Object ℕ V) (reason : Option Reason) (rows : List (Row ℕ V)) → names rows ≡ names o.rows →
+    Stays o reason (with_rows o rows)
+renamed o reason rows e =
+    record { number = refl; next = omega arith; cursor_guards = refl; element_guards = refl; names = λ h tampering t. e }
+
+pub changed : {V : Type 0} (o : Object ℕ V) (reason : Option Reason) (rows : List (Row ℕ V)) → Checked o reason → Stays o reason (with_rows o rows)
+changed o reason rows checked = record {
+  number = refl;
+  next = omega arith;
+  cursor_guards = refl;
+  element_guards = refl;
+  names = λ h tampering t. none_some tampering (sym (checked h) ∙ t);
+}
+
+pub grows : {V : Type 0} (o : Object ℕ V) (reason : Option Reason) (rows : List (Row ℕ V)) (more : ℕ) → Checked o reason →
+    Stays o reason (grown o rows more)
+grows o reason rows more checked = record {
+  number = refl;
+  next = omega arith;
+  cursor_guards = refl;
+  element_guards = refl;
+  names = λ h tampering t. none_some tampering (sym (checked h) ∙ t);
+}
+
+-- a reply that changes no source
+none_stays : {V : Type 0} (source : Source (Object ℕ V)) (reason : Option Reason) (after : Option (Object ℕ V)) → after ≡ None →
+    SourceStays source reason after
+none_stays without reason after e = e
+none_stays itself reason after e = e
+none_stays (another s args) reason after e = rw e tt
+
+pub alone : {V : Type 0} (o : Object ℕ V) (source : Source (Object ℕ V)) (r : Reply (Object ℕ V)) → r.source ≡ None → Stays o r.reason r.after →
+    ReplyStays o source r
+alone o source r e h = record { target = h; source_stays = none_stays source r.reason r.source e }
+
+pub by_source_stays : {V : Type 0} (o : Object ℕ V) (source : Source (Object ℕ V)) (own : Reply (Object ℕ V))
+    (two : Object ℕ V → Arguments → Reply (Object ℕ V)) → own.source ≡ None → Stays o own.reason own.after →
+    ((s : Object ℕ V) (args : Arguments) → ReplyStays o (another s args) (two s args)) → ReplyStays o source (by_source source own two)
+by_source_stays o without own two e h k = alone o without own e h
+by_source_stays o itself own two e h k = alone o itself own e h
+by_source_stays o (another s args) own two e h k = k s args
+
+name_kept : {V : Type 0} (r : Row ℕ V) (name : ℕ) (v : V) (b : Bool) → r.name == name ≡ b → (if b then row name v else r).name ≡ r.name
+name_kept r name v true e = grind (arith)
+name_kept r name v false e = refl
+
+pub names-with_value : {V : Type 0} (rows : List (Row ℕ V)) (name : ℕ) (v : V) → names (with_value rows name v) ≡ names rows
+names-with_value [] name v = refl
+names-with_value (r ∷ rows) name v = λ i. name_kept r name v (r.name == name) refl i ∷ names-with_value rows name v i
+
+names-with_some_value : {V : Type 0} (rows : List (Row ℕ V)) (name : ℕ) (v : Option V) → names (with_some_value rows name v) ≡ names rows
+names-with_some_value rows name None = refl
+names-with_some_value rows name (Some v) = names-with_value rows name v
+
+pub names-with_exchanged_values : {V : Type 0} (rows : List (Row ℕ V)) (a b : ℕ) → names (with_exchanged_values rows a b) ≡ names rows
+names-with_exchanged_values rows a b =
+    names-with_some_value (with_some_value rows a (value_at rows b)) b (value_at rows a)
+    ∙ names-with_some_value rows a (value_at rows b)

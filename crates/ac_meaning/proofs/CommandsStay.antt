@@ -1,0 +1,182 @@
+-- What stays of what the names hold through a command.
+use Rattle.std.proofs.Common.{◌≡◌, ◌==◌, ℕ, ℤ, Bool, true, false, List, slice_get, refl, sym, subst, ◌∙◌, Option, Some, None, option_map, if◌then◌else◌}
+use Rattle.ac_base.specs.declared.value.Value.{Value}
+use Rattle.ac_base.specs.declared.reason.Reason.{Reason}
+use Rattle.ac_model.specs.Objects.{Object}
+use Rattle.ac_model.specs.Letters.{Mark, name_of}
+use Rattle.ac_model.specs.Cursors.{seen}
+use Rattle.ac_check.specs.declared.operation.Operation.{Operation}
+use Rattle.ac_check.specs.declared.resolved.ResolvedArg.{ResolvedArg}
+use Rattle.ac_check.specs.Resolved.{ResolvedSimple, calls_at, sets_at, sums_at}
+use Rattle.ac_meaning.specs.Elements.{Text, integers, texts, integer_in, of_integers, of_texts}
+use Rattle.ac_meaning.specs.Answers.{Answer, answers_ok, answers_value, answers_truth, answers_place, answers_list, answers_raised, answers_stalled, answers_integer}
+use Rattle.ac_meaning.specs.Replies.{Arguments, itself, another, seen_by, source_in, Reply, Placed}
+use Rattle.ac_meaning.specs.Holdings.{Held, a_list, write, integer_list, text_list, reply_of}
+use Rattle.ac_meaning.specs.Environment.{Bound, binds_type, binds_object, binds_cursor, binds_value, binds_element, State, bound_at, with_bound, object_at, value_at}
+use Rattle.ac_meaning.specs.Commands.{Assigned, value_set, mark_set, assigned, element_written, place_in, variable_to, variable_set, source_place, source_of, source_set, after_call, unless_refused, waits_or_goes, replied, call_on, arguments, answer_from, assigned_from, is_integer, sum_of, sum_assigned, performed}
+use Rattle.ac_meaning.specs.Stays.{Stays, SourceStays, HeldStays, StateStays}
+use Rattle.ac_meaning.proofs.CallsStay.{none_some, renamed, names-with_value}
+use Rattle.ac_meaning.proofs.ListsStay.{list_stays}
+use Rattle.ac_meaning.proofs.BoundsStay.{passed, state_same, state_then, state_set, object_there}
+
+-- Assignments
+
+write_stays : (h : Held) (at : Mark) (v : Value) → HeldStays h (write h at v).after
+write_stays (a_list (of_integers o)) at v = renamed o None _ (names-with_value o.rows (name_of (seen o at)) (integer_in v))
+write_stays (a_list (of_texts o)) at v = renamed o None _ (names-with_value o.rows (name_of (seen o at)) (texts.from_value v))
+
+element_stays : (e : State) (object : ℕ) (at : Mark) (v : Value) (found : Option Held) → object_at e object ≡ found →
+    StateStays e (element_written e object at v found).after
+element_stays e object at v None f = state_same e
+element_stays e object at v (Some h) f =
+    state_set e e object (binds_object h) (binds_object (write h at v).after) (state_same e) (object_there (bound_at e object) h f) (write_stays h at v)
+
+value_stays : (e : State) (place : ℕ) (v : Value) (b : Bound) → bound_at e place ≡ b → StateStays e (value_set e place v b).after
+value_stays e place v binds_type f = state_same e
+value_stays e place v (binds_object h) f = state_same e
+value_stays e place v (binds_cursor mark) f = state_same e
+value_stays e place v (binds_value old) f = state_set e e place (binds_value old) (binds_value v) (state_same e) f tt
+value_stays e place v (binds_element object at) f = element_stays e object at v (object_at e object) refl
+
+mark_stays : (e : State) (place : ℕ) (mark : Mark) (b : Bound) → bound_at e place ≡ b → StateStays e (mark_set e place mark b)
+mark_stays e place mark binds_type f = state_same e
+mark_stays e place mark (binds_object h) f = state_same e
+mark_stays e place mark (binds_cursor old) f = state_set e e place (binds_cursor old) (binds_cursor mark) (state_same e) f tt
+mark_stays e place mark (binds_value v) f = state_same e
+mark_stays e place mark (binds_element object at) f = state_same e
+
+assigned_stays : (e : State) (target : Option ℕ) (answer : Answer) → StateStays e (assigned e target answer).after
+assigned_stays e None answer = state_same e
+assigned_stays e (Some place) answers_ok = state_same e
+assigned_stays e (Some place) (answers_value v) = value_stays e place v (bound_at e place) refl
+assigned_stays e (Some place) (answers_truth b) = state_same e
+assigned_stays e (Some place) (answers_place mark) = mark_stays e place mark (bound_at e place) refl
+assigned_stays e (Some place) (answers_list text) = state_same e
+assigned_stays e (Some place) (answers_raised reason) = state_same e
+assigned_stays e (Some place) answers_stalled = state_same e
+
+variable_to_stays : (e : State) (mark : Mark) (place : Option ℕ) → StateStays e (variable_to e mark place)
+variable_to_stays e mark None = state_same e
+variable_to_stays e mark (Some place) = mark_stays e place mark (bound_at e place) refl
+
+variable_stays : (e : State) (args : List ResolvedArg) (p : Option Placed) → StateStays e (variable_set e args p)
+variable_stays e args None = state_same e
+variable_stays e args (Some p) = variable_to_stays e p.mark (place_in (slice_get args p.place))
+
+unless_stays : (e : State) (answer : Answer) (a : Assigned) (reason : Option Reason) → a.reason ≡ reason → StateStays e a.after →
+    StateStays e (unless_refused e answer a).after
+unless_stays e answer a None r h = rw r h
+unless_stays e answer a (Some reason) r h = rw r (state_same e)
+
+-- the same, where the answer is assigned after something else
+then_unless_stays : (e now : State) (answer : Answer) (a : Assigned) → StateStays e now → StateStays now a.after →
+    StateStays e (unless_refused e answer a).after
+then_unless_stays e now answer a h k = unless_stays e answer a a.reason refl (state_then e now a.after h k)
+
+-- Calls
+
+-- a reply of a held object: what stays of it, and of its source
+pub record HeldReply (h : Held) (source : Option Held) (r : Reply Held) : Type 0 where
+  pub target : r.reason ≡ None → HeldStays h r.after
+  pub source_stays : r.reason ≡ None → (t : Held) → r.source ≡ Some t → (s : Held) × (source ≡ Some s) × HeldStays s t
+
+itself_or : {V : Type 0} (s : Object ℕ V) (seen : Arguments) (b : Bool) (reason : Option Reason) (after : Option (Object ℕ V)) →
+    SourceStays (if b then itself else another s seen) reason after → (t : Object ℕ V) → after ≡ Some t → Stays s reason t
+itself_or s seen true reason after h t f = none_some t (sym h ∙ f)
+itself_or s seen false reason None h t f = none_some t f
+itself_or s seen false reason (Some u) h t f = let p : u ≡ t = cc in subst (λ x. Stays s reason x) p h
+
+another_stays : {V : Type 0} (o : Object ℕ V) (found : Option (Object ℕ V)) (args : Arguments) (reason : Option Reason) (after : Option (Object ℕ V)) →
+    SourceStays (source_in o found args) reason after → (t : Object ℕ V) → after ≡ Some t → (s : Object ℕ V) × (found ≡ Some s) × Stays s reason t
+another_stays o None args reason after h t f = none_some t (sym h ∙ f)
+another_stays o (Some s) args reason after h t f = (s, refl, itself_or s (seen_by s args) (o.number == s.number) reason after h t f)
+
+-- what is held in this way
+mapped : {S R : Type 0} (f : S → R) (found : Option S) (t : R) → option_map f found ≡ Some t → (s : S) × (found ≡ Some s) × (f s ≡ t)
+mapped f None t e = none_some t e
+mapped f (Some s) t e = let p : f s ≡ t = cc in (s, refl, p)
+
+integers_found : (found : Option Held) (s : Object ℕ ℤ) → integer_list found ≡ Some s → found ≡ Some (a_list (of_integers s))
+integers_found None s f = none_some s f
+integers_found (Some (a_list (of_integers o))) s f = cc
+integers_found (Some (a_list (of_texts o))) s f = none_some s f
+
+texts_found : (found : Option Held) (s : Object ℕ Text) → text_list found ≡ Some s → found ≡ Some (a_list (of_texts s))
+texts_found None s f = none_some s f
+texts_found (Some (a_list (of_integers o))) s f = none_some s f
+texts_found (Some (a_list (of_texts o))) s f = cc
+
+pub held_reply : (h : Held) (source : Option Held) (operation : Operation) (args : Arguments) →
+    HeldReply h source (reply_of h source operation args)
+held_reply (a_list (of_integers o)) source operation args =
+    let own = source_in o (integer_list source) args in
+    let stays = list_stays integers o own (seen_by o args) operation in
+    record {
+      target = λ none. passed o _ _ none stays.target;
+      source_stays = λ none k f.
+          let m = mapped (λ s. a_list (of_integers s)) _ k f in
+          let a = another_stays o (integer_list source) args _ _ stays.source_stays m.0 m.1 in
+          (a_list (of_integers a.0), integers_found source a.0 a.1, subst (λ x. HeldStays (a_list (of_integers a.0)) x) m.2 (passed a.0 _ m.0 none a.2));
+    }
+held_reply (a_list (of_texts o)) source operation args =
+    let own = source_in o (text_list source) args in
+    let stays = list_stays texts o own (seen_by o args) operation in
+    record {
+      target = λ none. passed o _ _ none stays.target;
+      source_stays = λ none k f.
+          let m = mapped (λ s. a_list (of_texts s)) _ k f in
+          let a = another_stays o (text_list source) args _ _ stays.source_stays m.0 m.1 in
+          (a_list (of_texts a.0), texts_found source a.0 a.1, subst (λ x. HeldStays (a_list (of_texts a.0)) x) m.2 (passed a.0 _ m.0 none a.2));
+    }
+
+source_set_stays : (e now : State) (place : Option ℕ) (found : Option Held) → StateStays e now →
+    ((t : Held) → found ≡ Some t → (s : Held) × (source_of e place ≡ Some s) × HeldStays s t) → StateStays e (source_set now place found)
+source_set_stays e now None found h each = h
+source_set_stays e now (Some place) None h each = h
+source_set_stays e now (Some place) (Some t) h each =
+    let s = each t refl in
+    state_set e now place (binds_object s.0) (binds_object t) h (object_there (bound_at e place) s.0 s.1) s.2
+
+after_call_stays : (e : State) (object : ℕ) (h : Held) (args : List ResolvedArg) (r : Reply Held) → bound_at e object ≡ binds_object h →
+    r.reason ≡ None → HeldReply h (source_of e (source_place e args)) r → StateStays e (after_call e object args r)
+after_call_stays e object h args r there none reply =
+    let first = with_bound e object (binds_object r.after) in
+    let first_stays = state_set e e object (binds_object h) (binds_object r.after) (state_same e) there (reply.target none) in
+    let second = source_set first (source_place e args) r.source in
+    let second_stays = source_set_stays e first (source_place e args) r.source first_stays (reply.source_stays none) in
+    state_then e second (variable_set second args r.variable) second_stays (variable_stays second args r.variable)
+
+waits_or_goes_stays : (e : State) (target : Option ℕ) (object : ℕ) (args : List ResolvedArg) (r : Reply Held) (stalls : Bool) → r.stalls ≡ stalls →
+    StateStays e (after_call e object args r) → StateStays e (waits_or_goes e target object args r).after
+waits_or_goes_stays e target object args r true s h = rw s (state_same e)
+waits_or_goes_stays e target object args r false s h =
+    let now = after_call e object args r in
+    rw s (then_unless_stays e now r.answer (assigned now target r.answer) h (assigned_stays now target r.answer))
+
+replied_stays : (e : State) (target : Option ℕ) (object : ℕ) (h : Held) (args : List ResolvedArg) (r : Reply Held) (reason : Option Reason) →
+    r.reason ≡ reason → bound_at e object ≡ binds_object h → HeldReply h (source_of e (source_place e args)) r →
+    StateStays e (replied e target object args r).after
+replied_stays e target object h args r None f there reply =
+    rw f (waits_or_goes_stays e target object args r r.stalls refl (after_call_stays e object h args r there f reply))
+replied_stays e target object h args r (Some reason) f there reply = rw f (state_same e)
+
+call_stays : (e : State) (target : Option ℕ) (object : ℕ) (operation : Operation) (args : List ResolvedArg) (found : Option Held) →
+    object_at e object ≡ found → StateStays e (call_on e target object operation args found).after
+call_stays e target object operation args None f = state_same e
+call_stays e target object operation args (Some h) f =
+    replied_stays e target object h args _ _ refl (object_there (bound_at e object) h f)
+    (held_reply h (source_of e (source_place e args)) operation (arguments e args))
+
+-- Commands
+
+from_stays : (e : State) (target : ℕ) (answer : Answer) → StateStays e (assigned_from e target answer).after
+from_stays e target answer = then_unless_stays e e answer (assigned e (Some target) answer) (state_same e) (assigned_stays e (Some target) answer)
+
+sum_stays : (e : State) (target : ℕ) (n : ℤ) (b : Bool) → is_integer n ≡ b → StateStays e (sum_assigned e target n).after
+sum_stays e target n true f = rw (f, sum_assigned) (from_stays e target (answers_integer n))
+sum_stays e target n false f = rw (f, sum_assigned) (state_same e)
+
+pub command_stays : (e : State) (simple : ResolvedSimple) → StateStays e (performed e simple).after
+command_stays e (calls_at number target object operation args) = call_stays e target object operation args (object_at e object) refl
+command_stays e (sets_at number target from) = from_stays e target (answer_from e from)
+command_stays e (sums_at number target from minus n) = sum_stays e target (sum_of minus (integer_in (value_at e from)) n) _ refl

@@ -1,0 +1,122 @@
+-- Statements keep what is guarded.
+use Rattle.std.proofs.Common.{◌≡◌, ◌++◌, ℕ, Bool, true, false, List, [], ◌∷◌, length, nat_lt, refl, sym, ap, ◌∙◌, append_assoc, Option, Some, None, if◌then◌else◌}
+use Rattle.std.proofs.lemmas.List.{append-nil}
+use Rattle.ac_base.specs.Limits.{numbers_end}
+use Rattle.ac_base.specs.declared.reason.Reason.{Reason}
+use Rattle.ac_base.specs.declared.reason.Reason.TheVariants.{NoElement}
+use Rattle.ac_model.specs.Letters.{Mark, mark_at as mark_of_name}
+use Rattle.ac_syntax.specs.declared.view_kind.ViewKind.{ViewKind}
+use Rattle.ac_syntax.specs.declared.view_kind.ViewKind.TheVariants.{Query, Update, Reference, UpdateKey}
+use Rattle.ac_check.specs.declared.resolved.ResolvedDecl.{ResolvedDecl}
+use Rattle.ac_check.specs.declared.resolved.ResolvedDecl.TheVariants as decl
+use Rattle.ac_check.specs.Resolved.{ResolvedHead, loops_at, views_at, stables_at, declares_at, no_statement, a_command, a_block, resolve}
+use Rattle.ac_meaning.specs.Holdings.{Held, a_list, Guards, names_of, number_of}
+use Rattle.ac_meaning.specs.Environment.{Bound, binds_element, State, under, object_at, mark_at, with_name, leaving, Declared, unless_spent, after_decl, after_decls}
+use Rattle.ac_meaning.specs.Execution.{Outcome, scoped, commanded, guards_of_loop, guards_of_stable, guards_of_view, in_order, turn_bound, head_reason, turns, viewed, view_on, on_object, after_declared, block_on, exec_resolved}
+use Rattle.ac_meaning.specs.GuardedNames.{kept, ResolvedKeepsGuarded, KeepsGuarded}
+use Rattle.ac_meaning.proofs.CallsStay.{none_some}
+use Rattle.ac_meaning.proofs.Resolved.{runs_resolved}
+use Rattle.ac_meaning.proofs.Frames.{kept_weaker, kept_back}
+use Rattle.ac_meaning.proofs.Guarded.{commanded_keeps}
+
+-- the environment has these names, and more behind them
+pub record Extends (e now : State) : Type 0 where
+  pub more : List Bound
+  pub is : now.bounds ≡ e.bounds ++ more
+
+same_names : (e now : State) → now.bounds ≡ e.bounds → Extends e now
+same_names e now h = record { more = []; is = h ∙ sym (append-nil e.bounds) }
+
+pub name_extends : (e : State) (b : Bound) → Extends e (with_name e b)
+name_extends e b = record { more = b ∷ []; is = refl }
+
+either_extends : (e : State) (b : Bool) (x y : Declared) → Extends e x.after → Extends e y.after → Extends e (if b then x else y).after
+either_extends e true x y h k = h
+either_extends e false x y h k = k
+
+decl_extends : (e : State) (d : ResolvedDecl) → Extends e (after_decl e d).after
+decl_extends e decl.TypeDecl = name_extends e _
+decl_extends e (decl.Object line def capacity) =
+    either_extends e (nat_lt e.next numbers_end) _ _ (record { more = _; is = refl }) (same_names e e refl)
+decl_extends e decl.Cursor = name_extends e _
+decl_extends e decl.Integer = name_extends e _
+decl_extends e decl.Text = name_extends e _
+
+then_extends : (e now later : State) → Extends e now → Extends now later → Extends e later
+then_extends e now later h k =
+    record { more = h.more ++ k.more; is = k.is ∙ (ap (λ bs. bs ++ k.more) h.is ∙ append_assoc e.bounds h.more k.more) }
+
+decls_step : (others : State → Declared) (e : State) (first : Declared) (spent : Option ℕ) → first.spent ≡ spent → Extends e first.after →
+    ((now : State) → Extends now (others now).after) → Extends e (unless_spent others first).after
+decls_step others e first None f h k = rw f (then_extends e first.after (others first.after).after h (k first.after))
+decls_step others e first (Some line) f h k = rw f h
+
+pub decls_extend : (ds : List ResolvedDecl) (e : State) → Extends e (after_decls ds e).after
+decls_extend [] e = same_names e e refl
+decls_extend (d ∷ ds) e =
+    let first = after_decl e d in decls_step (after_decls ds) e first first.spent refl (decl_extends e d) (decls_extend ds)
+
+-- what runs under more guards keeps what these guard
+abbrev pub KeepsAll : (Guards → State → Outcome) → Type 0
+KeepsAll body = (guards : Guards) (e : State) → kept guards (body guards e).after ≡ kept guards e
+
+module _ (body : Guards → State → Outcome) (keeps : KeepsAll body) (guards : Guards) where
+  under_more : (more : Guards) (e : State) → kept guards (body (more ++ guards) e).after ≡ kept guards e
+  under_more more e = kept_weaker more guards e (body (more ++ guards) e).after (keeps (more ++ guards) e)
+
+  -- with more names, which then go
+  back : (e now later : State) → Extends e now → kept guards later ≡ kept guards now → kept guards (leaving (length e.bounds) later) ≡ kept guards e
+  back e now later ext h = kept_back guards e later ext.more (h ∙ ap (λ bs. kept guards (record e { bounds = bs })) ext.is)
+
+  scoped_keeps : (more : Guards) (e : State) (b : Bound) → kept guards (scoped e (body (more ++ guards)) (with_name e b)).after ≡ kept guards e
+  scoped_keeps more e b =
+      let now = with_name e b in back e now (body (more ++ guards) now).after (name_extends e b) (under_more more now)
+
+  turns_keep : (elements : Bool) (object : ℕ) (h : Held) (names : List ℕ) (e : State) →
+      kept guards (turns body guards elements object h names e).after ≡ kept guards e
+  turns_keep elements object h [] e = refl
+  turns_keep elements object h (name ∷ names) e =
+      let b = turn_bound elements object (mark_of_name (number_of h) name) in
+      let more = guards_of_loop elements h in
+      turns_keep elements object h names (scoped e (body (more ++ guards)) (with_name e b)).after ∙ scoped_keeps more e b
+
+  viewed_keeps : (number : ℕ) (view : ViewKind) (object : ℕ) (at : Mark) (h : Held) (e : State) → head_reason view h at ≡ None →
+      kept guards (viewed body guards number view object at h e).after ≡ kept guards e
+  viewed_keeps number Query object at h e none = scoped_keeps (guards_of_view Query h) e (binds_element object at)
+  viewed_keeps number Update object at h e none = scoped_keeps (guards_of_view Update h) e (binds_element object at)
+  viewed_keeps number Reference object at h e none = scoped_keeps (guards_of_view Reference h) e (binds_element object at)
+  viewed_keeps number UpdateKey object at (a_list l) e none = none_some NoElement (sym none)
+
+  view_keeps : (number : ℕ) (view : ViewKind) (object : ℕ) (at : Mark) (h : Held) (e : State) (reason : Option Reason) →
+      head_reason view h at ≡ reason → kept guards (view_on body guards number view object at h e).after ≡ kept guards e
+  view_keeps number view object at h e None f = rw (f, view_on) (viewed_keeps number view object at h e f)
+  view_keeps number view object at h e (Some reason) f = rw (f, view_on) refl
+
+  object_keeps : (head : ResolvedHead) (found : Option Held) (e : State) → kept guards (on_object body guards head found e).after ≡ kept guards e
+  object_keeps head None e = refl
+  object_keeps (loops_at number elements backward object) (Some h) e = turns_keep elements object h (in_order backward (names_of h)) e
+  object_keeps (views_at number view object at) (Some h) e = view_keeps number view object (mark_at e at) h e _ refl
+  object_keeps (stables_at number object) (Some h) e = under_more (guards_of_stable h) e
+  object_keeps (declares_at number decls) (Some h) e = refl
+
+  declared_keeps : (e : State) (d : Declared) (spent : Option ℕ) → d.spent ≡ spent → Extends e d.after →
+      kept guards (after_declared body guards e d).after ≡ kept guards e
+  declared_keeps e d None f ext = rw (f, after_declared) (back e d.after (body guards d.after).after ext (keeps guards d.after))
+  declared_keeps e d (Some number) f ext = rw (f, after_declared) (back e d.after d.after ext refl)
+
+  block_keeps : (e : State) (head : ResolvedHead) → kept guards (block_on body guards e head).after ≡ kept guards e
+  block_keeps e (loops_at number elements backward object) = object_keeps (loops_at number elements backward object) (object_at (under guards e) object) e
+  block_keeps e (views_at number view object at) = object_keeps (views_at number view object at) (object_at (under guards e) object) e
+  block_keeps e (stables_at number object) = object_keeps (stables_at number object) (object_at (under guards e) object) e
+  block_keeps e (declares_at number decls) = declared_keeps e (after_decls decls e) _ refl (decls_extend decls e)
+
+pub resolved_keeps : ResolvedKeepsGuarded
+resolved_keeps no_statement guards e = refl
+resolved_keeps (a_command simple rest) guards e = resolved_keeps rest guards (commanded guards e simple).after ∙ commanded_keeps guards e simple
+resolved_keeps (a_block head body rest) guards e =
+    resolved_keeps rest guards (block_on (exec_resolved body) guards e head).after
+    ∙ block_keeps (exec_resolved body) (resolved_keeps body) guards e head
+
+pub exec_keeps : KeepsGuarded
+exec_keeps code scope guards e =
+    ap (λ (r : Outcome). kept guards r.after) (sym (runs_resolved code scope guards e)) ∙ resolved_keeps (resolve scope code) guards e

@@ -1,0 +1,105 @@
+-- What a command keeps of the objects that are guarded.
+use Rattle.std.proofs.Common.{◌≡◌, ◌==◌, ◌||◌, ◌&&◌, ◌+◌, ◌<◌, ℕ, Bool, true, false, List, [], ◌∷◌, map, refl, sym, ap, ◌∙◌, arith, nat_lt, Some, None, if◌then◌else◌}
+use Rattle.ac_base.specs.declared.reason.Reason.{Reason}
+use Rattle.ac_base.specs.declared.reason.Reason.TheVariants.{CursorTampering, ElementTampering}
+use Rattle.ac_base.specs.declared.guard.GuardKind.{GuardKind}
+use Rattle.ac_base.specs.declared.guard.GuardKind.TheVariants as guard
+use Rattle.ac_base.specs.declared.guard.Class.TheVariants as class
+use Rattle.ac_base.specs.Guards.{HeldGuard}
+use Rattle.ac_base.specs.Tampering.{forbids}
+use Rattle.ac_base.specs.Rows.{names}
+use Rattle.ac_model.specs.Objects.{Object}
+use Rattle.ac_model.specs.Letters.{tampers_cursors}
+use Rattle.ac_check.specs.Resolved.{ResolvedSimple}
+use Rattle.ac_meaning.specs.Elements.{of_integers, of_texts}
+use Rattle.ac_meaning.specs.Holdings.{Held, a_list, Guards, is_kind, held_on, held_under}
+use Rattle.ac_meaning.specs.Environment.{Bound, binds_type, binds_object, binds_cursor, binds_value, binds_element, bound_by, State, under}
+use Rattle.ac_meaning.specs.Commands.{performed}
+use Rattle.ac_meaning.specs.Execution.{commanded}
+use Rattle.ac_meaning.specs.Stays.{Stays, HeldStays, BoundStays, EachStays}
+use Rattle.ac_meaning.specs.GuardedNames.{is_guarded, of_object, names_if, frame, kept}
+use Rattle.ac_meaning.proofs.CommandsStay.{command_stays}
+use Rattle.ac_meaning.proofs.CountsStay.{cursors_of, elements_of, held_anew}
+use Rattle.ac_meaning.proofs.Frames.{kept-under, kept-at_rest}
+
+-- an object with a guard is forbidden to change its names
+record Forbidden (cursor_guards element_guards : ℕ) : Type 0 where
+  reason : Reason
+  is : forbids class.Cursors cursor_guards element_guards ≡ Some reason
+
+some_forbid : (c e : ℕ) → 0 < c + e → Forbidden c e
+some_forbid c e h = go (nat_lt 0 c) refl (nat_lt 0 e) refl
+  where
+    go : (s : Bool) → nat_lt 0 c ≡ s → (t : Bool) → nat_lt 0 e ≡ t → Forbidden c e
+    go true p t q = record { reason = CursorTampering; is = rw p }
+    go false p true q = record { reason = ElementTampering; is = rw (p, q) }
+    go false p false q = absurd (grind (arith))
+
+on_some : (b : Bool) (k : GuardKind) → b ≡ true →
+    0 < (if b && is_kind k guard.Cursors then 1 else 0) + (if b && is_kind k guard.Elements then 1 else 0)
+on_some true guard.Cursors e = omega arith
+on_some true guard.Elements e = omega arith
+on_some false k e = cc
+
+held_step : (g : HeldGuard) (guards : Guards) (n : ℕ) (b : Bool) → (g.object == n) ≡ b → (b || is_guarded guards n) ≡ true →
+    (is_guarded guards n ≡ true → 0 < held_on guards n guard.Cursors + held_on guards n guard.Elements) →
+    0 < ((if (g.object == n) && is_kind g.kind guard.Cursors then 1 else 0) + held_on guards n guard.Cursors)
+    + ((if (g.object == n) && is_kind g.kind guard.Elements then 1 else 0) + held_on guards n guard.Elements)
+held_step g guards n true e k rest = omega (arith, on_some (g.object == n) g.kind e)
+held_step g guards n false e k rest = omega (arith, rest k)
+
+held_some : (guards : Guards) (n : ℕ) → is_guarded guards n ≡ true → 0 < held_on guards n guard.Cursors + held_on guards n guard.Elements
+held_some [] n h = cc
+held_some (g ∷ guards) n h = held_step g guards n (g.object == n) refl h (held_some guards n)
+
+-- an object as its guards make it keeps its names where one is held
+object_names : {V : Type 0} (guards : Guards) (o after : Object ℕ V) → held_on guards o.number guard.Cursors ≡ o.cursor_guards →
+    held_on guards o.number guard.Elements ≡ o.element_guards → Stays o None after →
+    names_if (is_guarded guards after.number) (names after.rows) ≡ names_if (is_guarded guards o.number) (names o.rows)
+object_names guards o after c e stays =
+    ap (λ n. names_if (is_guarded guards n) (names after.rows)) stays.number ∙ go (is_guarded guards o.number) refl
+  where
+    go : (b : Bool) → is_guarded guards o.number ≡ b → names_if b (names after.rows) ≡ names_if b (names o.rows)
+    go false f = refl
+    go true f =
+        let forbidden = some_forbid _ _ (held_some guards o.number f) in
+        let is : tampers_cursors o ≡ Some forbidden.reason =
+        ap (λ n. forbids class.Cursors n o.element_guards) (sym c)
+        ∙ (ap (λ n. forbids class.Cursors (held_on guards o.number guard.Cursors) n) (sym e) ∙ forbidden.is) in
+        stays.names refl forbidden.reason is
+
+held_frame : (guards : Guards) (h after : Held) → HeldStays h after → held_under guards h ≡ h →
+    frame guards (binds_object after) ≡ frame guards (binds_object h)
+held_frame guards (a_list (of_integers o)) (a_list (of_integers after)) s e =
+    let m = object_names guards o after (ap cursors_of e) (ap elements_of e) s in λ i. of_object (s.number i) (m i)
+held_frame guards (a_list (of_texts o)) (a_list (of_texts after)) s e =
+    let m = object_names guards o after (ap cursors_of e) (ap elements_of e) s in λ i. of_object (s.number i) (m i)
+held_frame guards (a_list (of_integers o)) (a_list (of_texts after)) s e = absurd s
+held_frame guards (a_list (of_texts o)) (a_list (of_integers after)) s e = absurd s
+
+bound_frame : (guards : Guards) (b after : Bound) → BoundStays (bound_by (held_under guards) b) after →
+    frame guards after ≡ frame guards (bound_by (held_under guards) b)
+bound_frame guards binds_type binds_type s = refl
+bound_frame guards (binds_object h) (binds_object after) s = held_frame guards (held_under guards h) after s (held_anew guards guards h)
+bound_frame guards (binds_cursor m) (binds_cursor n) s = refl
+bound_frame guards (binds_value v) (binds_value w) s = refl
+bound_frame guards (binds_element p m) (binds_element q n) s =
+    λ i. frame guards (binds_element (s.0 i) (s.1 i))
+bound_frame guards binds_type _ s = absurd s
+bound_frame guards (binds_object h) _ s = absurd s
+bound_frame guards (binds_cursor m) _ s = absurd s
+bound_frame guards (binds_value v) _ s = absurd s
+bound_frame guards (binds_element p m) _ s = absurd s
+
+frames_stay : (guards : Guards) (bs after : List Bound) → EachStays (map (bound_by (held_under guards)) bs) after →
+    map (frame guards) after ≡ map (frame guards) (map (bound_by (held_under guards)) bs)
+frames_stay guards [] [] s = refl
+frames_stay guards [] (a ∷ after) s = absurd s
+frames_stay guards (b ∷ bs) [] s = absurd s
+frames_stay guards (b ∷ bs) (a ∷ after) s = λ i. bound_frame guards b a s.0 i ∷ frames_stay guards bs after s.1 i
+
+pub commanded_keeps : (guards : Guards) (e : State) (simple : ResolvedSimple) → kept guards (commanded guards e simple).after ≡ kept guards e
+commanded_keeps guards e simple =
+    let after = (performed (under guards e) simple).after in
+    kept-at_rest guards after
+    ∙ (frames_stay guards e.bounds after.bounds (command_stays (under guards e) simple).bounds ∙ kept-under guards guards e)

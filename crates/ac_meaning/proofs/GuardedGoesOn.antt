@@ -1,0 +1,79 @@
+-- An object with a guard stays in its place, with its names in their order.
+use Rattle.std.proofs.Common.{◌≡◌, ◌==◌, ◌||◌, ◌++◌, ℕ, Bool, true, false, List, [], ◌∷◌, length, refl, sym, ap, ◌∙◌, arith}
+use Rattle.ac_syntax.specs.declared.view_kind.ViewKind.{ViewKind}
+use Rattle.ac_syntax.specs.declared.view_kind.ViewKind.TheVariants.{Query, Update, Reference, UpdateKey}
+use Rattle.ac_meaning.specs.Holdings.{Held, Guards, number_of, names_of}
+use Rattle.ac_meaning.specs.Environment.{Bound, binds_type, binds_object, binds_cursor, binds_value, binds_element, object_in, State, bound_at, with_name, leaving}
+use Rattle.ac_meaning.specs.Execution.{exec_resolved, guards_of_loop, guards_of_view}
+use Rattle.ac_meaning.specs.GuardedNames.{is_guarded, Frame, of_type, of_object, of_cursor, of_value, of_element, names_if, frame, GuardedGoesOn, GuardedStays, BlocksGuard, TurnsKeepNames}
+use Rattle.ac_meaning.proofs.BoundsStay.{object_there}
+use Rattle.ac_meaning.proofs.Frames.{frame_stays, kept_back}
+use Rattle.ac_meaning.proofs.ExecKeeps.{resolved_keeps}
+
+number_in_frame : Frame → ℕ
+number_in_frame of_type = 0
+number_in_frame (of_object number names) = number
+number_in_frame of_cursor = 0
+number_in_frame of_value = 0
+number_in_frame (of_element object at) = 0
+
+names_in_frame : Frame → List ℕ
+names_in_frame of_type = []
+names_in_frame (of_object number names) = names
+names_in_frame of_cursor = []
+names_in_frame of_value = []
+names_in_frame (of_element object at) = []
+
+goes_on : (h : Held) (now : State) (place : ℕ) (b : Bound) → bound_at now place ≡ b → (guards : Guards) → is_guarded guards (number_of h) ≡ true →
+    frame guards b ≡ frame guards (binds_object h) → GuardedGoesOn h now place
+unfolding number_in_frame names_in_frame
+goes_on h now place (binds_object k) f guards g e =
+    let n : number_of k ≡ number_of h = ap number_in_frame e in
+    let k_guarded : is_guarded guards (number_of k) ≡ true = ap (is_guarded guards) n ∙ g in
+    let m : names_if (is_guarded guards (number_of k)) (names_of k) ≡ names_if (is_guarded guards (number_of h)) (names_of h) = ap names_in_frame e in
+    record {
+      held = k;
+      there = ap object_in f;
+      number = n;
+      names = sym (ap (λ t. names_if t (names_of k)) k_guarded) ∙ (m ∙ ap (λ t. names_if t (names_of h)) g);
+    }
+goes_on h now place binds_type f guards g e = absurd (cc)
+goes_on h now place (binds_cursor mark) f guards g e = absurd (cc)
+goes_on h now place (binds_value v) f guards g e = absurd (cc)
+goes_on h now place (binds_element object at) f guards g e = absurd (cc)
+
+pub guarded_stays : GuardedStays
+guarded_stays code guards e place h there g =
+    let now = (exec_resolved code guards e).after in
+    goes_on h now place (bound_at now place) refl guards g
+    (frame_stays guards e now place (resolved_keeps code guards e) ∙ ap (frame guards) (object_there (bound_at e place) h there))
+
+own_guard : (n : ℕ) (others : Bool) → ((n == n) || others) ≡ true
+own_guard n others = go (n == n) (grind (arith))
+  where
+    go : (b : Bool) → b ≡ true → (b || others) ≡ true
+    go true e = refl
+    go false e = absurd (cc)
+
+loops_guard : (elements : Bool) (h : Held) (guards : Guards) → is_guarded (guards_of_loop elements h ++ guards) (number_of h) ≡ true
+loops_guard false h guards = own_guard (number_of h) _
+loops_guard true h guards = own_guard (number_of h) _
+
+views_guard : (view : ViewKind) (h : Held) (guards : Guards) → is_guarded (guards_of_view view h ++ guards) (number_of h) ≡ true
+views_guard Query h guards = own_guard (number_of h) _
+views_guard Update h guards = own_guard (number_of h) _
+views_guard Reference h guards = own_guard (number_of h) _
+views_guard UpdateKey h guards = own_guard (number_of h) _
+
+pub blocks_guard : BlocksGuard
+blocks_guard = record { loops = loops_guard; views = views_guard; stables = λ h guards. own_guard (number_of h) _ }
+
+pub turns_keep_names : TurnsKeepNames
+turns_keep_names code elements guards e place h b there =
+    let held = guards_of_loop elements h ++ guards in
+    let start = with_name e b in
+    let now = (exec_resolved code held start).after in
+    let left = leaving (length e.bounds) now in
+    goes_on h left place (bound_at left place) refl held (loops_guard elements h guards)
+    (frame_stays held e left place (kept_back held e now (b ∷ []) (resolved_keeps code held start))
+    ∙ ap (frame held) (object_there (bound_at e place) h there))

@@ -1,0 +1,130 @@
+-- No number is given again.
+use Rattle.std.proofs.Common.{◌≡◌, ◌≤◌, ◌++◌, ℕ, Bool, true, false, List, [], ◌∷◌, length, nat_lt, refl, subst, arith, Option, Some, None, if◌then◌else◌}
+use Rattle.ac_base.specs.Limits.{numbers_end}
+use Rattle.ac_base.specs.declared.reason.Reason.{Reason}
+use Rattle.ac_base.specs.declared.value.Value.{Value}
+use Rattle.ac_base.specs.declared.value.Value.TheVariants as value
+use Rattle.std.specs.Prelude.{pos}
+use Rattle.ac_model.specs.Letters.{Mark, no_mark, mark_at as mark_of_name}
+use Rattle.ac_syntax.specs.declared.view_kind.ViewKind.{ViewKind}
+use Rattle.ac_syntax.specs.declared.view_kind.ViewKind.TheVariants.{Query, Update, Reference, UpdateKey}
+use Rattle.ac_check.specs.declared.resolved.ResolvedDecl.{ResolvedDecl}
+use Rattle.ac_check.specs.declared.resolved.ResolvedDecl.TheVariants as decl
+use Rattle.ac_check.specs.Resolved.{ResolvedSimple, ResolvedHead, loops_at, views_at, stables_at, declares_at, ResolvedCode, no_statement, a_command, a_block, resolve}
+use Rattle.ac_meaning.specs.Holdings.{Held, Guards, names_of, number_of, element_value}
+use Rattle.ac_meaning.specs.Environment.{Bound, binds_type, binds_cursor, binds_element, binds_value, State, under, object_at, mark_at, value_at, value_or_zero, with_name, leaving, Declared, unless_spent, after_decl, after_decls}
+use Rattle.ac_meaning.specs.Execution.{Outcome, scoped, commanded, guards_of_loop, guards_of_stable, guards_of_view, in_order, turn_bound, head_reason, key_end, key_end_on, turns, key_body, viewed, view_on, on_object, after_declared, block_on, exec_resolved}
+use Rattle.ac_meaning.specs.Numbers.{NextRises}
+use Rattle.ac_meaning.proofs.Resolved.{runs_resolved}
+use Rattle.ac_meaning.proofs.CommandsStay.{command_stays}
+
+-- the next number of the second is no lower
+abbrev pub Rises : State → State → Type 0
+Rises e now = e.next ≤ now.next
+
+equal_rises : (e now : State) → now.next ≡ e.next → Rises e now
+equal_rises e now h = omega (arith, h)
+
+rises_then : (e now later : State) → Rises e now → Rises now later → Rises e later
+rises_then e now later h k = omega (arith, h, k)
+
+name_rises : (e : State) (b : Bound) → Rises e (with_name e b)
+name_rises e b = equal_rises e (with_name e b) refl
+
+either_rises : (e : State) (b : Bool) (x y : Declared) → Rises e x.after → Rises e y.after → Rises e (if b then x else y).after
+either_rises e true x y h k = h
+either_rises e false x y h k = k
+
+pub decl_rises : (e : State) (d : ResolvedDecl) → Rises e (after_decl e d).after
+decl_rises e decl.TypeDecl = name_rises e binds_type
+decl_rises e (decl.Object line def capacity) =
+    either_rises e (nat_lt e.next numbers_end) _ _ (omega arith) (omega arith)
+decl_rises e decl.Cursor = name_rises e (binds_cursor no_mark)
+decl_rises e decl.Integer = name_rises e (binds_value (value.Int (pos 0)))
+decl_rises e decl.Text = name_rises e (binds_value (value.Text []))
+
+decls_step : (others : State → Declared) (e : State) (first : Declared) (spent : Option ℕ) → first.spent ≡ spent → Rises e first.after →
+    ((now : State) → Rises now (others now).after) → Rises e (unless_spent others first).after
+decls_step others e first None f h k = rw f (rises_then e first.after (others first.after).after h (k first.after))
+decls_step others e first (Some line) f h k = rw f h
+
+pub decls_rise : (ds : List ResolvedDecl) (e : State) → Rises e (after_decls ds e).after
+decls_rise [] e = equal_rises e e refl
+decls_rise (d ∷ ds) e =
+    let first = after_decl e d in decls_step (after_decls ds) e first first.spent refl (decl_rises e d) (decls_rise ds)
+
+command_rises : (guards : Guards) (e : State) (simple : ResolvedSimple) → Rises e (commanded guards e simple).after
+command_rises guards e simple = equal_rises e (commanded guards e simple).after (command_stays (under guards e) simple).next
+
+key_end_rises : (number object : ℕ) (e : State) (at : Mark) (copy : Value) (found : Option Held) → Rises e (key_end_on number object e at copy found).after
+key_end_rises number object e at copy None = equal_rises e e refl
+key_end_rises number object e at copy (Some h) = equal_rises e (key_end_on number object e at copy (Some h)).after refl
+
+module _ (body : Guards → State → Outcome) (rises : (guards : Guards) (e : State) → Rises e (body guards e).after) (guards : Guards) where
+  scoped_rises : (held : Guards) (e start : State) → Rises e start → Rises e (scoped e (body held) start).after
+  scoped_rises held e start h = rises_then e start (body held start).after h (rises held start)
+
+  turns_rise : (elements : Bool) (object : ℕ) (h : Held) (names : List ℕ) (e : State) → Rises e (turns body guards elements object h names e).after
+  turns_rise elements object h [] e = equal_rises e e refl
+  turns_rise elements object h (name ∷ names) e =
+      let b = turn_bound elements object (mark_of_name (number_of h) name) in
+      let now = (scoped e (body (guards_of_loop elements h ++ guards)) (with_name e b)).after in
+      rises_then e now (turns body guards elements object h names now).after
+      (scoped_rises (guards_of_loop elements h ++ guards) e (with_name e b) (name_rises e b))
+      (turns_rise elements object h names now)
+
+  key_rises : (number object : ℕ) (at : Mark) (h : Held) (e : State) → Rises e (key_body body guards number object at h e).after
+  key_rises number object at h e =
+      let held = guards_of_view UpdateKey h ++ guards in
+      let start = with_name e (binds_value (value_or_zero (element_value h at).answer)) in
+      let r = body held start in
+      let left = leaving (length e.bounds) r.after in
+      let copy = value_at r.after (length e.bounds) in
+      rises_then e left (key_end number object at copy held left).after (rises held start)
+      (key_end_rises number object left at copy (object_at (under held left) object))
+
+  viewed_rises : (number : ℕ) (view : ViewKind) (object : ℕ) (at : Mark) (h : Held) (e : State) →
+      Rises e (viewed body guards number view object at h e).after
+  viewed_rises number Query object at h e = scoped_rises (guards_of_view Query h ++ guards) e (with_name e (binds_element object at)) (name_rises e (binds_element object at))
+  viewed_rises number Update object at h e = scoped_rises (guards_of_view Update h ++ guards) e (with_name e (binds_element object at)) (name_rises e (binds_element object at))
+  viewed_rises number Reference object at h e = scoped_rises (guards_of_view Reference h ++ guards) e (with_name e (binds_element object at)) (name_rises e (binds_element object at))
+  viewed_rises number UpdateKey object at h e = key_rises number object at h e
+
+  view_rises : (number : ℕ) (view : ViewKind) (object : ℕ) (at : Mark) (h : Held) (e : State) (reason : Option Reason) →
+      head_reason view h at ≡ reason → Rises e (view_on body guards number view object at h e).after
+  view_rises number view object at h e None f = rw (f, view_on) (viewed_rises number view object at h e)
+  view_rises number view object at h e (Some reason) f = rw (f, view_on) (equal_rises e e refl)
+
+  object_rises : (head : ResolvedHead) (found : Option Held) (e : State) → Rises e (on_object body guards head found e).after
+  object_rises head None e = equal_rises e e refl
+  object_rises (loops_at number elements backward object) (Some h) e = turns_rise elements object h (in_order backward (names_of h)) e
+  object_rises (views_at number view object at) (Some h) e = view_rises number view object (mark_at e at) h e _ refl
+  object_rises (stables_at number object) (Some h) e = rises (guards_of_stable h ++ guards) e
+  object_rises (declares_at number decls) (Some h) e = equal_rises e e refl
+
+  declared_rises : (e : State) (d : Declared) (spent : Option ℕ) → d.spent ≡ spent → Rises e d.after → Rises e (after_declared body guards e d).after
+  declared_rises e d None f h = rw (f, after_declared) (scoped_rises guards e d.after h)
+  declared_rises e d (Some number) f h = rw (f, after_declared) h
+
+  block_rises : (e : State) (head : ResolvedHead) → Rises e (block_on body guards e head).after
+  block_rises e (loops_at number elements backward object) = object_rises (loops_at number elements backward object) (object_at (under guards e) object) e
+  block_rises e (views_at number view object at) = object_rises (views_at number view object at) (object_at (under guards e) object) e
+  block_rises e (stables_at number object) = object_rises (stables_at number object) (object_at (under guards e) object) e
+  block_rises e (declares_at number decls) = declared_rises e (after_decls decls e) _ refl (decls_rise decls e)
+
+pub resolved_rises : (code : ResolvedCode) (guards : Guards) (e : State) → Rises e (exec_resolved code guards e).after
+resolved_rises no_statement guards e = equal_rises e e refl
+resolved_rises (a_command simple rest) guards e =
+    let now = (commanded guards e simple).after in
+    rises_then e now (exec_resolved rest guards now).after (command_rises guards e simple) (resolved_rises rest guards now)
+resolved_rises (a_block head body rest) guards e =
+    let now = (block_on (exec_resolved body) guards e head).after in
+    rises_then e now (exec_resolved rest guards now).after (block_rises (exec_resolved body) (resolved_rises body) guards e head) (resolved_rises rest guards now)
+
+pub next_rises : NextRises
+next_rises = record {
+  decls = decls_rise;
+  resolved = resolved_rises;
+  statements = λ code scope guards e.
+      subst (λ (r : Outcome). Rises e r.after) (runs_resolved code scope guards e) (resolved_rises (resolve scope code) guards e);
+}

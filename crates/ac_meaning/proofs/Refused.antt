@@ -1,0 +1,128 @@
+-- A command that is refused, or would wait, leaves the environment.
+use Rattle.std.proofs.Common.{◌≡◌, ℕ, ℤ, Bool, true, false, List, refl, Option, Some, None}
+use Rattle.ac_base.specs.declared.reason.Reason.{Reason}
+use Rattle.ac_base.specs.declared.value.Value.{Value}
+use Rattle.ac_model.specs.Objects.{Object}
+use Rattle.ac_model.specs.Calls.{Call, Done}
+use Rattle.ac_model.specs.Lists as list
+use Rattle.ac_check.specs.declared.operation.Operation.{Operation}
+use Rattle.ac_check.specs.declared.operation.Operation.TheVariants as operation
+use Rattle.ac_check.specs.declared.operation.CommonCall.{CommonCall}
+use Rattle.ac_check.specs.declared.operation.CommonCall.TheVariants as common_call
+use Rattle.ac_check.specs.declared.operation.SequenceCall.{SequenceCall}
+use Rattle.ac_check.specs.declared.operation.SequenceCall.TheVariants as sequence_call
+use Rattle.ac_check.specs.declared.operation.ListCall.{ListCall}
+use Rattle.ac_check.specs.declared.operation.ListCall.TheVariants as list_call
+use Rattle.ac_check.specs.declared.resolved.ResolvedArg.{ResolvedArg}
+use Rattle.ac_check.specs.declared.resolved.ResolvedArg.TheVariants.{Lit, NoElement, At}
+use Rattle.ac_check.specs.Resolved.{calls_at, sets_at, sums_at}
+use Rattle.ac_meaning.specs.Elements.{Tools, integers, texts, integer_in, of_integers, of_texts}
+use Rattle.ac_meaning.specs.Answers.{Answer, answers_integer}
+use Rattle.ac_meaning.specs.Replies.{Arguments, Source, without, itself, another, by_source, seen_by, source_in, Reply, value_answer}
+use Rattle.ac_meaning.specs.SequenceReplies.{OwnCalls, sequence_own, common_reply, sequence_reply}
+use Rattle.ac_meaning.specs.ListReplies.{list_alone_reply, list_reply}
+use Rattle.ac_meaning.specs.Holdings.{Held, a_list, integer_list, text_list, reply_of}
+use Rattle.ac_meaning.specs.Environment.{Bound, binds_type, binds_object, binds_cursor, binds_value, binds_element, State, bound_at, object_at, value_at}
+use Rattle.ac_meaning.specs.Commands.{Performed, Assigned, source_place, source_of, after_call, assigned, unless_refused, waits_or_goes, replied, call_on, arguments, answer_in, answer_from, assigned_from, is_integer, sum_of, sum_assigned}
+use Rattle.ac_meaning.specs.Laws.{IsRefusal, RefusalsLeave}
+
+-- an answer of a call that isn't refused says so
+abbrev Plain : Answer → Type 0
+Plain answer = IsRefusal answer → ⊥
+
+value_plain : (v : Option Value) → Plain (value_answer v)
+value_plain None h = h
+value_plain (Some v) h = h
+
+by_source_plain : {S R : Type 0} (source : Source S) (own : Reply R) (two : S → Arguments → Reply R) → Plain own.answer →
+    ((s : S) (args : Arguments) → Plain (two s args).answer) → Plain (by_source source own two).answer
+by_source_plain without own two h k = h
+by_source_plain itself own two h k = h
+by_source_plain (another s args) own two h k = k s args
+
+module _ {V : Type 0} (o : Object ℕ V) (source : Source (Object ℕ V)) (args : Arguments) where
+  common_plain : (own : OwnCalls V) (c : CommonCall) → Plain (common_reply o source args own c).answer
+  common_plain own common_call.IsEmpty h = h
+  common_plain own common_call.Clear h = h
+  common_plain own common_call.Assign h = by_source_plain source _ _ (λ r. r) (λ s seen r. r) h
+  common_plain own common_call.MoveFrom h = by_source_plain source _ _ (λ r. r) (λ s seen r. r) h
+  common_plain own common_call.Equal h = h
+  common_plain own common_call.HasElement h = h
+  common_plain own common_call.Element h = value_plain _ h
+  common_plain own common_call.ReplaceElement h = h
+  common_plain own common_call.Print h = h
+  common_plain own common_call.Length h = h
+
+module _ {T : Type 0} (tools : Tools T) (o : Object ℕ T) (source : Source (Object ℕ T)) (args : Arguments) where
+  sequence_plain : (reverses sorts : Call (Object ℕ T) Done) (c : SequenceCall) →
+      Plain (sequence_reply tools o source args reverses sorts c).answer
+  sequence_plain reverses sorts sequence_call.FirstElement h = value_plain _ h
+  sequence_plain reverses sorts sequence_call.LastElement h = value_plain _ h
+  sequence_plain reverses sorts sequence_call.Merge h = by_source_plain source _ _ (λ r. r) (λ s seen r. r) h
+  sequence_plain reverses sorts _ h = h
+
+  alone_plain : (c : ListCall) → Plain (list_alone_reply tools o source args c).answer
+  alone_plain list_call.Splice h = by_source_plain source _ _ (λ r. r) (λ s seen r. r) h
+  alone_plain list_call.SpliceOne h = by_source_plain source _ _ (λ r. r) (λ s seen r. r) h
+  alone_plain _ h = h
+
+  list_plain : (op : Operation) → Plain (list_reply tools o source args op).answer
+  list_plain (operation.Common c) h = common_plain o source args (sequence_own tools o) c h
+  list_plain (operation.Sequence c) h = sequence_plain (list.reverse_elements_call o) (list.sort_call tools.less o) c h
+  list_plain (operation.List c) h = alone_plain c h
+  list_plain _ h = h
+
+held_plain : (h : Held) (source : Option Held) (op : Operation) (args : Arguments) → Plain (reply_of h source op args).answer
+held_plain (a_list (of_integers o)) source op args r = list_plain integers o (source_in o (integer_list source) args) (seen_by o args) op r
+held_plain (a_list (of_texts o)) source op args r = list_plain texts o (source_in o (text_list source) args) (seen_by o args) op r
+
+answer_plain : (e : State) (b : Bound) → Plain (answer_in e b)
+answer_plain e binds_type h = h
+answer_plain e (binds_object g) h = h
+answer_plain e (binds_cursor mark) h = h
+answer_plain e (binds_value v) h = h
+answer_plain e (binds_element object at) h = h
+
+from_plain : (e : State) (from : ResolvedArg) → Plain (answer_from e from)
+from_plain e (Lit v) h = h
+from_plain e NoElement h = h
+from_plain e (At place) h = answer_plain e (bound_at e place) h
+
+-- what leaves the environment where its answer says so
+abbrev Leaves : State → Performed → Type 0
+Leaves e p = IsRefusal p.answer → p.after ≡ e
+
+unless_leaves : (e : State) (answer : Answer) (a : Assigned) (reason : Option Reason) → a.reason ≡ reason → Plain answer →
+    Leaves e (unless_refused e answer a)
+unless_leaves e answer a None f plain = rw f (λ r. absurd (plain r))
+unless_leaves e answer a (Some reason) f plain = rw f (λ r. refl)
+
+waits_leaves : (e : State) (target : Option ℕ) (object : ℕ) (args : List ResolvedArg) (r : Reply Held) (stalls : Bool) → r.stalls ≡ stalls →
+    Plain r.answer → Leaves e (waits_or_goes e target object args r)
+waits_leaves e target object args r true f plain = rw f (λ r. refl)
+waits_leaves e target object args r false f plain =
+    rw f (unless_leaves e r.answer (assigned (after_call e object args r) target r.answer) _ refl plain)
+
+replied_leaves : (e : State) (target : Option ℕ) (object : ℕ) (args : List ResolvedArg) (r : Reply Held) (reason : Option Reason) →
+    r.reason ≡ reason → Plain r.answer → Leaves e (replied e target object args r)
+replied_leaves e target object args r None f plain = rw f (waits_leaves e target object args r r.stalls refl plain)
+replied_leaves e target object args r (Some reason) f plain = rw f (λ r. refl)
+
+call_leaves : (e : State) (target : Option ℕ) (object : ℕ) (op : Operation) (args : List ResolvedArg) (found : Option Held) →
+    Leaves e (call_on e target object op args found)
+call_leaves e target object op args None r = refl
+call_leaves e target object op args (Some h) r =
+    let source = source_of e (source_place e args) in
+    replied_leaves e target object args (reply_of h source op (arguments e args)) _ refl (held_plain h source op (arguments e args)) r
+
+assigned_leaves : (e : State) (target : ℕ) (answer : Answer) → Plain answer → Leaves e (assigned_from e target answer)
+assigned_leaves e target answer plain r = unless_leaves e answer (assigned e (Some target) answer) _ refl plain r
+
+sum_leaves : (e : State) (target : ℕ) (n : ℤ) (b : Bool) → is_integer n ≡ b → Leaves e (sum_assigned e target n)
+sum_leaves e target n true f = rw (f, sum_assigned) (assigned_leaves e target (answers_integer n) (λ r. r))
+sum_leaves e target n false f = rw (f, sum_assigned) (λ r. refl)
+
+pub refusals_leave : RefusalsLeave
+refusals_leave e (calls_at number target object op args) r = call_leaves e target object op args (object_at e object) r
+refusals_leave e (sets_at number target from) r = assigned_leaves e target (answer_from e from) (from_plain e from) r
+refusals_leave e (sums_at number target from minus n) r = sum_leaves e target (sum_of minus (integer_in (value_at e from)) n) _ refl r

@@ -1,0 +1,159 @@
+-- Execution: the lines of statements and the environment after them, while the guards of the enclosing blocks are held.
+use Rattle.std.specs.Prelude.{ℕ, Bool, true, false, List, [], ◌∷◌, ◌++◌, length, reverse, Option, Some, None}
+use Rattle.ac_base.specs.declared.value.Value.{Value}
+use Rattle.ac_base.specs.declared.reason.Reason.{Reason}
+use Rattle.ac_base.specs.declared.reason.Reason.TheVariants.{NamesSpent}
+use Rattle.ac_base.specs.declared.guard.GuardKind.TheVariants as guard
+use Rattle.ac_model.specs.Letters.{Mark, mark_at as mark_of_name}
+use Rattle.ac_syntax.specs.Code.{Code, stop, one, block}
+use Rattle.ac_syntax.specs.declared.script.Script.{Script}
+use Rattle.ac_syntax.specs.declared.view_kind.ViewKind.{ViewKind}
+use Rattle.ac_syntax.specs.declared.view_kind.ViewKind.TheVariants.{Query, Update, Reference, UpdateKey}
+use Rattle.ac_check.specs.Scopes.{Scope, with_decls, inside}
+use Rattle.ac_check.specs.Resolved.{ResolvedSimple, ResolvedHead, loops_at, views_at, stables_at, declares_at, ResolvedCode, no_statement, a_command, a_block, resolve_simple, resolve_head, resolve_decls}
+use Rattle.ac_meaning.specs.Answers.{Answer, Line, line, answers_raised, lines_text}
+use Rattle.ac_meaning.specs.Holdings.{Held, Guards, names_of, number_of, guard_on, element_value, key_update_reason, key_updated}
+use Rattle.ac_meaning.specs.Environment.{Bound, binds_object, binds_cursor, binds_value, binds_element, State, first_state, under, at_rest, with_bound, object_at, mark_at, value_at, value_or_zero, with_name, leaving, Declared, after_decls}
+use Rattle.ac_meaning.specs.Commands.{performed, number_in}
+
+-- what statements come to: their lines, and the environment after them
+pub record Outcome : Type 0 where
+  pub lines : List Line
+  pub after : State
+
+abbrev pub outcome : List Line → State → Outcome
+outcome lines after = record { lines = lines; after = after }
+
+abbrev pub one_line : ℕ → Answer → State → Outcome
+one_line number answer after = outcome (line number answer ∷ []) after
+
+-- one after another
+abbrev pub followed : Outcome → (State → Outcome) → Outcome
+followed first next = let second = next first.after in outcome (first.lines ++ second.lines) second.after
+
+-- what runs with more names, which then go
+abbrev pub scoped : State → (State → Outcome) → State → Outcome
+scoped e body start = let r = body start in outcome r.lines (leaving (length e.bounds) r.after)
+
+-- a command under the guards, on the environment as they make it
+abbrev pub commanded : Guards → State → ResolvedSimple → Outcome
+commanded guards e simple = let r = performed (under guards e) simple in one_line (number_in simple) r.answer (at_rest r.after)
+
+-- Blocks on an object
+
+-- the guards that each holds
+abbrev pub guards_of_loop : (elements : Bool) → Held → Guards
+guards_of_loop false h = guard_on h guard.Cursors ∷ []
+guards_of_loop true h = guard_on h guard.Cursors ∷ guard_on h guard.Elements ∷ []
+
+abbrev pub guards_of_stable : Held → Guards
+guards_of_stable h = guard_on h guard.Elements ∷ []
+
+abbrev pub guards_of_view : ViewKind → Held → Guards
+guards_of_view Query h = guard_on h guard.Elements ∷ []
+guards_of_view Update h = guard_on h guard.Elements ∷ []
+guards_of_view Reference h = guard_on h guard.Elements ∷ []
+guards_of_view UpdateKey h = guard_on h guard.Cursors ∷ []
+
+abbrev pub in_order : (backward : Bool) → List ℕ → List ℕ
+in_order false names = names
+in_order true names = reverse names
+
+-- what the name of a loop holds in a turn: the cursor, or the element itself
+abbrev pub turn_bound : (elements : Bool) → (object : ℕ) → Mark → Bound
+turn_bound false object mark = binds_cursor mark
+turn_bound true object mark = binds_element object mark
+
+-- why the head of a view is refused: as Element is, or as the start of an update of a key
+abbrev pub head_reason : ViewKind → Held → Mark → Option Reason
+head_reason Query h at = (element_value h at).reason
+head_reason Update h at = (element_value h at).reason
+head_reason Reference h at = (element_value h at).reason
+head_reason UpdateKey h at = key_update_reason h at
+
+-- the end of an update of a key: the copy is put back, or the element goes and the block's line says so
+abbrev pub end_lines : ℕ → Option Reason → List Line
+end_lines number None = []
+end_lines number (Some reason) = line number (answers_raised reason) ∷ []
+
+abbrev pub key_end_on : ℕ → (object : ℕ) → State → Mark → Value → Option Held → Outcome
+key_end_on number object e at copy None = outcome [] e
+key_end_on number object e at copy (Some h) =
+    let w = key_updated h at copy in outcome (end_lines number w.reason) (at_rest (with_bound e object (binds_object w.after)))
+
+abbrev pub key_end : ℕ → (object : ℕ) → Mark → Value → Guards → State → Outcome
+key_end number object at copy held e = key_end_on number object e at copy (object_at (under held e) object)
+
+-- `body` is the block's body under any guards
+module _ (body : Guards → State → Outcome) (guards : Guards) where
+  -- the turns of a loop over an object: one for each of these names
+  abbrev pub turns : (elements : Bool) → (object : ℕ) → Held → List ℕ → State → Outcome
+  turns elements object h [] e = outcome [] e
+  turns elements object h (name ∷ names) e =
+      followed
+      (scoped e (body (guards_of_loop elements h ++ guards)) (with_name e (turn_bound elements object (mark_of_name (number_of h) name))))
+      (turns elements object h names)
+
+  -- a view of the element itself
+  abbrev pub view_body : ViewKind → (object : ℕ) → Mark → Held → State → Outcome
+  view_body view object at h e = scoped e (body (guards_of_view view h ++ guards)) (with_name e (binds_element object at))
+
+  -- an update of a key: of a copy, with what the copy is at the end
+  abbrev pub key_body : ℕ → (object : ℕ) → Mark → Held → State → Outcome
+  key_body number object at h e =
+      let held = guards_of_view UpdateKey h ++ guards in
+      let r = body held (with_name e (binds_value (value_or_zero (element_value h at).answer))) in
+      followed (outcome r.lines (leaving (length e.bounds) r.after)) (key_end number object at (value_at r.after (length e.bounds)) held)
+
+  abbrev pub viewed : ℕ → ViewKind → (object : ℕ) → Mark → Held → State → Outcome
+  viewed number Query object at h e = view_body Query object at h e
+  viewed number Update object at h e = view_body Update object at h e
+  viewed number Reference object at h e = view_body Reference object at h e
+  viewed number UpdateKey object at h e = key_body number object at h e
+
+  abbrev pub view_on : ℕ → ViewKind → (object : ℕ) → Mark → Held → State → Outcome
+  view_on number view object at h e =
+      elim (head_reason view h at) [ None ↦ viewed number view object at h e | Some reason ↦ one_line number (answers_raised reason) e ]
+
+  -- a block on no object is in no script that can run
+  abbrev pub on_object : ResolvedHead → Option Held → State → Outcome
+  on_object head None e = outcome [] e
+  on_object (loops_at number elements backward object) (Some h) e = turns elements object h (in_order backward (names_of h)) e
+  on_object (views_at number view object at) (Some h) e = view_on number view object (mark_at e at) h e
+  on_object (stables_at number object) (Some h) e = body (guards_of_stable h ++ guards) e
+  on_object (declares_at number decls) (Some h) e = outcome [] e
+
+  -- where no number is left for an object, its line says so and the body is skipped
+  abbrev pub after_declared : State → Declared → Outcome
+  after_declared e d =
+      elim d.spent [
+        | None ↦ scoped e (body guards) d.after
+        | Some number ↦ one_line number (answers_raised NamesSpent) (leaving (length e.bounds) d.after)
+      ]
+
+  abbrev pub block_on : State → ResolvedHead → Outcome
+  block_on e (loops_at number elements backward object) =
+      on_object (loops_at number elements backward object) (object_at (under guards e) object) e
+  block_on e (views_at number view object at) = on_object (views_at number view object at) (object_at (under guards e) object) e
+  block_on e (stables_at number object) = on_object (stables_at number object) (object_at (under guards e) object) e
+  block_on e (declares_at number decls) = after_declared e (after_decls decls e)
+
+-- statements in order, in the scope where they stand
+abbrev pub exec : Code → Scope → Guards → State → Outcome
+exec stop scope guards e = outcome [] e
+exec (one simple rest) scope guards e = followed (commanded guards e (resolve_simple scope simple)) (exec rest scope guards)
+exec (block head body rest) scope guards e =
+    followed (block_on (exec body (inside scope head)) guards e (resolve_head scope head)) (exec rest scope guards)
+
+-- a script: its outermost declarations, and its statements with no guards
+unfoldable pub run : Script → Outcome
+run script = exec script.stmts (with_decls [] script.decls) [] (after_decls (resolve_decls [] script.decls) first_state).after
+
+unfoldable pub text_of : Script → List ℕ
+text_of script = lines_text (run script).lines
+
+-- the same of resolved statements
+abbrev pub exec_resolved : ResolvedCode → Guards → State → Outcome
+exec_resolved no_statement guards e = outcome [] e
+exec_resolved (a_command simple rest) guards e = followed (commanded guards e simple) (exec_resolved rest guards)
+exec_resolved (a_block head body rest) guards e = followed (block_on (exec_resolved body) guards e head) (exec_resolved rest guards)

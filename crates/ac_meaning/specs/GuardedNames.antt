@@ -1,0 +1,66 @@
+-- What statements keep while guards are held: what kind of thing each name in scope holds, an object's number, and where a guard is held on it the names in its rows, in their order.
+use Rattle.std.specs.Prelude.{◌≡◌, ◌==◌, ℕ, Bool, true, List, [], ◌++◌, map, Some, if◌then◌else◌}
+use Rattle.std.specs.List.{list_any}
+use Rattle.ac_base.specs.Guards.{HeldGuard}
+use Rattle.ac_model.specs.Letters.{Mark}
+use Rattle.ac_syntax.specs.Code.{Code}
+use Rattle.ac_syntax.specs.declared.view_kind.ViewKind.{ViewKind}
+use Rattle.ac_check.specs.Scopes.{Scope}
+use Rattle.ac_check.specs.Resolved.{ResolvedCode}
+use Rattle.ac_meaning.specs.Holdings.{Held, Guards, number_of, names_of}
+use Rattle.ac_meaning.specs.Environment.{Bound, binds_type, binds_object, binds_cursor, binds_value, binds_element, State, object_at, with_name}
+use Rattle.ac_meaning.specs.Execution.{scoped, exec, exec_resolved, guards_of_loop, guards_of_stable, guards_of_view}
+
+abbrev pub is_guarded : Guards → ℕ → Bool
+is_guarded guards number = list_any (λ (g : HeldGuard). g.object == number) guards
+
+-- what stays of what a name holds
+pub data Frame : Type 0 where
+  of_type : Frame
+  of_object : (number : ℕ) → (names : List ℕ) → Frame
+  of_cursor : Frame
+  of_value : Frame
+  of_element : (object : ℕ) → (at : Mark) → Frame
+
+abbrev pub names_if : Bool → List ℕ → List ℕ
+names_if guarded names = if guarded then names else []
+
+abbrev pub frame : Guards → Bound → Frame
+frame guards binds_type = of_type
+frame guards (binds_object h) = of_object (number_of h) (names_if (is_guarded guards (number_of h)) (names_of h))
+frame guards (binds_cursor mark) = of_cursor
+frame guards (binds_value v) = of_value
+frame guards (binds_element object at) = of_element object at
+
+abbrev pub kept : Guards → State → List Frame
+kept guards e = map (frame guards) e.bounds
+
+-- statements keep it, whatever they are
+abbrev pub ResolvedKeepsGuarded : Type 0
+ResolvedKeepsGuarded = (code : ResolvedCode) (guards : Guards) (e : State) → kept guards (exec_resolved code guards e).after ≡ kept guards e
+
+abbrev pub KeepsGuarded : Type 0
+KeepsGuarded = (code : Code) (scope : Scope) (guards : Guards) (e : State) → kept guards (exec code scope guards e).after ≡ kept guards e
+
+-- an object with a guard stays in its place, with its names in their order
+pub record GuardedGoesOn (h : Held) (now : State) (place : ℕ) : Type 0 where
+  pub held : Held
+  pub there : object_at now place ≡ Some held
+  pub number : number_of held ≡ number_of h
+  pub names : names_of held ≡ names_of h
+
+abbrev pub GuardedStays : Type 0
+GuardedStays = (code : ResolvedCode) (guards : Guards) (e : State) (place : ℕ) (h : Held) →
+    object_at e place ≡ Some h → is_guarded guards (number_of h) ≡ true → GuardedGoesOn h (exec_resolved code guards e).after place
+
+-- so it does in every block on it: the guards of a block are guards of its object
+pub record BlocksGuard : Type 0 where
+  pub loops : (elements : Bool) (h : Held) (guards : Guards) → is_guarded (guards_of_loop elements h ++ guards) (number_of h) ≡ true
+  pub views : (view : ViewKind) (h : Held) (guards : Guards) → is_guarded (guards_of_view view h ++ guards) (number_of h) ≡ true
+  pub stables : (h : Held) (guards : Guards) → is_guarded (guards_of_stable h ++ guards) (number_of h) ≡ true
+
+-- so a loop that took its names anew at each turn would find those that stood at its head: where a turn ends its object has them still
+abbrev pub TurnsKeepNames : Type 0
+TurnsKeepNames = (code : ResolvedCode) (elements : Bool) (guards : Guards) (e : State) (place : ℕ) (h : Held) (b : Bound) →
+    object_at e place ≡ Some h →
+    GuardedGoesOn h (scoped e (exec_resolved code (guards_of_loop elements h ++ guards)) (with_name e b)).after place

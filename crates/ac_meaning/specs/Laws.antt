@@ -1,0 +1,60 @@
+-- What holds of every script when it runs.
+use Rattle.std.specs.Prelude.{◌≡◌, ⊤, ℕ, [], length, Some}
+use Rattle.ac_syntax.specs.Code.{Code}
+use Rattle.ac_syntax.specs.declared.script.Script.{Script}
+use Rattle.ac_check.specs.Scopes.{Scope}
+use Rattle.ac_check.specs.Resolved.{ResolvedScript, ResolvedSimple, resolve, resolve_script}
+use Rattle.ac_check.specs.declared.operation.Operation.{Operation}
+use Rattle.ac_model.specs.Objects.{Object}
+use Rattle.ac_meaning.specs.Elements.{Tools}
+use Rattle.ac_meaning.specs.Replies.{Arguments, Source}
+use Rattle.ac_meaning.specs.ListReplies.{list_reply}
+use Rattle.ac_meaning.specs.Stays.{ReplyStays, StateStays, ObjectGoesOn}
+use Rattle.ac_meaning.specs.Answers.{Answer, answers_ok, answers_value, answers_truth, answers_place, answers_list, answers_raised, answers_stalled}
+use Rattle.ac_meaning.specs.Commands.{performed}
+use Rattle.ac_meaning.specs.Holdings.{Held, Guards}
+use Rattle.ac_meaning.specs.Environment.{State, first_state, object_at, after_decls}
+use Rattle.ac_meaning.specs.Execution.{Outcome, exec, exec_resolved, run}
+
+-- statements come to what they are resolved to comes to
+abbrev pub RunsResolved : Type 0
+RunsResolved = (code : Code) (scope : Scope) (guards : Guards) (e : State) →
+    exec_resolved (resolve scope code) guards e ≡ exec code scope guards e
+
+-- a script, by what it is resolved to
+abbrev pub run_resolved : ResolvedScript → Outcome
+run_resolved script = exec_resolved script.stmts [] (after_decls script.decls first_state).after
+
+abbrev pub ScriptRunsResolved : Type 0
+ScriptRunsResolved = (script : Script) → run_resolved (resolve_script script) ≡ run script
+
+-- what stays of a list through every operation on it, whatever the source and the arguments
+abbrev pub RepliesStay : Type 0 → Type 0
+RepliesStay T = (tools : Tools T) (o : Object ℕ T) (source : Source (Object ℕ T)) (args : Arguments) (operation : Operation) →
+    ReplyStays o source (list_reply tools o source args operation)
+
+-- what stays through every command
+abbrev pub CommandsStay : Type 0
+CommandsStay = (e : State) (simple : ResolvedSimple) → StateStays e (performed e simple).after
+
+-- so of each object, and no name comes or goes
+abbrev pub ObjectsGoOn : Type 0
+ObjectsGoOn = (e : State) (simple : ResolvedSimple) (place : ℕ) (h : Held) → object_at e place ≡ Some h →
+    ObjectGoesOn h (performed e simple).after place
+
+abbrev pub NamesStayInScope : Type 0
+NamesStayInScope = (e : State) (simple : ResolvedSimple) → length (performed e simple).after.bounds ≡ length e.bounds
+
+-- an answer that says that nothing was done
+abbrev pub IsRefusal : Answer → Type 0
+IsRefusal answers_ok = ⊥
+IsRefusal (answers_value _) = ⊥
+IsRefusal (answers_truth _) = ⊥
+IsRefusal (answers_place _) = ⊥
+IsRefusal (answers_list _) = ⊥
+IsRefusal (answers_raised _) = ⊤
+IsRefusal answers_stalled = ⊤
+
+-- a command that is refused, or would wait, leaves the environment
+abbrev pub RefusalsLeave : Type 0
+RefusalsLeave = (e : State) (simple : ResolvedSimple) → IsRefusal (performed e simple).answer → (performed e simple).after ≡ e

@@ -1,0 +1,76 @@
+-- What stays of an object through a call on it, and of what the names in scope hold through a command.
+use Rattle.std.specs.Prelude.{◌≡◌, ◌<◌, ◌≤◌, ⊤, ℕ, List, [], ◌∷◌, length, Option, Some, None, IfSome}
+use Rattle.ac_base.specs.declared.reason.Reason.{Reason}
+use Rattle.ac_base.specs.Rows.{names}
+use Rattle.ac_model.specs.Objects.{Object}
+use Rattle.ac_model.specs.Letters.{tampers_cursors}
+use Rattle.ac_meaning.specs.Elements.{of_integers, of_texts}
+use Rattle.ac_meaning.specs.Replies.{Source, without, itself, another, Reply}
+use Rattle.ac_meaning.specs.Holdings.{Held, a_list, from_rows, number_of}
+use Rattle.ac_meaning.specs.Environment.{Bound, binds_type, binds_object, binds_cursor, binds_value, binds_element, State, bound_at, object_at, with_name, leaving}
+
+-- the object's number and its counts of guards; no name is taken back; and where a guard is held, a call that isn't refused keeps the
+-- names in the rows, in their order
+pub record Stays {V : Type 0} (o : Object ℕ V) (reason : Option Reason) (after : Object ℕ V) : Type 0 where
+  pub number : after.number ≡ o.number
+  pub next : o.next ≤ after.next
+  pub cursor_guards : after.cursor_guards ≡ o.cursor_guards
+  pub element_guards : after.element_guards ≡ o.element_guards
+  pub names : reason ≡ None → (tampering : Reason) → tampers_cursors o ≡ Some tampering → names after.rows ≡ names o.rows
+
+-- a call changes no source but another object
+abbrev pub SourceStays : {V : Type 0} → Source (Object ℕ V) → Option Reason → Option (Object ℕ V) → Type 0
+SourceStays without reason after = after ≡ None
+SourceStays itself reason after = after ≡ None
+SourceStays (another s _) reason after = IfSome after (λ t. Stays s reason t)
+
+-- of the object of a call and of its source
+pub record ReplyStays {V : Type 0} (o : Object ℕ V) (source : Source (Object ℕ V)) (r : Reply (Object ℕ V)) : Type 0 where
+  pub target : Stays o r.reason r.after
+  pub source_stays : SourceStays source r.reason r.source
+
+-- the kind and the element type stay too
+abbrev pub HeldStays : Held → Held → Type 0
+HeldStays (a_list (of_integers o)) (a_list (of_integers after)) = Stays o None after
+HeldStays (a_list (of_integers o)) (a_list (of_texts after)) = ⊥
+HeldStays (a_list (of_texts o)) (a_list (of_integers after)) = ⊥
+HeldStays (a_list (of_texts o)) (a_list (of_texts after)) = Stays o None after
+
+-- a name goes on to hold what it held, a cursor variable another cursor and a variable another value
+abbrev pub BoundStays : Bound → Bound → Type 0
+BoundStays binds_type binds_type = ⊤
+BoundStays (binds_object h) (binds_object after) = HeldStays h after
+BoundStays (binds_cursor _) (binds_cursor _) = ⊤
+BoundStays (binds_value _) (binds_value _) = ⊤
+BoundStays (binds_element object at) (binds_element other mark) = (other ≡ object) × (mark ≡ at)
+BoundStays _ _ = ⊥
+
+-- each of them, and no name comes or goes
+abbrev pub EachStays : List Bound → List Bound → Type 0
+EachStays [] [] = ⊤
+EachStays [] (_ ∷ _) = ⊥
+EachStays (_ ∷ _) [] = ⊥
+EachStays (b ∷ bounds) (c ∷ after) = BoundStays b c × EachStays bounds after
+
+-- through a command, which makes no object either
+pub record StateStays (e after : State) : Type 0 where
+  pub bounds : EachStays e.bounds after.bounds
+  pub next : after.next ≡ e.next
+
+-- the next name that an object gives
+abbrev pub next_of : Held → ℕ
+next_of h = from_rows (λ V o. o.next) h
+
+-- where an object stood stands one with its number, which takes back no name
+pub record ObjectGoesOn (h : Held) (now : State) (place : ℕ) : Type 0 where
+  pub held : Held
+  pub there : object_at now place ≡ Some held
+  pub number : number_of held ≡ number_of h
+  pub next : next_of h ≤ next_of held
+
+-- names that come and go
+pub record NamesComeAndGo : Type 0 where
+  pub back : (e : State) (b : Bound) → leaving (length e.bounds) (with_name e b) ≡ e
+  pub last : (e : State) (b : Bound) → bound_at (with_name e b) (length e.bounds) ≡ b
+  pub others : (e : State) (b : Bound) (place : ℕ) → place < length e.bounds → bound_at (with_name e b) place ≡ bound_at e place
+  pub left : (e : State) (count place : ℕ) → place < count → bound_at (leaving count e) place ≡ bound_at e place

@@ -1,0 +1,40 @@
+//! Worked rows.
+ghost use Rattle.ac_meaning.specs.Examples.{LoopForbidsAppend, DeadCursorIsRefused, TamperingGoesFirst, StableLetsWrite};
+ghost use Rattle.ac_meaning.specs.Examples.{ViewWritesElement, InnerObjectsAreNew, SplicesMove};
+ghost use Rattle.ac_meaning.specs.Examples.{RefusedSetsNothing, SumsStayInRange, LoopsHoldTheirGuards, SpentNumberSkipsBlock};
+ghost use Rattle.ac_meaning.specs.Examples.{ElementsComeAndGo, ElementsMove, ListsGiveAndTake};
+ghost use Rattle.ac_meaning.specs.Examples.{MapIsListed, NoNodesAreListed, TreeIsListed, DeepTreeIsListed};
+
+/// What small scripts write, to the byte.
+pub fn list_scripts()
+    ensures loop_forbids_append { LoopForbidsAppend }
+    ensures dead_cursor_is_refused { DeadCursorIsRefused }
+    ensures tampering_goes_first { TamperingGoesFirst }
+    ensures splices_move { SplicesMove }
+    ensures refused_sets_nothing { RefusedSetsNothing }
+    ensures sums_stay_in_range { SumsStayInRange }
+    ensures loops_hold_their_guards { LoopsHoldTheirGuards }
+{}
+
+/// The same of views and inner scopes.
+pub fn scope_scripts()
+    ensures stable_lets_write { StableLetsWrite }
+    ensures view_writes_element { ViewWritesElement }
+    ensures inner_objects_are_new { InnerObjectsAreNew }
+    ensures spent_number_skips_block { SpentNumberSkipsBlock }
+{}
+
+/// The same of each call that scripts have on lists.
+pub fn list_calls()
+    ensures elements_come_and_go { ElementsComeAndGo }
+    ensures elements_move { ElementsMove }
+    ensures lists_give_and_take { ListsGiveAndTake }
+{}
+
+/// How maps and trees are listed.
+pub fn listings()
+    ensures map_is_listed { MapIsListed }
+    ensures no_nodes_are_listed { NoNodesAreListed }
+    ensures tree_is_listed { TreeIsListed }
+    ensures deep_tree_is_listed { DeepTreeIsListed }
+{}

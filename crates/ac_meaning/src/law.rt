@@ -1,0 +1,74 @@
+//! What holds of every script when it runs.
+ghost use Rattle.ac_meaning.specs.Laws.{RunsResolved, ScriptRunsResolved, RepliesStay, CommandsStay};
+ghost use Rattle.ac_meaning.specs.Laws.{ObjectsGoOn, NamesStayInScope, RefusalsLeave};
+ghost use Rattle.ac_meaning.specs.Stays.{NamesComeAndGo};
+ghost use Rattle.ac_meaning.specs.GuardedNames.{ResolvedKeepsGuarded, KeepsGuarded, GuardedStays, BlocksGuard, TurnsKeepNames};
+ghost use Rattle.ac_meaning.specs.Walks.{WalksInOrder};
+ghost use Rattle.ac_meaning.specs.FitsScope.{NamesFound, DeclaredFits, HeadsFit, GoesOnFitting};
+ghost use Rattle.ac_meaning.specs.Numbers.{NumbersTell, NumbersGoOnDiffering, NextRises};
+ghost use Rattle.ac_meaning.specs.Numbers.{NewObjectsAreUnguarded, GuardsAreOnOneObject};
+ghost use Rattle.ac_meaning.specs.UnderGuards.{GuardsComeAndGo, CountsAreTheGuards, PartsUnder, CommandsKeepCounts, BlocksKeepCounts};
+
+/// Statements run as what they are resolved to, and so does a script.
+pub fn resolved_statements()
+    ensures each { RunsResolved }
+    ensures script { ScriptRunsResolved }
+{}
+
+/// A call keeps the numbers of its objects and their counts of guards, and takes back no name; and while a guard is held on an
+/// object, a call that isn't refused changes neither the names in its rows nor their order.
+pub fn objects_stay<T>()
+    ensures replies { RepliesStay T }
+    ensures commands { CommandsStay }
+    ensures numbers { ObjectsGoOn }
+    ensures scope { NamesStayInScope }
+    ensures names { NamesComeAndGo }
+{}
+
+/// The counts of the objects are those of the guards that are held, and each command leaves them so.
+pub fn counts_stay()
+    ensures guards { GuardsComeAndGo }
+    ensures counts { CountsAreTheGuards }
+    ensures parts { PartsUnder }
+    ensures commands { CommandsKeepCounts }
+    ensures blocks { BlocksKeepCounts }
+{}
+
+/// While a guard is held on an object, no statement changes the names in its rows or their order, and each name in scope goes on to
+/// hold what it held: an object with its number, a cursor, a value, or the same element.
+pub fn guarded_names_stay()
+    ensures resolved { ResolvedKeepsGuarded }
+    ensures statements { KeepsGuarded }
+    ensures objects { GuardedStays }
+    ensures blocks { BlocksGuard }
+    ensures turns { TurnsKeepNames }
+{}
+
+/// A walk by Next meets each of the names that a loop goes over, in its order, and one by Previous those of a loop backwards: so do
+/// the turns of a loop, whose object keeps its names to the loop's end.
+pub fn loops_meet_each_name<V>()
+    ensures { WalksInOrder V }
+{}
+
+/// What the names in scope hold is what the checks say that they stand for: where a script begins, behind declarations and heads that
+/// keep the rules, and after every statement.
+pub fn names_fit()
+    ensures found { NamesFound }
+    ensures declared { DeclaredFits }
+    ensures heads { HeadsFit }
+    ensures statements { GoesOnFitting }
+{}
+
+/// Each object in scope has a number of its own, and no number is given again: so guards and cursors are those of one object.
+pub fn numbers_differ()
+    ensures tell { NumbersTell }
+    ensures statements { NumbersGoOnDiffering }
+    ensures next { NextRises }
+    ensures guards { NewObjectsAreUnguarded }
+    ensures places { GuardsAreOnOneObject }
+{}
+
+/// A command that is refused, or would wait, leaves the environment.
+pub fn refusals_leave()
+    ensures { RefusalsLeave }
+{}

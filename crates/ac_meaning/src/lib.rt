@@ -1,0 +1,14 @@
+//! What scripts mean when they run: definitions, in `specs/`. The functions here have empty bodies, and their contracts are
+//! worked rows and laws.
+#![tactic(auto)]
+
+mod examples;
+mod law;
+mod limits;
+
+pub use examples::{list_calls, list_scripts, listings, scope_scripts};
+pub use law::{
+    counts_stay, guarded_names_stay, loops_meet_each_name, names_fit, numbers_differ, objects_stay,
+    refusals_leave, resolved_statements,
+};
+pub use limits::INPUT_LIMIT;
