@@ -1,5 +1,6 @@
 use ac_base::Name;
 use ac_chain::Chain;
+use std::alloc::Global;
 use std::process::Abort;
 use std::test::Fail;
 
@@ -116,32 +117,59 @@ fn a_row_moves(rt: HostRuntime) {
     assert!(rt; is_row_of(&rt, &chain, &[(1, 1), (3, 2), (2, 3)]));
 }
 
-#[test]
-fn values_change_under_their_names(rt: HostRuntime) -> Result<(), Fail> {
-    let mut chain = Chain::with_slots(rt.alloc(), 2).ok().ok_or("no memory")?;
-    let a = put(&rt, &mut chain, None, 1u64);
-    let b = put(&rt, &mut chain, None, 2);
-    assert_eq!(rt; chain.spare(), 0);
+fn swap_values(rt: &impl Abort, chain: &mut Chain<u64>, a: Name, b: Name) {
     assert!(rt; chain.is_live(a));
     assert!(rt; chain.is_live(b));
     chain.swap_values(a, b);
+}
+
+fn remove(rt: &impl Abort, chain: &mut Chain<u64>, name: Name) -> u64 {
+    assert!(rt; chain.is_live(name));
+    chain.remove(name)
+}
+
+/// A chain with room for so many rows.
+fn with_slots(rt: &impl Abort, alloc: Global, slots: u64) -> Chain<u64> {
+    assert!(rt; slots == 2);
+    match Chain::with_slots(alloc, slots) {
+        Ok(chain) => chain,
+        Err(_) => panic!(rt; "no memory"),
+    }
+}
+
+#[test]
+fn values_change_under_their_names(rt: HostRuntime) {
+    let mut chain = Chain::new(rt.alloc());
+    let a = put(&rt, &mut chain, None, 1u64);
+    let b = put(&rt, &mut chain, None, 2);
+    swap_values(&rt, &mut chain, a, b);
     assert!(rt; is_row_of(&rt, &chain, &[(1, 2), (2, 1)]));
     assert!(rt; chain.is_live(a));
     *chain.at_mut(a) = 7;
-    assert_eq!(rt; value_at(&rt, &chain, a), 7);
-    assert!(rt; chain.is_live(b));
-    assert_eq!(rt; chain.remove(b), 1);
+    assert!(rt; value_at(&rt, &chain, a) == 7);
+}
+
+#[test]
+fn a_removed_row_leaves_its_slot(rt: HostRuntime) {
+    let mut chain = with_slots(&rt, rt.alloc(), 2);
+    put(&rt, &mut chain, None, 1);
+    let b = put(&rt, &mut chain, None, 2);
+    assert!(rt; chain.spare() == 0);
+    assert!(rt; remove(&rt, &mut chain, b) == 2);
     assert!(rt; !chain.is_live(b));
-    assert_eq!(rt; chain.spare(), 1);
-    assert_eq!(rt; chain.next_serial(), 3);
+    assert!(rt; chain.spare() == 1);
+    assert!(rt; chain.next_serial() == 3);
+}
+
+#[test]
+fn an_emptied_chain_keeps_its_slots(rt: HostRuntime) {
+    let mut chain = with_slots(&rt, rt.alloc(), 2);
+    put(&rt, &mut chain, None, 1);
     chain.clear();
-    assert_eq!(rt; chain.len(), 0);
-    assert_eq!(rt; chain.spare(), 2);
+    assert!(rt; chain.len() == 0 && chain.spare() == 2);
     assert!(rt; chain.first().is_none() && chain.last().is_none());
-    assert!(rt; chain.len() < 8);
     assert!(rt; chain.reserve(3).is_ok());
-    assert_eq!(rt; chain.spare(), 8);
-    Ok(())
+    assert!(rt; chain.spare() == 8);
 }
 
 fn pick(state: &mut u64, below: usize) -> usize {
@@ -155,57 +183,122 @@ fn pick(state: &mut u64, below: usize) -> usize {
     }
 }
 
+fn put_both(
+    rt: &impl Abort,
+    chain: &mut Chain<u64>,
+    rows: &mut Vec<(Name, u64)>,
+    i: usize,
+    value: u64,
+) -> Result<(), Fail> {
+    assert!(rt; i <= rows.len());
+    let place = rows.get(i).map(|row| row.0);
+    let name = put(rt, chain, place, value);
+    rows.insert(i, (name, value))?;
+    Ok(())
+}
+
+fn remove_both(rt: &impl Abort, chain: &mut Chain<u64>, rows: &mut Vec<(Name, u64)>, i: usize) {
+    assert!(rt; i < rows.len());
+    let (name, value) = rows.remove(i);
+    assert!(rt; chain.is_live(name));
+    assert!(rt; chain.remove(name) == value);
+}
+
+fn swap_both(
+    rt: &impl Abort,
+    chain: &mut Chain<u64>,
+    rows: &mut Vec<(Name, u64)>,
+    i: usize,
+    j: usize,
+) {
+    assert!(rt; i < rows.len());
+    assert!(rt; j < rows.len());
+    swap_rows(rt, chain, rows[i].0, rows[j].0);
+    rows.swap(i, j);
+}
+
+fn move_both(
+    rt: &impl Abort,
+    chain: &mut Chain<u64>,
+    rows: &mut Vec<(Name, u64)>,
+    i: usize,
+    j: usize,
+) -> Result<(), Fail> {
+    assert!(rt; i < rows.len());
+    assert!(rt; j < rows.len());
+    move_row(rt, chain, Some(rows[j].0), rows[i].0);
+    let row = rows.remove(i);
+    let to = if i < j { j - 1 } else { j };
+    assert!(rt; to <= rows.len());
+    rows.insert(to, row)?;
+    Ok(())
+}
+
+fn swap_both_values(
+    rt: &impl Abort,
+    chain: &mut Chain<u64>,
+    rows: &mut Vec<(Name, u64)>,
+    i: usize,
+    j: usize,
+) {
+    assert!(rt; i < rows.len());
+    assert!(rt; j < rows.len());
+    swap_values(rt, chain, rows[i].0, rows[j].0);
+    let value = rows[i].1;
+    rows[i].1 = rows[j].1;
+    rows[j].1 = value;
+}
+
+fn step_both(
+    rt: &impl Abort,
+    chain: &mut Chain<u64>,
+    rows: &mut Vec<(Name, u64)>,
+    state: &mut u64,
+    turn: u64,
+) -> Result<(), Fail> {
+    let len = rows.len();
+    let i = pick(state, len);
+    let j = pick(state, len);
+    let what = pick(state, 8);
+    if len == 0 || (what < 2 && len < 100) {
+        return put_both(rt, chain, rows, i, turn);
+    }
+    match what {
+        4 => swap_both(rt, chain, rows, i, j),
+        5 => return move_both(rt, chain, rows, i, j),
+        6 => swap_both_values(rt, chain, rows, i, j),
+        7 => {
+            chain.reverse();
+            rows.reverse();
+        }
+        _ => remove_both(rt, chain, rows, i),
+    }
+    Ok(())
+}
+
+fn agree(
+    rt: &impl Abort,
+    alloc: Global,
+    chain: &Chain<u64>,
+    rows: &[(Name, u64)],
+) -> Result<bool, Fail> {
+    let mut plain = Vec::new(alloc);
+    for row in rows {
+        plain.push((row.0.serial, row.1))?;
+    }
+    Ok(is_row_of(rt, chain, plain.as_slice()))
+}
+
 // The same steps on a chain and on a plain list of rows.
 #[test]
 fn a_long_walk_agrees_with_a_list(rt: HostRuntime) -> Result<(), Fail> {
     let mut chain = Chain::new(rt.alloc());
-    let mut rows: Vec<(Name, u64)> = Vec::new(rt.alloc());
+    let mut rows = Vec::new(rt.alloc());
     let mut state = 20_260_101;
     for turn in 0..100_000u64 {
-        let len = rows.len();
-        let i = pick(&mut state, len);
-        let j = pick(&mut state, len);
-        let what = pick(&mut state, 8);
-        if len == 0 || (what < 2 && len < 100) {
-            assert!(rt; i <= len);
-            let place = rows.get(i).map(|row| row.0);
-            let name = put(&rt, &mut chain, place, turn);
-            rows.insert(i, (name, turn))?;
-        } else {
-            assert!(rt; i < rows.len());
-            assert!(rt; j < rows.len());
-            let a = rows[i].0;
-            let b = rows[j].0;
-            assert!(rt; chain.is_live(a));
-            assert!(rt; chain.is_live(b));
-            if what < 4 {
-                let value = chain.remove(a);
-                assert_eq!(rt; value, rows.remove(i).1);
-            } else if what == 4 {
-                chain.swap_links(a, b);
-                rows.swap(i, j);
-            } else if what == 5 {
-                chain.move_before(Some(b), a);
-                let row = rows.remove(i);
-                let to = if i < j { j - 1 } else { j };
-                assert!(rt; to <= rows.len());
-                rows.insert(to, row)?;
-            } else if what == 6 {
-                chain.swap_values(a, b);
-                let value = rows[i].1;
-                rows[i].1 = rows[j].1;
-                rows[j].1 = value;
-            } else {
-                chain.reverse();
-                rows.reverse();
-            }
-        }
+        step_both(&rt, &mut chain, &mut rows, &mut state, turn)?;
         if turn % 1000 == 999 {
-            let mut plain = Vec::new(rt.alloc());
-            for row in &rows {
-                plain.push((row.0.serial, row.1))?;
-            }
-            assert!(rt; is_row_of(&rt, &chain, plain.as_slice()));
+            assert!(rt; agree(&rt, rt.alloc(), &chain, &rows)?);
         }
     }
     Ok(())

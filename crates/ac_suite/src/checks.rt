@@ -55,13 +55,18 @@ fn block(alloc: Global, line: u64, capacity: u64) -> Result<Stmt, AllocError> {
     })
 }
 
-/// `l` and `a`, an object of it, on line 1, with these statements.
+/// `l` and `a`, an object of it, on line 1.
+fn declared(alloc: Global) -> Result<Decls, AllocError> {
+    let mut decls = Vec::new(alloc);
+    decls.push(list_type(alloc, 1)?)?;
+    decls.push(object(alloc, 1, b"a", 600_000)?)?;
+    Ok(Decls::from_vec(decls))
+}
+
+/// These statements behind the declarations.
 fn script(alloc: Global, stmts: Vec<Stmt>) -> Result<Script, AllocError> {
     Ok(Script {
-        decls: Decls::from_vec(vec![in alloc;
-            list_type(alloc, 1)?,
-            object(alloc, 1, b"a", 600_000)?,
-        ]?),
+        decls: declared(alloc)?,
         stmts: Stmts::from_vec(stmts),
     })
 }
@@ -78,41 +83,48 @@ fn refused(line: u64, kind: RefusalKind) -> Option<ScriptFault> {
 }
 
 #[test]
+fn a_name_is_known_in_its_block(rt: HostRuntime) -> Result<(), Fail> {
+    let alloc = rt.alloc();
+    let mut good = Vec::new(alloc);
+    good.push(append(alloc, 2, b"a")?)?;
+    good.push(block(alloc, 3, 400_000)?)?;
+    assert!(rt; fault(alloc, script(alloc, good)?) == None);
+    Ok(())
+}
+
+#[test]
 fn names_end_with_their_block(rt: HostRuntime) -> Result<(), Fail> {
     let alloc = rt.alloc();
-    let good = vec![in alloc; append(alloc, 2, b"a")?, block(alloc, 3, 400_000)?]?;
-    assert_eq!(rt; fault(alloc, script(alloc, good)?), None);
-
-    let late = vec![in alloc;
-        block(alloc, 3, 1)?,
-        append(alloc, 4, b"b")?,
-        append(alloc, 5, b"c")?,
-    ]?;
-    assert_eq!(rt;
-        fault(alloc, script(alloc, late)?),
-        refused(4, RefusalKind::UnknownName)
-    );
+    let mut late = Vec::new(alloc);
+    late.push(block(alloc, 3, 1)?)?;
+    late.push(append(alloc, 4, b"b")?)?;
+    late.push(append(alloc, 5, b"c")?)?;
+    let found = fault(alloc, script(alloc, late)?);
+    assert!(rt; found == refused(4, RefusalKind::UnknownName));
     Ok(())
 }
 
 #[test]
 fn room_is_added_up(rt: HostRuntime) -> Result<(), Fail> {
     let alloc = rt.alloc();
-    let roomy = vec![in alloc; block(alloc, 2, 400_000)?, block(alloc, 3, 1)?]?;
-    assert_eq!(rt;
-        fault(alloc, script(alloc, roomy)?),
-        refused(3, RefusalKind::Limit)
-    );
+    let mut roomy = Vec::new(alloc);
+    roomy.push(block(alloc, 2, 400_000)?)?;
+    roomy.push(block(alloc, 3, 1)?)?;
+    let found = fault(alloc, script(alloc, roomy)?);
+    assert!(rt; found == refused(3, RefusalKind::Limit));
     Ok(())
 }
 
 #[test]
 fn one_name_twice(rt: HostRuntime) -> Result<(), Fail> {
     let alloc = rt.alloc();
+    let mut decls = Vec::new(alloc);
+    decls.push(list_type(alloc, 1)?)?;
+    decls.push(object(alloc, 2, b"l", 1)?)?;
     let twice = Script {
-        decls: Decls::from_vec(vec![in alloc; list_type(alloc, 1)?, object(alloc, 2, b"l", 1)?]?),
+        decls: Decls::from_vec(decls),
         stmts: Stmts::from_vec(Vec::new(alloc)),
     };
-    assert_eq!(rt; fault(alloc, twice), refused(2, RefusalKind::Twice));
+    assert!(rt; fault(alloc, twice) == refused(2, RefusalKind::Twice));
     Ok(())
 }

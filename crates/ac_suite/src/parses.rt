@@ -29,7 +29,7 @@ fn takes_scripts(rt: HostRuntime) -> Result<(), Fail> {
     for text in [EVERY_FORM, NESTED] {
         let script = parse(alloc, text)?;
         let printed = print(alloc, &script)?;
-        assert_eq!(rt; printed.as_slice(), text);
+        assert!(rt; printed.as_slice() == text);
     }
     Ok(())
 }

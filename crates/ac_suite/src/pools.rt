@@ -18,28 +18,28 @@ fn a_taken_name_is_gone_and_its_slot_is_used_again(rt: HostRuntime) {
     let first = put(&rt, &mut pool, 10u64);
     let second = put(&rt, &mut pool, 20);
     let third = put(&rt, &mut pool, 30);
-    assert_eq!(rt; pool.take(second), Some(20));
+    assert!(rt; pool.take(second) == Some(20));
     let fourth = put(&rt, &mut pool, 40);
-    assert_eq!(rt; fourth.serial, 4);
+    assert!(rt; fourth.serial == 4);
     assert!(rt; pool.get(second).is_none());
     assert!(rt; pool.take(second).is_none());
-    assert_eq!(rt; pool.get(first).copied(), Some(10));
-    assert_eq!(rt; pool.get(third).copied(), Some(30));
-    assert_eq!(rt; pool.get(fourth).copied(), Some(40));
-    assert_eq!(rt; pool.live(), 3);
-    assert_eq!(rt; pool.slots(), 8);
-    assert_eq!(rt; pool.spare(), 5);
-    assert_eq!(rt; pool.next_serial(), 5);
+    assert!(rt; pool.get(first).copied() == Some(10));
+    assert!(rt; pool.get(third).copied() == Some(30));
+    assert!(rt; pool.get(fourth).copied() == Some(40));
+    assert!(rt; pool.live() == 3);
+    assert!(rt; pool.slots() == 8);
+    assert!(rt; pool.spare() == 5);
+    assert!(rt; pool.next_serial() == 5);
 }
 
 #[test]
 fn the_last_serials_are_given_and_then_values_come_back(rt: HostRuntime) {
     let mut pool = Pool::starting_at(rt.alloc(), u64::MAX - 2);
-    assert_eq!(rt; put(&rt, &mut pool, 1u64).serial, u64::MAX - 2);
-    assert_eq!(rt; put(&rt, &mut pool, 2).serial, u64::MAX - 1);
+    assert!(rt; put(&rt, &mut pool, 1u64).serial == u64::MAX - 2);
+    assert!(rt; put(&rt, &mut pool, 2).serial == u64::MAX - 1);
     assert!(rt; pool.live() == 2);
     match pool.put(3) {
-        Err(PutFault::Spent(v)) => assert_eq!(rt; v, 3),
+        Err(PutFault::Spent(v)) => assert!(rt; v == 3),
         _ => panic!(rt; "a serial was given"),
     }
 }
@@ -51,40 +51,40 @@ fn slots_double_and_stay(rt: HostRuntime) -> Result<(), Fail> {
     for v in 0..9u64 {
         names.push(put(&rt, &mut pool, v))?;
     }
-    assert_eq!(rt; pool.slots(), 16);
+    assert!(rt; pool.slots() == 16);
     for (v, name) in names.iter().enumerate() {
-        assert_eq!(rt; pool.take(*name), Some(v as u64));
+        assert!(rt; pool.take(*name) == Some(v as u64));
     }
-    assert_eq!(rt; pool.slots(), 16);
+    assert!(rt; pool.slots() == 16);
     pool.clear();
-    assert_eq!(rt; pool.slots(), 16);
-    assert_eq!(rt; pool.live(), 0);
-    assert_eq!(rt; pool.next_serial(), 10);
+    assert!(rt; pool.slots() == 16);
+    assert!(rt; pool.live() == 0);
+    assert!(rt; pool.next_serial() == 10);
     Ok(())
 }
 
 #[test]
 fn reserved_slots_take_values(rt: HostRuntime) -> Result<(), Fail> {
     let mut pool = Pool::with_slots(rt.alloc(), 5).ok().ok_or("no memory")?;
-    assert_eq!(rt; pool.slots(), 5);
+    assert!(rt; pool.slots() == 5);
     assert!(rt; pool.spare() == 5 && pool.next_serial() == 1);
     let a = pool.put_reserved(7u64);
     let b = put(&rt, &mut pool, 8);
     assert!(rt; pool.swap(a, b));
-    assert_eq!(rt; pool.get(a).copied(), Some(8));
-    assert_eq!(rt; pool.get(b).copied(), Some(7));
+    assert!(rt; pool.get(a).copied() == Some(8));
+    assert!(rt; pool.get(b).copied() == Some(7));
     assert!(rt; pool.swap(a, a));
     if let Some(v) = pool.get_mut(a) {
         *v += 100;
     }
-    assert_eq!(rt; pool.get(a).copied(), Some(108));
+    assert!(rt; pool.get(a).copied() == Some(108));
     assert!(rt; pool.live() == 2);
     assert!(rt; pool.reserve(3).is_ok());
-    assert_eq!(rt; pool.slots(), 5);
+    assert!(rt; pool.slots() == 5);
     assert!(rt; pool.live() == 2);
     assert!(rt; pool.reserve(7).is_ok());
-    assert_eq!(rt; pool.slots(), 16);
-    assert_eq!(rt; pool.take(a), Some(108));
+    assert!(rt; pool.slots() == 16);
+    assert!(rt; pool.take(a) == Some(108));
     assert!(rt; !pool.swap(a, b));
     assert!(rt; pool.get_mut(a).is_none());
     Ok(())
@@ -97,15 +97,15 @@ fn each_slot_has_its_name(rt: HostRuntime) -> Result<(), Fail> {
     for v in 0..100u64 {
         put(&rt, &mut pool, v);
     }
-    assert_eq!(rt; pool.slots(), 128);
+    assert!(rt; pool.slots() == 128);
     for slot in 0..130 {
         if let Some(name) = pool.name_in(slot) {
-            assert_eq!(rt; name.slot, slot);
-            assert_eq!(rt; pool.take(name), Some(name.serial - 1));
+            assert!(rt; name.slot == slot);
+            assert!(rt; pool.take(name) == Some(name.serial - 1));
             assert!(rt; pool.name_in(slot).is_none());
         }
     }
-    assert_eq!(rt; pool.live(), 0);
+    assert!(rt; pool.live() == 0);
     Ok(())
 }
 
@@ -129,15 +129,15 @@ fn each_live_value_is_dropped_once(rt: HostRuntime) {
             put(&rt, &mut pool, Counted { drops: &drops });
         }
         pool.clear();
-        assert_eq!(rt; drops.get(), 20);
+        assert!(rt; drops.get() == 20);
         let name = put(&rt, &mut pool, Counted { drops: &drops });
         for _ in 0..11 {
             put(&rt, &mut pool, Counted { drops: &drops });
         }
         assert!(rt; pool.take(name).is_some());
-        assert_eq!(rt; drops.get(), 21);
+        assert!(rt; drops.get() == 21);
     }
-    assert_eq!(rt; drops.get(), 32);
+    assert!(rt; drops.get() == 32);
 }
 
 #[test]
@@ -150,12 +150,12 @@ fn a_long_churn_keeps_its_slots(rt: HostRuntime) -> Result<(), Fail> {
     for turn in 0..1_000_000u64 {
         let at = (turn % 1000) as usize;
         assert!(rt; at < names.len());
-        assert_eq!(rt; pool.take(names[at]), Some(turn));
+        assert!(rt; pool.take(names[at]) == Some(turn));
         names[at] = put(&rt, &mut pool, turn + 1000);
     }
-    assert_eq!(rt; pool.slots(), 1024);
-    assert_eq!(rt; pool.live(), 1000);
-    assert_eq!(rt; pool.next_serial(), 1_001_001);
+    assert!(rt; pool.slots() == 1024);
+    assert!(rt; pool.live() == 1000);
+    assert!(rt; pool.next_serial() == 1_001_001);
     Ok(())
 }
 
@@ -165,7 +165,7 @@ fn crosses_threads<X: Send + Sync>(_x: &X) {}
 fn values_may_take_no_bytes(rt: HostRuntime) {
     let mut pool = Pool::new(rt.alloc());
     let name = put(&rt, &mut pool, ());
-    assert_eq!(rt; pool.take(name), Some(()));
+    assert!(rt; pool.take(name) == Some(()));
     crosses_threads(&pool);
 }
 
@@ -179,13 +179,13 @@ fn a_failed_growth_changes_nothing(rt: HostRuntime) {
         match pool.put(v) {
             Ok(_) => {}
             Err(PutFault::NoMemory(back)) => {
-                assert_eq!(rt; back, v);
-                assert_eq!(rt; (pool.live(), pool.spare(), pool.next_serial()), before);
+                assert!(rt; back == v);
+                assert!(rt; (pool.live(), pool.spare(), pool.next_serial()) == before);
                 put(&rt, &mut pool, back);
             }
             Err(PutFault::Spent(_)) => panic!(rt; "serials are left"),
         }
     }
-    assert_eq!(rt; pool.slots(), 32);
-    assert_eq!(rt; pool.next_serial(), 21);
+    assert!(rt; pool.slots() == 32);
+    assert!(rt; pool.next_serial() == 21);
 }

@@ -17,19 +17,23 @@ fn a_list(alloc: Global) -> Result<Decls, AllocError> {
         second: None,
         keyed: false,
     };
-    Ok(Decls::from_vec(vec![in alloc;
-        Decl::TypeDecl {
-            line: 1,
-            name: ident(alloc, b"l")?,
-            def
-        },
-        Decl::Object {
-            line: 1,
-            name: ident(alloc, b"a")?,
-            of: ident(alloc, b"l")?,
-            capacity: None
-        },
-    ]?))
+    let mut decls = Vec::new(alloc);
+    decls.push(Decl::TypeDecl {
+        line: 1,
+        name: ident(alloc, b"l")?,
+        def,
+    })?;
+    decls.push(an_object(alloc)?)?;
+    Ok(Decls::from_vec(decls))
+}
+
+fn an_object(alloc: Global) -> Result<Decl, AllocError> {
+    Ok(Decl::Object {
+        line: 1,
+        name: ident(alloc, b"a")?,
+        of: ident(alloc, b"l")?,
+        capacity: None,
+    })
 }
 
 fn append(alloc: Global, line: u64, value: i64) -> Result<Stmt, AllocError> {
@@ -47,27 +51,49 @@ const LIST: &[u8] = b"type l is list (integer); a : l;\na.append (-7);\n";
 const BLOCK: &[u8] =
     b"type l is list (integer); a : l;\n\nstable a do a.append (1);\n\na.append (2); end;\n";
 
-#[test]
-fn prints_scripts(rt: HostRuntime) -> Result<(), Fail> {
-    let alloc = rt.alloc();
-    let list = Script {
+/// One command.
+fn a_command(alloc: Global) -> Result<Script, AllocError> {
+    let mut stmts = Vec::new(alloc);
+    stmts.push(append(alloc, 2, -7)?)?;
+    Ok(Script {
         decls: a_list(alloc)?,
-        stmts: Stmts::from_vec(vec![in alloc; append(alloc, 2, -7)?]?),
-    };
-    let text = print(alloc, &list)?;
-    assert_eq!(rt; text.as_slice(), LIST);
+        stmts: Stmts::from_vec(stmts),
+    })
+}
 
-    let body = vec![in alloc; append(alloc, 3, 1)?, append(alloc, 5, 2)?]?;
-    let stable = Stmt::Stable {
+/// A block of two commands.
+fn stable(alloc: Global) -> Result<Stmt, AllocError> {
+    let mut body = Vec::new(alloc);
+    body.push(append(alloc, 3, 1)?)?;
+    body.push(append(alloc, 5, 2)?)?;
+    Ok(Stmt::Stable {
         line: 3,
         object: ident(alloc, b"a")?,
         body: Stmts::from_vec(body),
-    };
-    let block = Script {
+    })
+}
+
+fn a_block(alloc: Global) -> Result<Script, AllocError> {
+    let mut stmts = Vec::new(alloc);
+    stmts.push(stable(alloc)?)?;
+    Ok(Script {
         decls: a_list(alloc)?,
-        stmts: Stmts::from_vec(vec![in alloc; stable]?),
-    };
-    let text = print(alloc, &block)?;
-    assert_eq!(rt; text.as_slice(), BLOCK);
+        stmts: Stmts::from_vec(stmts),
+    })
+}
+
+#[test]
+fn prints_a_command(rt: HostRuntime) -> Result<(), Fail> {
+    let script = a_command(rt.alloc())?;
+    let text = print(rt.alloc(), &script)?;
+    assert!(rt; text.as_slice() == LIST);
+    Ok(())
+}
+
+#[test]
+fn prints_a_block(rt: HostRuntime) -> Result<(), Fail> {
+    let script = a_block(rt.alloc())?;
+    let text = print(rt.alloc(), &script)?;
+    assert!(rt; text.as_slice() == BLOCK);
     Ok(())
 }

@@ -1,7 +1,7 @@
 ghost use Rattle.std.specs.Prelude.{◌<◌};
 
 use ac_io::{MemorySink, MemorySource};
-use ac_top::{FreeGate, Gate, INPUT_LIMIT, Status, run};
+use ac_top::{FreeGate, Gate, Status, run};
 use std::alloc::Global;
 use std::sync::Wait;
 use std::test::Fail;
@@ -43,8 +43,8 @@ fn answers_in_place_of_no_memory(rt: HostRuntime) -> Result<(), Fail> {
         for piece in [WHOLE, 1] {
             let input = input.to_vec(rt.alloc())?;
             let (ended, held) = answer(&rt, rt.alloc(), input, piece)?;
-            assert_eq!(rt; ended, status);
-            assert_eq!(rt; held.as_slice(), text);
+            assert!(rt; ended == status);
+            assert!(rt; held.as_slice() == text);
         }
     }
     Ok(())
@@ -60,34 +60,55 @@ fn takes_the_longest_input_and_no_longer_one(rt: HostRuntime) -> Result<(), Fail
         for piece in [WHOLE, 1] {
             let input = vec![in rt.alloc(); b' '; len]?;
             let (ended, held) = answer(&rt, rt.alloc(), input, piece)?;
-            assert_eq!(rt; ended, status);
-            assert_eq!(rt; held.as_slice(), text);
+            assert!(rt; ended == status);
+            assert!(rt; held.as_slice() == text);
         }
     }
     Ok(())
 }
 
+/// Runs the source into the sink, and gives the status and what is held.
+fn ended<R: Threads + Wait + Sync>(
+    rt: &R,
+    alloc: Global,
+    mut source: MemorySource,
+    mut sink: MemorySink,
+) -> Result<(u8, Vec<u8>), Fail> {
+    let status = run(rt, alloc, &[], &mut source, &mut sink, &FreeGate);
+    Ok((status.number(), sink.bytes().to_vec(alloc)?))
+}
+
 #[test]
-fn ends_where_a_device_fails(rt: HostRuntime) -> Result<(), Fail> {
+fn ends_where_a_line_is_cut(rt: HostRuntime) -> Result<(), Fail> {
     let alloc = rt.alloc();
-    let mut source = MemorySource::new(ONE_LIST.to_vec(alloc)?, WHOLE, Vec::new(alloc));
-    let mut sink = MemorySink::with_room(alloc, 100, 4, vec![in alloc; 2]?)?;
-    let status = run(&rt, alloc, &[], &mut source, &mut sink, &FreeGate);
-    assert_eq!(rt; status.number(), 4);
-    assert_eq!(rt; sink.bytes(), b"3: o".as_slice());
+    let source = MemorySource::new(ONE_LIST.to_vec(alloc)?, WHOLE, Vec::new(alloc));
+    let sink = MemorySink::with_room(alloc, 100, 4, vec![in alloc; 2]?)?;
+    let (status, held) = ended(&rt, alloc, source, sink)?;
+    assert!(rt; status == 4);
+    assert!(rt; held.as_slice() == b"3: o".as_slice());
+    Ok(())
+}
 
-    // Each line is one piece, handed over as soon as its command has run.
-    let mut source = MemorySource::new(ONE_LIST.to_vec(alloc)?, WHOLE, Vec::new(alloc));
-    let mut sink = MemorySink::with_room(alloc, 100, WHOLE, vec![in alloc; 3]?)?;
-    let status = run(&rt, alloc, &[], &mut source, &mut sink, &FreeGate);
-    assert_eq!(rt; status.number(), 4);
-    assert_eq!(rt; sink.bytes(), b"3: ok\n4: ok\n".as_slice());
+// Each line is one piece, handed over as soon as its command has run.
+#[test]
+fn ends_where_the_sink_fails(rt: HostRuntime) -> Result<(), Fail> {
+    let alloc = rt.alloc();
+    let source = MemorySource::new(ONE_LIST.to_vec(alloc)?, WHOLE, Vec::new(alloc));
+    let sink = MemorySink::with_room(alloc, 100, WHOLE, vec![in alloc; 3]?)?;
+    let (status, held) = ended(&rt, alloc, source, sink)?;
+    assert!(rt; status == 4);
+    assert!(rt; held.as_slice() == b"3: ok\n4: ok\n".as_slice());
+    Ok(())
+}
 
-    let mut source = MemorySource::new(ONE_LIST.to_vec(alloc)?, WHOLE, vec![in alloc; 1]?);
-    let mut sink = MemorySink::with_room(alloc, 100, WHOLE, Vec::new(alloc))?;
-    let status = run(&rt, alloc, &[], &mut source, &mut sink, &FreeGate);
-    assert_eq!(rt; status.number(), 3);
-    assert_eq!(rt; sink.bytes(), b"".as_slice());
+#[test]
+fn ends_where_the_source_fails(rt: HostRuntime) -> Result<(), Fail> {
+    let alloc = rt.alloc();
+    let source = MemorySource::new(ONE_LIST.to_vec(alloc)?, WHOLE, vec![in alloc; 1]?);
+    let sink = MemorySink::with_room(alloc, 100, WHOLE, Vec::new(alloc))?;
+    let (status, held) = ended(&rt, alloc, source, sink)?;
+    assert!(rt; status == 3);
+    assert!(rt; held.as_slice() == b"".as_slice());
     Ok(())
 }
 
@@ -98,11 +119,24 @@ fn refuses_words_that_it_does_not_know(rt: HostRuntime) -> Result<(), Fail> {
     let mut source = MemorySource::new(ONE_LIST.to_vec(alloc)?, WHOLE, Vec::new(alloc));
     let mut sink = MemorySink::with_room(alloc, 100, WHOLE, Vec::new(alloc))?;
     let status = run(&rt, alloc, &words, &mut source, &mut sink, &FreeGate);
-    assert_eq!(rt; status.number(), 2);
-    assert_eq!(rt; source.rest(), ONE_LIST);
-    assert_eq!(rt; sink.bytes(), b"".as_slice());
+    assert!(rt; status.number() == 2);
+    assert!(rt; source.rest() == ONE_LIST);
+    assert!(rt; sink.bytes() == b"".as_slice());
     FreeGate.before(1);
     Ok(())
+}
+
+/// Checks an input into the sink, and gives the status and what is held.
+fn checked<R: Threads + Wait + Sync>(
+    rt: &R,
+    alloc: Global,
+    input: &[u8],
+    mut sink: MemorySink,
+) -> Result<(Status, Vec<u8>), Fail> {
+    let words = vec![in alloc; String::from_str(alloc, "--check")?]?;
+    let mut source = MemorySource::new(input.to_vec(alloc)?, WHOLE, Vec::new(alloc));
+    let status = run(rt, alloc, &words, &mut source, &mut sink, &FreeGate);
+    Ok((status, sink.bytes().to_vec(alloc)?))
 }
 
 #[test]
@@ -125,13 +159,10 @@ fn checks_in_place_of_no_memory(rt: HostRuntime) -> Result<(), Fail> {
         ),
     ];
     for (input, status, text) in rows {
-        let alloc = rt.alloc();
-        let words = vec![in alloc; String::from_str(alloc, "--check")?]?;
-        let mut source = MemorySource::new(input.to_vec(alloc)?, WHOLE, Vec::new(alloc));
-        let mut sink = MemorySink::with_room(alloc, 100, WHOLE, Vec::new(alloc))?;
-        let ended = run(&rt, alloc, &words, &mut source, &mut sink, &FreeGate);
-        assert_eq!(rt; ended, status);
-        assert_eq!(rt; sink.bytes(), text);
+        let sink = MemorySink::with_room(rt.alloc(), 100, WHOLE, Vec::new(rt.alloc()))?;
+        let (ended, held) = checked(&rt, rt.alloc(), input, sink)?;
+        assert!(rt; ended == status);
+        assert!(rt; held.as_slice() == text);
     }
     Ok(())
 }
@@ -143,13 +174,11 @@ fn a_check_ends_where_the_sink_fails(rt: HostRuntime) -> Result<(), Fail> {
         (b"A.Append (1);\n", b"line"),
     ];
     for (input, front) in rows {
-        let alloc = rt.alloc();
-        let words = vec![in alloc; String::from_str(alloc, "--check")?]?;
-        let mut source = MemorySource::new(input.to_vec(alloc)?, WHOLE, Vec::new(alloc));
-        let mut sink = MemorySink::with_room(alloc, 100, 4, vec![in alloc; 2]?)?;
-        let status = run(&rt, alloc, &words, &mut source, &mut sink, &FreeGate);
-        assert_eq!(rt; status.number(), 4);
-        assert_eq!(rt; sink.bytes(), front);
+        let faults = vec![in rt.alloc(); 2]?;
+        let sink = MemorySink::with_room(rt.alloc(), 100, 4, faults)?;
+        let (status, held) = checked(&rt, rt.alloc(), input, sink)?;
+        assert!(rt; status.number() == 4);
+        assert!(rt; held.as_slice() == front);
     }
     Ok(())
 }

@@ -17,9 +17,9 @@ fn reasons_as_in_the_table(rt: HostRuntime) {
         (Reason::RootSource, 22, "CONSTRAINT_ERROR", "root source"),
     ];
     for (reason, number, exception, text) in rows {
-        assert_eq!(rt; reason.number(), number);
-        assert_eq!(rt; reason.exception().name(), exception);
-        assert_eq!(rt; reason.text(), text);
+        assert!(rt; reason.number() == number);
+        assert!(rt; reason.exception().name() == exception);
+        assert!(rt; reason.text() == text);
     }
 }
 
@@ -37,7 +37,7 @@ fn element_as_wanted<T: Elem>(
     let blank = T::blank(alloc)?;
     assert!(rt; element.same(&copied));
     assert!(rt; !element.same(&blank));
-    assert_eq!(rt; [element.size(), blank.size()], sizes);
+    assert!(rt; [element.size(), blank.size()] == sizes);
     Ok(())
 }
 
@@ -49,9 +49,9 @@ fn in_order<T: Rank>(rt: &impl Abort, smaller: &T, greater: &T) {
 fn hashed_as_wanted<T: KeyOf>(rt: &impl Abort, element: &T, other: &T, hash: u32) {
     assert!(rt; element.alike(element));
     assert!(rt; !element.alike(other));
-    assert_eq!(rt; element.hash(), hash);
+    assert!(rt; element.hash() == hash);
     assert!(rt; element.key().alike(element.key()));
-    assert_eq!(rt; element.key().hash(), hash);
+    assert!(rt; element.key().hash() == hash);
 }
 
 #[test]
@@ -66,9 +66,9 @@ fn integers(rt: HostRuntime) -> Result<(), Fail> {
 fn texts_that_are_taken(rt: HostRuntime) -> Result<(), Fail> {
     let alloc = rt.alloc();
     let long = vec![in alloc; b'x'; 1_001]?;
-    assert_eq!(rt; Text::new(alloc, b"a\n"), Err(TextFault::BadByte(2)));
-    assert_eq!(rt; Text::new(alloc, &long), Err(TextFault::TooLong));
-    assert_eq!(rt; Text::new(alloc, &long[1..])?.bytes().len(), 1_000);
+    assert!(rt; Text::new(alloc, b"a\n") == Err(TextFault::BadByte(2)));
+    assert!(rt; Text::new(alloc, &long) == Err(TextFault::TooLong));
+    assert!(rt; Text::new(alloc, &long[1..])?.bytes().len() == 1_000);
     Ok(())
 }
 
@@ -85,16 +85,34 @@ fn texts_as_elements(rt: HostRuntime) -> Result<(), Fail> {
 }
 
 #[test]
-fn keyed_texts(rt: HostRuntime) -> Result<(), Fail> {
+fn keyed_texts_are_alike_by_their_keys(rt: HostRuntime) -> Result<(), Fail> {
     let alloc = rt.alloc();
     let first = keyed(alloc, b"a=1")?;
     let second = keyed(alloc, b"a=2")?;
-    let other = keyed(alloc, b"b")?;
     assert!(rt; first.alike(&second));
     assert!(rt; !first.same(&second));
-    assert_eq!(rt; first.key().bytes(), b"a".as_slice());
-    assert_eq!(rt; other.key().bytes(), other.text().bytes());
-    element_as_wanted(&rt, alloc, &first, [3, 0])?;
+    Ok(())
+}
+
+#[test]
+fn a_key_ends_before_the_sign(rt: HostRuntime) -> Result<(), Fail> {
+    let first = keyed(rt.alloc(), b"a=1")?;
+    assert!(rt; first.key().bytes() == b"a".as_slice());
+    let other = keyed(rt.alloc(), b"b")?;
+    assert!(rt; other.key().bytes() == other.text().bytes());
+    Ok(())
+}
+
+#[test]
+fn keyed_texts_as_elements(rt: HostRuntime) -> Result<(), Fail> {
+    let first = keyed(rt.alloc(), b"a=1")?;
+    element_as_wanted(&rt, rt.alloc(), &first, [3, 0])
+}
+
+#[test]
+fn keyed_texts_in_order(rt: HostRuntime) -> Result<(), Fail> {
+    let second = keyed(rt.alloc(), b"a=2")?;
+    let other = keyed(rt.alloc(), b"b")?;
     in_order(&rt, &second, &other);
     hashed_as_wanted(&rt, &second, &other, 314);
     Ok(())
@@ -108,7 +126,7 @@ fn the_earliest_step_comes_first(rt: HostRuntime) {
         Some(Reason::ElementTampering),
         Some(Reason::CursorTampering),
     ];
-    assert_eq!(rt; first_reason(&found), Some(Reason::ElementTampering));
-    assert_eq!(rt; first_reason(&found[..2]), Some(Reason::DeadCursor));
-    assert_eq!(rt; first_reason(&found[1..2]), None);
+    assert!(rt; first_reason(&found) == Some(Reason::ElementTampering));
+    assert!(rt; first_reason(&found[..2]) == Some(Reason::DeadCursor));
+    assert!(rt; first_reason(&found[1..2]) == None);
 }
