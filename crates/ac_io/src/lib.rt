@@ -5,12 +5,14 @@
 mod memory_sink;
 mod memory_source;
 mod outside;
+mod pieces;
 mod standard;
 mod whole;
 
 pub use memory_sink::MemorySink;
 pub use memory_source::MemorySource;
 pub use outside::{Next, Put, Sink, Source};
+pub use pieces::{MOST_WAITING, add, add_last, pass};
 pub use standard::{StdSink, StdSource};
 pub use whole::{ReadEnd, WriteFault, read_all, write_all};
 

@@ -67,6 +67,17 @@ fn writes_all_or_a_front(rt: HostRuntime) -> Result<(), Fail> {
 }
 
 #[test]
+fn writes_in_pieces(rt: HostRuntime) -> Result<(), Fail> {
+    let mut sink = MemorySink::with_room(rt.alloc(), 12, 4, Vec::new(rt.alloc()))?;
+    let mut text = Vec::new(rt.alloc());
+    add(&mut text, LINE, &mut sink)?;
+    assert!(rt; sink.bytes().is_empty());
+    add_last(&mut text, LINE, &mut sink)?;
+    assert_eq!(rt; sink.bytes(), b"3: ok\n3: ok\n".as_slice());
+    Ok(())
+}
+
+#[test]
 fn reads_standard_input(rt: HostRuntime) -> Result<(), Fail> {
     let mut input = StdSource::new(rt.reader());
     assert_ne!(rt; input.next(&mut [0; 8]), Next::Failed);
