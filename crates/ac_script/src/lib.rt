@@ -27,4 +27,4 @@ pub use ac_syntax::{
 };
 pub use law::{each_text, items_read, one_script, refused_texts};
 pub use parser::parse;
-pub use printer::print;
+pub use printer::{append_literal, print};

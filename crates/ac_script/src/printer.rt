@@ -18,6 +18,7 @@ use ac_syntax::{Closing, Script, Stmt, Stmts};
 use block::{put_declare, put_end, put_loop, put_stable, put_view};
 use command::{put_call, put_set, put_sum};
 use declaration::put_declarations;
+pub use literal::append_literal;
 use page::Page;
 use std::alloc::Global;
 
