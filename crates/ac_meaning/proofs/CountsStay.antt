@@ -54,7 +54,7 @@ held_number : {V : Type 0} (g : HeldGuard) (b : Bool) (o : Object ℕ V) → (if
 held_number g true o = refl
 held_number g false o = refl
 
-release_hold : {V : Type 0} (g : HeldGuard) (o : Object ℕ V) → release_on g V (hold_on g V o) ≡ o
+pub release_hold : {V : Type 0} (g : HeldGuard) (o : Object ℕ V) → release_on g V (hold_on g V o) ≡ o
 release_hold {V} g o =
     let now = hold_on g V o in
     ap (λ n. if g.object == n then release_call false g.kind now else now) (held_number g (g.object == o.number) o)
@@ -78,10 +78,10 @@ bounds_twice : (f g : Held → Held) (bs : List Bound) → map (bound_by f) (map
 bounds_twice f g [] = refl
 bounds_twice f g (b ∷ bs) = λ i. bound_twice f g b i ∷ bounds_twice f g bs i
 
-objects_twice : (f g : Held → Held) (e : State) → objects_by f (objects_by g e) ≡ objects_by (λ h. f (g h)) e
+pub objects_twice : (f g : Held → Held) (e : State) → objects_by f (objects_by g e) ≡ objects_by (λ h. f (g h)) e
 objects_twice f g e = λ i. record e { bounds = bounds_twice f g e.bounds i }
 
-objects_alike : (f g : Held → Held) → ((h : Held) → f h ≡ g h) → (e : State) → objects_by f e ≡ objects_by g e
+pub objects_alike : (f g : Held → Held) → ((h : Held) → f h ≡ g h) → (e : State) → objects_by f e ≡ objects_by g e
 objects_alike f g each e = λ i. objects_by (λ h. each h i) e
 
 pub guards_come_and_go : GuardsComeAndGo

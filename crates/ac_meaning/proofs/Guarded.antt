@@ -48,7 +48,7 @@ held_step : (g : HeldGuard) (guards : Guards) (n : ℕ) (b : Bool) → (g.object
 held_step g guards n true e k rest = omega (arith, on_some (g.object == n) g.kind e)
 held_step g guards n false e k rest = omega (arith, rest k)
 
-held_some : (guards : Guards) (n : ℕ) → is_guarded guards n ≡ true → 0 < held_on guards n guard.Cursors + held_on guards n guard.Elements
+pub held_some : (guards : Guards) (n : ℕ) → is_guarded guards n ≡ true → 0 < held_on guards n guard.Cursors + held_on guards n guard.Elements
 held_some [] n h = cc
 held_some (g ∷ guards) n h = held_step g guards n (g.object == n) refl h (held_some guards n)
 

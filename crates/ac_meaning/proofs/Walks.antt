@@ -25,7 +25,7 @@ either : (a c : Bool) → c ≡ true → (a || c) ≡ true
 either true c h = refl
 either false c h = h
 
-named_there : {V : Type 0} (rows : List (Row ℕ V)) (before : List ℕ) (name : ℕ) (after : List ℕ) → names rows ≡ before ++ name ∷ after →
+pub named_there : {V : Type 0} (rows : List (Row ℕ V)) (before : List ℕ) (name : ℕ) (after : List ℕ) → names rows ≡ before ++ name ∷ after →
     is_named rows name ≡ true
 unfolding head_or tail_of
 named_there [] [] name after e = absurd (cc)
@@ -101,7 +101,7 @@ in_front number (x ∷ after) ys =
     ∙ ap (mark_by number) (ap (λ xs. slice_get xs (length (reverse after))) (append_assoc (reverse after) (x ∷ []) ys) ∙ last_of (reverse after) x ys))
 
 -- the names in their own order, where a loop goes backwards over them
-turned : (xs before : List ℕ) (name : ℕ) (after : List ℕ) → reverse xs ≡ before ++ name ∷ after → xs ≡ reverse after ++ name ∷ reverse before
+pub turned : (xs before : List ℕ) (name : ℕ) (after : List ℕ) → reverse xs ≡ before ++ name ∷ after → xs ≡ reverse after ++ name ∷ reverse before
 turned xs before name after e =
     sym (reverse-reverse xs)
     ∙ (ap reverse e
