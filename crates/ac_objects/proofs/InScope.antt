@@ -1,0 +1,220 @@
+-- What becomes of the names in scope when one object changes, when names go and when they come.
+use Rattle.std.proofs.Common.{◌≡◌, ◌==◌, ◌+◌, ◌<◌, ◌≤◌, ◌++◌, inl, inr, ℕ, zero, suc, Bool, true, false, List, [], ◌∷◌, map, take, set, get_or, length, slice_get, option_map, refl, sym, ap, subst, ◌∙◌, arith, Option, Some, None, if◌then◌else◌}
+use Rattle.std.proofs.lemmas.Bool.{cases_lt}
+use Rattle.std.proofs.lemmas.List.{take-take, take-append-le, length-map, length-take-le, map-set, take-map, map_push}
+use Rattle.std.proofs.lemmas.List.Elements.{All-set, All-take, All-push}
+use Rattle.std.proofs.lemmas.Option.{slice_get_past, slice_get-map, slice_get_within, get_or_from_slice_get, none-some, same_Some}
+use Rattle.ac_base.specs.declared.cursor.Cursor.{Cursor}
+use Rattle.ac_base.specs.declared.cursor.Cursor.TheVariants as cursor
+use Rattle.ac_model.specs.Letters.{Mark}
+use Rattle.ac_meaning.specs.Holdings.{Held, number_of}
+use Rattle.ac_meaning.specs.Environment as meant
+use Rattle.ac_meaning.specs.Numbers.{has_number, times_numbered, NumbersDiffer}
+use Rattle.ac_meaning.proofs.NumbersApart.{numbers_go_on}
+use Rattle.ac_objects.specs.declared.object.Object.{Object}
+use Rattle.ac_objects.specs.declared.object.Object.TheVariants.{Integers, Texts}
+use Rattle.ac_objects.specs.declared.bound.Bound.{Bound}
+use Rattle.ac_objects.specs.declared.bound.Bound.TheVariants as bound
+use Rattle.ac_objects.specs.Standing.{counts_in, counts_of}
+use Rattle.ac_objects.specs.World.{World, world, held_of, bound_of, state_of, ObjectAgrees, BoundAgrees, IsKnown, cursor_in, IsSound, Persists}
+
+-- the same object to guards and cursors
+pub record GoesOn (o now : Object) : Type 0 where
+  pub number : number_of (held_of now) ≡ number_of (held_of o)
+  pub agrees : (c : Cursor) → ObjectAgrees o c → ObjectAgrees now c
+
+pub no_cursor : (w : World) → IsKnown w cursor.NoElement
+no_cursor w = record { made = tt; agrees = λ i d h. no_agreement (get_or w.bounds i d) }
+  where
+    no_object : (o : Object) → ObjectAgrees o cursor.NoElement
+    no_object (Integers l) = tt
+    no_object (Texts l) = tt
+
+    no_agreement : (b : Bound) → BoundAgrees b cursor.NoElement
+    no_agreement bound.Type = tt
+    no_agreement (bound.Object o) = no_object o
+    no_agreement (bound.Cursor c) = tt
+    no_agreement (bound.Value v) = tt
+    no_agreement (bound.Element object at) = tt
+
+-- an object at a place
+
+set_there : {X : Type 0} (xs : List X) (i : ℕ) (x : X) → i < length xs → slice_get (set xs i x) i ≡ Some x
+set_there [] i x h = absurd (omega (arith, h))
+set_there (y ∷ xs) zero x h = refl
+set_there (y ∷ xs) (suc i) x h = set_there xs i x (omega (arith, h))
+
+pub bound_there : (bounds : List Bound) (next place : ℕ) (b : Bound) → slice_get bounds place ≡ Some b →
+    meant.bound_at (state_of (world bounds next)) place ≡ bound_of b
+bound_there bounds next place b e = ap meant.bound_in (slice_get-map bound_of bounds place ∙ ap (option_map bound_of) e)
+
+pub object_there : (bounds : List Bound) (next place : ℕ) (o : Object) → slice_get bounds place ≡ Some (bound.Object o) →
+    meant.object_at (state_of (world bounds next)) place ≡ Some (held_of o)
+object_there bounds next place o e = ap meant.object_in (bound_there bounds next place (bound.Object o) e)
+
+set_numbered : (number : ℕ) (bs : List meant.Bound) (place : ℕ) (b now : meant.Bound) → slice_get bs place ≡ Some b →
+    has_number number now ≡ has_number number b → times_numbered number (set bs place now) ≡ times_numbered number bs
+set_numbered number [] place b now e same = refl
+set_numbered number (x ∷ bs) zero b now e same =
+    ap (λ n. n + times_numbered number bs) (same ∙ ap (has_number number) (sym (ap (λ s. elim s [ None ↦ x | Some y ↦ y ]) e)))
+set_numbered number (x ∷ bs) (suc place) b now e same = ap (λ n. has_number number x + n) (set_numbered number bs place b now e same)
+
+module _ (bounds : List Bound) (next place : ℕ) (o now : Object) (there : slice_get bounds place ≡ Some (bound.Object o)) (goes : GoesOn o now) where
+  abbrev pub after_set : World
+  after_set = world (set bounds place (bound.Object now)) next
+
+  pub set_state : state_of after_set ≡ meant.with_bound (state_of (world bounds next)) place (meant.binds_object (held_of now))
+  set_state = ap (λ bs. record { bounds = bs; next = next }) (map-set bound_of bounds place (bound.Object now))
+
+  pub set_object : meant.object_at (state_of after_set) place ≡ Some (held_of now)
+  set_object = object_there (set bounds place (bound.Object now)) next place now (set_there bounds place (bound.Object now) (slice_get_within bounds place (bound.Object o) there))
+
+  pub set_persists : Persists (world bounds next) after_set
+  set_persists c known = record {
+    made = known.made;
+    agrees = All-set (λ b. BoundAgrees b c) bounds place (bound.Object now)
+        (goes.agrees c (subst (λ b. BoundAgrees b c) (get_or_from_slice_get bounds place (bound.Object o) (bound.Object o) there)
+        (known.agrees place (bound.Object o) (slice_get_within bounds place (bound.Object o) there))))
+        known.agrees;
+  }
+
+  pub set_sound : IsSound (world bounds next) → IsSound after_set
+  set_sound sound =
+      let same : (number : ℕ) → times_numbered number (map bound_of (set bounds place (bound.Object now))) ≡ times_numbered number (map bound_of bounds) =
+      λ number. ap (times_numbered number) (map-set bound_of bounds place (bound.Object now))
+      ∙ set_numbered number (map bound_of bounds) place (bound_of (bound.Object o)) (bound_of (bound.Object now))
+      (slice_get-map bound_of bounds place ∙ ap (option_map bound_of) there)
+      (ap (λ n. if n == number then 1 else 0) goes.number) in
+      record {
+        numbers_differ = record {
+          once = λ number. subst (λ n. n ≤ 1) (sym (same number)) (sound.numbers_differ.once number);
+          below_next = λ number h. same number ∙ sound.numbers_differ.below_next number h;
+        };
+        cursors_known = All-set (λ b. IsKnown after_set (cursor_in b)) bounds place (bound.Object now) (no_cursor after_set)
+            (λ i d h. set_persists (cursor_in (get_or bounds i d)) (sound.cursors_known i d h));
+      }
+
+-- names that go
+
+module _ (bounds : List Bound) (next count : ℕ) where
+  abbrev pub after_leaving : World
+  after_leaving = world (take count bounds) next
+
+  pub left_state : state_of after_leaving ≡ meant.leaving count (state_of (world bounds next))
+  left_state = ap (λ bs. record { bounds = bs; next = next }) (sym (take-map bound_of count bounds))
+
+  pub left_persists : Persists (world bounds next) after_leaving
+  left_persists c known = record { made = known.made; agrees = All-take (λ b. BoundAgrees b c) count bounds known.agrees }
+
+  pub left_sound : IsSound (world bounds next) → IsSound after_leaving
+  left_sound sound = record {
+    numbers_differ = subst NumbersDiffer (sym left_state) (numbers_go_on.left count (state_of (world bounds next)) sound.numbers_differ);
+    cursors_known = All-take (λ b. IsKnown after_leaving (cursor_in b)) count bounds
+        (λ i d h. left_persists (cursor_in (get_or bounds i d)) (sound.cursors_known i d h));
+  }
+
+-- a name more, which holds no object
+
+module _ (bounds : List Bound) (next : ℕ) (b : Bound) (agrees : (c : Cursor) → BoundAgrees b c) where
+  abbrev pub after_naming : World
+  after_naming = world (bounds ++ b ∷ []) next
+
+  pub named_state : state_of after_naming ≡ meant.with_name (state_of (world bounds next)) (bound_of b)
+  named_state = ap (λ bs. record { bounds = bs; next = next }) (map_push bound_of bounds b)
+
+  pub named_persists : Persists (world bounds next) after_naming
+  named_persists c known = record { made = known.made; agrees = All-push (λ b. BoundAgrees b c) bounds b known.agrees (agrees c) }
+
+  pub named_sound : meant.object_in (bound_of b) ≡ None → IsKnown (world bounds next) (cursor_in b) → IsSound (world bounds next) → IsSound after_naming
+  named_sound none known sound = record {
+    numbers_differ = subst NumbersDiffer (sym named_state) (numbers_go_on.named (state_of (world bounds next)) (bound_of b) none sound.numbers_differ);
+    cursors_known = All-push (λ b. IsKnown after_naming (cursor_in b)) bounds b
+        (λ i d h. named_persists (cursor_in (get_or bounds i d)) (sound.cursors_known i d h))
+        (named_persists (cursor_in b) known);
+  }
+
+-- an object that stands in an environment stands in memory
+pub within : (bounds : List Bound) (next place : ℕ) (h : Held) → meant.object_at (state_of (world bounds next)) place ≡ Some h → place < length bounds
+within bounds next place h e = elim (cases_lt place (length bounds)) [
+  | inl below ↦ below
+  | inr past ↦ absurd (none-some h (sym (ap (λ b. meant.object_in (meant.bound_in b)) (slice_get-map bound_of bounds place ∙ ap (option_map bound_of) (slice_get_past bounds place past))) ∙ e))
+]
+
+-- what stands below so many names
+pub below_taken : {X : Type 0} (xs : List X) (count i : ℕ) → i < count → slice_get (take count xs) i ≡ slice_get xs i
+below_taken xs zero i h = absurd (omega (arith, h))
+below_taken [] (suc count) i h = refl
+below_taken (x ∷ xs) (suc count) zero h = refl
+below_taken (x ∷ xs) (suc count) (suc i) h = below_taken xs count i (omega (arith, h))
+
+pub left_object : (e : meant.State) (count place : ℕ) → place < count → meant.object_at (meant.leaving count e) place ≡ meant.object_at e place
+left_object e count place h = ap (λ b. meant.object_in (meant.bound_in b)) (below_taken e.bounds count place h)
+
+-- a name that holds no object agrees with every cursor
+pub no_object_agrees : (b : Bound) → meant.object_in (bound_of b) ≡ None → (c : Cursor) → BoundAgrees b c
+no_object_agrees bound.Type e c = tt
+no_object_agrees (bound.Object o) e c = absurd (none-some (held_of o) (sym e))
+no_object_agrees (bound.Cursor at) e c = tt
+no_object_agrees (bound.Value v) e c = tt
+no_object_agrees (bound.Element object at) e c = tt
+
+-- where memory was wanted for it, nothing changed
+module _ (w : World) (bounds now : List Bound) (next : ℕ) (b : Bound) (ok : Bool) (view : world bounds next ≡ w)
+    (pushed : now ≡ (if ok then bounds ++ b ∷ [] else bounds)) (none : meant.object_in (bound_of b) ≡ None) where
+  either_sound : (ok : Bool) → IsKnown (world bounds next) (cursor_in b) → IsSound (world bounds next) →
+      IsSound (world (if ok then bounds ++ b ∷ [] else bounds) next)
+  either_sound true known sound = named_sound bounds next b (no_object_agrees b none) none known sound
+  either_sound false known sound = sound
+
+  either_persists : (ok : Bool) → Persists (world bounds next) (world (if ok then bounds ++ b ∷ [] else bounds) next)
+  either_persists true = named_persists bounds next b (no_object_agrees b none)
+  either_persists false = λ c known. known
+
+  pub added_sound : IsKnown w (cursor_in b) → IsSound (world bounds next) → IsSound (world now next)
+  added_sound known sound = subst (λ bs. IsSound (world bs next)) (sym pushed)
+      (either_sound ok (subst (λ v. IsKnown v (cursor_in b)) (sym view) known) sound)
+
+  pub added_persists : Persists w (world now next)
+  added_persists = subst (λ v. Persists v (world now next)) view
+      (subst (λ bs. Persists (world bounds next) (world bs next)) (sym pushed) (either_persists ok))
+
+-- an object stands where it stood when a name is added
+before_last : {X : Type 0} (xs : List X) (i : ℕ) (x y : X) → slice_get xs i ≡ Some x → slice_get (xs ++ y ∷ []) i ≡ Some x
+before_last [] i x y e = absurd (none-some x e)
+before_last (z ∷ xs) zero x y e = e
+before_last (z ∷ xs) (suc i) x y e = before_last xs i x y e
+
+held_bound : (found : Option meant.Bound) (h : Held) → meant.object_in (meant.bound_in found) ≡ Some h → found ≡ Some (meant.binds_object h)
+held_bound None h e = absurd (none-some h e)
+held_bound (Some meant.binds_type) h e = absurd (none-some h e)
+held_bound (Some (meant.binds_object k)) h e = ap (λ k. Some (meant.binds_object k)) (same_Some k h e)
+held_bound (Some (meant.binds_cursor mark)) h e = absurd (none-some h e)
+held_bound (Some (meant.binds_value v)) h e = absurd (none-some h e)
+held_bound (Some (meant.binds_element object at)) h e = absurd (none-some h e)
+
+pub named_object : (e : meant.State) (b : meant.Bound) (place : ℕ) (h : Held) → meant.object_at e place ≡ Some h →
+    meant.object_at (meant.with_name e b) place ≡ Some h
+named_object e b place h at =
+    ap (λ f. meant.object_in (meant.bound_in f)) (before_last e.bounds place (meant.binds_object h) b (held_bound (slice_get e.bounds place) h at))
+
+-- a change of objects leaves an added name that holds none
+pub named_by : (f : Held → Held) (e : meant.State) (object : ℕ) (at : Mark) →
+    meant.objects_by f (meant.with_name e (meant.binds_element object at)) ≡ meant.with_name (meant.objects_by f e) (meant.binds_element object at)
+named_by f e object at = ap (λ bs. record e { bounds = bs }) (map_push (meant.bound_by f) e.bounds (meant.binds_element object at))
+
+-- the counts of the objects below so many names
+
+pub counts_left : (count : ℕ) (e : meant.State) → take count (counts_of (meant.leaving count e)) ≡ take count (counts_of e)
+counts_left count e =
+    take-map counts_in count (take count e.bounds) ∙ (ap (map counts_in) (take-take count count e.bounds (omega arith)) ∙ sym (take-map counts_in count e.bounds))
+
+pub counts_named : (count : ℕ) (e : meant.State) (b : meant.Bound) → count ≤ length e.bounds →
+    take count (counts_of (meant.with_name e b)) ≡ take count (counts_of e)
+counts_named count e b h =
+    ap (take count) (map_push counts_in e.bounds b)
+    ∙ take-append-le count (map counts_in e.bounds) (counts_in b ∷ []) (omega (arith, h, length-map e.bounds counts_in))
+
+pub counts_turned : (count : ℕ) (e : meant.State) (b : meant.Bound) → count ≤ length e.bounds →
+    take count (counts_of (meant.with_name (meant.leaving count e) b)) ≡ take count (counts_of e)
+counts_turned count e b h =
+    counts_named count (meant.leaving count e) b (omega (arith, length-take-le count e.bounds h)) ∙ counts_left count e

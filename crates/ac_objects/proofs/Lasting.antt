@@ -1,0 +1,106 @@
+-- Elements that names stand for last: an object with a guard keeps its names through a command, so an assignment is never refused.
+use Rattle.std.proofs.Common.{◌≡◌, ◌==◌, ◌&&◌, ◌||◌, ◌+◌, ◌<◌, ℕ, Bool, true, false, not, List, [], ◌∷◌, nat_lt, refl, sym, ap, subst, ◌∙◌, arith, Some, None, if◌then◌else◌}
+use Rattle.std.proofs.lemmas.Bool.Decides.{nat_tests}
+use Rattle.std.specs.List.{list_any}
+use Rattle.ac_base.specs.declared.guard.Class.TheVariants as class
+use Rattle.ac_base.specs.declared.reason.Reason.{Reason}
+use Rattle.ac_base.specs.declared.reason.Reason.TheVariants.{CursorTampering, ElementTampering}
+use Rattle.ac_base.specs.FirstReason.{first_reason}
+use Rattle.ac_base.specs.Rows.{Row, names}
+use Rattle.ac_base.specs.Tampering.{forbids}
+use Rattle.ac_model.specs.Objects.{Object}
+use Rattle.ac_model.specs.Rows.{is_named}
+use Rattle.ac_model.specs.Letters.{Mark, no_mark, mark_at, stale_mark, needs, judged_in}
+use Rattle.ac_model.specs.Cursors.{seen}
+use Rattle.ac_meaning.specs.Elements.{of_integers, of_texts}
+use Rattle.ac_meaning.specs.Environment.{Bound, binds_type, binds_object, binds_cursor, binds_value, binds_element, State, bound_at, object_in}
+use Rattle.ac_meaning.specs.Holdings.{Held, a_list, element_value}
+use Rattle.ac_meaning.specs.Stays.{Stays, HeldStays, BoundStays, StateStays}
+use Rattle.ac_meaning.proofs.BoundsStay.{each_at, object_there}
+use Rattle.ac_objects.specs.Standing.{ElementStands, ElementsStand, counts_in_held}
+
+-- the same names stand for the same
+
+named_by_names : {V : Type 0} (rows : List (Row ℕ V)) (n : ℕ) → is_named rows n ≡ list_any (λ (m : ℕ). m == n) (names rows)
+named_by_names [] n = refl
+named_by_names (r ∷ rows) n = ap (λ b. (r.name == n) || b) (named_by_names rows n)
+
+needs_same : {V : Type 0} (o now : Object ℕ V) → now.number ≡ o.number → ((n : ℕ) → is_named now.rows n ≡ is_named o.rows n) → (m : Mark) →
+    needs now m ≡ needs o m
+needs_same o now number named no_mark = refl
+needs_same o now number named (mark_at object name) = λ i. judged_in (number i) object (named name i)
+needs_same o now number named (stale_mark object) = ap (λ n. judged_in n object false) number
+
+seen_same : {V : Type 0} (o now : Object ℕ V) → now.number ≡ o.number → ((n : ℕ) → is_named now.rows n ≡ is_named o.rows n) → (m : Mark) →
+    seen now m ≡ seen o m
+seen_same o now number named no_mark = refl
+seen_same o now number named (mark_at object name) =
+    λ i. if (object == number i) && not (named name i) then stale_mark object else mark_at object name
+seen_same o now number named (stale_mark object) = refl
+
+needs_lasts : {V : Type 0} (o now : Object ℕ V) (m : Mark) → now.number ≡ o.number → names now.rows ≡ names o.rows →
+    needs now (seen now m) ≡ needs o (seen o m)
+needs_lasts o now m number same =
+    let named : (n : ℕ) → is_named now.rows n ≡ is_named o.rows n =
+    λ n. named_by_names now.rows n ∙ (ap (list_any (λ (k : ℕ). k == n)) same ∙ sym (named_by_names o.rows n)) in
+    needs_same o now number named (seen now m) ∙ ap (needs o) (seen_same o now number named m)
+
+-- a guard forbids to change them
+
+some_if : (a b : Bool) → (a ≡ false → b ≡ true) →
+    (t : Reason) × ((if a then Some CursorTampering else if b then Some ElementTampering else None) ≡ Some t)
+some_if true b f = (CursorTampering, refl)
+some_if false true f = (ElementTampering, refl)
+some_if false false f = absurd (let e = f refl in cc)
+
+either_held : (a b : ℕ) → 0 < a + b → nat_lt 0 a ≡ false → nat_lt 0 b ≡ true
+either_held a b h e = grind (arith, nat_tests)
+
+guarded : (a b : ℕ) → 0 < a + b → (t : Reason) × (forbids class.Cursors a b ≡ Some t)
+guarded a b h = some_if (nat_lt 0 a) (nat_lt 0 b) (either_held a b h)
+
+list_lasts : {V : Type 0} (o now : Object ℕ V) (m : Mark) → Stays o None now → 0 < o.cursor_guards + o.element_guards →
+    first_reason (needs o (seen o m) ∷ []) ≡ None → first_reason (needs now (seen now m) ∷ []) ≡ None
+list_lasts o now m stays held h =
+    let t = guarded o.cursor_guards o.element_guards held in
+    ap (λ r. first_reason (r ∷ [])) (needs_lasts o now m stays.number (stays.names refl t.0 t.1)) ∙ h
+
+-- an object that stays
+
+pub record LastsAt (h k : Held) (m : Mark) : Type 0 where
+  pub stands : (element_value k m).reason ≡ None
+  pub guarded : 0 < (counts_in_held k).cursor_guards + (counts_in_held k).element_guards
+
+held_lasts : (h k : Held) (m : Mark) → HeldStays h k → 0 < (counts_in_held h).cursor_guards + (counts_in_held h).element_guards →
+    (element_value h m).reason ≡ None → LastsAt h k m
+held_lasts (a_list (of_integers o)) (a_list (of_integers now)) m s held h =
+    record { stands = list_lasts o now m s held h; guarded = omega (arith, held, s.cursor_guards, s.element_guards) }
+held_lasts (a_list (of_texts o)) (a_list (of_texts now)) m s held h =
+    record { stands = list_lasts o now m s held h; guarded = omega (arith, held, s.cursor_guards, s.element_guards) }
+held_lasts (a_list (of_integers o)) (a_list (of_texts now)) m s held h = absurd s
+held_lasts (a_list (of_texts o)) (a_list (of_integers now)) m s held h = absurd s
+
+element_before : (b : Bound) (object : ℕ) (m : Mark) → BoundStays b (binds_element object m) → b ≡ binds_element object m
+element_before binds_type object m s = absurd s
+element_before (binds_object h) object m s = absurd s
+element_before (binds_cursor c) object m s = absurd s
+element_before (binds_value v) object m s = absurd s
+element_before (binds_element other c) object m s = λ i. binds_element (sym s.0 i) (sym s.1 i)
+
+object_after : (h : Held) (now : State) (object : ℕ) (m : Mark) (b : Bound) → bound_at now object ≡ b → BoundStays (binds_object h) b →
+    0 < (counts_in_held h).cursor_guards + (counts_in_held h).element_guards → (element_value h m).reason ≡ None → ElementStands now object m
+object_after h now object m (binds_object k) is s held e =
+    let l = held_lasts h k m s held e in record { held = k; there = ap object_in is; stands = l.stands; guarded = l.guarded }
+object_after h now object m binds_type is s held e = absurd s
+object_after h now object m (binds_cursor c) is s held e = absurd s
+object_after h now object m (binds_value v) is s held e = absurd s
+object_after h now object m (binds_element other c) is s held e = absurd s
+
+pub elements_last : (e now : State) → StateStays e now → ElementsStand e → ElementsStand now
+elements_last e now stays stand place object m there =
+    let before = element_before (bound_at e place) object m
+    (subst (λ b. BoundStays (bound_at e place) b) there (each_at e.bounds now.bounds place stays.bounds)) in
+    let st = stand place object m before in
+    object_after st.held now object m (bound_at now object) refl
+    (subst (λ b. BoundStays b (bound_at now object)) (object_there (bound_at e object) st.held st.there) (each_at e.bounds now.bounds object stays.bounds))
+    st.guarded st.stands

@@ -1,0 +1,152 @@
+-- What a name holds, read and set.
+use Rattle.std.proofs.Common.{◌≡◌, ℕ, List, slice_get, slice_set, refl, sym, ap, subst, ◌∙◌, Some, None, Result, Ok, Err}
+use Rattle.ac_base.specs.declared.cursor.Cursor.{Cursor}
+use Rattle.ac_base.specs.declared.fault.NoMemory.{NoMemory}
+use Rattle.ac_base.specs.declared.value.Value.{Value}
+use Rattle.ac_model.specs.Calls.{Done}
+use Rattle.ac_model.specs.Cursors.{plain_mark}
+use Rattle.ac_model.specs.Letters.{Mark}
+use Rattle.ac_meaning.specs.Elements.{of_integers, of_texts}
+use Rattle.ac_meaning.specs.Commands.{argument_in, answer_in, assigned_to, element_written, mark_set, value_set}
+use Rattle.ac_meaning.specs.Environment as meant
+use Rattle.ac_meaning.specs.Environment.{State, value_in, bound_at, object_at, binds_object, with_bound}
+use Rattle.ac_meaning.specs.Holdings.{Held, a_list, element_value, write}
+use Rattle.ac_objects.specs.declared.bound.Bound.{Bound}
+use Rattle.ac_objects.specs.declared.bound.Bound.TheVariants as bound
+use Rattle.ac_objects.specs.declared.object.Object.{Object}
+use Rattle.ac_objects.specs.Standing.{ElementsStand}
+use Rattle.ac_objects.specs.Steps.{Advances, CanRead, AssignsTo, WritesAt, SetsMark, SetsValue, StandsSomewhere, marked}
+use Rattle.ac_objects.specs.World.{World, world, state_of, bound_of, held_of, IsKnown, IsSound, cursor_in}
+use Rattle.ac_objects.proofs.Places.{all_at, set_same}
+use Rattle.ac_objects.proofs.Worlds.{stands_in, object_there_in, bound_there, bound_past, state_set, set_advances, same_advances, object_replaces, none_known, known_agrees}
+
+-- Reading
+
+pub read_found : (w : World) (bs : List Bound) (n i : ℕ) (b : Bound) → world bs n ≡ w → slice_get bs i ≡ Some b →
+    argument_in (state_of w) (bound_of b) ≡ argument_in (state_of w) (bound_at (state_of w) i)
+read_found w bs n i b view there =
+    subst (λ x. argument_in (state_of x) (bound_of b) ≡ argument_in (state_of x) (bound_at (state_of x) i)) view
+    (ap (argument_in (state_of (world bs n))) (sym (bound_there bs n i b there)))
+
+pub say_found : (w : World) (bs : List Bound) (n i : ℕ) (b : Bound) → world bs n ≡ w → slice_get bs i ≡ Some b →
+    answer_in (state_of w) (bound_of b) ≡ answer_in (state_of w) (bound_at (state_of w) i)
+say_found w bs n i b view there =
+    subst (λ x. answer_in (state_of x) (bound_of b) ≡ answer_in (state_of x) (bound_at (state_of x) i)) view
+    (ap (answer_in (state_of (world bs n))) (sym (bound_there bs n i b there)))
+
+-- the value that an argument is read as is the present value
+pub value_read : (e : State) (b : meant.Bound) → (argument_in e b).value ≡ value_in e b
+value_read e meant.binds_type = refl
+value_read e (meant.binds_object h) = refl
+value_read e (meant.binds_cursor mark) = refl
+value_read e (meant.binds_value v) = refl
+value_read e (meant.binds_element object at) = refl
+
+pub can_read : (bs : List Bound) (n i object : ℕ) (at : Cursor) → IsSound (world bs n) → ElementsStand (state_of (world bs n)) →
+    slice_get bs i ≡ Some (bound.Element object at) → CanRead bs object at
+can_read bs n i object at sound stand there =
+    let st = stand i object (plain_mark at) (bound_there bs n i (bound.Element object at) there) in
+    let s = stands_in bs n object st.held st.there in
+    let known = all_at (λ b. IsKnown (world bs n) (cursor_in b)) bs i (bound.Element object at) sound.cursors_known there in
+    record {
+      held = s.object;
+      there = s.there;
+      agrees = known_agrees bs n object s.object at known s.there;
+      stands = subst (λ h. (element_value h (plain_mark at)).reason ≡ None) (sym s.is_held) st.stands;
+    }
+
+pub can_read_in : (w : World) (bs : List Bound) (n i object : ℕ) (at : Cursor) → world bs n ≡ w → IsSound (world bs n) → ElementsStand (state_of w) →
+    slice_get bs i ≡ Some (bound.Element object at) → CanRead bs object at
+can_read_in w bs n i object at view sound stand there = can_read bs n i object at sound (subst (λ x. ElementsStand (state_of x)) (sym view) stand) there
+
+-- A cursor
+
+advances_marked : (bs : List Bound) (n i : ℕ) (c : Cursor) (b : Bound) → slice_get bs i ≡ Some b → IsSound (world bs n) → IsKnown (world bs n) c →
+    Advances (world bs n) (world (slice_set bs i (marked c b)) n)
+advances_marked bs n i c (bound.Cursor old) there sound known =
+    set_advances bs n i (bound.Cursor old) (bound.Cursor c) sound there (record { counts = refl; agrees = λ x h. tt }) known
+advances_marked bs n i c bound.Type there sound known =
+    subst (λ ys. Advances (world bs n) (world ys n)) (sym (set_same bs i bound.Type there)) (same_advances (world bs n) sound)
+advances_marked bs n i c (bound.Object o) there sound known =
+    subst (λ ys. Advances (world bs n) (world ys n)) (sym (set_same bs i (bound.Object o) there)) (same_advances (world bs n) sound)
+advances_marked bs n i c (bound.Value v) there sound known =
+    subst (λ ys. Advances (world bs n) (world ys n)) (sym (set_same bs i (bound.Value v) there)) (same_advances (world bs n) sound)
+advances_marked bs n i c (bound.Element object at) there sound known =
+    subst (λ ys. Advances (world bs n) (world ys n)) (sym (set_same bs i (bound.Element object at) there)) (same_advances (world bs n) sound)
+
+state_marked : (bs : List Bound) (n i : ℕ) (c : Cursor) (b : Bound) → slice_get bs i ≡ Some b →
+    state_of (world (slice_set bs i (marked c b)) n) ≡ mark_set (state_of (world bs n)) i (plain_mark c) (bound_of b)
+state_marked bs n i c (bound.Cursor old) there = state_set bs n i (bound.Cursor c)
+state_marked bs n i c bound.Type there = ap (λ ys. state_of (world ys n)) (set_same bs i bound.Type there)
+state_marked bs n i c (bound.Object o) there = ap (λ ys. state_of (world ys n)) (set_same bs i (bound.Object o) there)
+state_marked bs n i c (bound.Value v) there = ap (λ ys. state_of (world ys n)) (set_same bs i (bound.Value v) there)
+state_marked bs n i c (bound.Element object at) there = ap (λ ys. state_of (world ys n)) (set_same bs i (bound.Element object at) there)
+
+pub sets_mark : (bs : List Bound) (i : ℕ) (c : Cursor) (b new : Bound) → slice_get bs i ≡ Some b → new ≡ marked c b → SetsMark i c bs (slice_set bs i new)
+sets_mark bs i c b new there is =
+    subst (λ x. SetsMark i c bs (slice_set bs i x)) (sym is)
+    (record {
+      advances = λ n sound known. advances_marked bs n i c b there sound known;
+      set = λ n. state_marked bs n i c b there ∙ ap (mark_set (state_of (world bs n)) i (plain_mark c)) (sym (bound_there bs n i b there));
+    })
+
+-- A value
+
+pub sets_nothing : (bs : List Bound) (i : ℕ) (v : Value) (b : Bound) → slice_get bs i ≡ Some b →
+    ((e : State) → value_set e i v (bound_of b) ≡ assigned_to None e) → SetsValue i v bs bs (Ok tt)
+sets_nothing bs i v b there none = record {
+  advances = λ n sound. same_advances (world bs n) sound;
+  set = λ n stand.
+      subst (λ a. AssignsTo a (world bs n) (world bs n) (Ok tt))
+      (sym (ap (value_set (state_of (world bs n)) i v) (bound_there bs n i b there) ∙ none (state_of (world bs n)))) (refl, refl);
+}
+
+pub sets_past : (bs : List Bound) (i : ℕ) (v : Value) → slice_get bs i ≡ None → SetsValue i v bs bs (Ok tt)
+sets_past bs i v past = record {
+  advances = λ n sound. same_advances (world bs n) sound;
+  set = λ n stand.
+      subst (λ x. AssignsTo (value_set (state_of (world bs n)) i v x) (world bs n) (world bs n) (Ok tt)) (sym (bound_past bs n i past)) (refl, refl);
+}
+
+pub sets_variable : (bs now : List Bound) (i : ℕ) (v old : Value) → slice_get bs i ≡ Some (bound.Value old) → now ≡ slice_set bs i (bound.Value v) →
+    SetsValue i v bs now (Ok tt)
+sets_variable bs now i v old there is =
+    subst (λ ys. SetsValue i v bs ys (Ok tt)) (sym is)
+    (record {
+      advances = λ n sound.
+          set_advances bs n i (bound.Value old) (bound.Value v) sound there (record { counts = refl; agrees = λ x h. tt }) (none_known (world bs n));
+      set = λ n stand.
+          subst (λ x. AssignsTo (value_set (state_of (world bs n)) i v x) (world bs n) (world (slice_set bs i (bound.Value v)) n) (Ok tt))
+          (sym (bound_there bs n i (bound.Value old) there)) (refl, state_set bs n i (bound.Value v));
+    })
+
+pub write_reason : (h : Held) (m : Mark) (v : Value) → (element_value h m).reason ≡ None → (write h m v).reason ≡ None
+write_reason (a_list (of_integers o)) m v e = e
+write_reason (a_list (of_texts o)) m v e = e
+
+assigns_element : (bs now : List Bound) (n i object : ℕ) (at : Cursor) (v : Value) (o : Object) (result : Result Done NoMemory) →
+    slice_get bs object ≡ Some (bound.Object o) → (element_value (held_of o) (plain_mark at)).reason ≡ None → WritesAt object at v o bs now result →
+    AssignsTo (element_written (state_of (world bs n)) object (plain_mark at) v (Some (held_of o))) (world bs n) (world now n) result
+assigns_element bs now n i object at v o (Ok done) there stands k = (
+  write_reason (held_of o) (plain_mark at) v stands,
+  ap (λ ys. state_of (world ys n)) k.bounds
+      ∙ (state_set bs n object (bound.Object k.now) ∙ ap (λ h. with_bound (state_of (world bs n)) object (binds_object h)) k.written),
+)
+assigns_element bs now n i object at v o (Err e) there stands k = tt
+
+pub sets_element : (bs now : List Bound) (i object : ℕ) (at : Cursor) (v : Value) (result : Result Done NoMemory) → StandsSomewhere bs →
+    slice_get bs i ≡ Some (bound.Element object at) →
+    ((o : Object) → slice_get bs object ≡ Some (bound.Object o) → WritesAt object at v o bs now result) → SetsValue i v bs now result
+sets_element bs now i object at v result s there f =
+    let r = can_read bs s.next i object at s.sound s.stand there in
+    let k = f r.held r.there in
+    record {
+      advances = λ n sound.
+          subst (λ ys. Advances (world bs n) (world ys n)) (sym k.bounds)
+          (set_advances bs n object (bound.Object r.held) (bound.Object k.now) sound r.there (object_replaces r.held k.now k.lasts) (none_known (world bs n)));
+      set = λ n stand.
+          let e = state_of (world bs n) in
+          subst (λ x. AssignsTo (value_set e i v x) (world bs n) (world now n) result) (sym (bound_there bs n i (bound.Element object at) there))
+          (subst (λ x. AssignsTo (element_written e object (plain_mark at) v x) (world bs n) (world now n) result)
+          (sym (object_there_in bs n object r.held r.there)) (assigns_element bs now n i object at v r.held result r.there r.stands k));
+    }

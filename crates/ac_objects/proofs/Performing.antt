@@ -1,0 +1,153 @@
+-- A command, step by step.
+use Rattle.std.proofs.Common.{◌≡◌, ℕ, ℤ, zero, suc, Bool, true, false, List, [], ◌∷◌, slice_get, slice_set, refl, sym, ap, subst, ◌∙◌, Option, Some, None, Result, Ok, Err, if◌then◌else◌}
+use Rattle.ac_base.specs.declared.fault.Fault.{Fault}
+use Rattle.ac_base.specs.declared.fault.Fault.TheVariants as fault
+use Rattle.ac_base.specs.declared.fault.NoMemory.{NoMemory}
+use Rattle.ac_base.specs.declared.reason.Reason.{Reason}
+use Rattle.ac_model.specs.Letters.{Mark}
+use Rattle.ac_check.specs.declared.operation.Operation.{Operation}
+use Rattle.ac_check.specs.declared.resolved.ResolvedArg.{ResolvedArg}
+use Rattle.ac_check.specs.Resolved.{calls_at}
+use Rattle.ac_meaning.specs.Answers as meant
+use Rattle.ac_meaning.specs.Commands.{Performed, says, Assigned, assigned, unless_refused, waits_or_goes, replied, call_on, called, after_call, source_place, source_set, place_in, mark_set, variable_to, variable_set, assigned_from, is_integer, sum_assigned}
+use Rattle.ac_meaning.specs.Environment.{Bound, binds_type, binds_object, binds_cursor, binds_value, binds_element, State, bound_in, bound_at, object_in, object_at, with_bound}
+use Rattle.ac_meaning.specs.Holdings.{Held}
+use Rattle.ac_meaning.specs.Replies as replies
+use Rattle.ac_meaning.specs.Stays.{StateStays}
+use Rattle.ac_meaning.proofs.CommandsStay.{command_stays}
+use Rattle.ac_objects.specs.declared.answer.Answer.{Answer}
+use Rattle.ac_objects.specs.declared.reply.Said.{Said}
+use Rattle.ac_objects.specs.declared.reply.Said.TheVariants as said
+use Rattle.ac_objects.specs.declared.reply.Reply.{Reply}
+use Rattle.ac_objects.specs.Performs.{Performs}
+use Rattle.ac_objects.specs.Shown.{Shows}
+use Rattle.ac_objects.specs.Standing.{ElementsStand}
+use Rattle.ac_objects.specs.Steps.{SaysAt, SaidKnown, placed_of, IsCalledAt, CalledAt, Gives, IsPerformed, PerformsAt, reply_in, faulted, if_integer, sum_given}
+use Rattle.ac_objects.specs.World.{World, state_of, Persists}
+use Rattle.ac_objects.proofs.Lasting.{elements_last}
+
+-- the steps of the definition
+
+unless_none : (e : State) (answer : meant.Answer) (a : Assigned) → a.reason ≡ None → unless_refused e answer a ≡ says answer a.after
+unless_none e answer a f = rw f refl
+
+goes : (e : State) (target : Option ℕ) (object : ℕ) (args : List ResolvedArg) (r : replies.Reply Held) → r.stalls ≡ false →
+    waits_or_goes e target object args r ≡ unless_refused e r.answer (assigned (after_call e object args r) target r.answer)
+goes e target object args r f = rw f refl
+
+made : (e : State) (target : Option ℕ) (object : ℕ) (args : List ResolvedArg) (r : replies.Reply Held) → r.reason ≡ None →
+    replied e target object args r ≡ waits_or_goes e target object args r
+made e target object args r f = rw f refl
+
+refused : (e : State) (target : Option ℕ) (object : ℕ) (args : List ResolvedArg) (r : replies.Reply Held) (reason : Reason) → r.reason ≡ Some reason →
+    replied e target object args r ≡ says (meant.answers_raised reason) e
+refused e target object args r reason f = rw f refl
+
+called_by : (e : State) (target : Option ℕ) (object : ℕ) (op : Operation) (args : List ResolvedArg) (h : Held) → object_at e object ≡ Some h →
+    called e target object op args ≡ replied e target object args (reply_in e h op args)
+called_by e target object op args h there = ap (call_on e target object op args) there
+
+called_made : (e : State) (target : Option ℕ) (object : ℕ) (op : Operation) (args : List ResolvedArg) (h : Held) → object_at e object ≡ Some h →
+    (reply_in e h op args).reason ≡ None → (reply_in e h op args).stalls ≡ false →
+    (assigned (after_call e object args (reply_in e h op args)) target (reply_in e h op args).answer).reason ≡ None →
+    called e target object op args
+    ≡ says (reply_in e h op args).answer (assigned (after_call e object args (reply_in e h op args)) target (reply_in e h op args).answer).after
+called_made e target object op args h there reason stalls given =
+    let r = reply_in e h op args in
+    called_by e target object op args h there
+    ∙ (made e target object args r reason
+    ∙ (goes e target object args r stalls
+    ∙ unless_none e r.answer (assigned (after_call e object args r) target r.answer) given))
+
+-- what stays through a call, but for its target
+call_stays : (e : State) (object : ℕ) (op : Operation) (args : List ResolvedArg) (h : Held) → object_at e object ≡ Some h →
+    (reply_in e h op args).reason ≡ None → (reply_in e h op args).stalls ≡ false → StateStays e (after_call e object args (reply_in e h op args))
+call_stays e object op args h there reason stalls =
+    subst (λ (p : Performed). StateStays e p.after) (called_made e None object op args h there reason stalls refl)
+    (command_stays e (calls_at 0 None object op args))
+
+-- a cursor variable that is set is no object
+
+objects_set : (bs : List Bound) (i place : ℕ) (old mark : Mark) → bound_in (slice_get bs i) ≡ binds_cursor old →
+    object_in (bound_in (slice_get (slice_set bs i (binds_cursor mark)) place)) ≡ object_in (bound_in (slice_get bs place))
+objects_set [] i place old mark is = refl
+objects_set (b ∷ bs) zero zero old mark is = sym (ap object_in is)
+objects_set (b ∷ bs) zero (suc place) old mark is = refl
+objects_set (b ∷ bs) (suc i) zero old mark is = refl
+objects_set (b ∷ bs) (suc i) (suc place) old mark is = objects_set bs i place old mark is
+
+mark_objects : (e : State) (i place : ℕ) (mark : Mark) (b : Bound) → bound_at e i ≡ b → object_at (mark_set e i mark b) place ≡ object_at e place
+mark_objects e i place mark binds_type is = refl
+mark_objects e i place mark (binds_object h) is = refl
+mark_objects e i place mark (binds_cursor old) is = objects_set e.bounds i place old mark is
+mark_objects e i place mark (binds_value v) is = refl
+mark_objects e i place mark (binds_element object at) is = refl
+
+to_objects : (e : State) (mark : Mark) (name : Option ℕ) (place : ℕ) → object_at (variable_to e mark name) place ≡ object_at e place
+to_objects e mark None place = refl
+to_objects e mark (Some i) place = mark_objects e i place mark (bound_at e i) refl
+
+variable_objects : (e : State) (args : List ResolvedArg) (p : Option replies.Placed) (place : ℕ) →
+    object_at (variable_set e args p) place ≡ object_at e place
+variable_objects e args None place = refl
+variable_objects e args (Some p) place = to_objects e p.mark (place_in (slice_get args p.place)) place
+
+says_still : (e now : State) (object : ℕ) (s : Said) (answer : meant.Answer) → object_at now object ≡ object_at e object → SaysAt e object s answer →
+    SaysAt now object s answer
+says_still e now object said.Done answer same h = h
+says_still e now object (said.Value v) answer same h = h
+says_still e now object (said.Truth is_true) answer same h = h
+says_still e now object (said.Place c) answer same h = h
+says_still e now object said.Listing answer same h = (h.0, same ∙ h.1, h.2)
+
+known_still : (old new : World) (s : Said) → Persists old new → SaidKnown old s → SaidKnown new s
+known_still old new said.Done p k = tt
+known_still old new (said.Value v) p k = tt
+known_still old new (said.Truth is_true) p k = tt
+known_still old new (said.Place c) p k = p c k
+known_still old new said.Listing p k = tt
+
+-- a call with its variable
+
+pub is_performed : (r : replies.Reply Held) (object : ℕ) (source : Option ℕ) (args : List ResolvedArg) (old mid new : World) (m : Reply) →
+    source ≡ source_place (state_of old) args → IsCalledAt r object source old mid m →
+    state_of new ≡ variable_set (state_of mid) args (placed_of m.variable) → Persists mid new → IsPerformed r object args old new m.said
+is_performed r object source args old mid new m is c set p = record {
+  goes = c.goes;
+  reason = c.reason;
+  after =
+      set
+      ∙ (ap (λ v. variable_set (state_of mid) args v) (sym c.variable)
+      ∙ (ap (λ e. variable_set e args r.variable) c.after
+      ∙ ap (λ s. variable_set (source_set (with_bound (state_of old) object (binds_object r.after)) s r.source) args r.variable) is));
+  says = says_still (state_of mid) (state_of new) object m.said r.answer
+      (ap (λ e. object_at e object) set ∙ variable_objects (state_of mid) args (placed_of m.variable) object) c.says;
+  known = known_still mid new m.said p c.said_known;
+}
+
+pub is_refused : (r : replies.Reply Held) (object : ℕ) (source : Option ℕ) (args : List ResolvedArg) (old new : World) (f : Fault) →
+    CalledAt r object source old new (Err f) → PerformsAt r object args old new (Err f)
+is_refused r object source args old new (fault.Raised reason) h = h
+is_refused r object source args old new fault.NoMemory h = tt
+
+-- a command
+
+pub stand_after : (object : ℕ) (op : Operation) (args : List ResolvedArg) (h : Held) (old mid : World) (s : Said) → object_at (state_of old) object ≡ Some h →
+    IsPerformed (reply_in (state_of old) h op args) object args old mid s → ElementsStand (state_of old) → ElementsStand (state_of mid)
+stand_after object op args h old mid s there k stand =
+    subst ElementsStand (sym k.after)
+    (elements_last (state_of old) _ (call_stays (state_of old) object op args h there k.reason k.goes) stand)
+
+pub sets_given : (e : State) (target : ℕ) (answer : meant.Answer) (old new : World) (result : Result Answer NoMemory) →
+    Gives (assigned e (Some target) answer) answer old new result → Performs (assigned_from e target answer) old new (faulted result)
+sets_given e target answer old new (Ok shown) g =
+    subst (λ p. Performs p old new (Ok shown)) (sym (unless_none e answer (assigned e (Some target) answer) g.0))
+    (g.1, subst (λ now. Shows now shown answer) g.1 g.2)
+sets_given e target answer old new (Err x) g = tt
+
+sum_by : (e : State) (target : ℕ) (n : ℤ) (b : Bool) → is_integer n ≡ b → sum_given e target (if b then Some n else None) ≡ sum_assigned e target n
+sum_by e target n true f = rw (f, sum_assigned) refl
+sum_by e target n false f = rw (f, sum_assigned) refl
+
+pub sum_is : (e : State) (target : ℕ) (n : ℤ) → sum_given e target (if_integer n) ≡ sum_assigned e target n
+sum_is e target n = sum_by e target n (is_integer n) refl

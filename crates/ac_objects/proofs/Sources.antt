@@ -1,0 +1,153 @@
+-- The source of a call on a list: none and the list itself are one, and only a listing answers a text.
+use Rattle.std.proofs.Common.{◌≡◌, ◌==◌, ℕ, List, Bool, true, false, refl, sym, ap, subst, ◌∙◌, eq-eqb, Option, Some, None, if◌then◌else◌}
+use Rattle.std.specs.Prelude.{⊤}
+use Rattle.ac_base.specs.declared.value.Value.{Value}
+use Rattle.ac_model.specs.Objects.{Object}
+use Rattle.ac_model.specs.Calls.{Call, Done}
+use Rattle.ac_model.specs.Lists as list
+use Rattle.ac_check.specs.declared.operation.Operation.{Operation}
+use Rattle.ac_check.specs.declared.operation.Operation.TheVariants as operation
+use Rattle.ac_check.specs.declared.operation.CommonCall.{CommonCall}
+use Rattle.ac_check.specs.declared.operation.CommonCall.TheVariants as common_call
+use Rattle.ac_check.specs.declared.operation.SequenceCall.{SequenceCall}
+use Rattle.ac_check.specs.declared.operation.SequenceCall.TheVariants as sequence_call
+use Rattle.ac_check.specs.declared.operation.ListCall.{ListCall}
+use Rattle.ac_check.specs.declared.operation.ListCall.TheVariants as list_call
+use Rattle.ac_meaning.specs.Elements.{Tools, integers, texts, of_integers, of_texts}
+use Rattle.ac_meaning.specs.Answers.{Answer, answers_ok, answers_value, answers_truth, answers_place, answers_list, answers_raised, answers_stalled}
+use Rattle.ac_meaning.specs.Replies.{Arguments, Source, without, itself, another, by_source, seen_by, Reply, value_answer, carried}
+use Rattle.ac_meaning.specs.SequenceReplies.{OwnCalls, sequence_own, common_reply, sequence_reply}
+use Rattle.ac_meaning.specs.ListReplies.{list_alone_reply, list_reply}
+use Rattle.ac_meaning.specs.Holdings.{Held, a_list, reply_of}
+
+-- None and itself
+
+module _ {T : Type 0} (tools : Tools T) (o : Object ℕ T) (args : Arguments) where
+  common_own : (own : OwnCalls T) (c : CommonCall) → common_reply o without args own c ≡ common_reply o itself args own c
+  common_own own common_call.IsEmpty = refl
+  common_own own common_call.Clear = refl
+  common_own own common_call.Assign = refl
+  common_own own common_call.MoveFrom = refl
+  common_own own common_call.Equal = refl
+  common_own own common_call.HasElement = refl
+  common_own own common_call.Element = refl
+  common_own own common_call.ReplaceElement = refl
+  common_own own common_call.Print = refl
+  common_own own common_call.Length = refl
+
+  sequence_alone : (reverses sorts : Call (Object ℕ T) Done) (c : SequenceCall) →
+      sequence_reply tools o without args reverses sorts c ≡ sequence_reply tools o itself args reverses sorts c
+  sequence_alone reverses sorts sequence_call.Append = refl
+  sequence_alone reverses sorts sequence_call.Prepend = refl
+  sequence_alone reverses sorts sequence_call.Insert = refl
+  sequence_alone reverses sorts sequence_call.InsertPos = refl
+  sequence_alone reverses sorts sequence_call.Delete = refl
+  sequence_alone reverses sorts sequence_call.DeleteFirst = refl
+  sequence_alone reverses sorts sequence_call.DeleteLast = refl
+  sequence_alone reverses sorts sequence_call.First = refl
+  sequence_alone reverses sorts sequence_call.Last = refl
+  sequence_alone reverses sorts sequence_call.FirstElement = refl
+  sequence_alone reverses sorts sequence_call.LastElement = refl
+  sequence_alone reverses sorts sequence_call.Next = refl
+  sequence_alone reverses sorts sequence_call.Previous = refl
+  sequence_alone reverses sorts sequence_call.Find = refl
+  sequence_alone reverses sorts sequence_call.ReverseFind = refl
+  sequence_alone reverses sorts sequence_call.Contains = refl
+  sequence_alone reverses sorts sequence_call.Swap = refl
+  sequence_alone reverses sorts sequence_call.ReverseElements = refl
+  sequence_alone reverses sorts sequence_call.Sort = refl
+  sequence_alone reverses sorts sequence_call.IsSorted = refl
+  sequence_alone reverses sorts sequence_call.Merge = refl
+
+  links_alone : (c : ListCall) → list_alone_reply tools o without args c ≡ list_alone_reply tools o itself args c
+  links_alone list_call.SwapLinks = refl
+  links_alone list_call.Splice = refl
+  links_alone list_call.SpliceOne = refl
+  links_alone list_call.SpliceWithin = refl
+
+  pub list_alone : (op : Operation) → list_reply tools o without args op ≡ list_reply tools o itself args op
+  list_alone (operation.Common c) = common_own (sequence_own tools o) c
+  list_alone (operation.Sequence c) = sequence_alone (list.reverse_elements_call o) (list.sort_call tools.less o) c
+  list_alone (operation.List c) = links_alone c
+  list_alone _ = refl
+
+if_true : {A : Type 0} (x y : A) (b : Bool) → b ≡ true → (if b then x else y) ≡ x
+if_true x y true e = refl
+if_true x y false e = absurd (cc)
+
+pub if_false : {A : Type 0} (x y : A) (b : Bool) → b ≡ false → (if b then x else y) ≡ y
+if_false x y true e = absurd (cc)
+if_false x y false e = refl
+
+pub itself_alone : (h : Held) (op : Operation) (args : Arguments) → reply_of h (Some h) op args ≡ reply_of h None op args
+itself_alone (a_list (of_integers o)) op args =
+    ap (λ s. carried (λ s. a_list (of_integers s)) (list_reply integers o s (seen_by o args) op))
+    (if_true itself (another o (seen_by o args)) (o.number == o.number) (eq-eqb o.number o.number refl))
+    ∙ ap (carried (λ s. a_list (of_integers s))) (sym (list_alone integers o (seen_by o args) op))
+itself_alone (a_list (of_texts o)) op args =
+    ap (λ s. carried (λ s. a_list (of_texts s)) (list_reply texts o s (seen_by o args) op))
+    (if_true itself (another o (seen_by o args)) (o.number == o.number) (eq-eqb o.number o.number refl))
+    ∙ ap (carried (λ s. a_list (of_texts s))) (sym (list_alone texts o (seen_by o args) op))
+
+-- Listings
+
+-- a listing is that of the object, which stays as it was
+abbrev Lists : {V : Type 0} → (listing : List ℕ) → (o after : Object ℕ V) → Answer → Type 0
+Lists listing o after answers_ok = ⊤
+Lists listing o after (answers_value _) = ⊤
+Lists listing o after (answers_truth _) = ⊤
+Lists listing o after (answers_place _) = ⊤
+Lists listing o after (answers_list text) = (text ≡ listing) × (after ≡ o)
+Lists listing o after (answers_raised _) = ⊤
+Lists listing o after answers_stalled = ⊤
+
+value_lists : {V : Type 0} (listing : List ℕ) (o after : Object ℕ V) (v : Option Value) → Lists listing o after (value_answer v)
+value_lists listing o after None = tt
+value_lists listing o after (Some v) = tt
+
+abbrev ReplyLists : {V : Type 0} → (listing : List ℕ) → Object ℕ V → Reply (Object ℕ V) → Type 0
+ReplyLists listing o r = Lists listing o r.after r.answer
+
+by_source_lists : {V : Type 0} (listing : List ℕ) (o : Object ℕ V) (source : Source (Object ℕ V)) (own : Reply (Object ℕ V))
+    (two : Object ℕ V → Arguments → Reply (Object ℕ V)) → ReplyLists listing o own →
+    ((s : Object ℕ V) (args : Arguments) → ReplyLists listing o (two s args)) → ReplyLists listing o (by_source source own two)
+by_source_lists listing o without own two h k = h
+by_source_lists listing o itself own two h k = h
+by_source_lists listing o (another s args) own two h k = k s args
+
+module _ {V : Type 0} (o : Object ℕ V) (source : Source (Object ℕ V)) (args : Arguments) where
+  common_lists : (own : OwnCalls V) (c : CommonCall) → ReplyLists own.listing o (common_reply o source args own c)
+  common_lists own common_call.IsEmpty = tt
+  common_lists own common_call.Clear = tt
+  common_lists own common_call.Assign = by_source_lists own.listing o source _ _ tt (λ s seen. tt)
+  common_lists own common_call.MoveFrom = by_source_lists own.listing o source _ _ tt (λ s seen. tt)
+  common_lists own common_call.Equal = tt
+  common_lists own common_call.HasElement = tt
+  common_lists own common_call.Element = value_lists own.listing o o _
+  common_lists own common_call.ReplaceElement = tt
+  common_lists own common_call.Print = (refl, refl)
+  common_lists own common_call.Length = tt
+
+module _ {T : Type 0} (tools : Tools T) (o : Object ℕ T) (source : Source (Object ℕ T)) (args : Arguments) where
+  sequence_lists : (listing : List ℕ) (reverses sorts : Call (Object ℕ T) Done) (c : SequenceCall) →
+      ReplyLists listing o (sequence_reply tools o source args reverses sorts c)
+  sequence_lists listing reverses sorts sequence_call.FirstElement = value_lists listing o o _
+  sequence_lists listing reverses sorts sequence_call.LastElement = value_lists listing o o _
+  sequence_lists listing reverses sorts sequence_call.Merge = by_source_lists listing o source _ _ tt (λ s seen. tt)
+  sequence_lists listing reverses sorts _ = tt
+
+  alone_lists : (listing : List ℕ) (c : ListCall) → ReplyLists listing o (list_alone_reply tools o source args c)
+  alone_lists listing list_call.Splice = by_source_lists listing o source _ _ tt (λ s seen. tt)
+  alone_lists listing list_call.SpliceOne = by_source_lists listing o source _ _ tt (λ s seen. tt)
+  alone_lists listing _ = tt
+
+  list_lists : (op : Operation) → ReplyLists (sequence_own tools o).listing o (list_reply tools o source args op)
+  list_lists (operation.Common c) = common_lists o source args (sequence_own tools o) c
+  list_lists (operation.Sequence c) =
+      sequence_lists (sequence_own tools o).listing (list.reverse_elements_call o) (list.sort_call tools.less o) c
+  list_lists (operation.List c) = alone_lists (sequence_own tools o).listing c
+  list_lists _ = tt
+
+  pub listed : (op : Operation) (text : List ℕ) → (list_reply tools o source args op).answer ≡ answers_list text →
+      (text ≡ (sequence_own tools o).listing) × ((list_reply tools o source args op).after ≡ o)
+  listed op text e = subst (λ a. Lists (sequence_own tools o).listing o (list_reply tools o source args op).after a) e (list_lists op)

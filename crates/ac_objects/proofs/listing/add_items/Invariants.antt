@@ -1,0 +1,21 @@
+use Rattle.std.proofs.Common.{◌≤◌, length}
+use Rattle.ac_io.specs.declared.pieces.TheConstants.{MOST_WAITING}
+use Rattle.ac_io.specs.Pieces.{AddsSoFar}
+use Rattle.ac_model.specs.Objects.{plain, contents}
+use Rattle.ac_model.specs.Letters.{mark_in}
+use Rattle.ac_model.specs.Calls.{Marks}
+use Rattle.ac_syntax.specs.Canonical.{literal_text}
+use Rattle.ac_meaning.specs.Listings.{separated}
+use Rattle.ac_objects.proofs.Listed.{listed_from}
+use Rattle.ac_objects.proofs.listing.add_items.Given as goal
+
+abbrev pub invariant-loop-place : goal.invariant-loop-place
+invariant-loop-place g l =
+    let sink = g.K.Sink in
+    let literal = λ (e : g.row.T.Denot). literal_text (g.T.ScriptElement.tools.to_value e) in
+    record {
+      at : Marks l.list.object l.c (mark_in (plain l.list.object) l.place);
+      adds : AddsSoFar sink.held sink.faults sink.room sink.counts_failures l.fn.sink l.sink l.fn.text.items l.text.items
+          (listed_from literal l.place (contents (plain l.list.object))) (separated literal (contents (plain l.list.object)));
+      short : length l.fn.text.items ≤ MOST_WAITING → length l.text.items ≤ MOST_WAITING;
+    }

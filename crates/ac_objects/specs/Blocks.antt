@@ -1,0 +1,49 @@
+-- The keys of blocks, and what begins and ends them does.
+use Rattle.std.specs.Prelude.{◌≡◌, ◌<◌, ◌-◌, ◌^◌, ℕ, [], ◌∷◌, Option, Some, None}
+use Rattle.ac_base.specs.declared.guard.GuardKind.{GuardKind}
+use Rattle.ac_base.specs.Guards.{HeldGuard, count_of, raised_kind}
+use Rattle.ac_meaning.specs.Holdings.{Held, Guards, number_of, is_a_set}
+use Rattle.ac_meaning.specs.Environment.{State, objects_by, object_at}
+use Rattle.ac_meaning.specs.UnderGuards.{held_with, held_without}
+use Rattle.ac_objects.specs.declared.blocks.LoopKey.{LoopKey}
+use Rattle.ac_objects.specs.declared.blocks.ViewKey.{ViewKey}
+use Rattle.ac_objects.specs.Standing.{counts_in_held}
+
+-- with these guards held, the last first
+abbrev pub holding : Guards → State → State
+holding [] e = e
+holding (g ∷ guards) e = objects_by (held_with g) (holding guards e)
+
+-- and released, the first first
+abbrev pub releasing : Guards → State → State
+releasing [] e = e
+releasing (g ∷ guards) e = releasing guards (objects_by (held_without g) e)
+
+-- the guards that a key carries
+
+abbrev pub guard_if : Option HeldGuard → Guards
+guard_if None = []
+guard_if (Some g) = g ∷ []
+
+abbrev pub guards_of_loop_key : LoopKey → Guards
+guards_of_loop_key key = key.cursors ∷ guard_if key.elements
+
+abbrev pub guards_of_view_key : ViewKey → Guards
+guards_of_view_key key = key.guard ∷ []
+
+-- the guard is held on the object at the place
+pub record IsHeldAt (e : State) (place : ℕ) (g : HeldGuard) : Type 0 where
+  pub held : Held
+  pub there : object_at e place ≡ Some held
+  pub own : g.object ≡ number_of held
+  pub counted : 0 < count_of g.kind (counts_in_held held)
+
+-- 64 bits count one guard more of the kind on the object at the place
+pub record HasRoom (e : State) (place : ℕ) (kind : GuardKind) : Type 0 where
+  pub held : Held
+  pub there : object_at e place ≡ Some held
+  pub counted : count_of (raised_kind (is_a_set held) kind) (counts_in_held held) < 2 ^ 64 - 1
+
+-- a guard of another kind that was held at the place is held there still
+abbrev pub OthersHeld : HeldGuard → ℕ → (old new : State) → Type 0
+OthersHeld key place old new = (g : HeldGuard) → (key.kind ≡ g.kind → ⊥) → IsHeldAt old place g → IsHeldAt new place g

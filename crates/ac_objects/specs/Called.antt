@@ -1,0 +1,98 @@
+-- What a call on an object in memory comes to, as the meaning of its reply has it.
+use Rattle.std.specs.Prelude.{◌≡◌, ⊤, ℕ, false, Option, Some, None, Result, Ok, Err}
+use Rattle.ac_base.specs.declared.cursor.Cursor.{Cursor}
+use Rattle.ac_base.specs.declared.cursor.Cursor.TheVariants.{NoElement, At}
+use Rattle.ac_base.specs.declared.fault.Fault.{Fault}
+use Rattle.ac_base.specs.declared.fault.Fault.TheVariants as fault
+use Rattle.ac_model.specs.Objects.{IsValid, plain}
+use Rattle.ac_model.specs.Objects as lists
+use Rattle.ac_model.specs.Calls.{Call, Done, IsAfter}
+use Rattle.ac_model.specs.Cursors.{plain_mark, Agrees}
+use Rattle.ac_model.specs.Containers.{Container, guards_of}
+use Rattle.ac_meaning.specs.Answers.{Answer, answers_ok, answers_value, answers_truth, answers_place, answers_list}
+use Rattle.ac_meaning.specs.Holdings.{Held, number_of, listing_of, Written}
+use Rattle.ac_meaning.specs.Replies as replies
+use Rattle.ac_objects.specs.declared.argument.Arguments.{Arguments}
+use Rattle.ac_objects.specs.declared.object.Object.{Object}
+use Rattle.ac_objects.specs.declared.object.Object.TheVariants.{Integers, Texts}
+use Rattle.ac_objects.specs.declared.reply.Said.{Said}
+use Rattle.ac_objects.specs.declared.reply.Said.TheVariants as said
+use Rattle.ac_objects.specs.declared.reply.Placed.{Placed}
+use Rattle.ac_objects.specs.declared.reply.Reply.{Reply}
+use Rattle.ac_objects.specs.Arguments.{AllAgree}
+use Rattle.ac_objects.specs.Standing.{counts_in_held}
+use Rattle.ac_objects.specs.World.{held_of, ObjectAgrees}
+
+-- the cursors among the arguments have the slots that the object would find
+abbrev pub AgreesWith : Object → Arguments → Type 0
+AgreesWith (Integers l) args = AllAgree l.object args
+AgreesWith (Texts l) args = AllAgree l.object args
+
+-- no element, or one of the object's own, with the slot that it would find
+abbrev pub IsFound : Object → Cursor → Type 0
+IsFound o NoElement = ⊤
+IsFound o (At object name) = (object ≡ number_of (held_of o)) × ObjectAgrees o (At object name)
+
+-- the answer is the meaning's
+abbrev pub Tells : Object → Said → Answer → Type 0
+Tells o said.Done answer = answer ≡ answers_ok
+Tells o (said.Value v) answer = answer ≡ answers_value v
+Tells o (said.Truth is_true) answer = answer ≡ answers_truth is_true
+Tells o (said.Place c) answer = (answer ≡ answers_place (plain_mark c)) × IsFound o c
+Tells o said.Listing answer = answer ≡ answers_list (listing_of (held_of o))
+
+-- and so is the variable that is set
+abbrev pub Places : Object → Option Placed → Option replies.Placed → Type 0
+Places o None variable = variable ≡ None
+Places o (Some p) variable = (variable ≡ replies.placed p.place (plain_mark p.cursor)) × IsFound o p.cursor
+
+-- a call that was made
+pub record IsCalled (r : replies.Reply Held) (new : Object) (made : Reply) : Type 0 where
+  pub goes : r.stalls ≡ false
+  pub reason : r.reason ≡ None
+  pub after : held_of new ≡ r.after
+  pub tells : Tells new made.said r.answer
+  pub variable : Places new made.variable r.variable
+
+-- another object, which the call changes or leaves
+abbrev pub HeldAfter : Object → Object → Option Held → Type 0
+HeldAfter old new None = new ≡ old
+HeldAfter old new (Some after) = held_of new ≡ after
+
+-- made, or refused for the meaning's reason, or out of memory; and then nothing changes
+abbrev pub Called : replies.Reply Held → (old new : Object) → Result Reply Fault → Type 0
+Called r old new (Ok made) = IsCalled r new made × (r.source ≡ None)
+Called r old new (Err (fault.Raised reason)) = (r.reason ≡ Some reason) × (new ≡ old)
+Called r old new (Err fault.NoMemory) = new ≡ old
+
+-- the same with another object as the source
+abbrev pub CalledWith : replies.Reply Held → (old source new source_new : Object) → Result Reply Fault → Type 0
+CalledWith r old source new source_new (Ok made) = IsCalled r new made × HeldAfter source source_new r.source
+CalledWith r old source new source_new (Err (fault.Raised reason)) = (r.reason ≡ Some reason) × (new ≡ old) × (source_new ≡ source)
+CalledWith r old source new source_new (Err fault.NoMemory) = (new ≡ old) × (source_new ≡ source)
+
+-- what stays of an object: the slots that cursors had, its number and its guards
+pub record Lasts (old new : Object) : Type 0 where
+  pub cursors : (c : Cursor) → ObjectAgrees old c → ObjectAgrees new c
+  pub counts : counts_in_held (held_of new) ≡ counts_in_held (held_of old)
+
+-- and of a list
+pub record ListLasts {V : Type 0} (old new : Container V) : Type 0 where
+  pub cursors : (c : Cursor) → Agrees old.object c → Agrees new.object c
+  pub counts : guards_of new ≡ guards_of old
+
+-- both are valid
+abbrev pub AreValid : {V : Type 0} → Container V → Container V → Type 0
+AreValid old new = IsValid (plain old.object) × IsValid (plain new.object)
+
+-- a write through a name that stands for an element: made, or refused, or out of memory; and then nothing changes
+abbrev pub WritesTo : Written → (old new : Object) → Result Done Fault → Type 0
+WritesTo w old new (Ok done) = (w.reason ≡ None) × (held_of new ≡ w.after)
+WritesTo w old new (Err (fault.Raised reason)) = (w.reason ≡ Some reason) × (new ≡ old)
+WritesTo w old new (Err fault.NoMemory) = new ≡ old
+
+-- the same in a list
+abbrev pub WritesIn : {V : Type 0} → (lists.Object ℕ V → Call (lists.Object ℕ V) Done) → (old new : Container V) → Result Done Fault → Type 0
+WritesIn call old new (Ok done) = ((call (plain old.object)).reason ≡ None) × IsAfter old.object new.object (call (plain old.object)).after
+WritesIn call old new (Err (fault.Raised reason)) = ((call (plain old.object)).reason ≡ Some reason) × (new ≡ old)
+WritesIn call old new (Err fault.NoMemory) = new ≡ old

@@ -1,0 +1,41 @@
+-- What is read of the objects in scope, and the cursors that an object gives.
+use Rattle.std.specs.Prelude.{◌≡◌, ◌++◌, ◌∷◌, ⊤, ℕ, Bool, List, slice_get, Option, Some, None}
+use Rattle.std.specs.Borrow.{Bor}
+use Rattle.ac_base.specs.declared.cursor.Cursor.{Cursor}
+use Rattle.ac_base.specs.declared.cursor.Cursor.TheVariants.{NoElement, At}
+use Rattle.ac_base.specs.declared.name.Name.{Name}
+use Rattle.ac_model.specs.Letters.{mark_at}
+use Rattle.ac_model.specs.Cursors.{plain_mark, Agrees}
+use Rattle.ac_model.specs.Objects as model
+use Rattle.ac_meaning.specs.Holdings.{number_of}
+use Rattle.ac_objects.specs.declared.object.Object.{Object}
+use Rattle.ac_meaning.specs.Environment.{object_at}
+use Rattle.ac_meaning.specs.Execution.{in_order}
+use Rattle.ac_meaning.specs.Walks.{first_mark}
+use Rattle.ac_objects.specs.declared.bound.Bound.TheVariants as bound
+use Rattle.ac_objects.specs.World.{World, held_of, state_of, ObjectAgrees}
+
+-- the object at the place, if one stands there
+abbrev pub Finds : World → ℕ → Option (Bor Object) → Type 0
+Finds w place None = object_at (state_of w) place ≡ None
+Finds w place (Some o) = slice_get w.bounds place ≡ Some (bound.Object o.now)
+
+-- No_Element, or one with this number
+abbrev pub HasNumber : ℕ → Cursor → Type 0
+HasNumber number NoElement = ⊤
+HasNumber number (At object name) = object ≡ number
+
+-- of an object with rows
+pub record GivenBy {V : Type 0} (o : model.Object Name V) (c : Cursor) : Type 0 where
+  pub number : HasNumber o.number c
+  pub agrees : Agrees o c
+
+-- of an object of any kind
+pub record IsGiven (o : Object) (c : Cursor) : Type 0 where
+  pub number : HasNumber (number_of (held_of o)) c
+  pub agrees : ObjectAgrees o c
+
+-- behind a cursor of the object with this number and these names a loop goes on here
+abbrev pub StepsOn : (backward : Bool) → (number : ℕ) → List ℕ → (at next : Cursor) → Type 0
+StepsOn backward number names at next = (before : List ℕ) (name : ℕ) (after : List ℕ) → in_order backward names ≡ before ++ name ∷ after →
+    plain_mark at ≡ mark_at number name → plain_mark next ≡ first_mark number after

@@ -1,0 +1,14 @@
+pub mod Arguments
+pub mod Listed
+pub mod ListCalls
+pub mod Replied
+pub mod Shown
+pub mod World
+pub mod Standing
+pub mod Counts
+pub mod Given
+pub mod Declarations
+pub mod Performs
+pub mod Blocks
+pub mod Called
+pub mod Steps

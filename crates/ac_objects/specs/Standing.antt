@@ -1,0 +1,47 @@
+-- What is asked of an environment, and what is told of it whatever a call comes to.
+use Rattle.std.specs.Prelude.{◌≡◌, ◌<◌, ◌+◌, ◌⊎◌, ℕ, List, map, Option, Some, None}
+use Rattle.ac_base.specs.Guards.{GuardCounts}
+use Rattle.ac_model.specs.Letters.{Mark, no_mark}
+use Rattle.ac_meaning.specs.Holdings.{Held, from_rows, element_value}
+use Rattle.ac_meaning.specs.Environment.{Bound, binds_type, binds_object, binds_cursor, binds_value, binds_element, State, bound_at, object_at}
+
+-- an object stands at the place
+pub record IsObject (e : State) (place : ℕ) : Type 0 where
+  pub held : Held
+  pub there : object_at e place ≡ Some held
+
+-- and the cursor designates one of its elements
+pub record StandsAt (e : State) (object : ℕ) (at : Mark) : Type 0 where
+  pub held : Held
+  pub there : object_at e object ≡ Some held
+  pub stands : (element_value held at).reason ≡ None
+
+-- where a loop goes on: at an element of its object, or at none
+abbrev pub ComingStands : State → (object : ℕ) → Mark → Type 0
+ComingStands e object at = (at ≡ no_mark) ⊎ StandsAt e object at
+
+-- the number and the counts of guards of an object
+abbrev pub counts_in_held : Held → GuardCounts
+counts_in_held h = from_rows (λ V o. record { number = o.number; cursor_guards = o.cursor_guards; element_guards = o.element_guards }) h
+
+abbrev pub counts_in : Bound → Option GuardCounts
+counts_in binds_type = None
+counts_in (binds_object h) = Some (counts_in_held h)
+counts_in (binds_cursor _) = None
+counts_in (binds_value _) = None
+counts_in (binds_element _ _) = None
+
+-- of the objects, by places
+abbrev pub counts_of : State → List (Option GuardCounts)
+counts_of e = map counts_in e.bounds
+
+-- an element that a name stands for: it is one of its object, which has a guard
+pub record ElementStands (e : State) (object : ℕ) (at : Mark) : Type 0 where
+  pub held : Held
+  pub there : object_at e object ≡ Some held
+  pub stands : (element_value held at).reason ≡ None
+  pub guarded : 0 < (counts_in_held held).cursor_guards + (counts_in_held held).element_guards
+
+-- so is each in scope: then an assignment to it is never refused
+abbrev pub ElementsStand : State → Type 0
+ElementsStand e = (place object : ℕ) (at : Mark) → bound_at e place ≡ binds_element object at → ElementStands e object at

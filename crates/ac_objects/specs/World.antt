@@ -1,0 +1,79 @@
+-- What the names in scope hold in memory, and the environment that it is.
+use Rattle.std.specs.Prelude.{◌≡◌, ◌<◌, ⊤, ℕ, List, All, map}
+use Rattle.ac_base.specs.declared.cursor.Cursor.{Cursor}
+use Rattle.ac_base.specs.declared.cursor.Cursor.TheVariants as cursor
+use Rattle.ac_model.specs.Objects.{plain}
+use Rattle.ac_model.specs.Cursors.{plain_mark, Agrees}
+use Rattle.ac_meaning.specs.Elements.{of_integers, of_texts}
+use Rattle.ac_meaning.specs.Holdings.{Held, a_list}
+use Rattle.ac_meaning.specs.Environment as meant
+use Rattle.ac_meaning.specs.Numbers.{NumbersDiffer}
+use Rattle.ac_objects.specs.declared.object.Object.{Object}
+use Rattle.ac_objects.specs.declared.object.Object.TheVariants.{Integers, Texts}
+use Rattle.ac_objects.specs.declared.bound.Bound.{Bound}
+use Rattle.ac_objects.specs.declared.bound.Bound.TheVariants as bound
+
+-- by the places of their names, and the number of the next object
+pub record World : Type 0 where
+  pub bounds : List Bound
+  pub next : ℕ
+
+abbrev pub world : List Bound → ℕ → World
+world bounds next = record { bounds = bounds; next = next }
+
+-- without the slots of names: as the meaning of scripts has them
+
+abbrev pub held_of : Object → Held
+held_of (Integers l) = a_list (of_integers (plain l.object))
+held_of (Texts l) = a_list (of_texts (plain l.object))
+
+abbrev pub bound_of : Bound → meant.Bound
+bound_of bound.Type = meant.binds_type
+bound_of (bound.Object o) = meant.binds_object (held_of o)
+bound_of (bound.Cursor c) = meant.binds_cursor (plain_mark c)
+bound_of (bound.Value v) = meant.binds_value v
+bound_of (bound.Element object at) = meant.binds_element object (plain_mark at)
+
+abbrev pub state_of : World → meant.State
+state_of w = record { bounds = map bound_of w.bounds; next = w.next }
+
+-- Cursors
+
+-- the slot of the cursor is the one that the object would find
+abbrev pub ObjectAgrees : Object → Cursor → Type 0
+ObjectAgrees (Integers l) c = Agrees l.object c
+ObjectAgrees (Texts l) c = Agrees l.object c
+
+abbrev pub BoundAgrees : Bound → Cursor → Type 0
+BoundAgrees bound.Type c = ⊤
+BoundAgrees (bound.Object o) c = ObjectAgrees o c
+BoundAgrees (bound.Cursor _) c = ⊤
+BoundAgrees (bound.Value _) c = ⊤
+BoundAgrees (bound.Element _ _) c = ⊤
+
+-- its object was made
+abbrev pub IsMade : ℕ → Cursor → Type 0
+IsMade next cursor.NoElement = ⊤
+IsMade next (cursor.At object name) = object < next
+
+-- a cursor that a script can have: the one of an object that was made, with the slot that this one would find, if it is in scope
+pub record IsKnown (w : World) (c : Cursor) : Type 0 where
+  pub made : IsMade w.next c
+  pub agrees : All (λ b. BoundAgrees b c) w.bounds
+
+-- the cursor that a name holds, or at which its element stands
+abbrev pub cursor_in : Bound → Cursor
+cursor_in bound.Type = cursor.NoElement
+cursor_in (bound.Object _) = cursor.NoElement
+cursor_in (bound.Cursor c) = c
+cursor_in (bound.Value _) = cursor.NoElement
+cursor_in (bound.Element object at) = at
+
+-- numbers differ, and the cursors in scope are known
+pub record IsSound (w : World) : Type 0 where
+  pub numbers_differ : NumbersDiffer (state_of w)
+  pub cursors_known : All (λ b. IsKnown w (cursor_in b)) w.bounds
+
+-- cursors that were known are known
+abbrev pub Persists : World → World → Type 0
+Persists old new = (c : Cursor) → IsKnown old c → IsKnown new c

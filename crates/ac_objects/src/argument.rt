@@ -1,0 +1,55 @@
+//! The arguments of a call, read before it.
+ghost use Rattle.std.specs.Prelude.{◌≡◌};
+ghost use Rattle.ac_objects.specs.Arguments.{argument_of, cursor_in};
+
+use ac_base::Value;
+use ac_cursor::Cursor;
+
+/// An argument as it is read before the call.
+#[derive(Debug, Drop)]
+pub enum Argument {
+    /// Left out, or the object that is the call's source.
+    Absent,
+    Place(Cursor),
+    Value(Value),
+}
+
+/// The arguments of a call by their places.
+#[derive(Debug, Drop)]
+pub struct Arguments {
+    pub first: Argument,
+    pub second: Argument,
+    pub third: Argument,
+    pub fourth: Argument,
+}
+
+impl Argument {
+    pub fn cursor(&self) -> Cursor
+        ensures { result ≡ cursor_in self.now }
+    {
+        match self {
+            Argument::Place(cursor) => *cursor,
+            Argument::Absent | Argument::Value(_) => Cursor::NoElement,
+        }
+    }
+
+    /// As a count, which is 1 where it is left out.
+    pub fn count(&self) -> i64
+        ensures { result ≡ (argument_of self.now).count }
+    {
+        match self {
+            Argument::Value(Value::Int(number)) => *number,
+            Argument::Value(Value::Text(_)) => 0,
+            Argument::Absent | Argument::Place(_) => 1,
+        }
+    }
+
+    pub fn into_value(self) -> Value
+        ensures { result ≡ (argument_of self).value }
+    {
+        match self {
+            Argument::Value(value) => value,
+            Argument::Absent | Argument::Place(_) => Value::Int(0),
+        }
+    }
+}

@@ -1,0 +1,115 @@
+//! Values and cursors that are given to the names of a script.
+ghost use Rattle.std.specs.Prelude.{◌≡◌, ℕ, None, Some, slice_get, slice_set};
+ghost use Rattle.ac_meaning.specs.Commands.{value_set, mark_set};
+ghost use Rattle.ac_meaning.specs.Environment.{bound_at};
+ghost use Rattle.ac_model.specs.Cursors.{plain_mark};
+ghost use Rattle.ac_objects.specs.Standing.{ElementsStand, counts_of};
+ghost use Rattle.ac_objects.specs.Steps.{AssignsTo, SetsMark, SetsValue, CanRead, WritesAt, StandsSomewhere, marked};
+ghost use Rattle.ac_objects.specs.World.{state_of, IsKnown, Persists, IsSound, world};
+ghost use Rattle.ac_objects.specs.declared.object.Object.{Object as AnyObject};
+ghost use Rattle.ac_objects.specs.declared.bound.Bound.TheVariants as bound;
+ghost use Rattle.ac_base.specs.declared.value.Value.{Value as value_data};
+
+use crate::bound::Bound;
+use crate::held::write_element;
+use crate::objects::Objects;
+use ac_base::{Fault, NoMemory, Value};
+use ac_cursor::Cursor;
+use std::alloc::Global;
+
+impl Objects {
+    /// Gives a cursor variable the cursor. Another name takes none.
+    pub(crate) fn set_mark(&mut self, place: usize, cursor: Cursor)
+        requires { IsKnown self.old cursor }
+        ensures set { state_of self.new ≡ mark_set (state_of self.old) place (plain_mark cursor) (bound_at (state_of self.old) place) }
+        ensures persists { Persists self.old self.new }
+        ensures counts { counts_of (state_of self.new) ≡ counts_of (state_of self.old) }
+    {
+        put_mark(&mut self.bounds, place, cursor)
+    }
+
+    /// Gives a variable the value, or the element that a name stands for. Another name takes none.
+    pub(crate) fn set_value(&mut self, place: usize, value: Value) -> Result<(), NoMemory>
+        requires { ElementsStand (state_of self.old) }
+        ensures set { AssignsTo (value_set (state_of self.old) place value (bound_at (state_of self.old) place)) self.old self.new result }
+        ensures persists { Persists self.old self.new }
+        ensures counts { counts_of (state_of self.new) ≡ counts_of (state_of self.old) }
+    {
+        put_value(&mut self.bounds, self.alloc, place, value)
+    }
+}
+
+fn put_mark(bounds: &mut Vec<Bound>, place: usize, cursor: Cursor)
+    ensures { SetsMark place cursor bounds.old.items bounds.new.items }
+{
+    match bounds.get_mut(place) {
+        None => {}
+        Some(bound) => mark(bound, cursor),
+    }
+}
+
+fn mark(bound: &mut Bound, cursor: Cursor)
+    ensures { bound.new ≡ marked cursor bound.old }
+{
+    match bound {
+        Bound::Cursor(held) => *held = cursor,
+        _ => {}
+    }
+}
+
+fn put_value(
+    bounds: &mut Vec<Bound>,
+    alloc: Global,
+    place: usize,
+    value: Value,
+) -> Result<(), NoMemory>
+    requires { StandsSomewhere bounds.old.items }
+    ensures { SetsValue place value bounds.old.items bounds.new.items result }
+{
+    match bounds.get(place) {
+        None => Ok(()),
+        Some(Bound::Type) => Ok(()),
+        Some(Bound::Object(_)) => Ok(()),
+        Some(Bound::Cursor(_)) => Ok(()),
+        Some(Bound::Value(_)) => {
+            put_variable(bounds, place, value);
+            Ok(())
+        }
+        Some(Bound::Element { object, at }) => {
+            let object = *object;
+            let at = *at;
+            put_element(bounds, alloc, object, at, value)
+        }
+    }
+}
+
+fn put_variable(bounds: &mut Vec<Bound>, place: usize, value: Value)
+    requires { (old : value_data) × (slice_get bounds.old.items place ≡ Some (bound.Value old)) }
+    ensures { bounds.new.items ≡ slice_set bounds.old.items place (bound.Value value) }
+{
+    match &mut bounds[place] {
+        Bound::Value(held) => *held = value,
+        _ => unreachable!(),
+    }
+}
+
+fn put_element(
+    bounds: &mut Vec<Bound>,
+    alloc: Global,
+    object: usize,
+    at: Cursor,
+    value: Value,
+) -> Result<(), NoMemory>
+    requires { CanRead bounds.old.items object at }
+    ensures { (o : AnyObject) → slice_get bounds.old.items object ≡ Some (bound.Object o) →
+        WritesAt object at value o bounds.old.items bounds.new.items result }
+{
+    match &mut bounds[object] {
+        Bound::Object(held) => match write_element(held, alloc, at, value) {
+            Ok(()) => Ok(()),
+            Err(Fault::NoMemory) => Err(NoMemory),
+            Err(Fault::Raised(_)) => unreachable!(),
+        },
+        _ => unreachable!(),
+    }
+}

@@ -1,0 +1,29 @@
+//! The keys of open blocks.
+use ac_cursor::{Cursor, GuardKey};
+
+/// Why declarations failed.
+#[derive(Clone, Copy, Debug)]
+pub enum DeclareFault {
+    /// No number is left for the object that is declared on this line.
+    Spent { line: u64 },
+    NoMemory,
+}
+
+/// An open loop: its object, where it stands next, and the guards that it holds.
+#[derive(Debug)]
+pub struct LoopKey {
+    pub(crate) object: usize,
+    pub(crate) names: usize,
+    pub(crate) backward: bool,
+    pub(crate) coming: Cursor,
+    pub(crate) cursors: GuardKey,
+    pub(crate) elements: Option<GuardKey>,
+}
+
+/// An open view or `stable`: its object, and the guard that it holds.
+#[derive(Debug)]
+pub struct ViewKey {
+    pub(crate) object: usize,
+    pub(crate) names: usize,
+    pub(crate) guard: GuardKey,
+}

@@ -1,0 +1,92 @@
+//! The guards that blocks hold on the objects of a script.
+ghost use Rattle.std.specs.Prelude.{◌≡◌, true, false, Some, refl};
+ghost use Rattle.ac_model.specs.Common.{hold_call};
+ghost use Rattle.ac_meaning.specs.Holdings.{Held, with_rows_by, is_a_set, guard_on};
+ghost use Rattle.ac_meaning.specs.Environment.{object_at, objects_by};
+ghost use Rattle.ac_meaning.specs.UnderGuards.{held_with, held_without};
+ghost use Rattle.ac_objects.specs.Blocks.{HasRoom, IsHeldAt, OthersHeld};
+ghost use Rattle.ac_objects.specs.Counts as counts;
+ghost use Rattle.ac_objects.specs.Standing.{IsObject, counts_in_held};
+ghost use Rattle.ac_objects.specs.World.{held_of, state_of, Persists};
+
+use crate::bound::Bound;
+use crate::object::Object;
+use crate::objects::Objects;
+use ac_cursor::{GuardKey, GuardKind, Guarded};
+
+impl Guarded for Object {
+    ghost is_set = { λ o. is_a_set (held_of o) };
+
+    ghost guards = { λ o. counts_in_held (held_of o) };
+
+    ghost with_guards = { counts.with_counts };
+
+    ghost guards_given = { counts.counts_given };
+
+    ghost guards_own = { counts.counts_own };
+
+    ghost rest_kept = { counts.rest_kept };
+
+    ghost set_kept = { counts.set_kept };
+
+    fn hold(&mut self, kind: GuardKind) -> GuardKey {
+        match self {
+            Object::Integers(list) => list.hold(kind),
+            Object::Texts(list) => list.hold(kind),
+        }
+    }
+
+    fn release(&mut self, key: GuardKey) {
+        match self {
+            Object::Integers(list) => list.release(key),
+            Object::Texts(list) => list.release(key),
+        }
+    }
+
+    fn held(&self, kind: GuardKind) -> u64 {
+        match self {
+            Object::Integers(list) => list.held(kind),
+            Object::Texts(list) => list.held(kind),
+        }
+    }
+}
+
+impl Objects {
+    /// Whether 64 bits count one guard more of the kind.
+    pub(crate) fn has_room(&self, place: usize, kind: GuardKind) -> bool
+        ensures { result ≡ true → HasRoom (state_of self.now) place kind }
+    {
+        match self.bounds.get(place) {
+            Some(Bound::Object(object)) => object.held(kind) < u64::MAX,
+            _ => false,
+        }
+    }
+
+    /// Holds one guard more on the object at the place.
+    pub(crate) fn hold(&mut self, place: usize, kind: GuardKind) -> GuardKey
+        requires { HasRoom (state_of self.old) place kind }
+        ensures held { (h : Held) → object_at (state_of self.old) place ≡ Some h →
+            (result ≡ guard_on h kind)
+            × (state_of self.new ≡ objects_by (held_with (guard_on h kind)) (state_of self.old))
+            × (object_at (state_of self.new) place ≡ Some (with_rows_by (λ V o. hold_call (is_a_set h) kind o) h)) }
+        ensures persists { Persists self.old self.new }
+    {
+        match &mut self.bounds[place] {
+            Bound::Object(object) => object.hold(kind),
+            _ => unreachable!(),
+        }
+    }
+
+    /// Releases the guard, which is held on the object at the place.
+    pub(crate) fn release(&mut self, place: usize, key: GuardKey)
+        requires { IsHeldAt (state_of self.old) place key }
+        ensures released { state_of self.new ≡ objects_by (held_without key) (state_of self.old) }
+        ensures others { OthersHeld key place (state_of self.old) (state_of self.new) }
+        ensures persists { Persists self.old self.new }
+    {
+        match &mut self.bounds[place] {
+            Bound::Object(object) => object.release(key),
+            _ => unreachable!(),
+        }
+    }
+}

@@ -1,0 +1,201 @@
+//! The names of a script in scope, with what they hold, and its commands.
+ghost use Rattle.std.specs.Prelude.{◌≡◌, [], Some};
+ghost use Rattle.ac_meaning.specs.Commands.{called, set_from, summed, sum_of, variable_set};
+ghost use Rattle.ac_meaning.specs.Elements.{integer_in};
+ghost use Rattle.ac_meaning.specs.Environment.{object_at};
+ghost use Rattle.ac_meaning.specs.Holdings.{Held};
+ghost use Rattle.ac_objects.specs.Performs.{Performs};
+ghost use Rattle.ac_objects.specs.Standing.{IsObject, ElementsStand, counts_of};
+ghost use Rattle.ac_objects.specs.Steps.{PerformsAt, PlacedKnown, placed_of, reply_in, faulted, if_integer, sum_given};
+ghost use Rattle.ac_objects.specs.World.{state_of, world, Persists};
+
+use crate::answer::Answer;
+use crate::bound::Bound;
+use crate::reading::said_of;
+use crate::reply::{Reply, Said};
+use ac_base::{Fault, NoMemory, Reason, Value};
+use ac_check::{Operation, ResolvedArg};
+use ac_cursor::TagMint;
+use std::alloc::Global;
+use std::marker::Model;
+
+/// What the names in scope hold. After want of memory nothing more is told of it than that it is sound.
+#[derive(Drop)]
+pub struct Objects {
+    pub(crate) alloc: Global,
+    pub(crate) mint: TagMint,
+    pub(crate) bounds: Vec<Bound>,
+}
+
+impl Model for Objects {
+    ghost use Rattle.ac_objects.specs.World.{World, world, IsSound};
+
+    ghost Value = { World };
+
+    ghost view = { λ o. world o.bounds.items o.mint };
+
+    ghost invariant = { λ o. IsSound (world o.bounds.items o.mint) };
+}
+
+impl Objects {
+    /// No names, and objects whose numbers run from this one.
+    pub fn starting_at(alloc: Global, first: u64) -> Objects
+        ensures { result ≡ world [] first }
+    {
+        Objects {
+            alloc,
+            mint: TagMint::starting_at(first),
+            bounds: Vec::new(alloc),
+        }
+    }
+
+    /// Makes a call on the object at this place, and gives its answer to the target.
+    pub fn call(
+        &mut self,
+        target: Option<usize>,
+        object: usize,
+        operation: Operation,
+        args: &[ResolvedArg],
+    ) -> Result<Answer, Fault>
+        requires stand { ElementsStand (state_of self.old) }
+        ensures performed { Performs (called (state_of self.old) target object operation args.now) self.old self.new result }
+        ensures persists { Persists self.old self.new }
+        ensures counts { counts_of (state_of self.new) ≡ counts_of (state_of self.old) }
+    {
+        if !self.is_object(object) {
+            return Ok(Answer::Done);
+        }
+        match self.perform(object, operation, args) {
+            Ok(said) => faulted(self.give(target, object, said)),
+            Err(fault) => Err(fault),
+        }
+    }
+
+    /// A call without its target.
+    fn perform(
+        &mut self,
+        object: usize,
+        operation: Operation,
+        args: &[ResolvedArg],
+    ) -> Result<Said, Fault>
+        requires stand { ElementsStand (state_of self.old) }
+        requires object { IsObject (state_of self.old) object }
+        ensures performed { (h : Held) → object_at (state_of self.old) object ≡ Some h →
+            PerformsAt (reply_in (state_of self.old) h operation args.now) object args.now self.old self.new result }
+        ensures persists { Persists self.old self.new }
+        ensures counts { counts_of (state_of self.new) ≡ counts_of (state_of self.old) }
+    {
+        let source = self.source_place(args);
+        let read = match self.read_arguments(args) {
+            Ok(read) => read,
+            Err(_) => return Err(Fault::NoMemory),
+        };
+        match self.call_at(object, source, operation, read) {
+            Ok(reply) => Ok(self.finish(args, reply)),
+            Err(fault) => Err(fault),
+        }
+    }
+
+    /// The variable among the arguments is set.
+    fn finish(&mut self, args: &[ResolvedArg], reply: Reply) -> Said
+        requires { PlacedKnown self.old reply.variable }
+        ensures set { state_of self.new ≡ variable_set (state_of self.old) args.now (placed_of reply.variable) }
+        ensures said { result ≡ reply.said }
+        ensures persists { Persists self.old self.new }
+        ensures counts { counts_of (state_of self.new) ≡ counts_of (state_of self.old) }
+    {
+        self.set_variable(args, reply.variable);
+        reply.said
+    }
+
+    /// Assigns a value, a cursor or what a name holds.
+    pub fn set(&mut self, target: usize, from: &ResolvedArg) -> Result<Answer, Fault>
+        requires stand { ElementsStand (state_of self.old) }
+        ensures performed { Performs (set_from (state_of self.old) target from.now) self.old self.new result }
+        ensures persists { Persists self.old self.new }
+        ensures counts { counts_of (state_of self.new) ≡ counts_of (state_of self.old) }
+    {
+        match self.read(from) {
+            Ok(read) => faulted(self.give(Some(target), target, said_of(read))),
+            Err(_) => Err(Fault::NoMemory),
+        }
+    }
+
+    /// Assigns the sum of a variable and a number, or with `minus` the difference.
+    pub fn sum(
+        &mut self,
+        target: usize,
+        from: usize,
+        minus: bool,
+        number: u64,
+    ) -> Result<Answer, Fault>
+        requires stand { ElementsStand (state_of self.old) }
+        ensures performed { Performs (summed (state_of self.old) target from minus number) self.old self.new result }
+        ensures persists { Persists self.old self.new }
+        ensures counts { counts_of (state_of self.new) ≡ counts_of (state_of self.old) }
+    {
+        match self.read_name(from) {
+            Ok(read) => self.put_sum(target, total(integer_of(read.into_value()), minus, number)),
+            Err(_) => Err(Fault::NoMemory),
+        }
+    }
+
+    fn put_sum(&mut self, target: usize, sum: Option<i64>) -> Result<Answer, Fault>
+        requires stand { ElementsStand (state_of self.old) }
+        ensures performed { Performs (sum_given (state_of self.old) target sum) self.old self.new result }
+        ensures persists { Persists self.old self.new }
+        ensures counts { counts_of (state_of self.new) ≡ counts_of (state_of self.old) }
+    {
+        match sum {
+            None => Err(Fault::Raised(Reason::Overflow)),
+            Some(sum) => faulted(self.give(Some(target), target, Said::Value(Value::Int(sum)))),
+        }
+    }
+}
+
+fn faulted(given: Result<Answer, NoMemory>) -> Result<Answer, Fault>
+    ensures { result ≡ faulted given }
+{
+    match given {
+        Ok(answer) => Ok(answer),
+        Err(_) => Err(Fault::NoMemory),
+    }
+}
+
+fn integer_of(value: Value) -> i64
+    ensures { result ≡ integer_in value }
+{
+    match value {
+        Value::Int(number) => number,
+        Value::Text(_) => 0,
+    }
+}
+
+/// The sum or the difference, where it is an integer of a script.
+fn total(base: i64, minus: bool, number: u64) -> Option<i64>
+    ensures { result ≡ if_integer (sum_of minus base number) }
+{
+    narrow(whole(base, minus, number))
+}
+
+fn whole(base: i64, minus: bool, number: u64) -> i128
+    ensures exact { result ≡ sum_of minus base number }
+{
+    if minus {
+        base as i128 - number as i128
+    } else {
+        base as i128 + number as i128
+    }
+}
+
+fn narrow(sum: i128) -> Option<i64>
+    ensures { result ≡ if_integer sum }
+{
+    if sum < i64::MIN as i128 {
+        return None;
+    }
+    if sum > i64::MAX as i128 {
+        return None;
+    }
+    Some(sum as i64)
+}

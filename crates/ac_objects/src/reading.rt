@@ -1,0 +1,153 @@
+//! The arguments of a call, read before it.
+ghost use Rattle.std.specs.Prelude.{◌≡◌, ◌∷◌, ℕ, List, IfOk, None, Some, slice_get};
+ghost use Rattle.std.specs.Option.{ForSome};
+ghost use Rattle.ac_meaning.specs.Commands.{source_place, argument_in, argument, argument_of as argument_at, arguments, answer_in, answer_from};
+ghost use Rattle.ac_meaning.specs.Environment.{State, bound_at, value_in, binds_element};
+ghost use Rattle.ac_model.specs.Cursors.{plain_mark};
+ghost use Rattle.ac_objects.specs.Arguments.{argument_of, arguments_of, cursor_in};
+ghost use Rattle.ac_objects.specs.Standing.{IsObject, ElementsStand};
+ghost use Rattle.ac_objects.specs.Steps.{AllKnown, CanRead, answer_of, source_or, SaysAt, SaidKnown};
+ghost use Rattle.ac_check.specs.declared.resolved.ResolvedArg.{ResolvedArg as ArgData};
+ghost use Rattle.ac_objects.specs.World.{World, state_of, world, IsKnown};
+
+use crate::argument::{Argument, Arguments};
+use crate::bound::Bound;
+use crate::held::element_of;
+use crate::objects::Objects;
+use crate::reply::Said;
+use ac_base::{Elem, NoMemory, Value};
+use ac_check::ResolvedArg;
+use ac_cursor::Cursor;
+use std::alloc::Global;
+
+impl Objects {
+    /// The arguments, with copies of the values that they name.
+    pub(crate) fn read_arguments(&self, args: &[ResolvedArg]) -> Result<Arguments, NoMemory>
+        requires { ElementsStand (state_of self.now) }
+        ensures read { IfOk result (λ read. arguments_of read ≡ arguments (state_of self.now) args.now) }
+        ensures known { IfOk result (λ read. AllKnown self.now read) }
+    {
+        let first = self.read_at(args, 0)?;
+        let second = self.read_at(args, 1)?;
+        let third = self.read_at(args, 2)?;
+        let fourth = self.read_at(args, 3)?;
+        Ok(Arguments {
+            first,
+            second,
+            third,
+            fourth,
+        })
+    }
+
+    /// The place of the object among the arguments.
+    pub(crate) fn source_place(&self, args: &[ResolvedArg]) -> Option<usize>
+        ensures place { result ≡ source_place (state_of self.now) args.now }
+        ensures there { ForSome result (IsObject (state_of self.now)) }
+    {
+        for arg in args {
+            if let Some(place) = self.source_in(arg) {
+                return Some(place);
+            }
+        }
+        None
+    }
+
+    fn source_in(&self, arg: &ResolvedArg) -> Option<usize>
+        ensures found { (rest : List ArgData) → source_place (state_of self.now) (arg.now ∷ rest)
+            ≡ source_or (source_place (state_of self.now) rest) result }
+        ensures there { ForSome result (IsObject (state_of self.now)) }
+    {
+        match arg {
+            ResolvedArg::Lit(_) => None,
+            ResolvedArg::NoElement => None,
+            ResolvedArg::At(place) => {
+                if self.is_object(*place) {
+                    Some(*place)
+                } else {
+                    None
+                }
+            }
+        }
+    }
+
+    fn read_at(&self, args: &[ResolvedArg], place: usize) -> Result<Argument, NoMemory>
+        requires { ElementsStand (state_of self.now) }
+        ensures read { IfOk result (λ read. argument_of read ≡ argument_at (state_of self.now) (slice_get args.now place)) }
+        ensures known { IfOk result (λ read. IsKnown self.now (cursor_in read)) }
+    {
+        match args.get(place) {
+            None => Ok(Argument::Absent),
+            Some(arg) => self.read(arg),
+        }
+    }
+
+    pub(crate) fn read(&self, arg: &ResolvedArg) -> Result<Argument, NoMemory>
+        requires { ElementsStand (state_of self.now) }
+        ensures read { IfOk result (λ read. argument_of read ≡ argument (state_of self.now) arg.now) }
+        ensures said { IfOk result (λ read. answer_of read ≡ answer_from (state_of self.now) arg.now) }
+        ensures known { IfOk result (λ read. IsKnown self.now (cursor_in read)) }
+    {
+        match arg {
+            ResolvedArg::Lit(value) => Ok(Argument::Value(copy_value(self.alloc, value)?)),
+            ResolvedArg::NoElement => Ok(Argument::Place(Cursor::NoElement)),
+            ResolvedArg::At(place) => self.read_name(*place),
+        }
+    }
+
+    pub(crate) fn read_name(&self, place: usize) -> Result<Argument, NoMemory>
+        requires { ElementsStand (state_of self.now) }
+        ensures read { IfOk result (λ read. argument_of read ≡ argument_in (state_of self.now) (bound_at (state_of self.now) place)) }
+        ensures said { IfOk result (λ read. answer_of read ≡ answer_in (state_of self.now) (bound_at (state_of self.now) place)) }
+        ensures known { IfOk result (λ read. IsKnown self.now (cursor_in read)) }
+    {
+        match self.bounds.get(place) {
+            None => Ok(Argument::Absent),
+            Some(Bound::Type) => Ok(Argument::Absent),
+            Some(Bound::Object(_)) => Ok(Argument::Absent),
+            Some(Bound::Cursor(cursor)) => Ok(Argument::Place(*cursor)),
+            Some(Bound::Value(value)) => Ok(Argument::Value(copy_value(self.alloc, value)?)),
+            Some(Bound::Element { object, at }) => {
+                let value = copy_element(&self.bounds, self.alloc, *object, *at)?;
+                Ok(Argument::Value(value))
+            }
+        }
+    }
+}
+
+/// A copy of the element that a name stands for.
+pub(crate) fn copy_element(
+    bounds: &Vec<Bound>,
+    alloc: Global,
+    object: usize,
+    at: Cursor,
+) -> Result<Value, NoMemory>
+    requires { CanRead bounds.now.items object at }
+    ensures { (next : ℕ) → IfOk result (λ value.
+        value ≡ value_in (state_of (world bounds.now.items next)) (binds_element object (plain_mark at))) }
+{
+    match bounds.get(object) {
+        Some(Bound::Object(held)) => element_of(held, alloc, at),
+        _ => unreachable!(),
+    }
+}
+
+pub(crate) fn copy_value(alloc: Global, value: &Value) -> Result<Value, NoMemory>
+    ensures { IfOk result (λ made. made ≡ value.now) }
+{
+    match value {
+        Value::Int(number) => Ok(Value::Int(*number)),
+        Value::Text(text) => Ok(Value::Text(text.copy(alloc)?)),
+    }
+}
+
+/// What is assigned, where this was read.
+pub(crate) fn said_of(read: Argument) -> Said
+    ensures says { (e : State) (object : ℕ) → SaysAt e object result (answer_of read) }
+    ensures known { (w : World) → IsKnown w (cursor_in read) → SaidKnown w result }
+{
+    match read {
+        Argument::Absent => Said::Done,
+        Argument::Place(cursor) => Said::Place(cursor),
+        Argument::Value(value) => Said::Value(value),
+    }
+}

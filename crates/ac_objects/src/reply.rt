@@ -1,0 +1,54 @@
+//! What a call on an object comes to.
+ghost use Rattle.std.specs.Prelude.{◌≡◌, Some, None};
+
+use ac_base::Value;
+use ac_cursor::Cursor;
+
+/// What a call answers.
+#[derive(Debug, Drop)]
+pub enum Said {
+    Done,
+    Value(Value),
+    Truth(bool),
+    Place(Cursor),
+    /// The object's listing, which isn't made here.
+    Listing,
+}
+
+/// What the cursor variable at a place of the arguments is set to.
+#[derive(Debug, Drop)]
+pub struct Placed {
+    pub place: usize,
+    pub cursor: Cursor,
+}
+
+/// A call that was made: its answer, and the variable that it sets.
+#[derive(Debug, Drop)]
+pub struct Reply {
+    pub said: Said,
+    pub variable: Option<Placed>,
+}
+
+impl Reply {
+    /// A call that sets no variable.
+    pub fn says(said: Said) -> Reply
+        ensures said { result.said ≡ said }
+        ensures variable { result.variable ≡ None }
+    {
+        Reply {
+            said,
+            variable: None,
+        }
+    }
+
+    /// A call that answers nothing and sets the variable at this place.
+    pub fn sets(place: usize, cursor: Cursor) -> Reply
+        ensures said { result.said ≡ Said.Done }
+        ensures variable { result.variable ≡ Some (record { place = place; cursor = cursor }) }
+    {
+        Reply {
+            said: Said::Done,
+            variable: Some(Placed { place, cursor }),
+        }
+    }
+}

@@ -1,0 +1,228 @@
+//! The names in scope: those that declarations make, and those that go at a block's end.
+ghost use Rattle.std.specs.Prelude.{◌≡◌, ◌++◌, ◌∷◌, ℕ, true, false, length, take, None, Some, IfOk, OnErr, Err};
+ghost use Rattle.ac_meaning.specs.Environment.{object_at, object_in, with_name, leaving, after_decl, after_decls, nodes, nodes_in};
+ghost use Rattle.ac_base.specs.Limits.{IsLimit};
+ghost use Rattle.ac_meaning.specs.Holdings.{limit_by};
+ghost use Rattle.ac_meaning.specs.Environment.{declared};
+ghost use Rattle.ac_objects.specs.Declarations.{new_list, object_declared, spent_at};
+ghost use Rattle.ac_objects.specs.Given.{Finds};
+ghost use Rattle.ac_objects.specs.Standing.{IsObject, counts_of};
+ghost use Rattle.ac_objects.specs.World.{held_of, bound_of, cursor_in, state_of, IsKnown, Persists};
+
+use crate::blocks::DeclareFault;
+use crate::bound::Bound;
+use crate::object::Object;
+use crate::objects::Objects;
+use ac_base::{Elem, GREATEST_LENGTH, Limit, NoMemory, Text, Value};
+use ac_check::ResolvedDecl;
+use ac_cursor::{Cursor, Tag};
+use ac_list::List;
+use ac_syntax::ElemKind;
+use std::alloc::Global;
+
+/// How many elements stand under a name.
+fn nodes_in(bound: &Bound) -> u64
+    ensures { result ≡ nodes_in (bound_of bound.now) }
+{
+    match bound {
+        Bound::Object(Object::Integers(list)) => list.live_nodes(),
+        Bound::Object(Object::Texts(list)) => list.live_nodes(),
+        _ => 0,
+    }
+}
+
+impl Objects {
+    /// How many names are in scope.
+    pub fn names(&self) -> usize
+        ensures { result ≡ length self.now.bounds }
+    {
+        self.bounds.len()
+    }
+
+    /// Whether an object stands at the place.
+    pub fn is_object(&self, place: usize) -> bool
+        ensures yes { result ≡ true → IsObject (state_of self.now) place }
+        ensures no { result ≡ false → object_at (state_of self.now) place ≡ None }
+    {
+        self.object_at(place).is_some()
+    }
+
+    /// The object at the place, if one stands there.
+    pub(crate) fn object_at(&self, place: usize) -> Option<&Object>
+        ensures { Finds self.now place result }
+    {
+        match self.bounds.get(place) {
+            Some(Bound::Object(object)) => Some(object),
+            _ => None,
+        }
+    }
+
+    /// How many elements the objects in scope have, or NoMemory where 64 bits don't count them.
+    pub fn live_nodes(&self) -> Result<u64, NoMemory>
+        ensures { IfOk result (λ count. count ≡ nodes (state_of self.now)) }
+    {
+        let mut count: u64 = 0;
+        for bound in &self.bounds {
+            count = count.checked_add(nodes_in(bound)).ok_or(NoMemory)?;
+        }
+        Ok(count)
+    }
+
+    /// Makes the names that these declare, and says how many there were before. At a fault nothing of them is in scope.
+    pub fn enter_scope(&mut self, decls: &[ResolvedDecl]) -> Result<usize, DeclareFault>
+        ensures declared { IfOk result (λ names. (names ≡ length self.old.bounds)
+            × ((after_decls decls.now (state_of self.old)).spent ≡ None)
+            × (state_of self.new ≡ (after_decls decls.now (state_of self.old)).after)) }
+        ensures spent { (line : ℕ) → result ≡ Err (DeclareFault.Spent line) →
+            ((after_decls decls.now (state_of self.old)).spent ≡ Some line)
+            × (state_of self.new ≡ leaving (length self.old.bounds) (after_decls decls.now (state_of self.old)).after) }
+        ensures persists { Persists self.old self.new }
+        ensures counts { take (length self.old.bounds) (counts_of (state_of self.new)) ≡ counts_of (state_of self.old) }
+        ensures fault { OnErr result (counts_of (state_of self.new) ≡ counts_of (state_of self.old)) }
+    {
+        let names = self.names();
+        match self.declare_all(decls) {
+            Ok(()) => Ok(names),
+            Err(fault) => {
+                self.leave_scope(names);
+                Err(fault)
+            }
+        }
+    }
+
+    /// Back to so many names.
+    pub fn leave_scope(&mut self, names: usize)
+        ensures left { state_of self.new ≡ leaving names (state_of self.old) }
+        ensures persists { Persists self.old self.new }
+    {
+        self.bounds.truncate(names);
+    }
+}
+
+impl Objects {
+    /// Puts one more name in scope, which is no object's.
+    pub(crate) fn add(&mut self, bound: Bound) -> Result<(), NoMemory>
+        requires no_object { object_in (bound_of bound) ≡ None }
+        requires known { IsKnown self.old (cursor_in bound) }
+        ensures named { IfOk result (λ _. state_of self.new ≡ with_name (state_of self.old) (bound_of bound)) }
+        ensures before { take (length self.old.bounds) self.new.bounds ≡ self.old.bounds }
+        ensures persists { Persists self.old self.new }
+        ensures fault { OnErr result (self.new ≡ self.old) }
+    {
+        match self.bounds.push(bound) {
+            Ok(()) => Ok(()),
+            Err(_) => Err(NoMemory),
+        }
+    }
+
+    /// Makes the names that these declare.
+    fn declare_all(&mut self, decls: &[ResolvedDecl]) -> Result<(), DeclareFault>
+        ensures declared { IfOk result (λ _. after_decls decls.now (state_of self.old) ≡ declared (state_of self.new)) }
+        ensures spent { (line : ℕ) → result ≡ Err (DeclareFault.Spent line) →
+            after_decls decls.now (state_of self.old) ≡ spent_at line (state_of self.new) }
+        ensures before { take (length self.old.bounds) self.new.bounds ≡ self.old.bounds }
+        ensures persists { Persists self.old self.new }
+    {
+        for decl in decls {
+            self.declare(decl)?;
+        }
+        Ok(())
+    }
+
+    /// Makes the name of a declaration.
+    fn declare(&mut self, decl: &ResolvedDecl) -> Result<(), DeclareFault>
+        ensures declared { IfOk result (λ _. after_decl (state_of self.old) decl.now ≡ declared (state_of self.new)) }
+        ensures spent { (line : ℕ) → result ≡ Err (DeclareFault.Spent line) →
+            after_decl (state_of self.old) decl.now ≡ spent_at line (state_of self.new) }
+        ensures before { take (length self.old.bounds) self.new.bounds ≡ self.old.bounds }
+        ensures persists { Persists self.old self.new }
+    {
+        match decl {
+            ResolvedDecl::TypeDecl => self.declare_name(Bound::Type),
+            ResolvedDecl::Object {
+                line,
+                def,
+                capacity,
+            } => self.declare_object(*line, def.first, *capacity),
+            ResolvedDecl::Cursor => self.declare_name(Bound::Cursor(Cursor::NoElement)),
+            ResolvedDecl::Integer => self.declare_name(Bound::Value(Value::Int(0))),
+            ResolvedDecl::Text => match Text::blank(self.alloc) {
+                Ok(empty) => self.declare_name(Bound::Value(Value::Text(empty))),
+                Err(_) => Err(DeclareFault::NoMemory),
+            },
+        }
+    }
+
+    /// Makes a name that is no object's.
+    fn declare_name(&mut self, bound: Bound) -> Result<(), DeclareFault>
+        requires no_object { object_in (bound_of bound) ≡ None }
+        requires no_cursor { cursor_in bound ≡ Cursor.NoElement }
+        ensures named { IfOk result (λ _. state_of self.new ≡ with_name (state_of self.old) (bound_of bound)) }
+        ensures unspent { (line : ℕ) → result ≡ Err (DeclareFault.Spent line) → ⊥ }
+        ensures before { take (length self.old.bounds) self.new.bounds ≡ self.old.bounds }
+        ensures persists { Persists self.old self.new }
+    {
+        match self.add(bound) {
+            Ok(()) => Ok(()),
+            Err(_) => Err(DeclareFault::NoMemory),
+        }
+    }
+
+    /// Makes an object's name. The object takes the next number.
+    fn declare_object(
+        &mut self,
+        line: u64,
+        first: ElemKind,
+        capacity: Option<u64>,
+    ) -> Result<(), DeclareFault>
+        ensures declared { IfOk result (λ _. object_declared first line capacity (state_of self.old) ≡ declared (state_of self.new)) }
+        ensures spent { (other : ℕ) → result ≡ Err (DeclareFault.Spent other) →
+            object_declared first line capacity (state_of self.old) ≡ spent_at other (state_of self.new) }
+        ensures before { take (length self.old.bounds) self.new.bounds ≡ self.old.bounds }
+        ensures persists { Persists self.old self.new }
+    {
+        let Some(tag) = self.mint.next() else {
+            return Err(DeclareFault::Spent { line });
+        };
+        let Ok(object) = new_object(self.alloc, first, tag, capacity) else {
+            return Err(DeclareFault::NoMemory);
+        };
+        match self.bounds.push(Bound::Object(object)) {
+            Ok(()) => Ok(()),
+            Err(_) => Err(DeclareFault::NoMemory),
+        }
+    }
+}
+
+/// An object of this number without elements, and NoMemory where so large a capacity can't be had.
+fn new_object(
+    alloc: Global,
+    first: ElemKind,
+    tag: Tag,
+    capacity: Option<u64>,
+) -> Result<Object, NoMemory>
+    ensures { IfOk result (λ made. held_of made ≡ new_list first tag capacity) }
+{
+    let limit = limit_by(capacity)?;
+    match first {
+        ElemKind::Integer => match List::new(alloc, tag, limit) {
+            Ok(list) => Ok(Object::Integers(list)),
+            Err(_) => Err(NoMemory),
+        },
+        ElemKind::Str => match List::new(alloc, tag, limit) {
+            Ok(list) => Ok(Object::Texts(list)),
+            Err(_) => Err(NoMemory),
+        },
+    }
+}
+
+/// The limit of an object of this capacity.
+fn limit_by(capacity: Option<u64>) -> Result<Limit, NoMemory>
+    ensures { IfOk result (λ limit. (limit ≡ limit_by capacity) × IsLimit limit) }
+{
+    match capacity {
+        None => Ok(Limit::Unbounded),
+        Some(most) if most <= GREATEST_LENGTH => Ok(Limit::Bounded(most)),
+        Some(_) => Err(NoMemory),
+    }
+}

@@ -1,0 +1,99 @@
+//! Where a loop stands in its object, and why an element can't be viewed.
+ghost use Rattle.std.specs.Prelude.{◌≡◌};
+ghost use Rattle.ac_base.specs.Rows.{names};
+ghost use Rattle.ac_model.specs.Objects.{plain};
+ghost use Rattle.ac_model.specs.Cursors.{plain_mark, seen, Agrees};
+ghost use Rattle.ac_model.specs.Calls.{Marks};
+ghost use Rattle.ac_model.specs.Forms.{Looks, seen_by};
+ghost use Rattle.ac_model.specs.Sequences.{element_call};
+ghost use Rattle.ac_meaning.specs.Holdings.{names_of, number_of, element_value};
+ghost use Rattle.ac_meaning.specs.Execution.{in_order};
+ghost use Rattle.ac_meaning.specs.Walks.{step_call, first_mark};
+ghost use Rattle.ac_objects.specs.Given.{GivenBy, IsGiven, StepsOn};
+ghost use Rattle.ac_objects.specs.World.{held_of, ObjectAgrees};
+
+use crate::object::Object;
+use ac_base::{Fault, Reason};
+use ac_cursor::Cursor;
+use ac_list::List;
+
+/// The cursor at which a loop over the list begins.
+fn first_of_list<T>(list: &List<T>, backward: bool) -> Cursor
+    ensures given { GivenBy list.now.object result }
+    ensures first { plain_mark result ≡ first_mark list.now.object.number (in_order backward (names (plain list.now.object).rows)) }
+{
+    list.law();
+    if backward { list.last() } else { list.first() }
+}
+
+/// The cursor at which a loop goes on behind this one, and No_Element where it doesn't.
+fn next_in_list<T>(list: &List<T>, backward: bool, at: Cursor) -> Cursor
+    requires { Agrees list.now.object at }
+    ensures given { GivenBy list.now.object result }
+    ensures next { StepsOn backward list.now.object.number (names (plain list.now.object).rows) at result }
+{
+    list.law();
+    match step_in_list(list, backward, at) {
+        Ok(next) => next,
+        Err(_) => Cursor::NoElement,
+    }
+}
+
+/// Next, or Previous.
+fn step_in_list<T>(list: &List<T>, backward: bool, at: Cursor) -> Result<Cursor, Fault>
+    ensures { Looks (Marks list.now.object) (λ o. step_call backward o (seen_by list.now at)) list.now result }
+{
+    if backward {
+        list.previous(at)
+    } else {
+        list.next(at)
+    }
+}
+
+/// Why the element at which the cursor stands can't be viewed.
+fn refused_in_list<T>(list: &List<T>, at: Cursor) -> Option<Reason>
+    requires { Agrees list.now.object at }
+    ensures { result ≡ (element_call (plain list.now.object) (seen (plain list.now.object) (plain_mark at))).reason }
+{
+    match list.element(at) {
+        Ok(_) => None,
+        Err(Fault::Raised(reason)) => Some(reason),
+        Err(Fault::NoMemory) => unreachable!(),
+    }
+}
+
+impl Object {
+    /// The cursor at which a loop over the object begins.
+    pub(crate) fn first_of(&self, backward: bool) -> Cursor
+        ensures given { IsGiven self.now result }
+        ensures first { plain_mark result ≡ first_mark (number_of (held_of self.now)) (in_order backward (names_of (held_of self.now))) }
+    {
+        match self {
+            Object::Integers(list) => first_of_list(list, backward),
+            Object::Texts(list) => first_of_list(list, backward),
+        }
+    }
+
+    /// The cursor at which a loop goes on behind this one, and No_Element where it doesn't.
+    pub(crate) fn next_of(&self, backward: bool, at: Cursor) -> Cursor
+        requires { ObjectAgrees self.now at }
+        ensures given { IsGiven self.now result }
+        ensures next { StepsOn backward (number_of (held_of self.now)) (names_of (held_of self.now)) at result }
+    {
+        match self {
+            Object::Integers(list) => next_in_list(list, backward, at),
+            Object::Texts(list) => next_in_list(list, backward, at),
+        }
+    }
+
+    /// Why the element at which the cursor stands can't be viewed.
+    pub(crate) fn refused_view(&self, at: Cursor) -> Option<Reason>
+        requires { ObjectAgrees self.now at }
+        ensures { result ≡ (element_value (held_of self.now) (plain_mark at)).reason }
+    {
+        match self {
+            Object::Integers(list) => refused_in_list(list, at),
+            Object::Texts(list) => refused_in_list(list, at),
+        }
+    }
+}
