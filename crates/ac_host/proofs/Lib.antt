@@ -1,0 +1,10 @@
+mod Telling
+mod Holding
+mod Standing
+mod Steps
+mod Turns
+mod Opening
+mod Commands
+mod Blocks
+mod Scripts
+mod OneLine

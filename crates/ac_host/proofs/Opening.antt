@@ -1,0 +1,192 @@
+-- What begins a block.
+use Rattle.std.proofs.Common.{◌≡◌, ◌==◌, ◌&&◌, ◌||◌, ◌+◌, ◌<◌, ◌≤◌, ℕ, zero, suc, Bool, true, false, not, List, [], ◌∷◌, ◌++◌, map, length, slice_get, take, nat_lt, option_map, refl, sym, ap, subst, ◌∙◌, arith, Option, Some, None, if◌then◌else◌}
+use Rattle.std.proofs.lemmas.List.{append-nil, length-map, take_all}
+use Rattle.std.proofs.lemmas.Option.{none-some, same_Some}
+use Rattle.std.proofs.lemmas.Bool.Decides.{nat_tests}
+use Rattle.ac_base.specs.FirstReason.{first_reason}
+use Rattle.ac_base.specs.Guards.{HeldGuard}
+use Rattle.ac_base.specs.Limits.{numbers_end}
+use Rattle.ac_base.specs.Rows.{Row, names}
+use Rattle.ac_base.specs.declared.guard.GuardKind.{GuardKind}
+use Rattle.ac_base.specs.declared.guard.GuardKind.TheVariants as guard
+use Rattle.ac_base.specs.declared.reason.Reason.{Reason}
+use Rattle.ac_base.specs.declared.reason.Reason.TheVariants.{ForeignCursor, DeadCursor, NoElement}
+use Rattle.ac_model.specs.Objects.{Object}
+use Rattle.ac_model.specs.Rows.{is_named}
+use Rattle.ac_model.specs.Letters.{Mark, no_mark, mark_at as mark_of_name, stale_mark, needs, judged_in, reason_if}
+use Rattle.ac_model.specs.Cursors.{seen}
+use Rattle.ac_syntax.specs.declared.view_kind.ViewKind.{ViewKind}
+use Rattle.ac_syntax.specs.declared.view_kind.ViewKind.TheVariants.{Query, Update, Reference, UpdateKey}
+use Rattle.ac_check.specs.Resolved.{loops_at, views_at, stables_at, declares_at}
+use Rattle.ac_check.specs.declared.resolved.ResolvedDecl.{ResolvedDecl}
+use Rattle.ac_check.specs.declared.resolved.ResolvedDecl.TheVariants as decl
+use Rattle.ac_meaning.specs.Elements.{of_integers, of_texts}
+use Rattle.ac_meaning.specs.Holdings.{Held, a_list, Guards, number_of, names_of, held_under, guard_on, element_value}
+use Rattle.ac_meaning.specs.Environment.{Bound, binds_type, binds_object, binds_cursor, binds_value, binds_element, bound_by, bound_in, object_in, mark_in, State, under, bound_at, object_at, mark_at, with_name, leaving, number_taken, Declared, unless_spent, after_decl, after_decls}
+use Rattle.ac_meaning.specs.Answers.{answers_raised}
+use Rattle.ac_meaning.specs.Execution.{Outcome, outcome, one_line, guards_of_loop, guards_of_stable, guards_of_view, head_reason, in_order, turns, view_on, viewed, on_object, block_on}
+use Rattle.ac_meaning.specs.GuardedNames.{is_guarded, Frame, of_object, of_element, frame, kept}
+use Rattle.ac_meaning.specs.Walks.{first_mark}
+use Rattle.ac_meaning.specs.Numbers.{NumbersDiffer, GuardsBelow}
+use Rattle.ac_meaning.proofs.CountsStay.{parts_under}
+use Rattle.ac_meaning.proofs.GuardedGoesOn.{blocks_guard}
+use Rattle.ac_objects.specs.Blocks.{holding}
+use Rattle.ac_objects.specs.World.{World, state_of}
+use Rattle.ac_host.specs.Ready.{IsKept, Ready, IsUnder}
+use Rattle.ac_host.specs.Running.{inside, Turning}
+use Rattle.ac_host.proofs.Holding.{holding_under, object_by_there}
+use Rattle.ac_host.proofs.Standing.{Among, kept_at, object_framed, below_held, ready_more, ready_named, number_under, names_under}
+
+-- A cursor that designates an element
+
+record Designates (h : Held) (at : Mark) : Type 0 where
+  name : ℕ
+  among : Among (names_of h) name
+  is : at ≡ mark_of_name (number_of h) name
+
+among_rest : (first : ℕ) (all : List ℕ) (name : ℕ) → Among all name → Among (first ∷ all) name
+among_rest first all name a = record { before = first ∷ a.before; after = a.after; is = ap (λ l. first ∷ l) a.is }
+
+named_either : (first name : ℕ) (all : List ℕ) (there b : Bool) → (first == name) ≡ b → (b || there) ≡ true → (there ≡ true → Among all name) → Among (first ∷ all) name
+named_either first name all there true is k rest = let same : first ≡ name = grind (arith, nat_tests) in record { before = []; after = all; is = λ i. same i ∷ all }
+named_either first name all there false is k rest = among_rest first all name (rest k)
+
+named_among : {V : Type 0} (rows : List (Row ℕ V)) (name : ℕ) → is_named rows name ≡ true → Among (names rows) name
+named_among [] name e = absurd (cc)
+named_among (r ∷ rows) name e = named_either r.name name (names rows) (is_named rows name) (r.name == name) refl e (named_among rows name)
+
+some_found : (reason : Reason) → first_reason (Some reason ∷ []) ≡ None → ⊥
+some_found reason e = cc
+
+judged_not : (t : Bool) → first_reason ((if t then reason_if (not false) DeadCursor else Some ForeignCursor) ∷ []) ≡ None → ⊥
+judged_not true e = cc
+judged_not false e = cc
+
+foreign : (t there : Bool) → t ≡ false → first_reason ((if t then reason_if (not there) DeadCursor else Some ForeignCursor) ∷ []) ≡ None → ⊥
+foreign true there e none = absurd (cc)
+foreign false there e none = cc
+
+needed_at : {V : Type 0} (o : Object ℕ V) (number name : ℕ) (t b : Bool) → (number == o.number) ≡ t → is_named o.rows name ≡ b →
+    first_reason (needs o (if t && not b then stale_mark number else mark_of_name number name) ∷ []) ≡ None → (number ≡ o.number) × (b ≡ true)
+needed_at o number name true true e is none = let same : number ≡ o.number = grind (arith, nat_tests) in (same, refl)
+needed_at o number name true false e is none = absurd (judged_not (number == o.number) none)
+needed_at o number name false b e is none = absurd (foreign (number == o.number) (is_named o.rows name) e none)
+
+designated_in : {V : Type 0} (o : Object ℕ V) (at : Mark) → first_reason (needs o (seen o at) ∷ []) ≡ None →
+    (name : ℕ) × Among (names o.rows) name × (at ≡ mark_of_name o.number name)
+designated_in o no_mark none = absurd (some_found NoElement none)
+designated_in o (stale_mark number) none = absurd (judged_not (number == o.number) none)
+designated_in o (mark_of_name number name) none =
+    let r = needed_at o number name (number == o.number) (is_named o.rows name) refl refl none in
+    (name, named_among o.rows name r.1, ap (λ n. mark_of_name n name) r.0)
+
+designated : (h : Held) (at : Mark) → (element_value h at).reason ≡ None → Designates h at
+designated (a_list (of_integers o)) at none = let r = designated_in o at none in record { name = r.0; among = r.1; is = r.2 }
+designated (a_list (of_texts o)) at none = let r = designated_in o at none in record { name = r.0; among = r.1; is = r.2 }
+
+viewed_designates : (kind : ViewKind) (h : Held) (at : Mark) → head_reason kind h at ≡ None → Designates h at
+viewed_designates Query h at none = designated h at none
+viewed_designates Update h at none = designated h at none
+viewed_designates Reference h at none = designated h at none
+viewed_designates UpdateKey (a_list l) at none = absurd (none-some NoElement (sym none))
+
+-- Objects that are found while guards are held
+
+-- what is found under guards is what is kept, under them
+record FoundUnder (guards : Guards) (e : State) (place : ℕ) (h : Held) : Type 0 where
+  held : Held
+  there : object_at e place ≡ Some held
+  is : h ≡ held_under guards held
+
+found_under : (guards : Guards) (e : State) (place : ℕ) (h : Held) → object_at (under guards e) place ≡ Some h → FoundUnder guards e place h
+found_under guards e place h there = go (object_at e place) refl (sym (parts_under.object guards e place) ∙ there)
+  where
+    go : (o : Option Held) → object_at e place ≡ o → option_map (held_under guards) o ≡ Some h → FoundUnder guards e place h
+    go None is f = absurd (none-some h f)
+    go (Some k) is f = record { held = k; there = is; is = sym (same_Some (held_under guards k) h f) }
+
+object_there_kept : (guards more : Guards) (e : State) (place : ℕ) (h : Held) → object_at (under guards e) place ≡ Some h →
+    is_guarded more (number_of h) ≡ true → slice_get (kept more e) place ≡ Some (of_object (number_of h) (names_of h))
+object_there_kept guards more e place h there guarded =
+    let f = found_under guards e place h there in
+    let number : number_of h ≡ number_of f.held = ap number_of f.is ∙ number_under guards f.held in
+    let all : names_of h ≡ names_of f.held = ap names_of f.is ∙ names_under guards f.held in
+    object_framed more e place f.held f.there (ap (is_guarded more) (sym number) ∙ guarded)
+    ∙ sym (λ i. Some (of_object (number i) (all i)))
+
+left_whole : (e : State) (count : ℕ) → count ≡ length e.bounds → leaving count e ≡ e
+left_whole e count is = ap (λ n. leaving n e) is ∙ (λ i. record e { bounds = take_all (length e.bounds) e.bounds (omega arith) i })
+
+module _ (w : World) (guards : Guards) (e : State) (u : IsUnder w guards e) (place : ℕ) (h : Held) (there : object_at (state_of w) place ≡ Some h) where
+  found : object_at (under guards e) place ≡ Some h
+  found = ap (λ s. object_at s place) (sym u.is) ∙ there
+
+  below_one : (kind : GuardKind) (others : Guards) → GuardsBelow others e → GuardsBelow (guard_on h kind ∷ others) e
+  below_one kind others below = below_held guards e place h kind found u.ready.differ others below
+
+  below_loop : (elements : Bool) → GuardsBelow (guards_of_loop elements h ++ guards) e
+  below_loop false = below_one guard.Cursors guards u.ready.below
+  below_loop true = below_one guard.Cursors (guard_on h guard.Elements ∷ guards) (below_one guard.Elements guards u.ready.below)
+
+  below_view : (kind : ViewKind) → GuardsBelow (guards_of_view kind h ++ guards) e
+  below_view Query = below_one guard.Elements guards u.ready.below
+  below_view Update = below_one guard.Elements guards u.ready.below
+  below_view Reference = below_one guard.Elements guards u.ready.below
+  below_view UpdateKey = below_one guard.Cursors guards u.ready.below
+
+  held_more : (more : Guards) (now : World) → state_of now ≡ holding more (state_of w) → state_of now ≡ under (more ++ guards) e
+  held_more more now is = is ∙ (ap (holding more) u.is ∙ holding_under more guards e)
+
+  pub stable_begins : (now : World) → state_of now ≡ holding (guards_of_stable h) (state_of w) → IsUnder now (guards_of_stable h ++ guards) e
+  stable_begins now is = record {
+    is = held_more (guards_of_stable h) now is;
+    ready = ready_more (guards_of_stable h) guards e (below_one guard.Elements guards u.ready.below) u.ready;
+  }
+
+  pub view_begins : (kind : ViewKind) (at : Mark) (now : World) → head_reason kind h at ≡ None →
+      state_of now ≡ with_name (holding (guards_of_view kind h) (state_of w)) (binds_element place at) →
+      IsUnder now (guards_of_view kind h ++ guards) (with_name e (binds_element place at))
+  view_begins kind at now none is =
+      let more = guards_of_view kind h in
+      let d = viewed_designates kind h at none in
+      let guarded = blocks_guard.views kind h guards in
+      let own : IsKept (more ++ guards) (kept (more ++ guards) e) place at =
+      subst (IsKept (more ++ guards) (kept (more ++ guards) e) place) (sym d.is)
+      (kept_at (more ++ guards) (kept (more ++ guards) e) place (number_of h) (names_of h) d.name
+      (object_there_kept guards (more ++ guards) e place h found guarded) guarded d.among) in
+      record {
+        is =
+            is
+            ∙ (ap (λ s. with_name s (binds_element place at)) (ap (holding more) u.is ∙ holding_under more guards e)
+            ∙ sym (parts_under.named (more ++ guards) e (binds_element place at)));
+        ready =
+            ready_named (more ++ guards) e (binds_element place at) refl
+            (λ object mark f.
+            let p : place ≡ object = cc in
+            let m : at ≡ mark = cc in
+            subst (λ x. IsKept (more ++ guards) (kept (more ++ guards) e) x mark) p
+            (subst (λ x. IsKept (more ++ guards) (kept (more ++ guards) e) place x) m own))
+            (ready_more more guards e (below_view kind) u.ready);
+      }
+
+  pub loop_begins : (elements backward : Bool) (coming : Mark) (now : World) (count : ℕ) → count ≡ length (state_of w).bounds →
+      coming ≡ first_mark (number_of h) (in_order backward (names_of h)) → state_of now ≡ holding (guards_of_loop elements h) (state_of w) →
+      Turning now count place backward coming (guards_of_loop elements h ++ guards) e (number_of h) (names_of h) (in_order backward (names_of h))
+  loop_begins elements backward coming now count many coming_is is =
+      let more = guards_of_loop elements h in
+      let as_many : count ≡ length e.bounds = many ∙ (ap (λ (s : State). length s.bounds) u.is ∙ length-map e.bounds _) in
+      let guarded = blocks_guard.loops elements h guards in
+      let now_is = held_more more now is in
+      record {
+        is =
+            ap (leaving count) now_is
+            ∙ (sym (parts_under.left (more ++ guards) count e)
+            ∙ ap (under (more ++ guards)) (left_whole e count as_many));
+        ready = ready_more more guards e (below_loop elements) u.ready;
+        as_many = as_many;
+        there = object_there_kept guards (more ++ guards) e place h found guarded;
+        guarded = guarded;
+        before = [];
+        among = refl;
+        coming_is = coming_is;
+      }

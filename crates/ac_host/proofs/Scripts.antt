@@ -1,0 +1,78 @@
+-- A whole script: where it begins, and what it comes to.
+use Rattle.std.proofs.Common.{◌≡◌, ◌+◌, ℕ, Bool, List, [], ◌∷◌, map, refl, sym, ap, subst, ◌∙◌, Option, Result, Ok, Err, IsErrAnd}
+use Rattle.std.specs.List.{fold}
+use Rattle.std.proofs.lemmas.Option.{none-some}
+use Rattle.std.proofs.lemmas.Result.{err_from_is_err_and}
+use Rattle.ac_syntax.specs.declared.script.Script.{Script}
+use Rattle.ac_check.specs.Scopes.{with_decls}
+use Rattle.ac_check.specs.Resolved.{ResolvedCode, resolve, resolve_decls}
+use Rattle.ac_check.specs.declared.resolved.ResolvedDecl.{ResolvedDecl}
+use Rattle.ac_meaning.specs.Answers.{lines_text}
+use Rattle.ac_meaning.specs.Elements.{of_integers, of_texts}
+use Rattle.ac_meaning.specs.Holdings.{a_list, Guards, held_under}
+use Rattle.ac_meaning.specs.Environment.{Bound, binds_type, binds_object, binds_cursor, binds_value, binds_element, bound_by, State, first_state, under, after_decls, nodes_in, nodes}
+use Rattle.ac_meaning.specs.Execution.{Outcome, exec_resolved, run, text_of}
+use Rattle.ac_meaning.proofs.NewObjects.{new_objects_are_unguarded}
+use Rattle.ac_meaning.proofs.NumbersApart.{numbers_go_on}
+use Rattle.ac_meaning.proofs.Resolved.{script_runs_resolved}
+use Rattle.ac_objects.specs.World.{World, world, state_of}
+use Rattle.ac_host.specs.declared.end.HostEnd.{HostEnd}
+use Rattle.ac_host.specs.Ready.{IsUnder}
+use Rattle.ac_host.specs.Writing.{Broke, Writes}
+use Rattle.ac_host.proofs.Blocks.{decls_begin}
+
+first_stands : IsUnder (world [] 1) [] first_state
+first_stands = record {
+  is = refl;
+  ready = record {
+    below = new_objects_are_unguarded.none first_state;
+    differ = numbers_go_on.first;
+    elements = λ place object at is. absurd (none-some _ is);
+  };
+}
+
+-- behind the outermost declarations
+pub script_begins : (old now : World) (ds : List ResolvedDecl) → old ≡ world [] 1 → state_of now ≡ (after_decls ds (state_of old)).after →
+    IsUnder now [] (after_decls ds first_state).after
+script_begins old now ds is declared =
+    decls_begin (world [] 1) now [] first_state ds first_stands (declared ∙ ap (λ w. (after_decls ds (state_of w)).after) is)
+
+abbrev pub comes_to : ResolvedCode → List ResolvedDecl → Outcome
+comes_to code ds = exec_resolved code [] (after_decls ds first_state).after
+
+pub script_comes : (script : Script) (code : ResolvedCode) (ds : List ResolvedDecl) → code ≡ resolve (with_decls [] script.decls) script.stmts →
+    ds ≡ resolve_decls [] script.decls → comes_to code ds ≡ run script
+script_comes script code ds c d = (λ i. comes_to (c i) (d i)) ∙ script_runs_resolved script
+
+pub script_text : (script : Script) (r : Outcome) → r ≡ run script → lines_text r.lines ≡ text_of script
+unfolding text_of
+script_text script r is = ap (λ (x : Outcome). lines_text x.lines) is
+
+-- how many elements there are, whatever guards are held
+
+bound_nodes : (guards : Guards) (b : Bound) → nodes_in (bound_by (held_under guards) b) ≡ nodes_in b
+bound_nodes guards binds_type = refl
+bound_nodes guards (binds_object (a_list (of_integers o))) = refl
+bound_nodes guards (binds_object (a_list (of_texts o))) = refl
+bound_nodes guards (binds_cursor mark) = refl
+bound_nodes guards (binds_value v) = refl
+bound_nodes guards (binds_element object at) = refl
+
+all_nodes : (guards : Guards) (bs : List Bound) (count : ℕ) →
+    fold (λ (n : ℕ) (b : Bound). n + nodes_in b) count (map (bound_by (held_under guards)) bs) ≡ fold (λ (n : ℕ) (b : Bound). n + nodes_in b) count bs
+all_nodes guards [] count = refl
+all_nodes guards (b ∷ bs) count =
+    all_nodes guards bs (count + nodes_in (bound_by (held_under guards) b))
+    ∙ ap (λ m. fold (λ (n : ℕ) (x : Bound). n + nodes_in x) (count + m) bs) (bound_nodes guards b)
+
+pub nodes_under : (guards : Guards) (e : State) → nodes (under guards e) ≡ nodes e
+nodes_under guards e = all_nodes guards e.bounds 0
+
+module _ {K T : Type 0} (held : K → Option (List ℕ)) (faults : K → ℕ) (room : K → Option ℕ) (counts : K → Bool) where
+  -- a call that failed hands its end on
+  pub writes_broke : (a b : K) (text : List ℕ) (end : HostEnd) (result : Result T HostEnd) → IsErrAnd result (λ y. y ≡ end) →
+      Broke held faults room counts a b text end → Writes held faults room counts a b text result
+  writes_broke a b text end result exit broke =
+      let p = err_from_is_err_and result exit in
+      let is : Err end ≡ result = ap Err (sym p.2) ∙ sym p.1 in
+      subst (Writes held faults room counts a b text) is broke

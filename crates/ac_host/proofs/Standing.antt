@@ -1,0 +1,331 @@
+-- Environments in which statements can run.
+use Rattle.std.proofs.Common.{◌≡◌, ◌==◌, ◌||◌, ◌&&◌, ◌+◌, ◌<◌, ◌≤◌, ◌⊎◌, inl, inr, ℕ, zero, suc, Bool, true, false, not, List, [], ◌∷◌, ◌++◌, map, take, length, slice_get, reverse, refl, sym, ap, subst, ◌∙◌, arith, Option, Some, None, if◌then◌else◌}
+use Rattle.std.proofs.lemmas.List.{map-append, reverse-append, reverse-reverse, append_assoc}
+use Rattle.std.proofs.lemmas.List.Folds.{list_any-append}
+use Rattle.std.proofs.lemmas.Option.{none-some, same_Some}
+use Rattle.std.proofs.lemmas.Bool.Decides.{nat_tests}
+use Rattle.ac_base.specs.FirstReason.{first_reason}
+use Rattle.ac_base.specs.Guards.{HeldGuard}
+use Rattle.ac_base.specs.declared.guard.GuardKind.{GuardKind}
+use Rattle.ac_base.specs.declared.guard.GuardKind.TheVariants as guard
+use Rattle.ac_base.specs.declared.reason.Reason.TheVariants.{ForeignCursor, DeadCursor}
+use Rattle.ac_base.specs.Rows.{names}
+use Rattle.ac_model.specs.Objects.{Object}
+use Rattle.ac_model.specs.Rows.{is_named}
+use Rattle.ac_model.specs.Letters.{Mark, no_mark, mark_at, stale_mark, needs, judged_in, reason_if}
+use Rattle.ac_model.specs.Cursors.{seen}
+use Rattle.ac_check.specs.Resolved.{ResolvedCode}
+use Rattle.ac_meaning.specs.Elements.{of_integers, of_texts}
+use Rattle.ac_meaning.specs.Holdings.{Held, a_list, Guards, number_of, names_of, held_under, held_on, element_value, guard_on}
+use Rattle.ac_meaning.specs.Environment.{Bound, binds_type, binds_object, binds_cursor, binds_value, binds_element, bound_by, bound_in, object_in, State, under, bound_at, object_at, with_name, leaving}
+use Rattle.ac_meaning.specs.Execution.{exec_resolved, in_order}
+use Rattle.ac_meaning.specs.GuardedNames.{is_guarded, Frame, of_type, of_object, of_cursor, of_value, of_element, names_if, frame, kept}
+use Rattle.ac_meaning.specs.Numbers.{NumbersDiffer, GuardsBelow}
+use Rattle.ac_meaning.proofs.BoundsStay.{object_there}
+use Rattle.ac_meaning.proofs.CountsStay.{bound_under}
+use Rattle.ac_meaning.proofs.ExecKeeps.{resolved_keeps}
+use Rattle.ac_meaning.proofs.Frames.{kept_back}
+use Rattle.ac_meaning.proofs.Guarded.{held_some}
+use Rattle.ac_meaning.proofs.NewObjects.{new_objects_are_unguarded}
+use Rattle.ac_meaning.proofs.NextRises.{next_rises}
+use Rattle.ac_meaning.proofs.NumbersApart.{numbers_go_on}
+use Rattle.ac_meaning.proofs.Walks.{named_there, turned}
+use Rattle.ac_objects.specs.Standing.{ElementStands, ElementsStand, counts_in_held}
+use Rattle.ac_objects.specs.World.{World, state_of}
+use Rattle.ac_host.specs.Ready.{IsKept, ElementsKept, Ready, IsUnder, IsReady}
+use Rattle.ac_host.proofs.Holding.{object_by_there}
+
+-- An element that an object has
+
+seen_own : (b there : Bool) (number name : ℕ) → there ≡ true → (if b && not there then stale_mark number else mark_at number name) ≡ mark_at number name
+seen_own true true number name e = refl
+seen_own false there number name e = refl
+seen_own true false number name e = absurd (cc)
+
+judged_own : (number : ℕ) (there : Bool) → there ≡ true → first_reason (judged_in number number there ∷ []) ≡ None
+judged_own number there e = go (number == number) there (grind (arith, nat_tests)) e
+  where
+    go : (t b : Bool) → t ≡ true → b ≡ true → first_reason ((if t then reason_if (not b) DeadCursor else Some ForeignCursor) ∷ []) ≡ None
+    go true true h k = refl
+    go true false h k = absurd (cc)
+    go false b h k = absurd (cc)
+
+needed : {V : Type 0} (o : Object ℕ V) (name : ℕ) → is_named o.rows name ≡ true → first_reason (needs o (seen o (mark_at o.number name)) ∷ []) ≡ None
+needed o name there =
+    ap (λ m. first_reason (needs o m ∷ [])) (seen_own (o.number == o.number) (is_named o.rows name) o.number name there)
+    ∙ judged_own o.number (is_named o.rows name) there
+
+pub element_there : (h : Held) (before : List ℕ) (name : ℕ) (after : List ℕ) → names_of h ≡ before ++ name ∷ after →
+    (element_value h (mark_at (number_of h) name)).reason ≡ None
+element_there (a_list (of_integers o)) before name after e = needed o name (named_there o.rows before name after e)
+element_there (a_list (of_texts o)) before name after e = needed o name (named_there o.rows before name after e)
+
+pub number_under : (guards : Guards) (h : Held) → number_of (held_under guards h) ≡ number_of h
+number_under guards (a_list (of_integers o)) = refl
+number_under guards (a_list (of_texts o)) = refl
+
+pub names_under : (guards : Guards) (h : Held) → names_of (held_under guards h) ≡ names_of h
+names_under guards (a_list (of_integers o)) = refl
+names_under guards (a_list (of_texts o)) = refl
+
+guarded_counts : (guards : Guards) (h : Held) → is_guarded guards (number_of h) ≡ true →
+    0 < (counts_in_held (held_under guards h)).cursor_guards + (counts_in_held (held_under guards h)).element_guards
+guarded_counts guards (a_list (of_integers o)) g = held_some guards o.number g
+guarded_counts guards (a_list (of_texts o)) g = held_some guards o.number g
+
+-- What stays of a name, and what it holds
+
+record Framed (guards : Guards) (bs : List Bound) (place : ℕ) (f : Frame) : Type 0 where
+  bound : Bound
+  there : slice_get bs place ≡ Some bound
+  is : frame guards bound ≡ f
+
+framed : (guards : Guards) (bs : List Bound) (place : ℕ) (f : Frame) → slice_get (map (frame guards) bs) place ≡ Some f → Framed guards bs place f
+framed guards [] place f e = absurd (none-some f e)
+framed guards (b ∷ bs) zero f e = record { bound = b; there = refl; is = same_Some (frame guards b) f e }
+framed guards (b ∷ bs) (suc place) f e = let r = framed guards bs place f e in record { bound = r.bound; there = r.there; is = r.is }
+
+frame_there : (guards : Guards) (bs : List Bound) (place : ℕ) (b : Bound) → slice_get bs place ≡ Some b → slice_get (map (frame guards) bs) place ≡ Some (frame guards b)
+frame_there guards [] place b e = absurd (none-some b e)
+frame_there guards (x ∷ bs) zero b e = ap (λ (y : Bound). Some (frame guards y)) (same_Some x b e)
+frame_there guards (x ∷ bs) (suc place) b e = frame_there guards bs place b e
+
+number_in : Frame → ℕ
+number_in of_type = 0
+number_in (of_object number names) = number
+number_in of_cursor = 0
+number_in of_value = 0
+number_in (of_element object at) = 0
+
+names_in : Frame → List ℕ
+names_in of_type = []
+names_in (of_object number names) = names
+names_in of_cursor = []
+names_in of_value = []
+names_in (of_element object at) = []
+
+-- an object that has these names, where a guard is held on it
+pub record ObjectKept (guards : Guards) (e : State) (place number : ℕ) (all : List ℕ) : Type 0 where
+  pub held : Held
+  pub there : object_at e place ≡ Some held
+  pub number_is : number_of held ≡ number
+  pub names_are : is_guarded guards number ≡ true → names_of held ≡ all
+
+framed_object : (guards : Guards) (e : State) (place number : ℕ) (all : List ℕ) (b : Bound) → slice_get e.bounds place ≡ Some b →
+    frame guards b ≡ of_object number all → ObjectKept guards e place number all
+unfolding number_in names_in
+framed_object guards e place number all (binds_object h) there is =
+    let n : number_of h ≡ number = ap number_in is in
+    record {
+      held = h;
+      there = ap (λ o. object_in (bound_in o)) there;
+      number_is = n;
+      names_are = λ g.
+          let own : is_guarded guards (number_of h) ≡ true = ap (is_guarded guards) n ∙ g in
+          sym (ap (λ t. names_if t (names_of h)) own) ∙ ap names_in is;
+    }
+framed_object guards e place number all binds_type there is = absurd (cc)
+framed_object guards e place number all (binds_cursor mark) there is = absurd (cc)
+framed_object guards e place number all (binds_value v) there is = absurd (cc)
+framed_object guards e place number all (binds_element object at) there is = absurd (cc)
+
+pub kept_object : (guards : Guards) (e : State) (place number : ℕ) (all : List ℕ) → slice_get (kept guards e) place ≡ Some (of_object number all) →
+    ObjectKept guards e place number all
+kept_object guards e place number all there =
+    let f = framed guards e.bounds place (of_object number all) there in framed_object guards e place number all f.bound f.there f.is
+
+pub bound_found : (bs : List Bound) (place : ℕ) (b : Bound) → bound_in (slice_get bs place) ≡ b → (b ≡ binds_type → ⊥) → slice_get bs place ≡ Some b
+bound_found [] place b e other = absurd (other (sym e))
+bound_found (x ∷ bs) zero b e other = ap Some e
+bound_found (x ∷ bs) (suc place) b e other = bound_found bs place b e other
+
+pub no_type_object : (h : Held) → binds_object h ≡ binds_type → ⊥
+no_type_object h e = cc
+
+no_type_element : (object : ℕ) (at : Mark) → binds_element object at ≡ binds_type → ⊥
+no_type_element object at e = cc
+
+pub object_framed : (guards : Guards) (e : State) (place : ℕ) (h : Held) → object_at e place ≡ Some h → is_guarded guards (number_of h) ≡ true →
+    slice_get (kept guards e) place ≡ Some (of_object (number_of h) (names_of h))
+object_framed guards e place h there guarded =
+    frame_there guards e.bounds place (binds_object h)
+    (bound_found e.bounds place (binds_object h) (object_there (bound_at e place) h there) (no_type_object h))
+    ∙ ap (λ t. Some (of_object (number_of h) (names_if t (names_of h)))) guarded
+
+element_framed : (guards : Guards) (e : State) (place object : ℕ) (at : Mark) → bound_at e place ≡ binds_element object at →
+    slice_get (kept guards e) place ≡ Some (of_element object at)
+element_framed guards e place object at is =
+    frame_there guards e.bounds place (binds_element object at) (bound_found e.bounds place (binds_element object at) is (no_type_element object at))
+
+framed_element : (guards : Guards) (b : Bound) (object : ℕ) (at : Mark) → frame guards b ≡ of_element object at → b ≡ binds_element object at
+framed_element guards (binds_element p m) object at is = cc
+framed_element guards (binds_object h) object at is = absurd (cc)
+framed_element guards binds_type object at is = absurd (cc)
+framed_element guards (binds_cursor mark) object at is = absurd (cc)
+framed_element guards (binds_value v) object at is = absurd (cc)
+
+element_by : (f : Held → Held) (b : Bound) (object : ℕ) (at : Mark) → bound_by f b ≡ binds_element object at → b ≡ binds_element object at
+element_by f (binds_element p m) object at is = cc
+element_by f (binds_object h) object at is = absurd (cc)
+element_by f binds_type object at is = absurd (cc)
+element_by f (binds_cursor mark) object at is = absurd (cc)
+element_by f (binds_value v) object at is = absurd (cc)
+
+-- so an element that is kept stands, while the guards are held
+kept_stands : (guards : Guards) (e : State) (object : ℕ) (at : Mark) → IsKept guards (kept guards e) object at → ElementStands (under guards e) object at
+kept_stands guards e object at k =
+    let o = kept_object guards e object k.number k.names k.there in
+    let h = held_under guards o.held in
+    let number : number_of h ≡ k.number = number_under guards o.held ∙ o.number_is in
+    let among : names_of h ≡ k.before ++ k.name ∷ k.after = names_under guards o.held ∙ (o.names_are k.guarded ∙ k.among) in
+    let is : at ≡ mark_at (number_of h) k.name = k.is ∙ ap (λ n. mark_at n k.name) (sym number) in
+    record {
+      held = h;
+      there = object_by_there (held_under guards) e object o.held o.there;
+      stands = ap (λ m. (element_value h m).reason) is ∙ element_there h k.before k.name k.after among;
+      guarded = guarded_counts guards o.held (ap (is_guarded guards) o.number_is ∙ k.guarded);
+    }
+
+pub elements_stand : (guards : Guards) (e : State) → Ready guards e → ElementsStand (under guards e)
+elements_stand guards e r place object at is =
+    let own = element_by (held_under guards) (bound_at e place) object at (sym (bound_under (held_under guards) e.bounds place) ∙ is) in
+    kept_stands guards e object at (r.elements place object at (element_framed guards e place object at own))
+
+pub ready_stand : (w : World) → IsReady w → ElementsStand (state_of w)
+ready_stand w r = subst ElementsStand (sym r.stands.is) (elements_stand r.guards r.env r.stands.ready)
+
+-- What stays ready
+
+pub ready_exec : (code : ResolvedCode) (guards : Guards) (e : State) → Ready guards e → Ready guards (exec_resolved code guards e).after
+ready_exec code guards e r =
+    let now = (exec_resolved code guards e).after in
+    record {
+      below = new_objects_are_unguarded.later guards e now (next_rises.resolved code guards e) r.below;
+      differ = numbers_go_on.resolved code guards e r.differ;
+      elements = subst (ElementsKept guards) (sym (resolved_keeps code guards e)) r.elements;
+    }
+
+any_later : (a b : Bool) → b ≡ true → (a || b) ≡ true
+any_later true b e = refl
+any_later false b e = e
+
+guarded_more : (more guards : Guards) (number : ℕ) → is_guarded guards number ≡ true → is_guarded (more ++ guards) number ≡ true
+guarded_more more guards number g =
+    list_any-append (λ (x : HeldGuard). x.object == number) more guards ∙ any_later (is_guarded more number) (is_guarded guards number) g
+
+kept_more : (more guards : Guards) (e : State) (object : ℕ) (at : Mark) → IsKept guards (kept guards e) object at →
+    IsKept (more ++ guards) (kept (more ++ guards) e) object at
+kept_more more guards e object at k =
+    let o = kept_object guards e object k.number k.names k.there in
+    let own : is_guarded (more ++ guards) (number_of o.held) ≡ true = ap (is_guarded (more ++ guards)) o.number_is ∙ guarded_more more guards k.number k.guarded in
+    record {
+      number = number_of o.held;
+      names = names_of o.held;
+      there = object_framed (more ++ guards) e object o.held o.there own;
+      guarded = own;
+      before = k.before;
+      name = k.name;
+      after = k.after;
+      among = o.names_are k.guarded ∙ k.among;
+      is = k.is ∙ ap (λ n. mark_at n k.name) (sym o.number_is);
+    }
+
+-- under more guards
+pub ready_more : (more guards : Guards) (e : State) → GuardsBelow (more ++ guards) e → Ready guards e → Ready (more ++ guards) e
+ready_more more guards e below r = record {
+  below = below;
+  differ = r.differ;
+  elements = λ place object at is.
+      let f = framed (more ++ guards) e.bounds place (of_element object at) is in
+      let own = framed_element (more ++ guards) f.bound object at f.is in
+      kept_more more guards e object at
+      (r.elements place object at (element_framed guards e place object at (ap bound_in f.there ∙ own)));
+}
+
+-- a name among those of an object, in either order
+pub record Among (all : List ℕ) (name : ℕ) : Type 0 where
+  pub before : List ℕ
+  pub after : List ℕ
+  pub is : all ≡ before ++ name ∷ after
+
+pub among_order : (backward : Bool) (all before : List ℕ) (name : ℕ) (after : List ℕ) → in_order backward all ≡ before ++ name ∷ after → Among all name
+among_order false all before name after e = record { before = before; after = after; is = e }
+among_order true all before name after e = record { before = reverse after; after = reverse before; is = turned all before name after e }
+
+-- an object at a place is kept there with each of its names
+pub kept_at : (guards : Guards) (frames : List Frame) (place number : ℕ) (all : List ℕ) (name : ℕ) → slice_get frames place ≡ Some (of_object number all) →
+    is_guarded guards number ≡ true → Among all name → IsKept guards frames place (mark_at number name)
+kept_at guards frames place number all name there guarded among = record {
+  number = number;
+  names = all;
+  there = there;
+  guarded = guarded;
+  before = among.before;
+  name = name;
+  after = among.after;
+  among = among.is;
+  is = refl;
+}
+
+pub longer : {A : Type 0} (xs ys : List A) (place : ℕ) (x : A) → slice_get xs place ≡ Some x → slice_get (xs ++ ys) place ≡ Some x
+longer [] ys place x e = absurd (none-some x e)
+longer (y ∷ xs) ys zero x e = e
+longer (y ∷ xs) ys (suc place) x e = longer xs ys place x e
+
+last_or_before : {A : Type 0} (xs : List A) (y : A) (place : ℕ) (x : A) → slice_get (xs ++ y ∷ []) place ≡ Some x → (slice_get xs place ≡ Some x) ⊎ (y ≡ x)
+last_or_before [] y zero x e = inr (same_Some y x e)
+last_or_before [] y (suc place) x e = absurd (none-some x e)
+last_or_before (z ∷ xs) y zero x e = inl e
+last_or_before (z ∷ xs) y (suc place) x e = last_or_before xs y place x e
+
+kept_longer : (guards : Guards) (frames more : List Frame) (object : ℕ) (at : Mark) → IsKept guards frames object at → IsKept guards (frames ++ more) object at
+kept_longer guards frames more object at k = record {
+  number = k.number;
+  names = k.names;
+  there = longer frames more object (of_object k.number k.names) k.there;
+  guarded = k.guarded;
+  before = k.before;
+  name = k.name;
+  after = k.after;
+  among = k.among;
+  is = k.is;
+}
+
+pub elements_longer : (guards : Guards) (frames : List Frame) (last : Frame) → ElementsKept guards frames →
+    ((object : ℕ) (at : Mark) → last ≡ of_element object at → IsKept guards frames object at) → ElementsKept guards (frames ++ last ∷ [])
+elements_longer guards frames last all own place object at is =
+    go (last_or_before frames last place (of_element object at) is)
+  where
+    go : (slice_get frames place ≡ Some (of_element object at)) ⊎ (last ≡ of_element object at) → IsKept guards (frames ++ last ∷ []) object at
+    go (inl before) = kept_longer guards frames (last ∷ []) object at (all place object at before)
+    go (inr here) = kept_longer guards frames (last ∷ []) object at (own object at here)
+
+pub kept_named : (guards : Guards) (e : State) (b : Bound) → kept guards (with_name e b) ≡ kept guards e ++ frame guards b ∷ []
+kept_named guards e b = map-append (frame guards) e.bounds (b ∷ [])
+
+-- with a name more
+pub ready_named : (guards : Guards) (e : State) (b : Bound) → object_in b ≡ None →
+    ((object : ℕ) (at : Mark) → frame guards b ≡ of_element object at → IsKept guards (kept guards e) object at) → Ready guards e → Ready guards (with_name e b)
+ready_named guards e b none own r = record {
+  below = new_objects_are_unguarded.later guards e (with_name e b) (omega arith) r.below;
+  differ = numbers_go_on.named e b none r.differ;
+  elements = subst (ElementsKept guards) (sym (kept_named guards e b)) (elements_longer guards (kept guards e) (frame guards b) r.elements own);
+}
+
+-- and when it goes
+pub ready_back : (guards : Guards) (e now : State) (b : Bound) → kept guards now ≡ kept guards (with_name e b) → Ready guards e → Ready guards now →
+    Ready guards (leaving (length e.bounds) now)
+ready_back guards e now b same r now_ready = record {
+  below = new_objects_are_unguarded.later guards now (leaving (length e.bounds) now) (omega arith) now_ready.below;
+  differ = numbers_go_on.left (length e.bounds) now now_ready.differ;
+  elements = subst (ElementsKept guards) (sym (kept_back guards e now (b ∷ []) same)) r.elements;
+}
+
+-- with a guard of a block on an object
+pub below_held : (guards : Guards) (e : State) (place : ℕ) (h : Held) (kind : GuardKind) → object_at (under guards e) place ≡ Some h →
+    NumbersDiffer e → (others : Guards) → GuardsBelow others e → GuardsBelow (guard_on h kind ∷ others) e
+below_held guards e place h kind there differ others below =
+    let now = under guards e in
+    new_objects_are_unguarded.later (guard_on h kind ∷ others) now e (omega arith)
+    (new_objects_are_unguarded.one_more others now place h kind (numbers_go_on.guarded guards e differ) there
+    (new_objects_are_unguarded.later others e now (omega arith) below))

@@ -1,0 +1,4 @@
+pub mod Lines
+pub mod Ready
+pub mod Writing
+pub mod Running

@@ -1,0 +1,76 @@
+-- What a statement comes to, and where the turns of a loop stand.
+use Rattle.std.specs.Prelude.{◌≡◌, ℕ, Bool, true, List, ◌++◌, length, slice_get, Option, Some, Result}
+use Rattle.ac_model.specs.Letters.{Mark}
+use Rattle.ac_check.specs.Resolved.{calls_at, sets_at, sums_at, loops_at, views_at, stables_at, declares_at}
+use Rattle.ac_check.specs.declared.resolved.ResolvedStmt.{ResolvedStmt}
+use Rattle.ac_check.specs.declared.resolved.ResolvedStmt.TheVariants.{Call, Set, Sum, Loop, View, Stable, Declare}
+use Rattle.ac_meaning.specs.Holdings.{Held, Guards, number_of, names_of}
+use Rattle.ac_meaning.specs.Environment.{State, under, leaving}
+use Rattle.ac_meaning.specs.Execution.{Outcome, outcome, turns, commanded, block_on, exec_resolved, in_order, guards_of_loop}
+use Rattle.ac_meaning.specs.GuardedNames.{is_guarded, of_object, kept}
+use Rattle.ac_meaning.specs.Walks.{first_mark}
+use Rattle.ac_objects.specs.Standing.{counts_of}
+use Rattle.ac_objects.specs.World.{World, state_of, Persists}
+use Rattle.ac_host.specs.declared.end.HostEnd.{HostEnd}
+use Rattle.ac_host.specs.Ready.{Ready, IsUnder}
+use Rattle.ac_host.specs.Writing.{Ran, WroteSoFar}
+
+-- one statement, without what follows it
+abbrev pub statement_outcome : ResolvedStmt → Guards → State → Outcome
+statement_outcome (Call line target object operation args) guards e = commanded guards e (calls_at line target object operation args)
+statement_outcome (Set line target from) guards e = commanded guards e (sets_at line target from)
+statement_outcome (Sum line target from minus number) guards e = commanded guards e (sums_at line target from minus number)
+statement_outcome (Loop line elements backward object body) guards e = block_on (exec_resolved body) guards e (loops_at line elements backward object)
+statement_outcome (View line kind object at body) guards e = block_on (exec_resolved body) guards e (views_at line kind object at)
+statement_outcome (Stable line object body) guards e = block_on (exec_resolved body) guards e (stables_at line object)
+statement_outcome (Declare line decls body) guards e = block_on (exec_resolved body) guards e (declares_at line decls)
+
+-- with no more than so many names left behind it
+abbrev pub inside : ℕ → Outcome → Outcome
+inside count r = outcome r.lines (leaving count r.after)
+
+-- what runs on the objects comes to this, for whatever environment they are
+abbrev pub Runs : {K T : Type 0} → (K → Option (List ℕ)) → (K → ℕ) → (K → Option ℕ) → (K → Bool) → (sink_old sink_new : K) → (old new : World) →
+    (Guards → State → Outcome) → Result T HostEnd → Type 0
+Runs held faults room counts_failures sink_old sink_new old new comes_to result =
+    (guards : Guards) (e : State) → IsUnder old guards e → Ran held faults room counts_failures sink_old sink_new new guards (comes_to guards e) result
+
+-- whatever it comes to, cursors that were known are known, and the names in scope hold objects as they did, with their counts of guards
+pub record Leaves (old new : World) : Type 0 where
+  pub persists : Persists old new
+  pub counts : counts_of (state_of new) ≡ counts_of (state_of old)
+
+-- between two turns of a loop over an object, with these names still to come
+pub record Turning (w : World) (count object : ℕ) (backward : Bool) (coming : Mark) (guards : Guards) (e : State) (number : ℕ)
+    (all names : List ℕ) : Type 0 where
+  pub is : leaving count (state_of w) ≡ under guards e
+  pub ready : Ready guards e
+  pub as_many : count ≡ length e.bounds
+  pub there : slice_get (kept guards e) object ≡ Some (of_object number all)
+  pub guarded : is_guarded guards number ≡ true
+  pub before : List ℕ
+  pub among : in_order backward all ≡ before ++ names
+  pub coming_is : coming ≡ first_mark number names
+
+-- there are such guards, such an environment and such names
+pub record IsTurning (elements : Bool) (w : World) (count object : ℕ) (backward : Bool) (coming : Mark) : Type 0 where
+  pub guards : Guards
+  pub held : Held
+  pub env : State
+  pub names : List ℕ
+  pub turning : Turning w count object backward coming (guards_of_loop elements held ++ guards) env (number_of held) (names_of held) names
+
+-- in the middle of a whole: what is left of it, of the environment that stands
+
+module _ {K : Type 0} (held : K → Option (List ℕ)) (faults : K → ℕ) (room : K → Option ℕ) (counts_failures : K → Bool) where
+  pub record GoesOn (sink_old sink_now : K) (now : World) (guards : Guards) (left : State → Outcome) (whole : Outcome) : Type 0 where
+    pub env : State
+    pub under_guards : IsUnder now guards env
+    pub so_far : WroteSoFar held faults room counts_failures sink_old sink_now (left env) whole
+
+  pub record TurnsOn (sink_old sink_now : K) (now : World) (count object : ℕ) (backward : Bool) (coming : Mark) (guards : Guards) (number : ℕ)
+      (all : List ℕ) (left : List ℕ → State → Outcome) (whole : Outcome) : Type 0 where
+    pub env : State
+    pub names : List ℕ
+    pub turning : Turning now count object backward coming guards env number all names
+    pub so_far : WroteSoFar held faults room counts_failures sink_old sink_now (left names env) whole

@@ -1,0 +1,313 @@
+//! The host: it runs statements in order, and writes the line of each command as soon as it has run.
+ghost use Rattle.std.specs.Prelude.{◌≡◌, ◌<◌, ◌++◌, [], ◌∷◌, ℕ, List, take, Some};
+ghost use Rattle.ac_base.specs.declared.reason.Reason.TheVariants.{NamesSpent};
+ghost use Rattle.ac_base.specs.declared.fault.Fault.TheVariants as fault;
+ghost use Rattle.ac_model.specs.Cursors.{plain_mark};
+ghost use Rattle.ac_check.specs.Resolved.{calls_at, sets_at, sums_at, loops_at, views_at, stables_at, declares_at};
+ghost use Rattle.ac_meaning.specs.Answers.{line as line_of, lines_text, answers_raised};
+ghost use Rattle.ac_meaning.specs.Holdings.{Held, Guards, number_of, names_of};
+ghost use Rattle.ac_meaning.specs.Environment.{State, leaving};
+ghost use Rattle.ac_meaning.specs.Execution.{commanded, block_on, exec_resolved, turns, guards_of_loop};
+ghost use Rattle.ac_objects.specs.Blocks.{releasing, guards_of_loop_key, guards_of_view_key, IsHeldAt};
+ghost use Rattle.ac_objects.specs.Standing.{counts_of};
+ghost use Rattle.ac_objects.specs.World.{state_of, IsKnown, Persists};
+ghost use Rattle.ac_host.specs.Ready.{IsReady, IsUnder};
+ghost use Rattle.ac_host.specs.Running.{statement_outcome, inside, Runs, Leaves, Turning, IsTurning};
+ghost use Rattle.ac_host.specs.Writing.{Ran};
+
+use crate::end::HostEnd;
+use crate::written::{write_line, write_refusal};
+use ac_base::{Fault, Reason};
+use ac_check::{Operation, ResolvedArg, ResolvedDecl, ResolvedStmt, ResolvedStmts};
+use ac_io::Sink;
+use ac_objects::{DeclareFault, LoopKey, Objects, ViewKey};
+use ac_syntax::ViewKind;
+
+/// A script that runs: what its names hold, and the line that is made next.
+#[derive(Drop)]
+pub struct Host {
+    pub(crate) objects: Objects,
+    pub(crate) text: Vec<u8>,
+}
+
+impl Host {
+    fn run_call<K: Sink>(
+        &mut self,
+        line: u64,
+        target: Option<usize>,
+        object: usize,
+        operation: Operation,
+        args: &[ResolvedArg],
+        sink: &mut K,
+    ) -> Result<(), HostEnd>
+        requires ready { IsReady self.old.objects }
+        ensures runs { Runs K.held K.faults K.room K.counts_failures sink.old sink.new self.old.objects self.new.objects
+            (λ guards e. commanded guards e (calls_at line target object operation args.now)) result }
+        ensures leaves { Leaves self.old.objects self.new.objects }
+    {
+        let answer = self.objects.call(target, object, operation, args);
+        write_line(&self.objects, line, answer, &mut self.text, sink)
+    }
+
+    fn run_set<K: Sink>(
+        &mut self,
+        line: u64,
+        target: usize,
+        from: &ResolvedArg,
+        sink: &mut K,
+    ) -> Result<(), HostEnd>
+        requires ready { IsReady self.old.objects }
+        ensures runs { Runs K.held K.faults K.room K.counts_failures sink.old sink.new self.old.objects self.new.objects
+            (λ guards e. commanded guards e (sets_at line target from.now)) result }
+        ensures leaves { Leaves self.old.objects self.new.objects }
+    {
+        let answer = self.objects.set(target, from);
+        write_line(&self.objects, line, answer, &mut self.text, sink)
+    }
+
+    fn run_sum<K: Sink>(
+        &mut self,
+        line: u64,
+        target: usize,
+        from: usize,
+        minus: bool,
+        number: u64,
+        sink: &mut K,
+    ) -> Result<(), HostEnd>
+        requires ready { IsReady self.old.objects }
+        ensures runs { Runs K.held K.faults K.room K.counts_failures sink.old sink.new self.old.objects self.new.objects
+            (λ guards e. commanded guards e (sums_at line target from minus number)) result }
+        ensures leaves { Leaves self.old.objects self.new.objects }
+    {
+        let answer = self.objects.sum(target, from, minus, number);
+        write_line(&self.objects, line, answer, &mut self.text, sink)
+    }
+
+    /// Runs the body of a loop once for each element still to come.
+    #[cycle(statements)]
+    fn run_turns<K: Sink>(
+        &mut self,
+        elements: bool,
+        key: &mut LoopKey,
+        body: &ResolvedStmts,
+        sink: &mut K,
+    ) -> Result<(), HostEnd>
+        requires turning { IsTurning elements self.old.objects key.old.names key.old.object key.old.backward (plain_mark key.old.coming) }
+        requires known { IsKnown self.old.objects key.old.coming }
+        ensures runs { (guards : Guards) (h : Held) (e : State) (names : List ℕ) →
+            Turning self.old.objects key.old.names key.old.object key.old.backward (plain_mark key.old.coming)
+            (guards_of_loop elements h ++ guards) e (number_of h) (names_of h) names →
+            Ran K.held K.faults K.room K.counts_failures sink.old sink.new self.new.objects (guards_of_loop elements h ++ guards)
+            (turns (exec_resolved body.now) guards elements key.old.object h names e) result }
+        ensures key { (key.new.object ≡ key.old.object) × (key.new.names ≡ key.old.names)
+            × (guards_of_loop_key key.new ≡ guards_of_loop_key key.old) }
+        ensures persists { Persists self.old.objects self.new.objects }
+        ensures counts { take key.old.names (counts_of (state_of self.new.objects))
+            ≡ take key.old.names (counts_of (state_of self.old.objects)) }
+    {
+        for _ in 0..u64::MAX {
+            if !self.objects.step_loop(elements, key)? {
+                return Ok(());
+            }
+            self.run_statements(body, sink)?;
+        }
+        Err(HostEnd::NoMemory)
+    }
+
+    #[cycle(statements)]
+    fn run_loop<K: Sink>(
+        &mut self,
+        line: u64,
+        elements: bool,
+        backward: bool,
+        object: usize,
+        body: &ResolvedStmts,
+        sink: &mut K,
+    ) -> Result<(), HostEnd>
+        requires ready { IsReady self.old.objects }
+        ensures runs { Runs K.held K.faults K.room K.counts_failures sink.old sink.new self.old.objects self.new.objects
+            (λ guards e. block_on (exec_resolved body.now) guards e (loops_at line elements backward object)) result }
+        ensures leaves { Leaves self.old.objects self.new.objects }
+    {
+        if !self.objects.is_object(object) {
+            return Ok(());
+        }
+        let mut key = self.objects.enter_loop(elements, backward, object)?;
+        let ended = self.run_turns(elements, &mut key, body, sink);
+        self.objects.leave_loop(key);
+        ended
+    }
+
+    /// Runs the body of a view or `stable` that was begun, and ends it.
+    #[cycle(statements)]
+    fn run_viewed<K: Sink>(
+        &mut self,
+        key: ViewKey,
+        body: &ResolvedStmts,
+        sink: &mut K,
+    ) -> Result<(), HostEnd>
+        requires ready { IsReady self.old.objects }
+        requires inner { key.object < key.names }
+        requires guard { IsHeldAt (state_of self.old.objects) key.object key.guard }
+        ensures runs { (guards : Guards) (e : State) → IsUnder self.old.objects (guards_of_view_key key ++ guards) e →
+            Ran K.held K.faults K.room K.counts_failures sink.old sink.new self.new.objects guards
+            (inside key.names (exec_resolved body.now (guards_of_view_key key ++ guards) e)) result }
+        ensures persists { Persists self.old.objects self.new.objects }
+        ensures counts { counts_of (state_of self.new.objects)
+            ≡ counts_of (releasing (guards_of_view_key key) (leaving key.names (state_of self.old.objects))) }
+    {
+        let ended = self.run_statements(body, sink);
+        self.objects.leave_view(key);
+        ended
+    }
+
+    #[cycle(statements)]
+    fn run_view<K: Sink>(
+        &mut self,
+        line: u64,
+        kind: ViewKind,
+        object: usize,
+        at: Option<usize>,
+        body: &ResolvedStmts,
+        sink: &mut K,
+    ) -> Result<(), HostEnd>
+        requires ready { IsReady self.old.objects }
+        ensures runs { Runs K.held K.faults K.room K.counts_failures sink.old sink.new self.old.objects self.new.objects
+            (λ guards e. block_on (exec_resolved body.now) guards e (views_at line kind object at)) result }
+        ensures leaves { Leaves self.old.objects self.new.objects }
+    {
+        if !self.objects.is_object(object) {
+            return Ok(());
+        }
+        match self.objects.enter_view(kind, object, at) {
+            Ok(key) => self.run_viewed(key, body, sink),
+            Err(Fault::Raised(reason)) => write_refusal(line, reason, &mut self.text, sink),
+            Err(Fault::NoMemory) => Err(HostEnd::NoMemory),
+        }
+    }
+
+    #[cycle(statements)]
+    fn run_stable<K: Sink>(
+        &mut self,
+        line: u64,
+        object: usize,
+        body: &ResolvedStmts,
+        sink: &mut K,
+    ) -> Result<(), HostEnd>
+        requires ready { IsReady self.old.objects }
+        ensures runs { Runs K.held K.faults K.room K.counts_failures sink.old sink.new self.old.objects self.new.objects
+            (λ guards e. block_on (exec_resolved body.now) guards e (stables_at line object)) result }
+        ensures leaves { Leaves self.old.objects self.new.objects }
+    {
+        if !self.objects.is_object(object) {
+            return Ok(());
+        }
+        let key = self.objects.enter_stable(object)?;
+        self.run_viewed(key, body, sink)
+    }
+
+    /// Runs what stands behind declarations, and then has so many names again.
+    #[cycle(statements)]
+    fn run_scope<K: Sink>(
+        &mut self,
+        names: usize,
+        body: &ResolvedStmts,
+        sink: &mut K,
+    ) -> Result<(), HostEnd>
+        requires ready { IsReady self.old.objects }
+        ensures runs { Runs K.held K.faults K.room K.counts_failures sink.old sink.new self.old.objects self.new.objects
+            (λ guards e. inside names (exec_resolved body.now guards e)) result }
+        ensures persists { Persists self.old.objects self.new.objects }
+        ensures counts { counts_of (state_of self.new.objects) ≡ take names (counts_of (state_of self.old.objects)) }
+    {
+        let ended = self.run_statements(body, sink);
+        self.objects.leave_scope(names);
+        ended
+    }
+
+    #[cycle(statements)]
+    fn run_declare<K: Sink>(
+        &mut self,
+        line: u64,
+        decls: &[ResolvedDecl],
+        body: &ResolvedStmts,
+        sink: &mut K,
+    ) -> Result<(), HostEnd>
+        requires ready { IsReady self.old.objects }
+        ensures runs { Runs K.held K.faults K.room K.counts_failures sink.old sink.new self.old.objects self.new.objects
+            (λ guards e. block_on (exec_resolved body.now) guards e (declares_at line decls.now)) result }
+        ensures leaves { Leaves self.old.objects self.new.objects }
+    {
+        match self.objects.enter_scope(decls) {
+            Ok(names) => self.run_scope(names, body, sink),
+            Err(DeclareFault::Spent { line }) => {
+                write_refusal(line, Reason::NamesSpent, &mut self.text, sink)
+            }
+            Err(DeclareFault::NoMemory) => Err(HostEnd::NoMemory),
+        }
+    }
+
+    #[cycle(statements)]
+    fn run_statement<K: Sink>(&mut self, stmt: &ResolvedStmt, sink: &mut K) -> Result<(), HostEnd>
+        requires ready { IsReady self.old.objects }
+        ensures runs { Runs K.held K.faults K.room K.counts_failures sink.old sink.new self.old.objects self.new.objects
+            (statement_outcome stmt.now) result }
+        ensures leaves { Leaves self.old.objects self.new.objects }
+    {
+        match stmt {
+            ResolvedStmt::Call {
+                line,
+                target,
+                object,
+                operation,
+                args,
+            } => self.run_call(*line, *target, *object, *operation, args.items(), sink),
+            ResolvedStmt::Set { line, target, from } => self.run_set(*line, *target, from, sink),
+            ResolvedStmt::Sum {
+                line,
+                target,
+                from,
+                minus,
+                number,
+            } => self.run_sum(*line, *target, *from, *minus, *number, sink),
+            ResolvedStmt::Loop {
+                line,
+                elements,
+                backward,
+                object,
+                body,
+            } => self.run_loop(*line, *elements, *backward, *object, body, sink),
+            ResolvedStmt::View {
+                line,
+                kind,
+                object,
+                at,
+                body,
+            } => self.run_view(*line, *kind, *object, *at, body, sink),
+            ResolvedStmt::Stable { line, object, body } => {
+                self.run_stable(*line, *object, body, sink)
+            }
+            ResolvedStmt::Declare { line, decls, body } => {
+                self.run_declare(*line, decls.items(), body, sink)
+            }
+        }
+    }
+
+    /// Runs statements in order.
+    #[cycle(statements)]
+    pub(crate) fn run_statements<K: Sink>(
+        &mut self,
+        stmts: &ResolvedStmts,
+        sink: &mut K,
+    ) -> Result<(), HostEnd>
+        requires ready { IsReady self.old.objects }
+        ensures runs { Runs K.held K.faults K.room K.counts_failures sink.old sink.new self.old.objects self.new.objects
+            (exec_resolved stmts.now) result }
+        ensures leaves { Leaves self.old.objects self.new.objects }
+    {
+        for stmt in stmts.items() {
+            self.run_statement(stmt, sink)?;
+        }
+        Ok(())
+    }
+}

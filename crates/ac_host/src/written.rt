@@ -1,0 +1,103 @@
+//! The line of a command.
+ghost use Rattle.std.specs.Prelude.{◌≡◌, ◌≢◌, ◌∷◌, [], false, Some, Err, OnOk};
+ghost use Rattle.ac_base.specs.declared.fault.Fault.TheVariants as fault;
+ghost use Rattle.ac_meaning.specs.Answers.{line, lines_text, answers_list, answers_raised};
+ghost use Rattle.ac_meaning.specs.Answers as meant;
+ghost use Rattle.ac_meaning.specs.Commands.{Performed};
+ghost use Rattle.ac_meaning.specs.Environment.{State, object_at};
+ghost use Rattle.ac_meaning.specs.Holdings.{Held, listing_of};
+ghost use Rattle.ac_objects.specs.Performs.{Performs};
+ghost use Rattle.ac_objects.specs.Shown.{Shows};
+ghost use Rattle.ac_objects.specs.World.{World, state_of};
+ghost use Rattle.ac_host.specs.Lines.{is_listing};
+ghost use Rattle.ac_host.specs.Writing.{Writes};
+
+use crate::end::HostEnd;
+use crate::line::{answer_line, begin_line, reason_line};
+use ac_base::{Fault, Reason};
+use ac_io::{Sink, add_last, pass};
+use ac_objects::{Answer, Objects};
+
+/// Writes what a command answered, or why it was refused.
+pub fn write_line<K: Sink>(
+    objects: &Objects,
+    number: u64,
+    answer: Result<Answer, Fault>,
+    text: &mut Vec<u8>,
+    sink: &mut K,
+) -> Result<(), HostEnd>
+    ensures writes { (p : Performed) (old : World) → Performs p old objects.now answer →
+        Writes K.held K.faults K.room K.counts_failures sink.old sink.new (lines_text (line number p.answer ∷ [])) result }
+    ensures answered { OnOk result (answer ≢ Err fault.NoMemory) }
+{
+    match answer {
+        Ok(answer) => write_answer(objects, number, &answer, text, sink),
+        Err(Fault::Raised(reason)) => write_refusal(number, reason, text, sink),
+        Err(Fault::NoMemory) => Err(HostEnd::NoMemory),
+    }
+}
+
+fn write_answer<K: Sink>(
+    objects: &Objects,
+    number: u64,
+    answer: &Answer,
+    text: &mut Vec<u8>,
+    sink: &mut K,
+) -> Result<(), HostEnd>
+    ensures { (e : State) (answered : meant.Answer) → state_of objects.now ≡ e → Shows e answer.now answered →
+        Writes K.held K.faults K.room K.counts_failures sink.old sink.new (lines_text (line number answered ∷ [])) result }
+{
+    match answer {
+        Answer::Listing(place) => write_listing(objects, number, *place, text, sink),
+        _ => write_short(number, answer, text, sink),
+    }
+}
+
+/// Writes the line of a listing, which is told in pieces.
+fn write_listing<K: Sink>(
+    objects: &Objects,
+    number: u64,
+    place: usize,
+    text: &mut Vec<u8>,
+    sink: &mut K,
+) -> Result<(), HostEnd>
+    ensures { (h : Held) → object_at (state_of objects.now) place ≡ Some h →
+        Writes K.held K.faults K.room K.counts_failures sink.old sink.new
+        (lines_text (line number (answers_list (listing_of h)) ∷ [])) result }
+{
+    begin_line(text, number)?;
+    objects.listing(place, text, sink)?;
+    add_last(text, b"\n", sink)?;
+    Ok(())
+}
+
+/// Writes the line of any other answer.
+fn write_short<K: Sink>(
+    number: u64,
+    answer: &Answer,
+    text: &mut Vec<u8>,
+    sink: &mut K,
+) -> Result<(), HostEnd>
+    requires { is_listing answer.now ≡ false }
+    ensures { (e : State) (answered : meant.Answer) → Shows e answer.now answered →
+        Writes K.held K.faults K.room K.counts_failures sink.old sink.new (lines_text (line number answered ∷ [])) result }
+{
+    answer_line(text, number, answer)?;
+    pass(text, sink)?;
+    Ok(())
+}
+
+/// Writes why a command was refused, or a block doesn't begin.
+pub fn write_refusal<K: Sink>(
+    number: u64,
+    reason: Reason,
+    text: &mut Vec<u8>,
+    sink: &mut K,
+) -> Result<(), HostEnd>
+    ensures { Writes K.held K.faults K.room K.counts_failures sink.old sink.new
+        (lines_text (line number (answers_raised reason) ∷ [])) result }
+{
+    reason_line(text, number, reason)?;
+    pass(text, sink)?;
+    Ok(())
+}
