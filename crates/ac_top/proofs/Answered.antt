@@ -1,28 +1,23 @@
 -- How an input is answered, where nothing is written of it and where something is.
-use Rattle.std.proofs.Common.{◌≡◌, ◌≢◌, ◌<◌, ℕ, List, [], length, Option, Some, None, refl, sym, inl, inr, codes, append-nil, ap}
+use Rattle.std.proofs.Common.{◌≡◌, ◌≢◌, ◌<◌, ℕ, List, [], length, Option, Some, None, refl, sym, inl, inr, append-nil, ap}
 use Rattle.std.specs.Prelude.{◌⊎◌, IfSome}
 use Rattle.ac_io.specs.Outside.{GrewByFront}
-use Rattle.ac_top.specs.declared.limits.TheConstants.{INPUT_LIMIT}
+use Rattle.ac_meaning.specs.declared.limits.TheConstants.{INPUT_LIMIT}
+use Rattle.ac_meaning.specs.Meanings.{too_long, is_too_long}
 use Rattle.ac_top.specs.declared.status.Status.{Status}
 use Rattle.ac_top.specs.declared.status.Status.TheVariants.{Done, Refused, Usage, ReadFault, WriteFault, NoMemory}
 use Rattle.ac_top.specs.declared.mode.Mode.{Mode}
-use Rattle.ac_top.specs.declared.mode.Mode.TheVariants.{Run, Check}
-use Rattle.ac_top.specs.Meaning.{Meaning, meaning_of, refusal}
-use Rattle.ac_top.specs.Checking.{too_long}
-use Rattle.ac_top.specs.Modes.{Means}
+use Rattle.ac_top.specs.Modes.{meant_by, Means}
 use Rattle.ac_top.specs.Status.{IsAnswer}
 use Rattle.ac_top.specs.Answers.{Answers, HasRoom}
-use Rattle.ac_top.proofs.Meant.{meaning_long}
 use Rattle.ac_top.proofs.Checked.{each_input}
-use Rattle.ac_top.proofs.Telling.{if_some_of}
 
-pub long_means : (mode : Mode) (input : List ℕ) → INPUT_LIMIT < length input → Means mode input (refusal (codes "input: limit"))
-long_means Run input long = sym (meaning_long input long)
-long_means Check input long = too_long long refl
+pub if_some_of : {T : Type 0} {P : T → Type 0} (o : Option T) → ((x : T) → P x) → IfSome o P
+if_some_of None p = tt
+if_some_of (Some x) p = p x
 
-meant : (mode : Mode) (input : List ℕ) → (m : Meaning) × Means mode input m
-meant Run input = (meaning_of input, refl)
-meant Check input = each_input input
+pub long_means : (mode : Mode) (input : List ℕ) → INPUT_LIMIT < length input → Means mode input too_long
+long_means mode input long = is_too_long long refl
 
 nothing_written : (held : Option (List ℕ)) (text : List ℕ) → GrewByFront held held text
 nothing_written None text = tt
@@ -31,7 +26,7 @@ nothing_written (Some h) text = ([], record { rest = text; whole = refl }, ap So
 -- an end without an answer, with nothing written
 pub unanswered : (mode : Mode) (input : List ℕ) (held : Option (List ℕ)) (room : Option ℕ) (s : Status) → (IsAnswer s → ⊥) → s ≢ WriteFault → Answers mode input held held room s
 unanswered mode input held room s none wrote =
-    let m = meant mode input in
+    let m = each_input (meant_by mode) input in
     record {
       meaning = m.0;
       means = m.1;

@@ -1,7 +1,3 @@
-pub mod Telling
-pub mod Lines
-pub mod Meant
-mod Walks
-mod Growing
-mod Checked
-mod Answered
+pub mod Checked
+pub mod Answered
+pub mod Hosted

@@ -1,8 +1,12 @@
 -- How an input is answered: by a meaning of it, for what the words ask for.
 use Rattle.std.specs.Prelude.{◌≤◌, ℕ, List, length, Option, IfSome}
+use Rattle.ac_syntax.specs.declared.refusal.RefusalKind.{RefusalKind}
+use Rattle.ac_syntax.specs.declared.script.Script.{Script}
+use Rattle.ac_syntax.specs.Refusals.{Spells}
+use Rattle.ac_check.specs.Faults.{IsFirstFault}
+use Rattle.ac_meaning.specs.Meanings.{Meaning}
 use Rattle.ac_top.specs.declared.mode.Mode.{Mode}
 use Rattle.ac_top.specs.declared.status.Status.{Status}
-use Rattle.ac_top.specs.Meaning.{Meaning}
 use Rattle.ac_top.specs.Modes.{Means}
 use Rattle.ac_top.specs.Status.{Writes}
 
@@ -19,3 +23,9 @@ pub record Answers (mode : Mode) (input : List ℕ) (held held' : Option (List �
   pub meaning : Meaning
   pub means : Means mode input meaning
   pub writes : Writes meaning held held' room status
+
+-- a text spells a script that has its first faulty item on this line
+pub record IsFaulty (text : List ℕ) (line : ℕ) (kind : RefusalKind) : Type 0 where
+  pub script : Script
+  pub spelled : Spells script text
+  pub first : IsFirstFault script line kind

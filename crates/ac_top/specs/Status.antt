@@ -1,7 +1,7 @@
 -- How the program ends.
 use Rattle.std.specs.Prelude.{◌≡◌, ◌≢◌, ◌≤◌, ℕ, Bool, true, List, length, Option, IfSome}
 use Rattle.ac_io.specs.Outside.{Rose, GrewBy, GrewByFront}
-use Rattle.ac_top.specs.Meaning.{Meaning}
+use Rattle.ac_meaning.specs.Meanings.{Meaning}
 use Rattle.ac_top.specs.declared.status.Status.{Status}
 use Rattle.ac_top.specs.declared.status.Status.TheVariants.{Done, Refused, Usage, ReadFault, WriteFault, NoMemory}
 
@@ -12,6 +12,10 @@ number_of Usage = 2
 number_of ReadFault = 3
 number_of WriteFault = 4
 number_of NoMemory = 5
+
+-- a refusal writes one line
+abbrev pub refusal_line : List ℕ → Meaning
+refusal_line line = record { text = line; status = 1 }
 
 -- the input was answered: the script ran to its end, or was refused
 abbrev pub IsAnswer : Status → Type 0

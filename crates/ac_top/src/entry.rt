@@ -1,73 +1,21 @@
+//! The top call.
 ghost use Rattle.std.specs.Prelude.{◌≡◌, ◌≢◌, ◌≤◌, ◌↔◌, ◌⊎◌, true, Some, None, [], length, IfSome};
 ghost use Rattle.ac_io.specs.Outside.{Rose, GrewBy, GrewByFront};
-ghost use Rattle.ac_top.specs.Meaning.{Meaning, meaning_of, meaning_of_script, refusal_line};
+ghost use Rattle.ac_meaning.specs.Meanings.{Meaning};
 ghost use Rattle.ac_top.specs.Modes.{mode_of, Means};
-ghost use Rattle.ac_top.specs.Status.{number_of, IsAnswer, Writes, Counted};
+ghost use Rattle.ac_top.specs.Status.{number_of, IsAnswer, Counted};
 ghost use Rattle.ac_top.specs.Answers.{Answers, IfAsked, HasRoom};
 
-use crate::checking::check_input;
-use crate::execute::{HostEnd, execute};
+use crate::answering::answer_input;
 use crate::gate::Gate;
-use crate::limits::INPUT_LIMIT;
+use crate::line::refuse;
 use crate::mode::{Mode, asked_for};
 use crate::status::Status;
-use ac_first_path::{Script, ScriptFault, parse};
-use ac_io::{ReadEnd, Sink, Source, read_all, write_all};
+use ac_io::{ReadEnd, Sink, Source, read_all};
+use ac_meaning::INPUT_LIMIT;
 use std::alloc::Global;
 use std::sync::Wait;
 use std::thread::Threads;
-
-/// Writes the one line of a refusal.
-pub fn refuse<K: Sink>(sink: &mut K, line: &[u8]) -> Status
-    ensures writes { Writes (refusal_line line.now) (K.held sink.old) (K.held sink.new) (K.room sink.old) result }
-    ensures counted { Counted (K.counts_failures sink.old) (K.faults sink.old) (K.faults sink.new) result }
-    ensures kind { (result ≢ Status.Usage) × (result ≢ Status.ReadFault) }
-{
-    match write_all(sink, line) {
-        Ok(()) => Status::Refused,
-        Err(_) => Status::WriteFault,
-    }
-}
-
-/// Runs a script.
-fn answer_script<K: Sink>(alloc: Global, script: &Script, sink: &mut K) -> Status
-    ensures writes { Writes (meaning_of_script (Some script.now)) (K.held sink.old) (K.held sink.new) (K.room sink.old) result }
-    ensures counted { Counted (K.counts_failures sink.old) (K.faults sink.old) (K.faults sink.new) result }
-    ensures kind { (result ≢ Status.Usage) × (result ≢ Status.ReadFault) }
-{
-    match execute(alloc, script.commands(), sink) {
-        Ok(()) => Status::Done,
-        Err(HostEnd::WriteFault) => Status::WriteFault,
-        Err(HostEnd::NoMemory) => Status::NoMemory,
-    }
-}
-
-/// Runs the script that an input spells, or refuses it.
-fn run_input<K: Sink>(alloc: Global, input: &[u8], sink: &mut K) -> Status
-    requires { length input.now ≤ INPUT_LIMIT }
-    ensures writes { Writes (meaning_of input.now) (K.held sink.old) (K.held sink.new) (K.room sink.old) result }
-    ensures counted { Counted (K.counts_failures sink.old) (K.faults sink.old) (K.faults sink.new) result }
-    ensures kind { (result ≢ Status.Usage) × (result ≢ Status.ReadFault) }
-{
-    match parse(alloc, input) {
-        Ok(script) => answer_script(alloc, &script, sink),
-        Err(ScriptFault::Refused) => refuse(sink, b"input: syntax\n"),
-        Err(ScriptFault::NoMemory) => Status::NoMemory,
-    }
-}
-
-/// Answers an input.
-fn answer_input<K: Sink>(alloc: Global, mode: Mode, input: &[u8], sink: &mut K) -> Status
-    requires { length input.now ≤ INPUT_LIMIT }
-    ensures answers { Answers mode input.now (K.held sink.old) (K.held sink.new) (K.room sink.old) result }
-    ensures counted { Counted (K.counts_failures sink.old) (K.faults sink.old) (K.faults sink.new) result }
-    ensures kind { (result ≢ Status.Usage) × (result ≢ Status.ReadFault) }
-{
-    match mode {
-        Mode::Run => run_input(alloc, input, sink),
-        Mode::Check => check_input(alloc, input, sink),
-    }
-}
 
 /// Reads the source to its end, and answers what it held.
 fn answer_source<S: Source, K: Sink>(
@@ -95,11 +43,10 @@ fn answer_source<S: Source, K: Sink>(
     }
 }
 
-/// Runs the script that the source holds, and writes the line of each command to the sink. `words` are
-/// the words after the program's name. Without words, an input that isn't a script of at most 1,048,576
-/// bytes gets one line, `input: syntax` or `input: limit`. With the word `--check` nothing is run: the
-/// whole language is read, and the script's canonical text is written, or the one line on which it is
-/// refused, as `line 3: wrong type`.
+/// Runs the script that the source holds, and writes the line of each command to the sink as soon as it has run. `words` are the
+/// words after the program's name: with `--check` alone nothing is run, and the script's canonical text is written. An input that
+/// isn't a script that can run gets one line, which says where and why, as `line 3: wrong type`, and one of more than 1,048,576
+/// bytes gets `input: limit`.
 pub fn run<R: Threads + Wait + Sync, S: Source, K: Sink, G: Gate + Sync>(
     _rt: &R,
     alloc: Global,

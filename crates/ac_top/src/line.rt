@@ -1,12 +1,12 @@
-ghost use Rattle.std.specs.Prelude.{◌≡◌, ◌∷◌, ◌++◌, [], codes, decimal, OnOk, IfOk};
-ghost use Rattle.std.specs.Fmt.{signed_decimal};
-ghost use Rattle.ac_top.specs.Checking.{kind_text, refused_at};
-ghost use Rattle.ac_top.specs.Output.{raised, item, listing};
+//! The one line of an input that is refused.
+ghost use Rattle.std.specs.Prelude.{◌≡◌, ◌≢◌, ◌++◌, decimal, codes, OnOk, IfOk};
+ghost use Rattle.ac_meaning.specs.Meanings.{Meaning, kind_text, refused_at};
+ghost use Rattle.ac_top.specs.Status.{Writes, Counted, refusal_line};
 
-use crate::numbers::Numbers;
-use ac_base::Reason;
+use crate::status::Status;
+use ac_io::{Sink, write_all};
 use ac_syntax::RefusalKind;
-use itoa::{Buffer, Integer};
+use itoa::Buffer;
 use std::alloc::{AllocError, Global};
 
 fn append(text: &mut Vec<u8>, words: &str) -> Result<(), AllocError>
@@ -16,57 +16,11 @@ fn append(text: &mut Vec<u8>, words: &str) -> Result<(), AllocError>
 }
 
 /// Adds the line's number and the colon after it.
-pub fn begin_line(text: &mut Vec<u8>, number: u64) -> Result<(), AllocError>
+fn append_number(text: &mut Vec<u8>, number: u64) -> Result<(), AllocError>
     ensures { OnOk result (text.new.items ≡ text.old.items ++ decimal number ++ codes ": ") }
 {
     append(text, Buffer::new().format(number))?;
     append(text, ": ")
-}
-
-pub fn append_done(text: &mut Vec<u8>) -> Result<(), AllocError>
-    ensures { OnOk result (text.new.items ≡ text.old.items ++ codes "ok") }
-{
-    append(text, "ok")
-}
-
-pub fn append_raised(text: &mut Vec<u8>, reason: Reason) -> Result<(), AllocError>
-    ensures { OnOk result (text.new.items ≡ text.old.items ++ raised reason) }
-{
-    append(text, "raised ")?;
-    append(text, reason.exception().name())?;
-    append(text, " (")?;
-    append(text, reason.text())?;
-    append(text, ")")
-}
-
-fn append_integer(text: &mut Vec<u8>, value: i64) -> Result<(), AllocError>
-    ensures { OnOk result (text.new.items ≡ text.old.items ++ signed_decimal value) }
-{
-    append(text, Buffer::new().format(value))
-}
-
-/// Adds one integer of a listing, with a comma before it unless it is the first.
-pub fn append_item(text: &mut Vec<u8>, is_first: bool, value: &i64) -> Result<(), AllocError>
-    ensures { OnOk result (text.new.items ≡ text.old.items ++ item is_first value.now) }
-{
-    if !is_first {
-        append(text, ", ")?;
-    }
-    append_integer(text, *value)
-}
-
-pub fn append_listing(text: &mut Vec<u8>, numbers: &Numbers) -> Result<(), AllocError>
-    ensures { OnOk result (text.new.items ≡ text.old.items ++ listing numbers.now) }
-{
-    append(text, "[")?;
-    numbers.append_listed(text)?;
-    append(text, "]")
-}
-
-pub fn end_line(text: &mut Vec<u8>) -> Result<(), AllocError>
-    ensures { OnOk result (text.new.items ≡ text.old.items ++ 10 ∷ []) }
-{
-    append(text, "\n")
 }
 
 fn kind_text(kind: RefusalKind) -> &'static str
@@ -87,8 +41,20 @@ pub fn refusal_line(alloc: Global, line: u64, kind: RefusalKind) -> Result<Vec<u
 {
     let mut text = Vec::new(alloc);
     append(&mut text, "line ")?;
-    begin_line(&mut text, line)?;
+    append_number(&mut text, line)?;
     append(&mut text, kind_text(kind))?;
-    end_line(&mut text)?;
+    append(&mut text, "\n")?;
     Ok(text)
+}
+
+/// Writes the one line of a refusal.
+pub fn refuse<K: Sink>(sink: &mut K, line: &[u8]) -> Status
+    ensures writes { Writes (refusal_line line.now) (K.held sink.old) (K.held sink.new) (K.room sink.old) result }
+    ensures counted { Counted (K.counts_failures sink.old) (K.faults sink.old) (K.faults sink.new) result }
+    ensures kind { (result ≢ Status.Usage) × (result ≢ Status.ReadFault) }
+{
+    match write_all(sink, line) {
+        Ok(()) => Status::Refused,
+        Err(_) => Status::WriteFault,
+    }
 }

@@ -1,8 +1,7 @@
 use Rattle.std.proofs.Common.{ap, Err}
 use Rattle.std.proofs.lemmas.Option.{IfSome_then}
 use Rattle.ac_top.specs.declared.status.Status.TheVariants.{ReadFault, NoMemory}
-use Rattle.ac_top.proofs.Answered.{long_means, unanswered}
-use Rattle.ac_top.proofs.Telling.{if_some_of}
+use Rattle.ac_top.proofs.Answered.{if_some_of, long_means, unanswered}
 use Rattle.ac_top.proofs.entry.answer_source.Goals as goal
 
 pub returns-in-Err-TooLong-clause-answers : goal.returns-in-Err-TooLong-clause-answers

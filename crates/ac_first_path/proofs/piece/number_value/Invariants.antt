@@ -1,6 +1,0 @@
-use Rattle.std.proofs.Common.{◌≡◌, take}
-use Rattle.ac_first_path.specs.Tokens as tokens
-use Rattle.ac_first_path.proofs.piece.number_value.Given as goal
-
-abbrev pub invariant-loop-b : goal.invariant-loop-b
-invariant-loop-b l = l.value ≡ tokens.number_value (take l.b-index l.digits)

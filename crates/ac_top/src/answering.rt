@@ -1,0 +1,98 @@
+//! How an input of at most the greatest length is answered.
+ghost use Rattle.std.specs.Prelude.{◌≡◌, ◌≢◌, ◌≤◌, ◌⊎◌, ℕ, Err, IfOk, length};
+ghost use Rattle.ac_syntax.specs.declared.refusal.RefusalKind.{RefusalKind};
+ghost use Rattle.ac_syntax.specs.declared.fault.ScriptFault.TheVariants.{Refused as RefusedAt};
+ghost use Rattle.ac_syntax.specs.Refusals.{Spells, IsFirstRefusal};
+ghost use Rattle.ac_check.specs.Faults.{IsChecked};
+ghost use Rattle.ac_meaning.specs.Meanings.{ran, canonical, refused_at};
+ghost use Rattle.ac_meaning.specs.declared.limits.TheConstants.{INPUT_LIMIT};
+ghost use Rattle.ac_top.specs.Answers.{Answers, IsFaulty};
+ghost use Rattle.ac_top.specs.Modes.{meant_by};
+ghost use Rattle.ac_top.specs.Status.{Writes, Counted};
+
+use crate::line::{refusal_line, refuse};
+use crate::mode::Mode;
+use crate::status::Status;
+use ac_check::{Checked, check};
+use ac_host::{Host, HostEnd};
+use ac_io::{Sink, write_all};
+use ac_script::{parse, print};
+use ac_syntax::{RefusalKind, Script, ScriptFault};
+use std::alloc::Global;
+
+/// The script that an input spells, where it can run.
+fn checked(alloc: Global, input: &[u8]) -> Result<Checked, ScriptFault>
+    ensures spelled { IfOk result (λ script. Spells script input.now) }
+    ensures checked { IfOk result (λ script. IsChecked script) }
+    ensures refused { (line : ℕ) (kind : RefusalKind) → result ≡ Err (RefusedAt line kind) →
+        IsFirstRefusal input.now line kind ⊎ IsFaulty input.now line kind }
+{
+    let script = parse(alloc, input)?;
+    check(alloc, script)
+}
+
+/// Runs a script.
+fn run_script<K: Sink>(alloc: Global, script: &Checked, sink: &mut K) -> Status
+    ensures writes { Writes (ran script.now) (K.held sink.old) (K.held sink.new) (K.room sink.old) result }
+    ensures counted { Counted (K.counts_failures sink.old) (K.faults sink.old) (K.faults sink.new) result }
+    ensures kind { (result ≢ Status.Usage) × (result ≢ Status.ReadFault) }
+{
+    match Host::run_serial(alloc, script, sink) {
+        Ok(_) => Status::Done,
+        Err(HostEnd::WriteFault) => Status::WriteFault,
+        Err(HostEnd::NoMemory) => Status::NoMemory,
+    }
+}
+
+/// Writes the canonical text.
+fn write_canonical<K: Sink>(alloc: Global, script: &Script, sink: &mut K) -> Status
+    ensures writes { Writes (canonical script.now) (K.held sink.old) (K.held sink.new) (K.room sink.old) result }
+    ensures counted { Counted (K.counts_failures sink.old) (K.faults sink.old) (K.faults sink.new) result }
+    ensures kind { (result ≢ Status.Usage) × (result ≢ Status.ReadFault) }
+{
+    match print(alloc, script) {
+        Ok(text) => match write_all(sink, &text) {
+            Ok(()) => Status::Done,
+            Err(_) => Status::WriteFault,
+        },
+        Err(_) => Status::NoMemory,
+    }
+}
+
+/// Answers a script that can run.
+fn answer_script<K: Sink>(alloc: Global, mode: Mode, script: &Checked, sink: &mut K) -> Status
+    ensures writes { Writes (meant_by mode script.now) (K.held sink.old) (K.held sink.new) (K.room sink.old) result }
+    ensures counted { Counted (K.counts_failures sink.old) (K.faults sink.old) (K.faults sink.new) result }
+    ensures kind { (result ≢ Status.Usage) × (result ≢ Status.ReadFault) }
+{
+    match mode {
+        Mode::Run => run_script(alloc, script, sink),
+        Mode::Check => write_canonical(alloc, script.script(), sink),
+    }
+}
+
+/// Writes where and why a text is refused.
+fn refuse_at<K: Sink>(alloc: Global, line: u64, kind: RefusalKind, sink: &mut K) -> Status
+    ensures writes { Writes (refused_at line kind) (K.held sink.old) (K.held sink.new) (K.room sink.old) result }
+    ensures counted { Counted (K.counts_failures sink.old) (K.faults sink.old) (K.faults sink.new) result }
+    ensures kind { (result ≢ Status.Usage) × (result ≢ Status.ReadFault) }
+{
+    match refusal_line(alloc, line, kind) {
+        Ok(text) => refuse(sink, &text),
+        Err(_) => Status::NoMemory,
+    }
+}
+
+/// Answers the script that an input spells, or refuses it.
+pub fn answer_input<K: Sink>(alloc: Global, mode: Mode, input: &[u8], sink: &mut K) -> Status
+    requires { length input.now ≤ INPUT_LIMIT }
+    ensures answers { Answers mode input.now (K.held sink.old) (K.held sink.new) (K.room sink.old) result }
+    ensures counted { Counted (K.counts_failures sink.old) (K.faults sink.old) (K.faults sink.new) result }
+    ensures kind { (result ≢ Status.Usage) × (result ≢ Status.ReadFault) }
+{
+    match checked(alloc, input) {
+        Ok(script) => answer_script(alloc, mode, &script, sink),
+        Err(ScriptFault::Refused { line, kind }) => refuse_at(alloc, line, kind, sink),
+        Err(ScriptFault::NoMemory) => Status::NoMemory,
+    }
+}
