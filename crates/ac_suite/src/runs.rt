@@ -14,8 +14,7 @@ const ONE_LIST: &[u8] =
 
 const ONE_LIST_LINES: &[u8] = b"3: ok\n4: ok\n5: [5, -7]\n";
 
-const TWO_ARGUMENTS: &[u8] =
-    b"type L is list (integer);\nA : L;\nA.Append (5);\nA.Append (7, 2);\nA.Print;\n";
+const WRONG_TYPE: &[u8] = b"type L is list (integer);\nA : L;\nA.Append (\"7\");\n";
 
 /// Runs an input over memory, in pieces of this size, and gives the status and what is held.
 fn answer<R: Threads + Wait + Sync>(
@@ -36,7 +35,7 @@ fn answer<R: Threads + Wait + Sync>(
 fn answers_in_place_of_no_memory(rt: HostRuntime) -> Result<(), Fail> {
     let rows = [
         (ONE_LIST, Status::Done, ONE_LIST_LINES),
-        (TWO_ARGUMENTS, Status::Refused, b"input: syntax\n"),
+        (WRONG_TYPE, Status::Refused, b"line 3: wrong type\n"),
         (b"", Status::Done, b""),
     ];
     for (input, status, text) in rows {
