@@ -1,12 +1,15 @@
 #!/usr/bin/env python3
 """Times the built programs beside plain Rust programs on the same machine in the same run.
 
-Prints the program's time for each generated script, the ratio to the baseline's, and the growth from half the script to the whole: 2 is linear. Then the time of `--check` on inputs of 1 MiB that are the worst of their sorts, and the growth. Then the time of a put and a take of the pool, and the ratio; and of an insertion and a removal in the middle of a chain, which stays flat where the chain grows. Then the times of a list's calls, and their growth from 10,000 elements to 1,000,000, and the memory of a slot. Needs rustc; isn't part of the gate.
+Prints the program's time for each generated script, the ratio to the baseline's, and the growth from half the script to the whole: 2 is linear. Then the time and the memory of long runs, and what `A.Length` costs. Then the time of `--check` on inputs of 1 MiB that are the worst of their sorts, and the growth. Then the time of a put and a take of the pool, and the ratio; and of an insertion and a removal in the middle of a chain, which stays flat where the chain grows. Then the times of a list's calls, and their growth from 10,000 elements to 1,000,000, and the memory of a slot. Needs rustc; isn't part of the gate.
+
+With `--peer COMMAND` it prints instead the times of three scripts beside those of another interpreter of the same language, and the ratio: below 1 is faster.
 
 With `--before PROGRAM`, where PROGRAM is `crates/ac_bench/out/ac_bench` of another checkout, built there by `rt run`, it prints instead the times of each workload with that program and with this checkout's, which run in turn, beside one another, and the ratio: below 1 is faster than before.
 """
 import argparse
 import os
+import shlex
 import subprocess
 import sys
 import tempfile
@@ -49,6 +52,61 @@ def nested(size):
 def named(size):
     """A thousand names, and commands that use the last of them."""
     return filled(size, "".join(f"n{i} : integer;\n" for i in range(1000)), "n999 := n998 + 1;\n")
+
+
+def rounds(body, over="Drive", name="I_"):
+    return f"for {name} in {over} loop\n{body}end loop;\n"
+
+
+def driven(types, objects, count):
+    """Declarations, with a list that loops run over so often."""
+    return f"type Driver is list (integer);\n{types}Drive : Driver;\n{objects}Drive.Append (0, {count});\n"
+
+
+def list_churn():
+    """Two appends and a deletion at the front, then deletions at the back."""
+    return (driven("type L is list (integer);\n", "A : L;\nN : integer;\n", 200_000)
+            + rounds("N := N + 1;\nA.Append (N);\nA.Append (N);\nA.Delete_First;\n")
+            + "A.Length;\nA.First_Element;\nA.Last_Element;\n" + rounds("A.Delete_Last;\n") + "A.Length;\n")
+
+
+def list_sort_merge():
+    return (driven("type L is list (integer);\n", "A : L;\nB : L;\nS : L;\nN : integer;\nK : integer;\n", 200_000)
+            + "K := 100000;\n" + rounds("N := N + 7919;\nK := K - 104729;\nA.Append (N);\nA.Prepend (K);\nB.Append (K);\nB.Prepend (N);\n")
+            + "A.Reverse_Elements;\nA.Sort;\nA.Is_Sorted;\nB.Sort;\nA.Merge (B);\nA.Is_Sorted;\nA.Length;\nB.Length;\n"
+            + "S.Assign (A);\nS.Equal (A);\nS.Reverse_Elements;\nS.Sort;\nS.Equal (A);\n")
+
+
+def dispatch():
+    """The shortest commands: what a command costs at least."""
+    return ("type T is list (integer);\nV : T;\nRep : T;\nX : integer;\nY : integer;\nV.Append (0, 1000);\nRep.Append (0, 1000);\n"
+            + rounds(rounds("X := X + 1;\nY := X;\nV.Is_Empty;\n", "V", "C"), "Rep"))
+
+
+# a script, and how many commands of its kind it has
+BESIDE_A_PEER = [("list_churn", list_churn), ("list_sort_merge", list_sort_merge), ("dispatch", dispatch)]
+
+
+def lengths(count):
+    """So many times A.Length."""
+    return driven("", "", count) + rounds("Drive.Length;\n")
+
+
+def nested_loops(turns):
+    """Loops sixteen deep over 100 elements, of which the outer fifteen are left at once but for so many turns; a line in each turn."""
+    inner = "X := X + 1;\n"
+    for depth in range(14):
+        inner = rounds(inner, "One", f"D{depth}_")
+    return ("type T is list (integer);\nHundred : T;\nOne : T;\nOuter : T;\nX : integer;\nHundred.Append (0, 100);\nOne.Append (0);\n"
+            f"Outer.Append (0, {turns // 100});\n" + rounds(rounds(inner, "Hundred", "E_"), "Outer", "F_"))
+
+
+LARGE = [
+    ("1,000,000 elements, appended and printed", "type T is list (integer);\nA : T;\nA.Append (7, 1000000);\nA.Length;\nA.Print;\nA.Sort;\nA.Clear;\n"),
+    ("a loop over 1,000,000 elements", "type T is list (integer);\nA : T;\nX : integer;\nA.Append (7, 1000000);\nfor E of A loop\nX := E;\nend loop;\n"),
+    ("sixteen nested loops, 2,000,000 lines", nested_loops(2_000_000)),
+    ("10,000 strings of 1,000 bytes, printed", f'type T is list (string);\nA : T;\nA.Append ("{"x" * 1000}", 10000);\nA.Print;\nA.Sort;\nA.Print;\n'),
+]
 
 
 WORST = [
@@ -94,9 +152,9 @@ def workload(program, *words, rounds):
     return (seconds(command + [str(rounds)]) - seconds(command + ["0"])) / rounds
 
 
-def peak(command):
+def peak(command, script=subprocess.DEVNULL):
     """The most memory that a program had, in bytes."""
-    running = subprocess.Popen(command, stdin=subprocess.DEVNULL, stdout=subprocess.DEVNULL)
+    running = subprocess.Popen(command, stdin=script, stdout=subprocess.DEVNULL)
     _, status, usage = os.wait4(running.pid, 0)
     if status != 0:
         sys.exit(f"{command} failed")
@@ -135,6 +193,54 @@ def checks(place):
                 file.write(text(size))
             took.append(seconds([program, "--check"], path, status=False))
         print(f"{name:<40}{took[0]:>12.4f}{'':>8}{took[0] / took[1]:>8.2f}")
+
+
+def written(place, text):
+    path = os.path.join(place, "script.ada")
+    with open(path, "w") as file:
+        file.write(text)
+    return path
+
+
+def large(place):
+    """Long runs: their time, and the most memory that the program had."""
+    program = os.path.join(TOP, "crates/adacont/out/adacont")
+    print(f"{'script':<45}{'seconds':>10}{'MB':>10}")
+    for name, text in LARGE:
+        path = written(place, text)
+        with open(path) as script:
+            memory_used = peak([program], script)
+        print(f"{name:<45}{seconds([program], path):>10.3f}{memory_used / 1e6:>10.1f}", flush=True)
+
+
+def a_length(place):
+    """What A.Length costs, with its line's write and without: /dev/null takes a write in little time, which a program that only writes such lines is timed for."""
+    program = os.path.join(TOP, "crates/adacont/out/adacont")
+    many, few = (seconds([program], written(place, lengths(count))) for count in (1_000_000, 1))
+    with open(os.devnull, "wb", buffering=0) as nowhere:
+        start = time.perf_counter()
+        for _ in range(1_000_000):
+            os.write(nowhere.fileno(), b"5: 1000000\n")
+        took = time.perf_counter() - start
+        start = time.perf_counter()
+        for _ in range(1_000_000):
+            pass
+        took -= time.perf_counter() - start
+    print(f"{'A.Length, ns with its write':<45}{(many - few) * 1e3:>10.1f}")
+    print(f"{'a write to /dev/null from Python, ns':<45}{took * 1e3:>10.1f}")
+
+
+def beside_a_peer(peer, place):
+    """Each script's time, and the ratio to another interpreter's of the same language, which runs in turn with this one."""
+    program = os.path.join(TOP, "crates/adacont/out/adacont")
+    print(f"{'script':<30}{'adacont s':>12}{'peer s':>12}{'ratio':>8}")
+    for name, text in BESIDE_A_PEER:
+        path = written(place, text())
+        ours, theirs = [], []
+        for _ in range(RUNS):
+            ours.append(once([program], path))
+            theirs.append(once(peer, path))
+        print(f"{name:<30}{min(ours):>12.3f}{min(theirs):>12.3f}{min(ours) / min(theirs):>8.2f}", flush=True)
 
 
 def churn(program, place):
@@ -203,6 +309,7 @@ def beside(before, now, runs):
 def wanted():
     parser = argparse.ArgumentParser(description=__doc__, formatter_class=argparse.RawDescriptionHelpFormatter)
     parser.add_argument("--before", metavar="PROGRAM", help="the ac_bench of another checkout, to time beside this one's")
+    parser.add_argument("--peer", metavar="COMMAND", help="another interpreter of the same language, whose times stand beside this one's")
     parser.add_argument("--runs", metavar="N", type=int, default=RUNS, help="with --before: the least of so many runs of each counts (%(default)s)")
     return parser.parse_args()
 
@@ -218,7 +325,12 @@ def main():
     folder = os.path.join(TOP, "crates/ac_bench")
     prove_and_build(folder, "pool", "0")
     with tempfile.TemporaryDirectory() as place:
+        if asked.peer:
+            beside_a_peer(shlex.split(asked.peer), place)
+            return 0
         scripts(place)
+        large(place)
+        a_length(place)
         checks(place)
         churn(os.path.join(folder, "out/ac_bench"), place)
     middle(os.path.join(folder, "out/ac_bench"))
