@@ -1,3 +1,3 @@
 type L is list (integer);
 A : L;
-A.Append (7, 2);
+A.Append ("seven");
