@@ -3,6 +3,7 @@ pub mod ChainLends
 pub mod Link
 pub mod LinksLends
 pub mod Rows
+pub mod Sequence
 pub mod Put
 pub mod Cut
 pub mod Refill

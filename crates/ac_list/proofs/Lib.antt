@@ -1,13 +1,3 @@
-pub mod Compares
-pub mod Deletes
-pub mod Finds
-pub mod Grows
 pub mod Links
-pub mod Looks
-pub mod Merges
-pub mod Moved
-pub mod Refills
 pub mod Sorts
-pub mod Standing
-pub mod Swaps
-pub mod Valid
+pub mod Splices

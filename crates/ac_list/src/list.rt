@@ -45,16 +45,17 @@ pub struct List<T> {
 }
 
 impl<T> Model for List<T> {
+    ghost use Rattle.std.specs.Prelude.{None};
     ghost use Rattle.ac_model.specs.Containers.{Container, container, container_code};
-    ghost use Rattle.ac_list.specs.State.{object_of, IsList};
+    ghost use Rattle.ac_chain.specs.Sequence.{object_of, IsSequence};
 
     ghost Value = { Container T };
 
     ghost coded = { container_code T.code };
 
-    ghost view = { λ l. container (object_of l.guards l.limit l.chain) l.chain.spare };
+    ghost view = { λ l. container (object_of l.guards l.limit None l.chain) l.chain.spare };
 
-    ghost invariant = { λ l. IsList l.limit l.chain };
+    ghost invariant = { λ l. IsSequence l.limit l.chain };
 }
 
 impl<T: Drop> List<T> {

@@ -1,7 +1,7 @@
-use Rattle.std.proofs.Common.{ap}
+use Rattle.std.proofs.Common.{None, ap}
 use Rattle.ac_model.specs.Containers.{Container}
 use Rattle.ac_chain.proofs.Finds.{first_live}
-use Rattle.ac_list.proofs.Finds.{contains_is}
+use Rattle.ac_chain.proofs.SequenceFinds.{contains_is}
 use Rattle.ac_list.proofs.list.List.contains.Goals as goal
 
 pub found_from-requires-clause-from : goal.found_from-requires-clause-from
@@ -9,5 +9,5 @@ found_from-requires-clause-from g c = first_live c.self.inside.chain c.first-fir
 
 pub returns : goal.returns
 returns g c =
-    let i = c.self.inside in contains_is i.guards i.limit i.chain c.args.self.now.object (ap (λ (x : Container _). x.object) c.self.view_is) g.T.Elem.is_same c.args.e.now
+    let i = c.self.inside in contains_is i.guards i.limit None i.chain c.args.self.now.object (ap (λ (x : Container _). x.object) c.self.view_is) g.T.Elem.is_same c.args.e.now
     c.first-first.result c.found_from.result c.is_some.result c.first-first.ensures.name (c.found_from.ensures) c.is_some.ensures

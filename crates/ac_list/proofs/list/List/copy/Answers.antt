@@ -1,16 +1,16 @@
-use Rattle.std.proofs.Common.{◌≤◌, Err, sym, ap, ◌∙◌, subst}
+use Rattle.std.proofs.Common.{None, ◌≤◌, Err, sym, ap, ◌∙◌, subst}
 use Rattle.std.proofs.lemmas.Result.{err_from_is_err_and}
 use Rattle.ac_base.specs.declared.limit.TheConstants.{GREATEST_LENGTH}
 use Rattle.ac_model.specs.Common.{limit_of_copy}
 use Rattle.ac_model.specs.Containers.{Container}
-use Rattle.ac_list.proofs.Refills.{source_is}
+use Rattle.ac_chain.proofs.SequenceRefills.{source_is}
 use Rattle.ac_model.proofs.Changes.{copy_wants, copy_slots}
 use Rattle.ac_list.proofs.list.List.copy.Goals as goal
 
 pub returns-in_err-assign-clause-made : goal.returns-in_err-assign-clause-made
 returns-in_err-assign-clause-made g c =
     let i = c.self.inside in let o = c.args.self.now.object in
-    let count = (source_is i.guards i.limit i.chain o (ap (λ (x : Container _). x.object) c.self.view_is)).1 in
+    let count = (source_is i.guards i.limit None i.chain o (ap (λ (x : Container _). x.object) c.self.view_is)).1 in
     let limit = c.limit_of_copy.ensures ∙ ap (λ (x : Container _). limit_of_copy x.object.limit c.args.capacity c.len-length.result) c.self.view_is in
     let fault = err_from_is_err_and c.from_residual-in_err-assign.result c.from_residual-in_err-assign.ensures.1 in
     copy_wants o c.in_ok-made.made.object c.assign.new.self.object c.args.tag c.args.capacity c.len-length.result c.limit_of_copy.result c.assign.result c.in_err-assign.field-0.0

@@ -1,9 +1,9 @@
-use Rattle.std.proofs.Common.{◌∷◌, [], refl, sym, ap, ◌∙◌, to_z-of_z, w64}
+use Rattle.std.proofs.Common.{None, ◌∷◌, [], refl, sym, ap, ◌∙◌, to_z-of_z, w64}
 use Rattle.ac_base.specs.FirstReason.{first_reason}
 use Rattle.ac_model.specs.Letters.{tampers_cursors, in_range, count_of}
 use Rattle.ac_model.specs.Objects.{plain}
 use Rattle.ac_model.specs.Containers.{Container}
-use Rattle.ac_list.proofs.Deletes.{last_place, cut_at}
+use Rattle.ac_chain.proofs.SequenceDeletes.{last_place, cut_at}
 use Rattle.ac_model.proofs.Reasons.{passed}
 use Rattle.ac_list.proofs.list.List.delete_last.Goals as goal
 
@@ -13,7 +13,7 @@ returns-clause-changed g c =
     let same = to_z-of_z {w = w64} {z = c.args.n} c.ranges.n in
     let count = c.count_of.ensures ∙ ap count_of same in (
       ap (λ n. first_reason (tampers_cursors (plain o) ∷ in_range n ∷ [])) (sym same) ∙ sym (passed _ _ c.in_ok-allowed.ensures c.refuses_count.ensures),
-      cut_at i.guards i.limit i.chain c.remove_last.new.chain o view _ _ c.count_of.result (count_of c.args.n)
-          (last_place i.guards i.limit i.chain o view c.count_of.result (count_of c.args.n) count) count c.remove_last.ensures.cut,
+      cut_at i.guards i.limit None i.chain c.remove_last.new.chain o view _ _ c.count_of.result (count_of c.args.n)
+          (last_place i.guards i.limit None i.chain o view c.count_of.result (count_of c.args.n) count) count c.remove_last.ensures.cut,
       refl,
     )

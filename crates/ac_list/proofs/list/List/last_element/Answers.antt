@@ -1,16 +1,16 @@
-use Rattle.std.proofs.Common.{ap}
+use Rattle.std.proofs.Common.{None, ap}
 use Rattle.ac_model.specs.Containers.{Container}
-use Rattle.ac_list.proofs.Looks.{live_last, last_element_looks, last_element_empty}
+use Rattle.ac_chain.proofs.SequenceLooks.{live_last, last_element_looks, last_element_empty}
 use Rattle.ac_list.proofs.list.List.last_element.Goals as goal
 
 pub at-requires : goal.at-requires
 at-requires g c =
-    let i = c.self.inside in live_last i.guards i.limit i.chain c.args.self.now.object (ap (λ (x : Container _). x.object) c.self.view_is) c.in-Some.name c.self.invariant.sound c.in-Some.ensures.name
+    let i = c.self.inside in live_last i.guards i.limit None i.chain c.args.self.now.object (ap (λ (x : Container _). x.object) c.self.view_is) c.in-Some.name c.self.invariant.sound c.in-Some.ensures.name
 
 pub returns-in-Some : goal.returns-in-Some
 returns-in-Some g c =
-    let i = c.self.inside in last_element_looks i.guards i.limit i.chain c.args.self.now.object (ap (λ (x : Container _). x.object) c.self.view_is) c.in-Some.name c.at.result c.self.invariant.sound c.in-Some.ensures.name c.at.ensures.value
+    let i = c.self.inside in last_element_looks i.guards i.limit None i.chain c.args.self.now.object (ap (λ (x : Container _). x.object) c.self.view_is) c.in-Some.name c.at.result c.self.invariant.sound c.in-Some.ensures.name c.at.ensures.value
 
 pub returns-in-None : goal.returns-in-None
 returns-in-None g c =
-    let i = c.self.inside in last_element_empty i.guards i.limit i.chain c.args.self.now.object (ap (λ (x : Container _). x.object) c.self.view_is) c.in-None.ensures.name
+    let i = c.self.inside in last_element_empty i.guards i.limit None i.chain c.args.self.now.object (ap (λ (x : Container _). x.object) c.self.view_is) c.in-None.ensures.name

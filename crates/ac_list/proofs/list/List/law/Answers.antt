@@ -1,12 +1,12 @@
-use Rattle.std.proofs.Common.{ap, subst}
+use Rattle.std.proofs.Common.{None, ap, subst}
 use Rattle.ac_model.specs.Objects.{length_of}
 use Rattle.ac_base.specs.Limits.{IsLimit}
 use Rattle.ac_model.specs.Containers.{Container, HasSlots}
-use Rattle.ac_list.proofs.Valid.{valid, has_slots}
+use Rattle.ac_chain.proofs.SequenceValid.{valid, has_slots}
 use Rattle.ac_list.proofs.list.List.law.Goals as goal
 
 pub returns-clause-valid : goal.returns-clause-valid
-returns-clause-valid g c = let i = c.self.inside in valid i.guards i.limit i.chain c.args.self.now.object (ap (λ (x : Container _). x.object) c.self.view_is) c.self.invariant
+returns-clause-valid g c = let i = c.self.inside in valid i.guards i.limit None i.chain c.args.self.now.object (ap (λ (x : Container _). x.object) c.self.view_is) c.self.invariant tt
 
 pub returns-clause-limit : goal.returns-clause-limit
 returns-clause-limit g c = let i = c.self.inside in subst (λ (x : Container _). IsLimit x.object.limit) c.self.view_is c.self.invariant.is_limit

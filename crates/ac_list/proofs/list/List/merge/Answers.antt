@@ -1,49 +1,50 @@
-use Rattle.std.proofs.Common.{refl, ap, length}
+use Rattle.std.proofs.Common.{None, refl, ap, length}
 use Rattle.ac_model.specs.Objects.{plain}
 use Rattle.ac_model.specs.Sequences as sequences
 use Rattle.ac_model.specs.Containers.{Container}
 use Rattle.ac_chain.proofs.Moved.{cleared_fewer, cleared_slots}
-use Rattle.ac_list.proofs.Moved.{list_more, list_less, more_slots, less_slots, transferred, emptied}
+use Rattle.ac_chain.proofs.SequenceMoves.{sequence_more, sequence_less, more_slots, less_slots, transferred, emptied}
 use Rattle.ac_chain.proofs.Merges.{merged_length}
-use Rattle.ac_list.proofs.Merges.{merge_fits, merged_after}
+use Rattle.ac_chain.proofs.SequenceMerges.{merge_fits, merged_after}
+use Rattle.ac_chain.proofs.SequenceGrows.{widens_none}
 use Rattle.ac_model.proofs.Reasons.{passed}
 use Rattle.ac_list.proofs.list.List.merge.Goals as goal
 
 pub merge_all-requires-clause-few : goal.merge_all-requires-clause-few
 merge_all-requires-clause-few g c =
     let i = c.self.inside in let j = c.source.inside in let o = c.args.self.now.object in let p = c.args.source.now.object in let view = ap (λ (x : Container _). x.object) c.self.view_is in let seen = ap (λ (x : Container _). x.object) c.source.view_is in
-    (merge_fits g.T.Rank.is_less i.guards j.guards i.limit j.limit i.chain j.chain o p view seen (passed _ _ c.in_ok-allowed.ensures c.refuses_merge.ensures)).few
+    (merge_fits g.T.Rank.is_less i.guards j.guards i.limit j.limit None None i.chain j.chain o p view seen (passed _ _ c.in_ok-allowed.ensures c.refuses_merge.ensures)).few
 
 pub merge_all-requires-clause-unspent : goal.merge_all-requires-clause-unspent
 merge_all-requires-clause-unspent g c =
     let i = c.self.inside in let j = c.source.inside in let o = c.args.self.now.object in let p = c.args.source.now.object in let view = ap (λ (x : Container _). x.object) c.self.view_is in let seen = ap (λ (x : Container _). x.object) c.source.view_is in
-    (merge_fits g.T.Rank.is_less i.guards j.guards i.limit j.limit i.chain j.chain o p view seen (passed _ _ c.in_ok-allowed.ensures c.refuses_merge.ensures)).unspent
+    (merge_fits g.T.Rank.is_less i.guards j.guards i.limit j.limit None None i.chain j.chain o p view seen (passed _ _ c.in_ok-allowed.ensures c.refuses_merge.ensures)).unspent
 
 pub invariant_of-self : goal.invariant_of-self
 invariant_of-self g c =
     let i = c.self.inside in let j = c.source.inside in let o = c.args.self.now.object in let p = c.args.source.now.object in let view = ap (λ (x : Container _). x.object) c.self.view_is in let seen = ap (λ (x : Container _). x.object) c.source.view_is in
     let t = c.merge_all in
-    list_more i.limit i.chain t.new.target (length j.chain.rows) t.result c.self.invariant (merge_fits g.T.Rank.is_less i.guards j.guards i.limit j.limit i.chain j.chain o p view seen (passed _ _ c.in_ok-allowed.ensures c.refuses_merge.ensures))
+    sequence_more i.limit i.chain t.new.target (length j.chain.rows) t.result c.self.invariant (merge_fits g.T.Rank.is_less i.guards j.guards i.limit j.limit None None i.chain j.chain o p view seen (passed _ _ c.in_ok-allowed.ensures c.refuses_merge.ensures))
     (merged_length g.T.Rank.is_less i.chain t.new.target j.chain) t.ensures.merged t.ensures.slots t.ensures.refused_target t.ensures.target
 
 pub invariant_of-source : goal.invariant_of-source
 invariant_of-source g c =
     let j = c.source.inside in let t = c.merge_all in
-    list_less j.limit j.chain t.new.source t.result c.source.invariant (cleared_fewer j.chain t.new.source) (cleared_slots j.chain t.new.source) t.ensures.cleared t.ensures.refused_source t.ensures.source
+    sequence_less j.limit j.chain t.new.source t.result c.source.invariant (cleared_fewer j.chain t.new.source) (cleared_slots j.chain t.new.source) t.ensures.cleared t.ensures.refused_source t.ensures.source
 
 pub returns-clause-changed : goal.returns-clause-changed
 returns-clause-changed g c =
     let i = c.self.inside in let j = c.source.inside in let o = c.args.self.now.object in let p = c.args.source.now.object in let view = ap (λ (x : Container _). x.object) c.self.view_is in let seen = ap (λ (x : Container _). x.object) c.source.view_is in
     let t = c.merge_all in let none = (passed _ _ c.in_ok-allowed.ensures c.refuses_merge.ensures) in
-    transferred i.guards j.guards i.limit j.limit i.chain j.chain o p view seen t.new.target t.new.source (sequences.merge_call g.T.Rank.is_less (plain o) (plain p)) t.result c.as_fault.result c.as_fault.ensures refl none
-    (merged_after g.T.Rank.is_less i.guards j.guards i.limit j.limit i.chain j.chain o p view seen t.new.target) (emptied i.guards j.guards i.limit j.limit i.chain j.chain o p view seen t.new.source) t.ensures.merged t.ensures.cleared t.ensures.refused_target t.ensures.refused_source
+    transferred i.guards j.guards i.limit j.limit None None i.chain j.chain o p view seen t.new.target t.new.source None (sequences.merge_call g.T.Rank.is_less (plain o) (plain p)) t.result c.as_fault.result c.as_fault.ensures refl none (widens_none t.result i.limit (length t.new.target.rows))
+    (merged_after g.T.Rank.is_less i.guards j.guards i.limit j.limit None None i.chain j.chain o p view seen t.new.target None) (emptied i.guards j.guards i.limit j.limit None None i.chain j.chain o p view seen t.new.source) t.ensures.merged t.ensures.cleared t.ensures.refused_target t.ensures.refused_source
 
 pub returns-clause-slots : goal.returns-clause-slots
 returns-clause-slots g c =
     let i = c.self.inside in let t = c.merge_all in
-    more_slots i.guards i.limit i.chain t.new.target c.args.self.now c.self.view_is t.result c.as_fault.result c.as_fault.ensures (λ h. h.most) t.ensures.slots t.ensures.refused_target
+    more_slots i.guards i.limit None None i.chain t.new.target c.args.self.now c.self.view_is t.result c.as_fault.result c.as_fault.ensures (λ h. h.most) t.ensures.slots t.ensures.refused_target
 
 pub returns-clause-source : goal.returns-clause-source
 returns-clause-source g c =
     let j = c.source.inside in let t = c.merge_all in
-    less_slots j.guards j.limit j.chain t.new.source c.args.source.now c.source.view_is t.result (cleared_slots j.chain t.new.source) t.ensures.cleared t.ensures.refused_source
+    less_slots j.guards j.limit None j.chain t.new.source c.args.source.now c.source.view_is t.result (cleared_slots j.chain t.new.source) t.ensures.cleared t.ensures.refused_source

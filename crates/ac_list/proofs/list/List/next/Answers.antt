@@ -1,14 +1,14 @@
-use Rattle.std.proofs.Common.{sym, ap}
+use Rattle.std.proofs.Common.{None, sym, ap}
 use Rattle.ac_model.specs.Containers.{Container}
-use Rattle.ac_list.proofs.Looks.{live_needed, next_looks}
+use Rattle.ac_chain.proofs.SequenceLooks.{live_needed, next_looks}
 use Rattle.ac_model.proofs.Reasons.{passed}
 use Rattle.ac_list.proofs.list.List.next.Goals as goal
 
 pub next-requires : goal.next-requires
 next-requires g c =
-    let i = c.self.inside in live_needed i.guards i.limit i.chain c.args.self.now.object (ap (λ (x : Container _). x.object) c.self.view_is) c.args.b c.name_in.result c.name_in.ensures (sym (passed _ _ c.in_ok-allowed.ensures c.needs.ensures))
+    let i = c.self.inside in live_needed i.guards i.limit None i.chain c.args.self.now.object (ap (λ (x : Container _). x.object) c.self.view_is) c.args.b c.name_in.result c.name_in.ensures (sym (passed _ _ c.in_ok-allowed.ensures c.needs.ensures))
 
 pub returns : goal.returns
 returns g c =
-    let i = c.self.inside in next_looks i.guards i.limit i.chain c.args.self.now.object (ap (λ (x : Container _). x.object) c.self.view_is) c.self.invariant.sound c.args.b c.name_in.result c.next.result c.cursor_at.result
+    let i = c.self.inside in next_looks i.guards i.limit None i.chain c.args.self.now.object (ap (λ (x : Container _). x.object) c.self.view_is) c.self.invariant.sound c.args.b c.name_in.result c.next.result c.cursor_at.result
     (sym (passed _ _ c.in_ok-allowed.ensures c.needs.ensures)) c.name_in.ensures c.next.ensures.name c.cursor_at.ensures

@@ -1,5 +1,5 @@
--- What a comparison of a list's elements has found so far: of two lists one by one, and of each element with the one before it.
-use Rattle.std.proofs.Common.{◌≡◌, ◌-◌, Bool, true, List, ◌∷◌, None, refl, ap, ◌∙◌, []}
+-- What a comparison of a sequence's elements has found so far: of two sequences one by one, and of each element with the one before it.
+use Rattle.std.proofs.Common.{◌≡◌, ℕ, Bool, true, List, ◌∷◌, Option, None, refl, ap, ◌∙◌, []}
 use Rattle.std.proofs.lemmas.Option.{none-some}
 use Rattle.ac_base.specs.declared.limit.Limit.{Limit}
 use Rattle.ac_base.specs.declared.name.Name.{Name}
@@ -9,11 +9,10 @@ use Rattle.ac_base.specs.Rows.{Row, values}
 use Rattle.ac_model.specs.Rows.{is_ascending}
 use Rattle.ac_model.specs.Objects.{Object, plain}
 use Rattle.ac_model.specs.Sequences as sequences
-use Rattle.ac_list.specs.State.{object_of}
-use Rattle.ac_base.specs.Rows.{values}
+use Rattle.ac_chain.specs.Sequence.{object_of}
 use Rattle.ac_model.proofs.Plains.{values-plains}
 
-module _ {X : Type 0} (g : GuardCounts) (l : Limit) (k : Chained X) (o : Object Name X) (view : object_of g l k ≡ o) where
+module _ {X : Type 0} (g : GuardCounts) (l : Limit) (capacity : Option ℕ) (k : Chained X) (o : Object Name X) (view : object_of g l capacity k ≡ o) where
   pub contents_are : values k.rows ≡ values (plain o).rows
   contents_are = values-plains k.rows ∙ ap (λ (p : Object Name X). values (plain p).rows) view
 

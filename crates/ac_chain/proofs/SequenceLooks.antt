@@ -24,21 +24,21 @@ use Rattle.ac_model.specs.Sequences.{mark_before}
 use Rattle.ac_model.specs.Objects.{plains}
 use Rattle.ac_model.specs.Cursors.{mark, needs_cursor, may_cursor, cursor_at, name_in}
 use Rattle.ac_base.specs.declared.reason.Reason.{Reason}
-use Rattle.ac_list.specs.State.{object_of}
+use Rattle.ac_chain.specs.Sequence.{object_of}
 use Rattle.ac_chain.proofs.Marks.{among_has, has_among, judged_by_name, may_by_name, marked_at, place_live, value_live}
-use Rattle.ac_list.proofs.Standing.{stands}
+use Rattle.ac_chain.proofs.SequenceStanding.{stands}
 use Rattle.ac_chain.proofs.Looks.{bool_is, last_place, values_at, some_rows, no_rows, no_rows_before}
 
-module _ {X : Type 0} (g : GuardCounts) (l : Limit) (k : Chained X) (o : Object Name X) (view : object_of g l k ≡ o) where
+module _ {X : Type 0} (g : GuardCounts) (l : Limit) (capacity : Option ℕ) (k : Chained X) (o : Object Name X) (view : object_of g l capacity k ≡ o) where
   -- a cursor is judged by its number, and by whether the chain has its name
   pub judged : (number object : ℕ) (a : Name) (b : Bool) (r : Option Reason) → number ≡ g.number → (IsTrue b ↔ IsLive k a) → r ≡ judged_in number object b → r ≡ needs_cursor o (At object a)
   judged number object a b r e live is =
       let same : b ≡ is_among (names k.rows) a =
       bool_is b (is_among (names k.rows) a) (λ t. has_among a k.rows (live_has a k.rows (live.0 t))) (λ t. live.1 (has_live a k.rows (among_has a k.rows t))) in
-      is ∙ (λ i. judged_in (e i) object (same i)) ∙ sym (judged_by_name (object_of g l k) object a) ∙ ap (λ (p : Object Name X). needs_cursor p (At object a)) view
+      is ∙ (λ i. judged_in (e i) object (same i)) ∙ sym (judged_by_name (object_of g l capacity k) object a) ∙ ap (λ (p : Object Name X). needs_cursor p (At object a)) view
 
   pub live_needed : (c : Cursor) (a : Name) → a ≡ name_in c → needs_cursor o c ≡ None → IsLive k a
-  live_needed c a e h = subst (λ n. IsLive k n) (sym e) (stands g l k c (ap (λ (p : Object Name X). needs_cursor p c) view ∙ h)).live
+  live_needed c a e h = subst (λ n. IsLive k n) (sym e) (stands g l capacity k c (ap (λ (p : Object Name X). needs_cursor p c) view ∙ h)).live
 
   pub marks_at : (i : ℕ) (name : Option Name) (r : Cursor) → name ≡ name_at k.rows i → r ≡ cursor_at o.number name → Marks o r (mark_in (plain o) i)
   marks_at i name r n e =
@@ -51,11 +51,11 @@ module _ {X : Type 0} (g : GuardCounts) (l : Limit) (k : Chained X) (o : Object 
 
   -- a cursor that isn't refused, in the words of the definitions
   pub mark_needed : (c : Cursor) → needs_cursor o c ≡ None → mark o c ≡ mark_at o.number (name_in c).serial
-  mark_needed c h = subst (λ (p : Object Name X). needs_cursor p c ≡ None → mark p c ≡ mark_at p.number (name_in c).serial) view (λ q. (stands g l k c q).marked) h
+  mark_needed c h = subst (λ (p : Object Name X). needs_cursor p c ≡ None → mark p c ≡ mark_at p.number (name_in c).serial) view (λ q. (stands g l capacity k c q).marked) h
 
   pub may_needed : (c : Cursor) → needs_cursor o c ≡ None → may_cursor o c ≡ None
   may_needed c h =
-      let at = (stands g l k c (ap (λ (p : Object Name X). needs_cursor p c) view ∙ h)).at in
+      let at = (stands g l capacity k c (ap (λ (p : Object Name X). needs_cursor p c) view ∙ h)).at in
       ap (may_cursor o) at ∙ may_by_name o g.number (name_in c) ∙ ap (needs_cursor o) (sym at) ∙ h
 
   pub next_looks : IsSound k → (b : Cursor) (a : Name) (name : Option Name) (r : Cursor) → needs_cursor o b ≡ None → a ≡ name_in b → name ≡ next_name k a → r ≡ cursor_at o.number name
