@@ -11,6 +11,7 @@ mod refilling;
 mod search;
 mod sort;
 mod transfer;
+mod walked;
 
 pub use chain::Chain;
 pub use cut::{remove_from, remove_last};
@@ -22,3 +23,4 @@ pub use refilling::refill;
 pub use search::{are_equal, end_of, found_back, found_from, is_ascending, start_of};
 pub use sort::sorted_names;
 pub use transfer::{move_all, move_before, move_one};
+pub use walked::Walked;

@@ -4,7 +4,7 @@ use Rattle.ac_chain.proofs.Compares.{Ascending}
 use Rattle.ac_chain.proofs.search.is_ascending.Given as goal
 
 abbrev pub invariant-loop-name : goal.invariant-loop-name
-invariant-loop-name g l = Ascending g.T.Rank.is_less l.fn.chain l.before
+invariant-loop-name g l = Ascending g.T.Rank.is_less (g.C.Walked.seen l.fn.rows) l.before
 
 abbrev pub decreases-loop-name : goal.decreases-loop-name
-decreases-loop-name g l = length l.fn.chain.rows - index_of l.before l.fn.chain.rows
+decreases-loop-name g l = length (g.C.Walked.seen l.fn.rows).rows - index_of l.before (g.C.Walked.seen l.fn.rows).rows
