@@ -19,6 +19,7 @@ use ac_io::{Sink, add_last, pass};
 use ac_objects::{Answer, Objects};
 
 /// Writes what a command answered, or why it was refused.
+#[inline(always)]
 pub fn write_line<K: Sink>(
     objects: &Objects,
     number: u64,
@@ -37,6 +38,7 @@ pub fn write_line<K: Sink>(
     }
 }
 
+#[inline(always)]
 fn write_answer<K: Sink>(
     objects: &Objects,
     number: u64,
@@ -72,6 +74,7 @@ fn write_listing<K: Sink>(
 }
 
 /// Writes the line of any other answer.
+#[inline(always)]
 fn write_short<K: Sink>(
     number: u64,
     answer: &Answer,
