@@ -24,6 +24,7 @@ pub struct Arguments {
 }
 
 impl Argument {
+    #[inline(always)]
     pub fn cursor(&self) -> Cursor
         ensures { result ≡ cursor_in self.now }
     {
@@ -34,6 +35,7 @@ impl Argument {
     }
 
     /// As a count, which is 1 where it is left out.
+    #[inline(always)]
     pub fn count(&self) -> i64
         ensures { result ≡ (argument_of self.now).count }
     {
@@ -44,6 +46,7 @@ impl Argument {
         }
     }
 
+    #[inline(always)]
     pub fn into_value(self) -> Value
         ensures { result ≡ (argument_of self).value }
     {

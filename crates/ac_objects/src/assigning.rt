@@ -19,6 +19,7 @@ use std::alloc::Global;
 
 impl Objects {
     /// Gives a cursor variable the cursor. Another name takes none.
+    #[inline(always)]
     pub(crate) fn set_mark(&mut self, place: usize, cursor: Cursor)
         requires { IsKnown self.old cursor }
         ensures set { state_of self.new ≡ mark_set (state_of self.old) place (plain_mark cursor) (bound_at (state_of self.old) place) }
@@ -29,6 +30,7 @@ impl Objects {
     }
 
     /// Gives a variable the value, or the element that a name stands for. Another name takes none.
+    #[inline(always)]
     pub(crate) fn set_value(&mut self, place: usize, value: Value) -> Result<(), NoMemory>
         requires { ElementsStand (state_of self.old) }
         ensures set { AssignsTo (value_set (state_of self.old) place value (bound_at (state_of self.old) place)) self.old self.new result }
@@ -39,6 +41,7 @@ impl Objects {
     }
 }
 
+#[inline(always)]
 fn put_mark(bounds: &mut Vec<Bound>, place: usize, cursor: Cursor)
     ensures { SetsMark place cursor bounds.old.items bounds.new.items }
 {
@@ -48,6 +51,7 @@ fn put_mark(bounds: &mut Vec<Bound>, place: usize, cursor: Cursor)
     }
 }
 
+#[inline(always)]
 fn mark(bound: &mut Bound, cursor: Cursor)
     ensures { bound.new ≡ marked cursor bound.old }
 {
@@ -57,6 +61,7 @@ fn mark(bound: &mut Bound, cursor: Cursor)
     }
 }
 
+#[inline(always)]
 fn put_value(
     bounds: &mut Vec<Bound>,
     alloc: Global,
@@ -83,6 +88,7 @@ fn put_value(
     }
 }
 
+#[inline(always)]
 fn put_variable(bounds: &mut Vec<Bound>, place: usize, value: Value)
     requires { (old : value_data) × (slice_get bounds.old.items place ≡ Some (bound.Value old)) }
     ensures { bounds.new.items ≡ slice_set bounds.old.items place (bound.Value value) }

@@ -24,6 +24,7 @@ use std::alloc::Global;
 
 impl Objects {
     /// Makes a call on the object at this place, with the one at the source's place, if there is one.
+    #[inline(always)]
     pub(crate) fn call_at(
         &mut self,
         object: usize,
@@ -50,6 +51,7 @@ impl Objects {
     }
 }
 
+#[inline(always)]
 fn call_in(
     bounds: &mut Vec<Bound>,
     alloc: Global,
@@ -84,6 +86,7 @@ fn call_source(
     call_with(bounds, alloc, object, other, operation, args)
 }
 
+#[inline(always)]
 fn call_alone(
     bounds: &mut Vec<Bound>,
     alloc: Global,

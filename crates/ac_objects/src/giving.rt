@@ -19,6 +19,7 @@ use ac_cursor::Cursor;
 
 impl Objects {
     /// Gives what a call answered to the target, where it is a value or a cursor, and says what to show.
+    #[inline(always)]
     pub(crate) fn give(
         &mut self,
         target: Option<usize>,
@@ -41,6 +42,7 @@ impl Objects {
         }
     }
 
+    #[inline(always)]
     fn give_place(&mut self, target: Option<usize>, cursor: Cursor) -> Answer
         requires { IsKnown self.old cursor }
         ensures given { state_of self.new ≡ (assigned (state_of self.old) target (meant.answers_place (plain_mark cursor))).after }
@@ -58,6 +60,7 @@ impl Objects {
         }
     }
 
+    #[inline(always)]
     fn give_value(&mut self, target: Option<usize>, value: Value) -> Result<Answer, NoMemory>
         requires { ElementsStand (state_of self.old) }
         ensures given { Gives (assigned (state_of self.old) target (meant.answers_value value))
@@ -71,6 +74,7 @@ impl Objects {
         }
     }
 
+    #[inline(always)]
     fn give_value_to(&mut self, place: usize, value: Value) -> Result<Answer, NoMemory>
         requires { ElementsStand (state_of self.old) }
         ensures given { Gives (assigned (state_of self.old) (Some place) (meant.answers_value value))
@@ -84,6 +88,7 @@ impl Objects {
     }
 
     /// Sets the cursor variable among the arguments that a call sets.
+    #[inline(always)]
     pub(crate) fn set_variable(&mut self, args: &[ResolvedArg], variable: Option<Placed>)
         requires { PlacedKnown self.old variable }
         ensures set { state_of self.new ≡ variable_set (state_of self.old) args.now (placed_of variable) }
@@ -102,6 +107,7 @@ impl Objects {
     }
 }
 
+#[inline(always)]
 fn place_shown(cursor: Cursor) -> Answer
     ensures { (e : State) → Shows e result (meant.answers_place (plain_mark cursor)) }
 {

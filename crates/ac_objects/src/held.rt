@@ -25,6 +25,7 @@ use ac_list::List;
 use std::alloc::Global;
 
 /// Makes a call on an object without a source, or with itself as the source.
+#[inline(always)]
 pub fn call_object(
     object: &mut Object,
     alloc: Global,
@@ -69,6 +70,7 @@ pub fn call_objects(
     }
 }
 
+#[inline(always)]
 fn call_own<T: ScriptElement>(
     list: &mut List<T>,
     alloc: Global,

@@ -24,6 +24,7 @@ use ac_list::List;
 use std::alloc::Global;
 
 /// Makes a call on a list that is its own source, where the call has one.
+#[inline(always)]
 pub fn call_list<T: ScriptElement>(
     list: &mut List<T>,
     alloc: Global,
@@ -43,6 +44,7 @@ pub fn call_list<T: ScriptElement>(
 }
 
 /// A call that lists have with all kinds of rows.
+#[inline(always)]
 pub fn common_call<T: ScriptElement>(
     list: &mut List<T>,
     alloc: Global,

@@ -108,6 +108,7 @@ impl Objects {
 }
 
 /// What the name of a turn holds.
+#[inline(always)]
 fn turn_bound(elements: bool, object: usize, at: Cursor) -> Bound
     ensures bound { bound_of result ≡ turn_bound elements object (plain_mark at) }
     ensures cursor { cursor_in result ≡ at }
@@ -134,6 +135,7 @@ impl Objects {
     }
 
     /// The cursor at which a loop over the object at the place goes on behind this one.
+    #[inline(always)]
     fn next_at(&self, place: usize, backward: bool, at: Cursor) -> Cursor
         requires { IsKnown self.now at }
         ensures next { (h : Held) → object_at (state_of self.now) place ≡ Some h → StepsOn backward (number_of h) (names_of h) at result }

@@ -72,6 +72,7 @@ impl Objects {
     }
 
     /// A call without its target.
+    #[inline(always)]
     fn perform(
         &mut self,
         object: usize,
@@ -97,6 +98,7 @@ impl Objects {
     }
 
     /// The variable among the arguments is set.
+    #[inline(always)]
     fn finish(&mut self, args: &[ResolvedArg], reply: Reply) -> Said
         requires { PlacedKnown self.old reply.variable }
         ensures set { state_of self.new ≡ variable_set (state_of self.old) args.now (placed_of reply.variable) }
@@ -140,6 +142,7 @@ impl Objects {
         }
     }
 
+    #[inline(always)]
     fn put_sum(&mut self, target: usize, sum: Option<i64>) -> Result<Answer, Fault>
         requires stand { ElementsStand (state_of self.old) }
         ensures performed { Performs (sum_given (state_of self.old) target sum) self.old self.new result }
@@ -153,6 +156,7 @@ impl Objects {
     }
 }
 
+#[inline(always)]
 fn faulted(given: Result<Answer, NoMemory>) -> Result<Answer, Fault>
     ensures { result ≡ faulted given }
 {
@@ -162,6 +166,7 @@ fn faulted(given: Result<Answer, NoMemory>) -> Result<Answer, Fault>
     }
 }
 
+#[inline(always)]
 fn integer_of(value: Value) -> i64
     ensures { result ≡ integer_in value }
 {
@@ -172,12 +177,14 @@ fn integer_of(value: Value) -> i64
 }
 
 /// The sum or the difference, where it is an integer of a script.
+#[inline(always)]
 fn total(base: i64, minus: bool, number: u64) -> Option<i64>
     ensures { result ≡ if_integer (sum_of minus base number) }
 {
     narrow(whole(base, minus, number))
 }
 
+#[inline(always)]
 fn whole(base: i64, minus: bool, number: u64) -> i128
     ensures exact { result ≡ sum_of minus base number }
 {
@@ -188,6 +195,7 @@ fn whole(base: i64, minus: bool, number: u64) -> i128
     }
 }
 
+#[inline(always)]
 fn narrow(sum: i128) -> Option<i64>
     ensures { result ≡ if_integer sum }
 {

@@ -22,6 +22,7 @@ use std::alloc::Global;
 
 impl Objects {
     /// The arguments, with copies of the values that they name.
+    #[inline(always)]
     pub(crate) fn read_arguments(&self, args: &[ResolvedArg]) -> Result<Arguments, NoMemory>
         requires { ElementsStand (state_of self.now) }
         ensures read { IfOk result (λ read. arguments_of read ≡ arguments (state_of self.now) args.now) }
@@ -40,6 +41,7 @@ impl Objects {
     }
 
     /// The place of the object among the arguments.
+    #[inline(always)]
     pub(crate) fn source_place(&self, args: &[ResolvedArg]) -> Option<usize>
         ensures place { result ≡ source_place (state_of self.now) args.now }
         ensures there { ForSome result (IsObject (state_of self.now)) }
@@ -52,6 +54,7 @@ impl Objects {
         None
     }
 
+    #[inline(always)]
     fn source_in(&self, arg: &ResolvedArg) -> Option<usize>
         ensures found { (rest : List ArgData) → source_place (state_of self.now) (arg.now ∷ rest)
             ≡ source_or (source_place (state_of self.now) rest) result }
@@ -70,6 +73,7 @@ impl Objects {
         }
     }
 
+    #[inline(always)]
     fn read_at(&self, args: &[ResolvedArg], place: usize) -> Result<Argument, NoMemory>
         requires { ElementsStand (state_of self.now) }
         ensures read { IfOk result (λ read. argument_of read ≡ argument_at (state_of self.now) (slice_get args.now place)) }
@@ -81,6 +85,7 @@ impl Objects {
         }
     }
 
+    #[inline(always)]
     pub(crate) fn read(&self, arg: &ResolvedArg) -> Result<Argument, NoMemory>
         requires { ElementsStand (state_of self.now) }
         ensures read { IfOk result (λ read. argument_of read ≡ argument (state_of self.now) arg.now) }
@@ -94,6 +99,7 @@ impl Objects {
         }
     }
 
+    #[inline(always)]
     pub(crate) fn read_name(&self, place: usize) -> Result<Argument, NoMemory>
         requires { ElementsStand (state_of self.now) }
         ensures read { IfOk result (λ read. argument_of read ≡ argument_in (state_of self.now) (bound_at (state_of self.now) place)) }
@@ -131,6 +137,7 @@ pub(crate) fn copy_element(
     }
 }
 
+#[inline(always)]
 pub(crate) fn copy_value(alloc: Global, value: &Value) -> Result<Value, NoMemory>
     ensures { IfOk result (λ made. made ≡ value.now) }
 {
@@ -141,6 +148,7 @@ pub(crate) fn copy_value(alloc: Global, value: &Value) -> Result<Value, NoMemory
 }
 
 /// What is assigned, where this was read.
+#[inline(always)]
 pub(crate) fn said_of(read: Argument) -> Said
     ensures says { (e : State) (object : ℕ) → SaysAt e object result (answer_of read) }
     ensures known { (w : World) → IsKnown w (cursor_in read) → SaidKnown w result }

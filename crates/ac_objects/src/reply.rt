@@ -31,6 +31,7 @@ pub struct Reply {
 
 impl Reply {
     /// A call that sets no variable.
+    #[inline(always)]
     pub fn says(said: Said) -> Reply
         ensures said { result.said ≡ said }
         ensures variable { result.variable ≡ None }
@@ -42,6 +43,7 @@ impl Reply {
     }
 
     /// A call that answers nothing and sets the variable at this place.
+    #[inline(always)]
     pub fn sets(place: usize, cursor: Cursor) -> Reply
         ensures said { result.said ≡ Said.Done }
         ensures variable { result.variable ≡ Some (record { place = place; cursor = cursor }) }

@@ -40,6 +40,7 @@ impl Objects {
     }
 
     /// Whether an object stands at the place.
+    #[inline(always)]
     pub fn is_object(&self, place: usize) -> bool
         ensures yes { result ≡ true → IsObject (state_of self.now) place }
         ensures no { result ≡ false → object_at (state_of self.now) place ≡ None }
@@ -48,6 +49,7 @@ impl Objects {
     }
 
     /// The object at the place, if one stands there.
+    #[inline(always)]
     pub(crate) fn object_at(&self, place: usize) -> Option<&Object>
         ensures { Finds self.now place result }
     {

@@ -27,6 +27,7 @@ fn first_of_list<T>(list: &List<T>, backward: bool) -> Cursor
 }
 
 /// The cursor at which a loop goes on behind this one, and No_Element where it doesn't.
+#[inline(always)]
 fn next_in_list<T>(list: &List<T>, backward: bool, at: Cursor) -> Cursor
     requires { Agrees list.now.object at }
     ensures given { GivenBy list.now.object result }
@@ -40,6 +41,7 @@ fn next_in_list<T>(list: &List<T>, backward: bool, at: Cursor) -> Cursor
 }
 
 /// Next, or Previous.
+#[inline(always)]
 fn step_in_list<T>(list: &List<T>, backward: bool, at: Cursor) -> Result<Cursor, Fault>
     ensures { Looks (Marks list.now.object) (λ o. step_call backward o (seen_by list.now at)) list.now result }
 {
@@ -75,6 +77,7 @@ impl Object {
     }
 
     /// The cursor at which a loop goes on behind this one, and No_Element where it doesn't.
+    #[inline(always)]
     pub(crate) fn next_of(&self, backward: bool, at: Cursor) -> Cursor
         requires { ObjectAgrees self.now at }
         ensures given { IsGiven self.now result }
