@@ -3,8 +3,8 @@ use Rattle.std.proofs.Common.{◌≡◌, ◌==◌, ℕ, Bool, true, false, List,
 use Rattle.ac_base.specs.declared.reason.Reason.{Reason}
 use Rattle.ac_base.specs.FirstReason.{first_reason, earlier}
 use Rattle.ac_base.specs.Rows.{Row, row, names}
-use Rattle.ac_model.specs.Rows.{with_value, with_some_value, with_exchanged_values, value_at}
-use Rattle.ac_model.specs.Objects.{Object, with_rows, grown}
+use Rattle.ac_model.specs.Rows.{with_value, with_some_value, with_exchanged_values, value_at, over}
+use Rattle.ac_model.specs.Objects.{Object, with_rows, grown, grown_unless}
 use Rattle.ac_model.specs.Letters.{tampers_cursors}
 use Rattle.ac_meaning.specs.Replies.{Arguments, Source, without, itself, another, by_source, Reply}
 use Rattle.ac_meaning.specs.Stays.{Stays, SourceStays, ReplyStays}
@@ -62,6 +62,15 @@ grows o reason rows more checked = record {
   names = λ h tampering t. none_some tampering (sym (checked h) ∙ t);
 }
 
+pub grows_unless : {V : Type 0} (test : Bool) (o : Object ℕ V) (reason : Option Reason) (rows longer : List (Row ℕ V)) (more : ℕ) → Checked o reason →
+    Stays o reason (grown_unless test o rows longer more)
+grows_unless true o reason rows longer more checked = changed o reason rows checked
+grows_unless false o reason rows longer more checked = grows o reason longer more checked
+
+pub reserves : {V : Type 0} (o : Object ℕ V) (reason : Option Reason) (capacity : Option ℕ) → Stays o reason (record o { capacity = capacity })
+reserves o reason capacity =
+    record { number = refl; next = omega arith; cursor_guards = refl; element_guards = refl; names = λ h tampering t. refl }
+
 -- a reply that changes no source
 none_stays : {V : Type 0} (source : Source (Object ℕ V)) (reason : Option Reason) (after : Option (Object ℕ V)) → after ≡ None →
     SourceStays source reason after
@@ -96,3 +105,8 @@ pub names-with_exchanged_values : {V : Type 0} (rows : List (Row ℕ V)) (a b : 
 names-with_exchanged_values rows a b =
     names-with_some_value (with_some_value rows a (value_at rows b)) b (value_at rows a)
     ∙ names-with_some_value rows a (value_at rows b)
+
+pub names-over : {V : Type 0} (rows : List (Row ℕ V)) (vs : List V) → names (over rows vs) ≡ names rows
+names-over [] vs = refl
+names-over (r ∷ rows) [] = refl
+names-over (r ∷ rows) (v ∷ vs) = λ i. r.name ∷ names-over rows vs i

@@ -8,22 +8,22 @@ use Rattle.ac_model.specs.Cursors.{seen}
 use Rattle.ac_check.specs.declared.operation.Operation.{Operation}
 use Rattle.ac_check.specs.declared.resolved.ResolvedArg.{ResolvedArg}
 use Rattle.ac_check.specs.Resolved.{ResolvedSimple, calls_at, sets_at, sums_at}
-use Rattle.ac_meaning.specs.Elements.{Text, integers, texts, integer_in, of_integers, of_texts}
+use Rattle.ac_meaning.specs.Elements.{Text, integers, texts, integer_in, Of, of_integers, of_texts}
 use Rattle.ac_meaning.specs.Answers.{Answer, answers_ok, answers_value, answers_truth, answers_place, answers_list, answers_raised, answers_stalled, answers_integer}
 use Rattle.ac_meaning.specs.Replies.{Arguments, itself, another, seen_by, source_in, Reply, Placed}
-use Rattle.ac_meaning.specs.Holdings.{Held, a_list, write, integer_list, text_list, reply_of}
+use Rattle.ac_meaning.specs.Holdings.{Listed, SequenceKind, of_list, of_vector, Held, a_sequence, write, sequence_in, integers_in, texts_in, reply_of}
 use Rattle.ac_meaning.specs.Environment.{Bound, binds_type, binds_object, binds_cursor, binds_value, binds_element, State, bound_at, with_bound, object_at, value_at}
 use Rattle.ac_meaning.specs.Commands.{Assigned, value_set, mark_set, assigned, element_written, place_in, variable_to, variable_set, source_place, source_of, source_set, after_call, unless_refused, waits_or_goes, replied, call_on, arguments, answer_from, assigned_from, is_integer, sum_of, sum_assigned, performed}
 use Rattle.ac_meaning.specs.Stays.{Stays, SourceStays, HeldStays, StateStays}
 use Rattle.ac_meaning.proofs.CallsStay.{none_some, renamed, names-with_value}
-use Rattle.ac_meaning.proofs.ListsStay.{list_stays}
+use Rattle.ac_meaning.proofs.VectorsStay.{replies_stay}
 use Rattle.ac_meaning.proofs.BoundsStay.{passed, state_same, state_then, state_set, object_there}
 
 -- Assignments
 
 write_stays : (h : Held) (at : Mark) (v : Value) → HeldStays h (write h at v).after
-write_stays (a_list (of_integers o)) at v = renamed o None _ (names-with_value o.rows (name_of (seen o at)) (integer_in v))
-write_stays (a_list (of_texts o)) at v = renamed o None _ (names-with_value o.rows (name_of (seen o at)) (texts.from_value v))
+write_stays (a_sequence which (of_integers o)) at v = (refl, renamed o None _ (names-with_value o.rows (name_of (seen o at)) (integer_in v)))
+write_stays (a_sequence which (of_texts o)) at v = (refl, renamed o None _ (names-with_value o.rows (name_of (seen o at)) (texts.from_value v)))
 
 element_stays : (e : State) (object : ℕ) (at : Mark) (v : Value) (found : Option Held) → object_at e object ≡ found →
     StateStays e (element_written e object at v found).after
@@ -96,37 +96,47 @@ mapped : {S R : Type 0} (f : S → R) (found : Option S) (t : R) → option_map 
 mapped f None t e = none_some t e
 mapped f (Some s) t e = let p : f s ≡ t = cc in (s, refl, p)
 
-integers_found : (found : Option Held) (s : Object ℕ ℤ) → integer_list found ≡ Some s → found ≡ Some (a_list (of_integers s))
-integers_found None s f = none_some s f
-integers_found (Some (a_list (of_integers o))) s f = cc
-integers_found (Some (a_list (of_texts o))) s f = none_some s f
+sequence_found : (which : SequenceKind) (found : Option Held) (s : Of Listed) → sequence_in which found ≡ Some s → found ≡ Some (a_sequence which s)
+sequence_found of_list None s f = none_some s f
+sequence_found of_vector None s f = none_some s f
+sequence_found of_list (Some (a_sequence of_list o)) s f = cc
+sequence_found of_list (Some (a_sequence of_vector o)) s f = none_some s f
+sequence_found of_vector (Some (a_sequence of_list o)) s f = none_some s f
+sequence_found of_vector (Some (a_sequence of_vector o)) s f = cc
 
-texts_found : (found : Option Held) (s : Object ℕ Text) → text_list found ≡ Some s → found ≡ Some (a_list (of_texts s))
+integers_found : (found : Option (Of Listed)) (s : Object ℕ ℤ) → integers_in found ≡ Some s → found ≡ Some (of_integers s)
+integers_found None s f = none_some s f
+integers_found (Some (of_integers o)) s f = cc
+integers_found (Some (of_texts o)) s f = none_some s f
+
+texts_found : (found : Option (Of Listed)) (s : Object ℕ Text) → texts_in found ≡ Some s → found ≡ Some (of_texts s)
 texts_found None s f = none_some s f
-texts_found (Some (a_list (of_integers o))) s f = none_some s f
-texts_found (Some (a_list (of_texts o))) s f = cc
+texts_found (Some (of_integers o)) s f = none_some s f
+texts_found (Some (of_texts o)) s f = cc
 
 pub held_reply : (h : Held) (source : Option Held) (operation : Operation) (args : Arguments) →
     HeldReply h source (reply_of h source operation args)
-held_reply (a_list (of_integers o)) source operation args =
-    let own = source_in o (integer_list source) args in
-    let stays = list_stays integers o own (seen_by o args) operation in
+held_reply (a_sequence which (of_integers o)) source operation args =
+    let found = integers_in (sequence_in which source) in
+    let stays = replies_stay which integers o (source_in o found args) (seen_by o args) operation in
     record {
-      target = λ none. passed o _ _ none stays.target;
+      target = λ none. (refl, passed o _ _ none stays.target);
       source_stays = λ none k f.
-          let m = mapped (λ s. a_list (of_integers s)) _ k f in
-          let a = another_stays o (integer_list source) args _ _ stays.source_stays m.0 m.1 in
-          (a_list (of_integers a.0), integers_found source a.0 a.1, subst (λ x. HeldStays (a_list (of_integers a.0)) x) m.2 (passed a.0 _ m.0 none a.2));
+          let m = mapped (λ s. a_sequence which (of_integers s)) _ k f in
+          let a = another_stays o found args _ _ stays.source_stays m.0 m.1 in
+          let held = a_sequence which (of_integers a.0) in
+          (held, sequence_found which source _ (integers_found _ a.0 a.1), subst (λ x. HeldStays held x) m.2 (refl, passed a.0 _ m.0 none a.2));
     }
-held_reply (a_list (of_texts o)) source operation args =
-    let own = source_in o (text_list source) args in
-    let stays = list_stays texts o own (seen_by o args) operation in
+held_reply (a_sequence which (of_texts o)) source operation args =
+    let found = texts_in (sequence_in which source) in
+    let stays = replies_stay which texts o (source_in o found args) (seen_by o args) operation in
     record {
-      target = λ none. passed o _ _ none stays.target;
+      target = λ none. (refl, passed o _ _ none stays.target);
       source_stays = λ none k f.
-          let m = mapped (λ s. a_list (of_texts s)) _ k f in
-          let a = another_stays o (text_list source) args _ _ stays.source_stays m.0 m.1 in
-          (a_list (of_texts a.0), texts_found source a.0 a.1, subst (λ x. HeldStays (a_list (of_texts a.0)) x) m.2 (passed a.0 _ m.0 none a.2));
+          let m = mapped (λ s. a_sequence which (of_texts s)) _ k f in
+          let a = another_stays o found args _ _ stays.source_stays m.0 m.1 in
+          let held = a_sequence which (of_texts a.0) in
+          (held, sequence_found which source _ (texts_found _ a.0 a.1), subst (λ x. HeldStays held x) m.2 (refl, passed a.0 _ m.0 none a.2));
     }
 
 source_set_stays : (e now : State) (place : Option ℕ) (found : Option Held) → StateStays e now →

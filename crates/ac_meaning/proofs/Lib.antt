@@ -1,6 +1,7 @@
 pub mod Resolved
 pub mod CallsStay
 pub mod ListsStay
+pub mod VectorsStay
 pub mod BoundsStay
 pub mod CommandsStay
 pub mod CountsStay

@@ -15,7 +15,7 @@ use Rattle.ac_syntax.specs.declared.kind.ElemKind.TheVariants.{Integer, Str}
 use Rattle.ac_check.specs.declared.resolved.ResolvedDecl.{ResolvedDecl}
 use Rattle.ac_check.specs.declared.resolved.ResolvedDecl.TheVariants as decl
 use Rattle.ac_meaning.specs.Elements.{of_integers, of_texts}
-use Rattle.ac_meaning.specs.Holdings.{Held, a_list, Guards, is_kind, held_on, guard_on, guarded, held_under, number_of, limit_by, new_held}
+use Rattle.ac_meaning.specs.Holdings.{of_list, Held, a_sequence, Guards, is_kind, held_on, guard_on, guarded, held_under, number_of, limit_by, new_held}
 use Rattle.ac_meaning.specs.Environment.{binds_type, binds_object, binds_cursor, binds_value, State, under, object_at, with_name, number_taken, Declared, unless_spent, after_decl, after_decls}
 use Rattle.ac_meaning.specs.Numbers.{NumbersDiffer, GuardsBelow, NewObjectsAreUnguarded}
 use Rattle.ac_meaning.proofs.CountsStay.{parts_under, blocks_keep_counts}
@@ -47,8 +47,10 @@ new_unguarded guards def number capacity none = go def.first
   where
     go : (kind : ElemKind) →
         held_under guards (new_held (record def { first = kind }) number capacity) ≡ new_held (record def { first = kind }) number capacity
-    go Integer = λ i. a_list (of_integers (new_object guards (empty_object false number (limit_by capacity)) (none guard.Cursors) (none guard.Elements) i))
-    go Str = λ i. a_list (of_texts (new_object guards (empty_object false number (limit_by capacity)) (none guard.Cursors) (none guard.Elements) i))
+    go Integer =
+        λ i. a_sequence of_list (of_integers (new_object guards (empty_object false number (limit_by capacity)) (none guard.Cursors) (none guard.Elements) i))
+    go Str =
+        λ i. a_sequence of_list (of_texts (new_object guards (empty_object false number (limit_by capacity)) (none guard.Cursors) (none guard.Elements) i))
 
 object_under : (guards : Guards) (e : State) (h : Held) → under guards e ≡ e → held_under guards h ≡ h →
     under guards (number_taken (with_name e (binds_object h))) ≡ number_taken (with_name e (binds_object h))

@@ -5,12 +5,17 @@ use Rattle.ac_base.specs.declared.value.Value.{Value}
 use Rattle.ac_model.specs.Objects.{Object}
 use Rattle.ac_model.specs.Calls.{Call, Done}
 use Rattle.ac_model.specs.Lists as list
+use Rattle.ac_model.specs.Vectors as vector
 use Rattle.ac_check.specs.declared.operation.Operation.{Operation}
 use Rattle.ac_check.specs.declared.operation.Operation.TheVariants as operation
 use Rattle.ac_check.specs.declared.operation.CommonCall.{CommonCall}
 use Rattle.ac_check.specs.declared.operation.CommonCall.TheVariants as common_call
 use Rattle.ac_check.specs.declared.operation.SequenceCall.{SequenceCall}
 use Rattle.ac_check.specs.declared.operation.SequenceCall.TheVariants as sequence_call
+use Rattle.ac_check.specs.declared.operation.CapacityCall.{CapacityCall}
+use Rattle.ac_check.specs.declared.operation.CapacityCall.TheVariants as capacity_call
+use Rattle.ac_check.specs.declared.operation.VectorCall.{VectorCall}
+use Rattle.ac_check.specs.declared.operation.VectorCall.TheVariants as vector_call
 use Rattle.ac_check.specs.declared.operation.ListCall.{ListCall}
 use Rattle.ac_check.specs.declared.operation.ListCall.TheVariants as list_call
 use Rattle.ac_check.specs.declared.resolved.ResolvedArg.{ResolvedArg}
@@ -19,9 +24,10 @@ use Rattle.ac_check.specs.Resolved.{calls_at, sets_at, sums_at}
 use Rattle.ac_meaning.specs.Elements.{Tools, integers, texts, integer_in, of_integers, of_texts}
 use Rattle.ac_meaning.specs.Answers.{Answer, answers_integer}
 use Rattle.ac_meaning.specs.Replies.{Arguments, Source, without, itself, another, by_source, seen_by, source_in, Reply, value_answer}
-use Rattle.ac_meaning.specs.SequenceReplies.{OwnCalls, sequence_own, common_reply, sequence_reply}
+use Rattle.ac_meaning.specs.SequenceReplies.{OwnCalls, sequence_own, common_reply, sequence_reply, capacity_reply}
 use Rattle.ac_meaning.specs.ListReplies.{list_alone_reply, list_reply}
-use Rattle.ac_meaning.specs.Holdings.{Held, a_list, integer_list, text_list, reply_of}
+use Rattle.ac_meaning.specs.VectorReplies.{vector_alone_reply, vector_reply}
+use Rattle.ac_meaning.specs.Holdings.{SequenceKind, of_list, of_vector, Held, a_sequence, sequence_in, integers_in, texts_in, reply_by, reply_of}
 use Rattle.ac_meaning.specs.Environment.{Bound, binds_type, binds_object, binds_cursor, binds_value, binds_element, State, bound_at, object_at, value_at}
 use Rattle.ac_meaning.specs.Commands.{Performed, Assigned, source_place, source_of, after_call, assigned, unless_refused, waits_or_goes, replied, call_on, arguments, answer_in, answer_from, assigned_from, is_integer, sum_of, sum_assigned}
 use Rattle.ac_meaning.specs.Laws.{IsRefusal, RefusalsLeave}
@@ -53,6 +59,10 @@ module _ {V : Type 0} (o : Object ℕ V) (source : Source (Object ℕ V)) (args 
   common_plain own common_call.Print h = h
   common_plain own common_call.Length h = h
 
+  capacity_plain : (c : CapacityCall) → Plain (capacity_reply o args c).answer
+  capacity_plain capacity_call.Capacity h = h
+  capacity_plain capacity_call.ReserveCapacity h = h
+
 module _ {T : Type 0} (tools : Tools T) (o : Object ℕ T) (source : Source (Object ℕ T)) (args : Arguments) where
   sequence_plain : (reverses sorts : Call (Object ℕ T) Done) (c : SequenceCall) →
       Plain (sequence_reply tools o source args reverses sorts c).answer
@@ -72,9 +82,31 @@ module _ {T : Type 0} (tools : Tools T) (o : Object ℕ T) (source : Source (Obj
   list_plain (operation.List c) h = alone_plain c h
   list_plain _ h = h
 
+  indexed_plain : (c : VectorCall) → Plain (vector_alone_reply tools o source args c).answer
+  indexed_plain vector_call.ElementIndex h = value_plain _ h
+  indexed_plain vector_call.InsertVectorIndex h = by_source_plain source _ _ (λ r. r) (λ s seen r. r) h
+  indexed_plain vector_call.InsertVector h = by_source_plain source _ _ (λ r. r) (λ s seen r. r) h
+  indexed_plain vector_call.InsertVectorPos h = by_source_plain source _ _ (λ r. r) (λ s seen r. r) h
+  indexed_plain vector_call.AppendVector h = by_source_plain source _ _ (λ r. r) (λ s seen r. r) h
+  indexed_plain vector_call.PrependVector h = by_source_plain source _ _ (λ r. r) (λ s seen r. r) h
+  indexed_plain _ h = h
+
+  vector_plain : (op : Operation) → Plain (vector_reply tools o source args op).answer
+  vector_plain (operation.Common c) h = common_plain o source args (sequence_own tools o) c h
+  vector_plain (operation.Sequence c) h = sequence_plain (vector.reverse_elements_call o) (vector.sort_call tools.less o) c h
+  vector_plain (operation.Capacity c) h = capacity_plain o source args c h
+  vector_plain (operation.Vector c) h = indexed_plain c h
+  vector_plain _ h = h
+
+  reply_plain : (which : SequenceKind) (op : Operation) → Plain (reply_by tools o source args which op).answer
+  reply_plain of_list op h = list_plain op h
+  reply_plain of_vector op h = vector_plain op h
+
 held_plain : (h : Held) (source : Option Held) (op : Operation) (args : Arguments) → Plain (reply_of h source op args).answer
-held_plain (a_list (of_integers o)) source op args r = list_plain integers o (source_in o (integer_list source) args) (seen_by o args) op r
-held_plain (a_list (of_texts o)) source op args r = list_plain texts o (source_in o (text_list source) args) (seen_by o args) op r
+held_plain (a_sequence which (of_integers o)) source op args r =
+    reply_plain integers o (source_in o (integers_in (sequence_in which source)) args) (seen_by o args) which op r
+held_plain (a_sequence which (of_texts o)) source op args r =
+    reply_plain texts o (source_in o (texts_in (sequence_in which source)) args) (seen_by o args) which op r
 
 answer_plain : (e : State) (b : Bound) → Plain (answer_in e b)
 answer_plain e binds_type h = h

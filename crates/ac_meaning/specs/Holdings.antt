@@ -16,29 +16,35 @@ use Rattle.ac_model.specs.Common.{under_guards}
 use Rattle.ac_model.specs.Cursors.{seen}
 use Rattle.ac_syntax.specs.declared.type_def.TypeDef.{TypeDef}
 use Rattle.ac_check.specs.declared.operation.Operation.{Operation}
-use Rattle.ac_meaning.specs.Elements.{Text, integers, texts, Of, of_integers, of_texts, of_kind}
-use Rattle.ac_meaning.specs.Replies.{Arguments, seen_by, source_in, Reply, carried}
+use Rattle.ac_meaning.specs.Elements.{Text, Tools, integers, texts, Of, of_integers, of_texts, of_kind}
+use Rattle.ac_meaning.specs.Replies.{Arguments, Source, seen_by, source_in, Reply, carried}
 use Rattle.ac_meaning.specs.SequenceReplies.{OwnCalls, sequence_own}
 use Rattle.ac_meaning.specs.ListReplies.{list_reply}
+use Rattle.ac_meaning.specs.VectorReplies.{vector_reply}
 
 abbrev pub Listed : Type 0 → Type 0
 Listed T = Object ℕ T
 
--- a constructor for each kind
+-- the kinds whose objects are rows in an order that the program makes
+pub data SequenceKind : Type 0 where
+  of_list : SequenceKind
+  of_vector : SequenceKind
+
+-- a constructor for the kinds that have the same rows
 pub data Held : Type 0 where
-  a_list : Of Listed → Held
+  a_sequence : SequenceKind → Of Listed → Held
 
 -- what is told of objects with rows, whatever stands in them
 module _ {A : Type 0} (f : (V : Type 0) → Object ℕ V → A) where
   abbrev pub from_rows : Held → A
-  from_rows (a_list (of_integers o)) = f _ o
-  from_rows (a_list (of_texts o)) = f _ o
+  from_rows (a_sequence _ (of_integers o)) = f _ o
+  from_rows (a_sequence _ (of_texts o)) = f _ o
 
 -- and what is changed in them
 module _ (f : (V : Type 0) → Object ℕ V → Object ℕ V) where
   abbrev pub with_rows_by : Held → Held
-  with_rows_by (a_list (of_integers o)) = a_list (of_integers (f _ o))
-  with_rows_by (a_list (of_texts o)) = a_list (of_texts (f _ o))
+  with_rows_by (a_sequence which (of_integers o)) = a_sequence which (of_integers (f _ o))
+  with_rows_by (a_sequence which (of_texts o)) = a_sequence which (of_texts (f _ o))
 
 -- the number that guards and cursors know an object by
 abbrev pub number_of : Held → ℕ
@@ -54,7 +60,7 @@ nodes_of h = from_rows (λ V o. length_of o) h
 
 -- a set has cursor guards alone
 abbrev pub is_a_set : Held → Bool
-is_a_set (a_list _) = false
+is_a_set (a_sequence _ _) = false
 
 -- Guards
 
@@ -99,31 +105,47 @@ guard_on h kind = record { object = number_of h; kind = raised_kind (is_a_set h)
 
 -- Calls
 
--- a held object as a list of this element type
-abbrev pub integer_list : Option Held → Option (Object ℕ ℤ)
-integer_list None = None
-integer_list (Some (a_list (of_integers o))) = Some o
-integer_list (Some (a_list (of_texts o))) = None
+-- a held object as one of this kind
+abbrev pub sequence_in : SequenceKind → Option Held → Option (Of Listed)
+sequence_in which None = None
+sequence_in of_list (Some (a_sequence of_list s)) = Some s
+sequence_in of_list (Some (a_sequence of_vector s)) = None
+sequence_in of_vector (Some (a_sequence of_list s)) = None
+sequence_in of_vector (Some (a_sequence of_vector s)) = Some s
 
-abbrev pub text_list : Option Held → Option (Object ℕ Text)
-text_list None = None
-text_list (Some (a_list (of_integers o))) = None
-text_list (Some (a_list (of_texts o))) = Some o
+-- and with elements of this type
+abbrev pub integers_in : Option (Of Listed) → Option (Object ℕ ℤ)
+integers_in None = None
+integers_in (Some (of_integers o)) = Some o
+integers_in (Some (of_texts o)) = None
 
--- the operation on an object of any kind, with the object among the arguments, if there is one
+abbrev pub texts_in : Option (Of Listed) → Option (Object ℕ Text)
+texts_in None = None
+texts_in (Some (of_integers o)) = None
+texts_in (Some (of_texts o)) = Some o
+
+-- the operation on an object of one of these kinds
+module _ {T : Type 0} (tools : Tools T) (o : Object ℕ T) (source : Source (Object ℕ T)) (args : Arguments) where
+  abbrev pub reply_by : SequenceKind → Operation → Reply (Object ℕ T)
+  reply_by of_list operation = list_reply tools o source args operation
+  reply_by of_vector operation = vector_reply tools o source args operation
+
+-- and of any kind, with the object among the arguments, if there is one
 abbrev pub reply_of : Held → Option Held → Operation → Arguments → Reply Held
-reply_of (a_list (of_integers o)) source operation args =
-    carried (λ s. a_list (of_integers s)) (list_reply integers o (source_in o (integer_list source) args) (seen_by o args) operation)
-reply_of (a_list (of_texts o)) source operation args =
-    carried (λ s. a_list (of_texts s)) (list_reply texts o (source_in o (text_list source) args) (seen_by o args) operation)
+reply_of (a_sequence which (of_integers o)) source operation args =
+    let own = source_in o (integers_in (sequence_in which source)) args in
+    carried (λ s. a_sequence which (of_integers s)) (reply_by integers o own (seen_by o args) which operation)
+reply_of (a_sequence which (of_texts o)) source operation args =
+    let own = source_in o (texts_in (sequence_in which source)) args in
+    carried (λ s. a_sequence which (of_texts s)) (reply_by texts o own (seen_by o args) which operation)
 
 -- The element that a name stands for
 
 -- what each kind means in its own way
 module _ {A : Type 0} (f : (V : Type 0) → (Object ℕ V → Held) → Object ℕ V → OwnCalls V → A) where
   abbrev pub by_own : Held → A
-  by_own (a_list (of_integers o)) = f _ (λ s. a_list (of_integers s)) o (sequence_own integers o)
-  by_own (a_list (of_texts o)) = f _ (λ s. a_list (of_texts s)) o (sequence_own texts o)
+  by_own (a_sequence which (of_integers o)) = f _ (λ s. a_sequence which (of_integers s)) o (sequence_own integers o)
+  by_own (a_sequence which (of_texts o)) = f _ (λ s. a_sequence which (of_texts s)) o (sequence_own texts o)
 
 -- Element (C), as a value
 abbrev pub element_value : Held → Mark → Look (Option Value)
@@ -146,10 +168,10 @@ listing_of h = by_own (λ V hold o own. own.listing) h
 
 -- The update of a key: why its head is refused, and its end, with the copy. Only a keyed set has one
 abbrev pub key_update_reason : Held → Mark → Option Reason
-key_update_reason (a_list _) c = Some NoElement
+key_update_reason (a_sequence _ _) c = Some NoElement
 
 abbrev pub key_updated : Held → Mark → Value → Written
-key_updated (a_list l) c v = record { reason = None; after = a_list l }
+key_updated (a_sequence which s) c v = record { reason = None; after = a_sequence which s }
 
 -- A new object
 
@@ -159,4 +181,5 @@ limit_by (Some most) = Bounded most
 
 -- of a type whose objects scripts can have
 abbrev pub new_held : TypeDef → ℕ → Option ℕ → Held
-new_held def number capacity = a_list (of_kind def.first (empty_object false number (limit_by capacity)) (empty_object false number (limit_by capacity)))
+new_held def number capacity =
+    a_sequence of_list (of_kind def.first (empty_object false number (limit_by capacity)) (empty_object false number (limit_by capacity)))

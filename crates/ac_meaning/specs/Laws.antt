@@ -8,11 +8,10 @@ use Rattle.ac_check.specs.declared.operation.Operation.{Operation}
 use Rattle.ac_model.specs.Objects.{Object}
 use Rattle.ac_meaning.specs.Elements.{Tools}
 use Rattle.ac_meaning.specs.Replies.{Arguments, Source}
-use Rattle.ac_meaning.specs.ListReplies.{list_reply}
 use Rattle.ac_meaning.specs.Stays.{ReplyStays, StateStays, ObjectGoesOn}
 use Rattle.ac_meaning.specs.Answers.{Answer, answers_ok, answers_value, answers_truth, answers_place, answers_list, answers_raised, answers_stalled}
 use Rattle.ac_meaning.specs.Commands.{performed}
-use Rattle.ac_meaning.specs.Holdings.{Held, Guards}
+use Rattle.ac_meaning.specs.Holdings.{SequenceKind, Held, Guards, reply_by}
 use Rattle.ac_meaning.specs.Environment.{State, first_state, object_at, after_decls}
 use Rattle.ac_meaning.specs.Execution.{Outcome, exec, exec_resolved, run}
 
@@ -28,10 +27,11 @@ run_resolved script = exec_resolved script.stmts [] (after_decls script.decls fi
 abbrev pub ScriptRunsResolved : Type 0
 ScriptRunsResolved = (script : Script) → run_resolved (resolve_script script) ≡ run script
 
--- what stays of a list through every operation on it, whatever the source and the arguments
+-- what stays of a list or a vector through every operation on it, whatever the source and the arguments
 abbrev pub RepliesStay : Type 0 → Type 0
-RepliesStay T = (tools : Tools T) (o : Object ℕ T) (source : Source (Object ℕ T)) (args : Arguments) (operation : Operation) →
-    ReplyStays o source (list_reply tools o source args operation)
+RepliesStay T =
+    (which : SequenceKind) (tools : Tools T) (o : Object ℕ T) (source : Source (Object ℕ T)) (args : Arguments) (operation : Operation) →
+    ReplyStays o source (reply_by tools o source args which operation)
 
 -- what stays through every command
 abbrev pub CommandsStay : Type 0

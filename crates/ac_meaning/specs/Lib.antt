@@ -4,6 +4,7 @@ pub mod Listings
 pub mod Replies
 pub mod SequenceReplies
 pub mod ListReplies
+pub mod VectorReplies
 pub mod Holdings
 pub mod Environment
 pub mod Commands

@@ -4,7 +4,7 @@ use Rattle.ac_base.specs.declared.reason.Reason.{Reason}
 use Rattle.ac_base.specs.declared.value.Value.{Value}
 use Rattle.ac_base.specs.declared.value.Value.TheVariants as value
 use Rattle.ac_model.specs.Objects.{Object}
-use Rattle.ac_model.specs.Letters.{Mark, count_left_out, start_left_out}
+use Rattle.ac_model.specs.Letters.{Mark, count_left_out, last_index_left_out, start_left_out}
 use Rattle.ac_model.specs.Calls.{Call, Look, look, Both, Done}
 use Rattle.ac_model.specs.Cursors.{seen}
 use Rattle.ac_meaning.specs.Elements.{Tools, integer_in}
@@ -14,13 +14,16 @@ use Rattle.ac_meaning.specs.Answers.{Answer, answers_ok, answers_value}
 pub record Argument : Type 0 where
   pub cursor : Mark
   pub value : Value
+  -- a count or an index: 1 where it is left out
   pub count : ℤ
+  -- an index that a search goes back from: the greatest where it is left out
+  pub last_index : ℤ
 
 abbrev pub value_argument : Value → Argument
-value_argument v = record { cursor = start_left_out; value = v; count = integer_in v }
+value_argument v = record { cursor = start_left_out; value = v; count = integer_in v; last_index = integer_in v }
 
 abbrev pub cursor_argument : Mark → Argument
-cursor_argument mark = record { cursor = mark; value = value.Int (pos 0); count = count_left_out }
+cursor_argument mark = record { cursor = mark; value = value.Int (pos 0); count = count_left_out; last_index = last_index_left_out }
 
 abbrev pub no_argument : Argument
 no_argument = cursor_argument start_left_out

@@ -9,6 +9,8 @@ use Rattle.ac_model.specs.Sequences as sequence
 use Rattle.ac_syntax.specs.Canonical.{literal_text}
 use Rattle.ac_check.specs.declared.operation.CommonCall.{CommonCall}
 use Rattle.ac_check.specs.declared.operation.CommonCall.TheVariants as common_call
+use Rattle.ac_check.specs.declared.operation.CapacityCall.{CapacityCall}
+use Rattle.ac_check.specs.declared.operation.CapacityCall.TheVariants as capacity_call
 use Rattle.ac_check.specs.declared.operation.SequenceCall.{SequenceCall}
 use Rattle.ac_check.specs.declared.operation.SequenceCall.TheVariants as sequence_call
 use Rattle.ac_meaning.specs.Elements.{Tools}
@@ -48,6 +50,12 @@ module _ {V : Type 0} (o : Object ℕ V) (source : Source (Object ℕ V)) (args 
   common_reply own common_call.ReplaceElement = changes_ok (own.replace_element args.first.cursor args.second.value)
   common_reply own common_call.Print = tells o (answers_list own.listing)
   common_reply own common_call.Length = tells o (answers_integer (common.length_call o))
+
+module _ {V : Type 0} (o : Object ℕ V) (args : Arguments) where
+  -- of what has a Capacity
+  abbrev pub capacity_reply : CapacityCall → Reply (Object ℕ V)
+  capacity_reply capacity_call.Capacity = tells o (answers_integer (common.capacity_call o))
+  capacity_reply capacity_call.ReserveCapacity = changes_ok (common.reserve_capacity_call o args.first.count)
 
 module _ {T : Type 0} (tools : Tools T) (o : Object ℕ T) (source : Source (Object ℕ T)) (args : Arguments) where
   -- of vectors and lists. `reverses` and `sorts` are what differs between the two
