@@ -19,7 +19,7 @@ use Rattle.ac_check.specs.Resolved.{ResolvedCode, loops_at, views_at, stables_at
 use Rattle.ac_check.specs.declared.resolved.ResolvedDecl.{ResolvedDecl}
 use Rattle.ac_check.specs.declared.resolved.ResolvedDecl.TheVariants as decl
 use Rattle.ac_meaning.specs.Answers.{line, lines_text, answers_raised}
-use Rattle.ac_meaning.specs.Holdings.{Held, a_list, Guards, number_of, names_of, new_held, held_under, guard_on, is_a_set}
+use Rattle.ac_meaning.specs.Holdings.{Held, a_sequence, Guards, number_of, names_of, new_held, held_under, guard_on, is_a_set}
 use Rattle.ac_meaning.specs.Environment.{Bound, binds_type, binds_object, binds_cursor, binds_value, binds_element, bound_by, bound_in, object_in, mark_in, State, objects_by, under, bound_at, object_at, mark_at, with_name, leaving, number_taken, Declared, declared, unless_spent, after_decl, after_decls}
 use Rattle.ac_meaning.specs.Execution.{Outcome, outcome, one_line, exec_resolved, guards_of_loop, guards_of_stable, guards_of_view, head_reason, in_order, turn_bound, turns, view_on, viewed, on_object, after_declared, scoped}
 use Rattle.ac_meaning.specs.GuardedNames.{Frame, of_element, frame, kept}
@@ -194,7 +194,7 @@ loop_elements_held s place true h g x there is =
     (held_beside el (guard_on h guard.Cursors) (objects_by (held_with el) s) place (held_now el s place h there refl))
 
 kinds_apart : (h : Held) → (guard_on h guard.Cursors).kind ≡ (guard_on h guard.Elements).kind → ⊥
-kinds_apart (a_list l) e = cc
+kinds_apart (a_sequence which l) e = cc
 
 pub loop_kinds_apart : (elements : Bool) (h : Held) (g x : HeldGuard) → g ∷ x ∷ [] ≡ guards_of_loop elements h → g.kind ≡ x.kind → ⊥
 unfolding first_of rest_of
@@ -239,7 +239,7 @@ viewed_comes : (body : Guards → State → Outcome) (guards : Guards) (e : Stat
 viewed_comes body guards e line object Query at h none = refl
 viewed_comes body guards e line object Update at h none = refl
 viewed_comes body guards e line object Reference at h none = refl
-viewed_comes body guards e line object UpdateKey at (a_list l) none = absurd (none-some NoElement (sym none))
+viewed_comes body guards e line object UpdateKey at (a_sequence which l) none = absurd (none-some NoElement (sym none))
 
 view_on_comes : (body : Guards → State → Outcome) (guards : Guards) (e : State) (line object : ℕ) (kind : ViewKind) (at : Mark) (h : Held) → head_reason kind h at ≡ None →
     view_on body guards line kind object at h e ≡ inside (length e.bounds) (body (guards_of_view kind h ++ guards) (with_name e (binds_element object at)))

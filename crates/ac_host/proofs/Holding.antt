@@ -9,7 +9,7 @@ use Rattle.ac_base.specs.Guards.{HeldGuard, GuardCounts, count_of, one_more, one
 use Rattle.ac_model.specs.Objects.{Object}
 use Rattle.ac_model.specs.Common.{hold_call, release_call, guards_on}
 use Rattle.ac_meaning.specs.Elements.{of_integers, of_texts}
-use Rattle.ac_meaning.specs.Holdings.{Held, a_list, Guards, number_of}
+use Rattle.ac_meaning.specs.Holdings.{Held, a_sequence, Guards, number_of}
 use Rattle.ac_meaning.specs.Environment.{Bound, binds_type, binds_object, binds_cursor, binds_value, binds_element, bound_by, bound_in, object_in, State, objects_by, under, bound_at, object_at, with_name, leaving}
 use Rattle.ac_meaning.specs.UnderGuards.{hold_on, release_on, held_with, held_without}
 use Rattle.ac_meaning.proofs.CountsStay.{guards_come_and_go, release_hold, objects_twice, objects_alike, bound_under}
@@ -28,8 +28,8 @@ releasing_under (g ∷ more) guards e =
 
 -- whatever was held before
 held_back : (g : HeldGuard) (h : Held) → held_without g (held_with g h) ≡ h
-held_back g (a_list (of_integers o)) = λ i. a_list (of_integers (release_hold g o i))
-held_back g (a_list (of_texts o)) = λ i. a_list (of_texts (release_hold g o i))
+held_back g (a_sequence which (of_integers o)) = λ i. a_sequence which (of_integers (release_hold g o i))
+held_back g (a_sequence which (of_texts o)) = λ i. a_sequence which (of_texts (release_hold g o i))
 
 bound_self : (b : Bound) → bound_by (λ h. h) b ≡ b
 bound_self binds_type = refl
@@ -74,13 +74,13 @@ object_without k false o = refl
 
 held_with_counts : (g : HeldGuard) (h : Held) → counts_in_held (held_with g h) ≡ counts_with g (counts_in_held h)
 unfolding counts_with
-held_with_counts g (a_list (of_integers o)) = object_with g.kind (g.object == o.number) o
-held_with_counts g (a_list (of_texts o)) = object_with g.kind (g.object == o.number) o
+held_with_counts g (a_sequence which (of_integers o)) = object_with g.kind (g.object == o.number) o
+held_with_counts g (a_sequence which (of_texts o)) = object_with g.kind (g.object == o.number) o
 
 held_without_counts : (g : HeldGuard) (h : Held) → counts_in_held (held_without g h) ≡ counts_without g (counts_in_held h)
 unfolding counts_without
-held_without_counts g (a_list (of_integers o)) = object_without g.kind (g.object == o.number) o
-held_without_counts g (a_list (of_texts o)) = object_without g.kind (g.object == o.number) o
+held_without_counts g (a_sequence which (of_integers o)) = object_without g.kind (g.object == o.number) o
+held_without_counts g (a_sequence which (of_texts o)) = object_without g.kind (g.object == o.number) o
 
 bound_counts : (f : Held → Held) (count : GuardCounts → GuardCounts) → ((h : Held) → counts_in_held (f h) ≡ count (counts_in_held h)) →
     (b : Bound) → counts_in (bound_by f b) ≡ option_map count (counts_in b)
@@ -151,8 +151,8 @@ within_take (x ∷ xs) zero (suc count) h = refl
 within_take (x ∷ xs) (suc place) (suc count) h = within_take xs place count (omega (arith, h))
 
 number_counted : (h : Held) → (counts_in_held h).number ≡ number_of h
-number_counted (a_list (of_integers o)) = refl
-number_counted (a_list (of_texts o)) = refl
+number_counted (a_sequence which (of_integers o)) = refl
+number_counted (a_sequence which (of_texts o)) = refl
 
 -- it is, where the counts of so many names are as they were
 pub held_still : (e now : State) (place count : ℕ) (g : HeldGuard) → place < count → take count (counts_of now) ≡ take count (counts_of e) →
@@ -183,12 +183,12 @@ counted_once g c true e = more_counted g.kind c
 counted_once g c false e = absurd (cc)
 
 pub number_stays : (g : HeldGuard) (h : Held) → number_of (held_with g h) ≡ number_of h
-number_stays g (a_list (of_integers o)) = go (g.object == o.number)
+number_stays g (a_sequence which (of_integers o)) = go (g.object == o.number)
   where
     go : (b : Bool) → (if b then hold_call false g.kind o else o).number ≡ o.number
     go true = refl
     go false = refl
-number_stays g (a_list (of_texts o)) = go (g.object == o.number)
+number_stays g (a_sequence which (of_texts o)) = go (g.object == o.number)
   where
     go : (b : Bool) → (if b then hold_call false g.kind o else o).number ≡ o.number
     go true = refl

@@ -19,7 +19,7 @@ use Rattle.ac_model.proofs.Unslotted.{agreement_kept}
 use Rattle.ac_check.specs.declared.operation.Operation.{Operation}
 use Rattle.ac_meaning.specs.Answers.{answers_list}
 use Rattle.ac_meaning.specs.Elements.{Text, Tools, integers, texts, of_integers, of_texts}
-use Rattle.ac_meaning.specs.Holdings.{Held, a_list, listing_of, reply_of}
+use Rattle.ac_meaning.specs.Holdings.{Held, a_sequence, of_list, listing_of, reply_of}
 use Rattle.ac_meaning.specs.ListReplies.{list_reply}
 use Rattle.ac_meaning.specs.Replies.{itself, another, seen_by, source_in, carried}
 use Rattle.ac_meaning.specs.Replies as replies
@@ -162,16 +162,16 @@ is_listing tools o source args op text e =
     let l = listed tools o source args op text e in l.0 ∙ ap (λ x. (sequence_own tools x).listing) (sym l.1)
 
 abbrev hold_integers : Object ℕ ℤ → Held
-hold_integers o = a_list (of_integers o)
+hold_integers o = a_sequence of_list (of_integers o)
 
 abbrev hold_texts : Object ℕ Text → Held
-hold_texts o = a_list (of_texts o)
+hold_texts o = a_sequence of_list (of_texts o)
 
 -- without a source, or with itself
 
 pub called_integers : (old new : Container ℤ) (op : Operation) (a : replies.Arguments) (result : Result Reply Fault) → AreValid old new →
     Replied (list_reply integers (plain old.object) itself (seen_by (plain old.object) a) op) old new result →
-    Called (reply_of (a_list (of_integers (plain old.object))) None op a) (Integers old) (Integers new) result
+    Called (reply_of (a_sequence of_list (of_integers (plain old.object))) None op a) (Integers old) (Integers new) result
 called_integers old new op a result valid h =
     let o = plain old.object in
     subst (λ r. Called (carried hold_integers r) (Integers old) (Integers new) result) (sym (list_alone integers o (seen_by o a) op))
@@ -180,7 +180,7 @@ called_integers old new op a result valid h =
 
 pub called_texts : (old new : Container Text) (op : Operation) (a : replies.Arguments) (result : Result Reply Fault) → AreValid old new →
     Replied (list_reply texts (plain old.object) itself (seen_by (plain old.object) a) op) old new result →
-    Called (reply_of (a_list (of_texts (plain old.object))) None op a) (Texts old) (Texts new) result
+    Called (reply_of (a_sequence of_list (of_texts (plain old.object))) None op a) (Texts old) (Texts new) result
 called_texts old new op a result valid h =
     let o = plain old.object in
     subst (λ r. Called (carried hold_texts r) (Texts old) (Texts new) result) (sym (list_alone texts o (seen_by o a) op))
@@ -211,7 +211,7 @@ Reply2 tools old source op a =
 
 pub with_integers : (old source new now : Container ℤ) (op : Operation) (a : replies.Arguments) (result : Result Reply Fault) → AreValid old new →
     (old.object.number ≡ source.object.number → ⊥) → RepliedWith (Reply2 integers old source op a) old source new now result →
-    CalledWith (reply_of (a_list (of_integers (plain old.object))) (Some (a_list (of_integers (plain source.object)))) op a)
+    CalledWith (reply_of (a_sequence of_list (of_integers (plain old.object))) (Some (a_sequence of_list (of_integers (plain source.object)))) op a)
     (Integers old) (Integers source) (Integers new) (Integers now) result
 with_integers old source new now op a result valid apart h =
     let o = plain old.object in
@@ -223,7 +223,7 @@ with_integers old source new now op a result valid apart h =
 
 pub with_texts : (old source new now : Container Text) (op : Operation) (a : replies.Arguments) (result : Result Reply Fault) → AreValid old new →
     (old.object.number ≡ source.object.number → ⊥) → RepliedWith (Reply2 texts old source op a) old source new now result →
-    CalledWith (reply_of (a_list (of_texts (plain old.object))) (Some (a_list (of_texts (plain source.object)))) op a)
+    CalledWith (reply_of (a_sequence of_list (of_texts (plain old.object))) (Some (a_sequence of_list (of_texts (plain source.object)))) op a)
     (Texts old) (Texts source) (Texts new) (Texts now) result
 with_texts old source new now op a result valid apart h =
     let o = plain old.object in

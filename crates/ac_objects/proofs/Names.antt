@@ -10,7 +10,7 @@ use Rattle.ac_meaning.specs.Elements.{of_integers, of_texts}
 use Rattle.ac_meaning.specs.Commands.{argument_in, answer_in, assigned_to, element_written, mark_set, value_set}
 use Rattle.ac_meaning.specs.Environment as meant
 use Rattle.ac_meaning.specs.Environment.{State, value_in, bound_at, object_at, binds_object, with_bound}
-use Rattle.ac_meaning.specs.Holdings.{Held, a_list, element_value, write}
+use Rattle.ac_meaning.specs.Holdings.{Held, a_sequence, element_value, write}
 use Rattle.ac_objects.specs.declared.bound.Bound.{Bound}
 use Rattle.ac_objects.specs.declared.bound.Bound.TheVariants as bound
 use Rattle.ac_objects.specs.declared.object.Object.{Object}
@@ -121,8 +121,8 @@ sets_variable bs now i v old there is =
     })
 
 pub write_reason : (h : Held) (m : Mark) (v : Value) → (element_value h m).reason ≡ None → (write h m v).reason ≡ None
-write_reason (a_list (of_integers o)) m v e = e
-write_reason (a_list (of_texts o)) m v e = e
+write_reason (a_sequence which (of_integers o)) m v e = e
+write_reason (a_sequence which (of_texts o)) m v e = e
 
 assigns_element : (bs now : List Bound) (n i object : ℕ) (at : Cursor) (v : Value) (o : Object) (result : Result Done NoMemory) →
     slice_get bs object ≡ Some (bound.Object o) → (element_value (held_of o) (plain_mark at)).reason ≡ None → WritesAt object at v o bs now result →

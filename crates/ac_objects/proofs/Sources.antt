@@ -1,24 +1,28 @@
--- The source of a call on a list: none and the list itself are one, and only a listing answers a text.
-use Rattle.std.proofs.Common.{◌≡◌, ◌==◌, ℕ, List, Bool, true, false, refl, sym, ap, subst, ◌∙◌, eq-eqb, Option, Some, None, if◌then◌else◌}
+-- The source of a call on a list or a vector: none and the object itself are one. Of a list, only a listing answers a text.
+use Rattle.std.proofs.Common.{◌≡◌, ◌==◌, ℕ, ℤ, List, Bool, true, false, refl, sym, ap, subst, ◌∙◌, eq-eqb, Option, Some, None, if◌then◌else◌}
 use Rattle.std.specs.Prelude.{⊤}
 use Rattle.ac_base.specs.declared.value.Value.{Value}
 use Rattle.ac_model.specs.Objects.{Object}
 use Rattle.ac_model.specs.Calls.{Call, Done}
 use Rattle.ac_model.specs.Lists as list
+use Rattle.ac_model.specs.Vectors as vector
 use Rattle.ac_check.specs.declared.operation.Operation.{Operation}
 use Rattle.ac_check.specs.declared.operation.Operation.TheVariants as operation
 use Rattle.ac_check.specs.declared.operation.CommonCall.{CommonCall}
 use Rattle.ac_check.specs.declared.operation.CommonCall.TheVariants as common_call
 use Rattle.ac_check.specs.declared.operation.SequenceCall.{SequenceCall}
 use Rattle.ac_check.specs.declared.operation.SequenceCall.TheVariants as sequence_call
+use Rattle.ac_check.specs.declared.operation.VectorCall.{VectorCall}
+use Rattle.ac_check.specs.declared.operation.VectorCall.TheVariants as vector_call
 use Rattle.ac_check.specs.declared.operation.ListCall.{ListCall}
 use Rattle.ac_check.specs.declared.operation.ListCall.TheVariants as list_call
-use Rattle.ac_meaning.specs.Elements.{Tools, integers, texts, of_integers, of_texts}
+use Rattle.ac_meaning.specs.Elements.{Text, Tools, integers, texts, of_integers, of_texts}
 use Rattle.ac_meaning.specs.Answers.{Answer, answers_ok, answers_value, answers_truth, answers_place, answers_list, answers_raised, answers_stalled}
-use Rattle.ac_meaning.specs.Replies.{Arguments, Source, without, itself, another, by_source, seen_by, Reply, value_answer, carried}
+use Rattle.ac_meaning.specs.Replies.{Arguments, Source, without, itself, another, by_source, seen_by, source_in, Reply, value_answer, carried}
 use Rattle.ac_meaning.specs.SequenceReplies.{OwnCalls, sequence_own, common_reply, sequence_reply}
 use Rattle.ac_meaning.specs.ListReplies.{list_alone_reply, list_reply}
-use Rattle.ac_meaning.specs.Holdings.{Held, a_list, reply_of}
+use Rattle.ac_meaning.specs.VectorReplies.{vector_alone_reply, vector_reply}
+use Rattle.ac_meaning.specs.Holdings.{SequenceKind, of_list, of_vector, Held, a_sequence, reply_by, reply_of}
 
 -- None and itself
 
@@ -71,6 +75,35 @@ module _ {T : Type 0} (tools : Tools T) (o : Object ℕ T) (args : Arguments) wh
   list_alone (operation.List c) = links_alone c
   list_alone _ = refl
 
+  indexed_alone : (c : VectorCall) → vector_alone_reply tools o without args c ≡ vector_alone_reply tools o itself args c
+  indexed_alone vector_call.SetLength = refl
+  indexed_alone vector_call.ToCursor = refl
+  indexed_alone vector_call.ToIndex = refl
+  indexed_alone vector_call.FirstIndex = refl
+  indexed_alone vector_call.LastIndex = refl
+  indexed_alone vector_call.ElementIndex = refl
+  indexed_alone vector_call.ReplaceIndex = refl
+  indexed_alone vector_call.SwapIndex = refl
+  indexed_alone vector_call.InsertIndex = refl
+  indexed_alone vector_call.InsertVectorIndex = refl
+  indexed_alone vector_call.InsertVector = refl
+  indexed_alone vector_call.InsertVectorPos = refl
+  indexed_alone vector_call.AppendVector = refl
+  indexed_alone vector_call.PrependVector = refl
+  indexed_alone vector_call.DeleteIndex = refl
+  indexed_alone vector_call.FindIndex = refl
+  indexed_alone vector_call.ReverseFindIndex = refl
+
+  pub vector_alone : (op : Operation) → vector_reply tools o without args op ≡ vector_reply tools o itself args op
+  vector_alone (operation.Common c) = common_own (sequence_own tools o) c
+  vector_alone (operation.Sequence c) = sequence_alone (vector.reverse_elements_call o) (vector.sort_call tools.less o) c
+  vector_alone (operation.Vector c) = indexed_alone c
+  vector_alone _ = refl
+
+  reply_alone : (which : SequenceKind) (op : Operation) → reply_by tools o without args which op ≡ reply_by tools o itself args which op
+  reply_alone of_list op = list_alone op
+  reply_alone of_vector op = vector_alone op
+
 if_true : {A : Type 0} (x y : A) (b : Bool) → b ≡ true → (if b then x else y) ≡ x
 if_true x y true e = refl
 if_true x y false e = absurd (cc)
@@ -79,15 +112,29 @@ pub if_false : {A : Type 0} (x y : A) (b : Bool) → b ≡ false → (if b then 
 if_false x y true e = absurd (cc)
 if_false x y false e = refl
 
+-- the reply by the object as its own source, and with none
+own_source : {T : Type 0} (o : Object ℕ T) (args : Arguments) → (if o.number == o.number then itself else another o (seen_by o args)) ≡ itself
+own_source o args = if_true itself (another o (seen_by o args)) (o.number == o.number) (eq-eqb o.number o.number refl)
+
+alone_integers : (which : SequenceKind) (o : Object ℕ ℤ) (op : Operation) (args : Arguments) →
+    carried (λ s. a_sequence which (of_integers s)) (reply_by integers o (source_in o (Some o) args) (seen_by o args) which op)
+    ≡ carried (λ s. a_sequence which (of_integers s)) (reply_by integers o (source_in o None args) (seen_by o args) which op)
+alone_integers which o op args =
+    ap (λ s. carried (λ s. a_sequence which (of_integers s)) (reply_by integers o s (seen_by o args) which op)) (own_source o args)
+    ∙ ap (carried (λ s. a_sequence which (of_integers s))) (sym (reply_alone integers o (seen_by o args) which op))
+
+alone_texts : (which : SequenceKind) (o : Object ℕ Text) (op : Operation) (args : Arguments) →
+    carried (λ s. a_sequence which (of_texts s)) (reply_by texts o (source_in o (Some o) args) (seen_by o args) which op)
+    ≡ carried (λ s. a_sequence which (of_texts s)) (reply_by texts o (source_in o None args) (seen_by o args) which op)
+alone_texts which o op args =
+    ap (λ s. carried (λ s. a_sequence which (of_texts s)) (reply_by texts o s (seen_by o args) which op)) (own_source o args)
+    ∙ ap (carried (λ s. a_sequence which (of_texts s))) (sym (reply_alone texts o (seen_by o args) which op))
+
 pub itself_alone : (h : Held) (op : Operation) (args : Arguments) → reply_of h (Some h) op args ≡ reply_of h None op args
-itself_alone (a_list (of_integers o)) op args =
-    ap (λ s. carried (λ s. a_list (of_integers s)) (list_reply integers o s (seen_by o args) op))
-    (if_true itself (another o (seen_by o args)) (o.number == o.number) (eq-eqb o.number o.number refl))
-    ∙ ap (carried (λ s. a_list (of_integers s))) (sym (list_alone integers o (seen_by o args) op))
-itself_alone (a_list (of_texts o)) op args =
-    ap (λ s. carried (λ s. a_list (of_texts s)) (list_reply texts o s (seen_by o args) op))
-    (if_true itself (another o (seen_by o args)) (o.number == o.number) (eq-eqb o.number o.number refl))
-    ∙ ap (carried (λ s. a_list (of_texts s))) (sym (list_alone texts o (seen_by o args) op))
+itself_alone (a_sequence of_list (of_integers o)) op args = alone_integers of_list o op args
+itself_alone (a_sequence of_list (of_texts o)) op args = alone_texts of_list o op args
+itself_alone (a_sequence of_vector (of_integers o)) op args = alone_integers of_vector o op args
+itself_alone (a_sequence of_vector (of_texts o)) op args = alone_texts of_vector o op args
 
 -- Listings
 

@@ -4,7 +4,7 @@ use Rattle.ac_base.specs.Limits.{numbers_end}
 use Rattle.ac_model.specs.Objects.{empty_object}
 use Rattle.ac_syntax.specs.declared.kind.ElemKind.{ElemKind}
 use Rattle.ac_meaning.specs.Elements.{of_kind}
-use Rattle.ac_meaning.specs.Holdings.{Held, a_list, limit_by}
+use Rattle.ac_meaning.specs.Holdings.{Held, a_sequence, of_list, limit_by}
 use Rattle.ac_meaning.specs.Environment.{binds_object, State, with_name, Declared, declared, number_taken}
 
 -- no number was left for the object that is declared on this line
@@ -14,7 +14,7 @@ spent_at line e = record { after = e; spent = Some line }
 -- a new list with elements of this type
 abbrev pub new_list : ElemKind → ℕ → Option ℕ → Held
 new_list first number capacity =
-    a_list (of_kind first (empty_object false number (limit_by capacity)) (empty_object false number (limit_by capacity)))
+    a_sequence of_list (of_kind first (empty_object false number (limit_by capacity)) (empty_object false number (limit_by capacity)))
 
 -- after the declaration of an object
 abbrev pub object_declared : ElemKind → (line : ℕ) → Option ℕ → State → Declared

@@ -5,7 +5,7 @@ use Rattle.ac_base.specs.declared.cursor.Cursor.TheVariants as cursor
 use Rattle.ac_model.specs.Objects.{plain}
 use Rattle.ac_model.specs.Cursors.{plain_mark, Agrees}
 use Rattle.ac_meaning.specs.Elements.{of_integers, of_texts}
-use Rattle.ac_meaning.specs.Holdings.{Held, a_list}
+use Rattle.ac_meaning.specs.Holdings.{Held, a_sequence, of_list}
 use Rattle.ac_meaning.specs.Environment as meant
 use Rattle.ac_meaning.specs.Numbers.{NumbersDiffer}
 use Rattle.ac_objects.specs.declared.object.Object.{Object}
@@ -24,8 +24,8 @@ world bounds next = record { bounds = bounds; next = next }
 -- without the slots of names: as the meaning of scripts has them
 
 abbrev pub held_of : Object → Held
-held_of (Integers l) = a_list (of_integers (plain l.object))
-held_of (Texts l) = a_list (of_texts (plain l.object))
+held_of (Integers l) = a_sequence of_list (of_integers (plain l.object))
+held_of (Texts l) = a_sequence of_list (of_texts (plain l.object))
 
 abbrev pub bound_of : Bound → meant.Bound
 bound_of bound.Type = meant.binds_type
