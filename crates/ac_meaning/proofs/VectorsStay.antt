@@ -52,7 +52,7 @@ module _ {T : Type 0} (tools : Tools T) (o : Object ℕ T) (source : Source (Obj
       copies_stay (λ s. changes_ok (vector.insert_vector_call o args.first.cursor s)) (λ s. refl)
       (λ s. grows o _ _ _ (first_check o (may o args.first.cursor ∷ vector.room_for_source o s)))
   alone_stays vector_call.InsertVectorPos =
-      copies_stay (λ s. changes_variable 2 (vector.insert_vector_pos_call o args.first.cursor s)) (λ s. refl)
+      copies_stay (λ s. changes_variable _ (vector.insert_vector_pos_call o args.first.cursor s)) (λ s. refl)
       (λ s. grows o _ _ _ (first_check o (may o args.first.cursor ∷ vector.room_for_source o s)))
   alone_stays vector_call.AppendVector =
       copies_stay (λ s. changes_ok (vector.append_vector_call o s)) (λ s. refl)

@@ -1,5 +1,5 @@
 -- Worked rows: what these scripts write, to the byte, and how maps and trees are listed.
-use Rattle.std.specs.Prelude.{◌≡◌, ◌-◌, ◌^◌, ℕ, pos, codes, true, false, List, [], ◌∷◌, ◌++◌, Some, None}
+use Rattle.std.specs.Prelude.{◌≡◌, ◌-◌, ◌^◌, ℕ, pos, codes, Bool, true, false, List, [], ◌∷◌, ◌++◌, Option, Some, None}
 use Rattle.std.specs.List.{flat_map}
 use Rattle.std.specs.Fmt.{signed_decimal}
 use Rattle.ac_base.specs.declared.value.Value.TheVariants as value
@@ -45,6 +45,16 @@ list line name = decl.Object line name (codes "l") None
 
 abbrev pub cursor : ℕ → List ℕ → Decl
 cursor line name = decl.CursorVar line name (codes "l")
+
+abbrev pub vector_type : ℕ → (bounded : Bool) → Decl
+vector_type line bounded =
+    decl.TypeDecl line (codes "t") (record { bounded = bounded; kind = kind.Vector; first = Integer; second = None; keyed = false })
+
+abbrev pub vector : ℕ → List ℕ → (capacity : Option ℕ) → Decl
+vector line name capacity = decl.Object line name (codes "t") capacity
+
+abbrev pub vector_cursor : ℕ → List ℕ → Decl
+vector_cursor line name = decl.CursorVar line name (codes "t")
 
 abbrev pub script : List Decl → Code → Script
 script decls stmts = record { decls = decls; stmts = stmts }
@@ -344,6 +354,151 @@ ListsGiveAndTake =
     ∷ codes "22: [2, 3, 4, 7, 4]" ∷ codes "23: cursor" ∷ codes "24: ok" ∷ codes "25: 2"
     ∷ codes "26: true" ∷ codes "27: ok" ∷ codes "28: 0" ∷ codes "29: ok"
     ∷ codes "30: true" ∷ [])
+
+-- a vector's elements are replaced under a loop over cursors, and not under one over the elements, which lets their names write
+abbrev pub VectorLoopsHoldTheirGuards : Type 0
+VectorLoopsHoldTheirGuards =
+    text_of (script (vector_type 1 false ∷ vector 2 (codes "v") None ∷ [])
+    (one (called 3 (codes "v") (codes "append") (number 8 ∷ []))
+    (block (loop_at 4 (codes "c") false false (codes "v"))
+    (one (called 5 (codes "v") (codes "replace_element") (Var (codes "c") ∷ number 9 ∷ [])) stop)
+    (block (loop_at 7 (codes "e") true false (codes "v"))
+    (one (called 8 (codes "v") (codes "replace_element") (number 1 ∷ number 4 ∷ []))
+    (one (called 9 (codes "v") (codes "append") (number 4 ∷ []))
+    (one (set_at 10 (codes "e") (number 6)) stop)))
+    (one (called 12 (codes "v") (codes "print") []) stop)))))
+    ≡ lines (codes "3: ok"
+    ∷ codes "5: ok"
+    ∷ codes "8: raised PROGRAM_ERROR (element tampering)"
+    ∷ codes "9: raised PROGRAM_ERROR (cursor tampering)"
+    ∷ codes "10: 6"
+    ∷ codes "12: [6]" ∷ [])
+
+-- a deletion may begin one past the last, and takes no more than what is there; the Capacity stays
+abbrev pub IndexesAreInRange : Type 0
+IndexesAreInRange =
+    text_of (script (vector_type 1 false ∷ vector 2 (codes "v") None ∷ [])
+    (one (called 3 (codes "v") (codes "append") (number 1 ∷ []))
+    (one (called 4 (codes "v") (codes "append") (number 2 ∷ number 2 ∷ []))
+    (one (called 5 (codes "v") (codes "delete") (number 4 ∷ number 5 ∷ []))
+    (one (called 6 (codes "v") (codes "delete") (number 5 ∷ number 0 ∷ []))
+    (one (called 7 (codes "v") (codes "delete") (number 2 ∷ number 9 ∷ []))
+    (one (called 8 (codes "v") (codes "print") [])
+    (one (called 9 (codes "v") (codes "element") (number 2 ∷ []))
+    (one (called 10 (codes "v") (codes "last_index") [])
+    (one (called 11 (codes "v") (codes "capacity") []) stop))))))))))
+    ≡ lines (codes "3: ok"
+    ∷ codes "4: ok"
+    ∷ codes "5: ok"
+    ∷ codes "6: raised CONSTRAINT_ERROR (index)"
+    ∷ codes "7: ok"
+    ∷ codes "8: [1]"
+    ∷ codes "9: raised CONSTRAINT_ERROR (index)"
+    ∷ codes "10: 1"
+    ∷ codes "11: 8" ∷ [])
+
+-- a cursor keeps its element where others come before it, and stays where values are exchanged
+abbrev pub CursorsKeepElements : Type 0
+CursorsKeepElements =
+    text_of (script (vector_type 1 false ∷ vector 2 (codes "v") None ∷ vector_cursor 3 (codes "c") ∷ [])
+    (one (called 4 (codes "v") (codes "append") (number 10 ∷ []))
+    (one (called 5 (codes "v") (codes "append") (number 20 ∷ []))
+    (one (gets 6 (codes "c") (codes "v") (codes "to_cursor") (number 2 ∷ []))
+    (one (called 7 (codes "v") (codes "insert") (number 1 ∷ number 5 ∷ []))
+    (one (called 8 (codes "v") (codes "element") (Var (codes "c") ∷ []))
+    (one (called 9 (codes "v") (codes "to_index") (Var (codes "c") ∷ []))
+    (one (called 10 (codes "v") (codes "swap") (number 1 ∷ number 3 ∷ []))
+    (one (called 11 (codes "v") (codes "element") (Var (codes "c") ∷ [])) stop)))))))))
+    ≡ lines (codes "4: ok"
+    ∷ codes "5: ok"
+    ∷ codes "6: cursor"
+    ∷ codes "7: ok"
+    ∷ codes "8: 20"
+    ∷ codes "9: 3"
+    ∷ codes "10: ok"
+    ∷ codes "11: 5" ∷ [])
+
+-- a bounded vector takes no more than its limit, which is its Capacity
+abbrev pub BoundedVectorIsFull : Type 0
+BoundedVectorIsFull =
+    text_of (script (vector_type 1 true ∷ vector 2 (codes "b") (Some 3) ∷ [])
+    (one (called 3 (codes "b") (codes "append") (number 1 ∷ number 2 ∷ []))
+    (one (called 4 (codes "b") (codes "append") (number 9 ∷ number 2 ∷ []))
+    (one (called 5 (codes "b") (codes "print") [])
+    (one (called 6 (codes "b") (codes "append") (number 9 ∷ []))
+    (one (called 7 (codes "b") (codes "capacity") [])
+    (one (called 8 (codes "b") (codes "reserve_capacity") (number 4 ∷ [])) stop)))))))
+    ≡ lines (codes "3: ok"
+    ∷ codes "4: raised CAPACITY_ERROR (full)"
+    ∷ codes "5: [1, 1]"
+    ∷ codes "6: ok"
+    ∷ codes "7: 3"
+    ∷ codes "8: raised CAPACITY_ERROR (full)" ∷ [])
+
+-- each call that vectors alone have, by what it answers and leaves: those by an index, and those that lists mean otherwise
+abbrev pub ElementsHaveIndexes : Type 0
+ElementsHaveIndexes =
+    text_of (script (vector_type 1 false ∷ vector 2 (codes "a") None ∷ vector_cursor 3 (codes "c") ∷ [])
+    (one (called 4 (codes "a") (codes "set_length") (number 3 ∷ []))
+    (one (called 5 (codes "a") (codes "replace_element") (number 2 ∷ number 7 ∷ []))
+    (one (called 6 (codes "a") (codes "first_index") [])
+    (one (called 7 (codes "a") (codes "find_index") (number 0 ∷ number 2 ∷ []))
+    (one (called 8 (codes "a") (codes "find_index") (number 0 ∷ []))
+    (one (called 9 (codes "a") (codes "reverse_find_index") (number 0 ∷ []))
+    (one (called 10 (codes "a") (codes "reverse_find_index") (number 0 ∷ number 2 ∷ []))
+    (one (called 11 (codes "a") (codes "reverse_find_index") (number 7 ∷ number 0 ∷ []))
+    (one (gets 12 (codes "c") (codes "a") (codes "to_cursor") (number 4 ∷ []))
+    (one (called 13 (codes "a") (codes "to_index") (Var (codes "c") ∷ []))
+    (one (gets 14 (codes "c") (codes "a") (codes "to_cursor") (number 3 ∷ []))
+    (one (called 15 (codes "a") (codes "insert") (number 4 ∷ number 5 ∷ number 2 ∷ []))
+    (one (called 16 (codes "a") (codes "insert") (number 2 ∷ number 6 ∷ []))
+    (one (called 17 (codes "a") (codes "delete") (number 1 ∷ []))
+    (one (called 18 (codes "a") (codes "reverse_elements") [])
+    (one (called 19 (codes "a") (codes "element") (number 4 ∷ []))
+    (one (called 20 (codes "a") (codes "to_index") (Var (codes "c") ∷ []))
+    (one (called 21 (codes "a") (codes "sort") [])
+    (one (called 22 (codes "a") (codes "element") (Var (codes "c") ∷ []))
+    (one (called 23 (codes "a") (codes "reserve_capacity") (number 20 ∷ []))
+    (one (called 24 (codes "a") (codes "capacity") [])
+    (one (called 25 (codes "a") (codes "set_length") (number 2 ∷ []))
+    (one (called 26 (codes "a") (codes "element") (Var (codes "c") ∷ []))
+    (one (called 27 (codes "a") (codes "print") []) stop)))))))))))))))))))))))))
+    ≡ lines (codes "4: ok" ∷ codes "5: ok" ∷ codes "6: 1" ∷ codes "7: 3" ∷ codes "8: 1" ∷ codes "9: 3" ∷ codes "10: 1"
+    ∷ codes "11: raised CONSTRAINT_ERROR (index)" ∷ codes "12: no_element" ∷ codes "13: 0" ∷ codes "14: cursor"
+    ∷ codes "15: ok" ∷ codes "16: ok" ∷ codes "17: ok" ∷ codes "18: ok" ∷ codes "19: 7" ∷ codes "20: 3" ∷ codes "21: ok"
+    ∷ codes "22: 5" ∷ codes "23: ok" ∷ codes "24: 32" ∷ codes "25: ok" ∷ codes "26: raised PROGRAM_ERROR (dead cursor)"
+    ∷ codes "27: [0, 5]" ∷ [])
+
+-- and those with another vector, or the vector itself
+abbrev pub VectorsTakeCopies : Type 0
+VectorsTakeCopies =
+    text_of (script (vector_type 1 false ∷ vector 2 (codes "a") None ∷ vector 3 (codes "b") None ∷ vector_cursor 4 (codes "c") ∷ [])
+    (one (called 5 (codes "a") (codes "append") (number 1 ∷ []))
+    (one (called 6 (codes "a") (codes "append") (number 2 ∷ []))
+    (one (called 7 (codes "b") (codes "append") (number 3 ∷ []))
+    (one (called 8 (codes "a") (codes "append_vector") (Var (codes "b") ∷ []))
+    (one (called 9 (codes "a") (codes "prepend_vector") (Var (codes "b") ∷ []))
+    (one (called 10 (codes "a") (codes "insert_vector") (number 2 ∷ Var (codes "b") ∷ []))
+    (one (gets 11 (codes "c") (codes "a") (codes "find") (number 2 ∷ []))
+    (one (called 12 (codes "a") (codes "insert_vector") (Var (codes "c") ∷ Var (codes "b") ∷ []))
+    (one (called 13 (codes "a") (codes "to_index") (Var (codes "c") ∷ []))
+    (one (called 14 (codes "a") (codes "insert_vector") (Var (codes "c") ∷ Var (codes "b") ∷ Var (codes "c") ∷ []))
+    (one (called 15 (codes "a") (codes "to_index") (Var (codes "c") ∷ []))
+    (one (called 16 (codes "b") (codes "append") (number 4 ∷ []))
+    (one (called 17 (codes "b") (codes "append_vector") (Var (codes "b") ∷ []))
+    (one (called 18 (codes "b") (codes "insert_vector") (number 2 ∷ Var (codes "b") ∷ []))
+    (one (called 19 (codes "b") (codes "print") [])
+    (one (called 20 (codes "b") (codes "insert_vector") (Var (codes "c") ∷ Var (codes "a") ∷ []))
+    (one (called 21 (codes "a") (codes "insert_vector") (number 9 ∷ Var (codes "b") ∷ []))
+    (one (called 22 (codes "a") (codes "print") [])
+    (one (called 23 (codes "a") (codes "equal") (Var (codes "b") ∷ []))
+    (one (called 24 (codes "a") (codes "assign") (Var (codes "b") ∷ []))
+    (one (called 25 (codes "a") (codes "equal") (Var (codes "b") ∷ [])) stop))))))))))))))))))))))
+    ≡ lines (codes "5: ok" ∷ codes "6: ok" ∷ codes "7: ok" ∷ codes "8: ok" ∷ codes "9: ok" ∷ codes "10: ok" ∷ codes "11: cursor"
+    ∷ codes "12: ok" ∷ codes "13: 5" ∷ codes "14: ok" ∷ codes "15: 5" ∷ codes "16: ok" ∷ codes "17: ok" ∷ codes "18: ok"
+    ∷ codes "19: [3, 3, 4, 3, 4, 4, 3, 4]" ∷ codes "20: raised PROGRAM_ERROR (foreign cursor)"
+    ∷ codes "21: raised CONSTRAINT_ERROR (index)" ∷ codes "22: [3, 3, 1, 3, 3, 2, 3]" ∷ codes "23: false" ∷ codes "24: ok"
+    ∷ codes "25: true" ∷ [])
 
 abbrev pub MapIsListed : Type 0
 MapIsListed =

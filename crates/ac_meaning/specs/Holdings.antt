@@ -14,6 +14,9 @@ use Rattle.ac_model.specs.Letters.{Mark}
 use Rattle.ac_model.specs.Calls.{Call, Look}
 use Rattle.ac_model.specs.Common.{under_guards}
 use Rattle.ac_model.specs.Cursors.{seen}
+use Rattle.ac_syntax.specs.declared.kind.ElemKind.{ElemKind}
+use Rattle.ac_syntax.specs.declared.kind.Kind.{Kind}
+use Rattle.ac_syntax.specs.declared.kind.Kind.TheVariants as kinds
 use Rattle.ac_syntax.specs.declared.type_def.TypeDef.{TypeDef}
 use Rattle.ac_check.specs.declared.operation.Operation.{Operation}
 use Rattle.ac_meaning.specs.Elements.{Text, Tools, integers, texts, Of, of_integers, of_texts, of_kind}
@@ -179,7 +182,20 @@ abbrev pub limit_by : Option ℕ → Limit
 limit_by None = Unbounded
 limit_by (Some most) = Bounded most
 
--- of a type whose objects scripts can have
+-- of the two, a vector has a Capacity
+abbrev pub is_vector : SequenceKind → Bool
+is_vector of_list = false
+is_vector of_vector = true
+
+abbrev pub new_sequence : SequenceKind → ElemKind → ℕ → Option ℕ → Held
+new_sequence which first number capacity =
+    a_sequence which
+    (of_kind first (empty_object (is_vector which) number (limit_by capacity)) (empty_object (is_vector which) number (limit_by capacity)))
+
+abbrev pub sequence_kind : Kind → SequenceKind
+sequence_kind kinds.Vector = of_vector
+sequence_kind _ = of_list
+
+-- of a type whose objects scripts can have: of vectors or of lists
 abbrev pub new_held : TypeDef → ℕ → Option ℕ → Held
-new_held def number capacity =
-    a_sequence of_list (of_kind def.first (empty_object false number (limit_by capacity)) (empty_object false number (limit_by capacity)))
+new_held def number capacity = new_sequence (sequence_kind def.kind) def.first number capacity

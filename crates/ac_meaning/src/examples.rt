@@ -3,6 +3,8 @@ ghost use Rattle.ac_meaning.specs.Examples.{LoopForbidsAppend, DeadCursorIsRefus
 ghost use Rattle.ac_meaning.specs.Examples.{ViewWritesElement, InnerObjectsAreNew, SplicesMove};
 ghost use Rattle.ac_meaning.specs.Examples.{RefusedSetsNothing, SumsStayInRange, LoopsHoldTheirGuards, SpentNumberSkipsBlock};
 ghost use Rattle.ac_meaning.specs.Examples.{ElementsComeAndGo, ElementsMove, ListsGiveAndTake};
+ghost use Rattle.ac_meaning.specs.Examples.{VectorLoopsHoldTheirGuards, IndexesAreInRange, CursorsKeepElements, BoundedVectorIsFull};
+ghost use Rattle.ac_meaning.specs.Examples.{ElementsHaveIndexes, VectorsTakeCopies};
 ghost use Rattle.ac_meaning.specs.Examples.{MapIsListed, NoNodesAreListed, TreeIsListed, DeepTreeIsListed};
 
 /// What small scripts write, to the byte.
@@ -29,6 +31,20 @@ pub fn list_calls()
     ensures elements_come_and_go { ElementsComeAndGo }
     ensures elements_move { ElementsMove }
     ensures lists_give_and_take { ListsGiveAndTake }
+{}
+
+/// What small scripts with vectors write.
+pub fn vector_scripts()
+    ensures vector_loops_hold_their_guards { VectorLoopsHoldTheirGuards }
+    ensures indexes_are_in_range { IndexesAreInRange }
+    ensures cursors_keep_elements { CursorsKeepElements }
+    ensures bounded_vector_is_full { BoundedVectorIsFull }
+{}
+
+/// The same of each call that scripts have on vectors alone.
+pub fn vector_calls()
+    ensures elements_have_indexes { ElementsHaveIndexes }
+    ensures vectors_take_copies { VectorsTakeCopies }
 {}
 
 /// How maps and trees are listed.

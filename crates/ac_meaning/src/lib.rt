@@ -6,7 +6,9 @@ mod examples;
 mod law;
 mod limits;
 
-pub use examples::{list_calls, list_scripts, listings, scope_scripts};
+pub use examples::{
+    list_calls, list_scripts, listings, scope_scripts, vector_calls, vector_scripts,
+};
 pub use law::{
     counts_stay, guarded_names_stay, loops_meet_each_name, names_fit, numbers_differ, objects_stay,
     refusals_leave, resolved_statements,
