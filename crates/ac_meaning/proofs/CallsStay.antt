@@ -62,12 +62,13 @@ grows o reason rows more checked = record {
   names = λ h tampering t. none_some tampering (sym (checked h) ∙ t);
 }
 
-pub grows_unless : {V : Type 0} (test : Bool) (o : Object ℕ V) (reason : Option Reason) (rows longer : List (Row ℕ V)) (more : ℕ) → Checked o reason →
-    Stays o reason (grown_unless test o rows longer more)
+pub grows_unless : {V : Type 0} (test : Bool) (o : Object ℕ V) (reason : Option Reason) (rows longer : List (Row ℕ V)) (more : ℕ) →
+    Checked o reason → Stays o reason (grown_unless test o rows longer more)
 grows_unless true o reason rows longer more checked = changed o reason rows checked
 grows_unless false o reason rows longer more checked = grows o reason longer more checked
 
-pub reserves : {V : Type 0} (o : Object ℕ V) (reason : Option Reason) (capacity : Option ℕ) → Stays o reason (record o { capacity = capacity })
+pub reserves : {V : Type 0} (o : Object ℕ V) (reason : Option Reason) (capacity : Option ℕ) →
+    Stays o reason (record o { capacity = capacity })
 reserves o reason capacity =
     record { number = refl; next = omega arith; cursor_guards = refl; element_guards = refl; names = λ h tampering t. refl }
 

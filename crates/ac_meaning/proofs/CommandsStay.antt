@@ -22,8 +22,10 @@ use Rattle.ac_meaning.proofs.BoundsStay.{passed, state_same, state_then, state_s
 -- Assignments
 
 write_stays : (h : Held) (at : Mark) (v : Value) → HeldStays h (write h at v).after
-write_stays (a_sequence which (of_integers o)) at v = (refl, renamed o None _ (names-with_value o.rows (name_of (seen o at)) (integer_in v)))
-write_stays (a_sequence which (of_texts o)) at v = (refl, renamed o None _ (names-with_value o.rows (name_of (seen o at)) (texts.from_value v)))
+write_stays (a_sequence which (of_integers o)) at v =
+    (refl, renamed o None _ (names-with_value o.rows (name_of (seen o at)) (integer_in v)))
+write_stays (a_sequence which (of_texts o)) at v =
+    (refl, renamed o None _ (names-with_value o.rows (name_of (seen o at)) (texts.from_value v)))
 
 element_stays : (e : State) (object : ℕ) (at : Mark) (v : Value) (found : Option Held) → object_at e object ≡ found →
     StateStays e (element_written e object at v found).after
@@ -96,7 +98,8 @@ mapped : {S R : Type 0} (f : S → R) (found : Option S) (t : R) → option_map 
 mapped f None t e = none_some t e
 mapped f (Some s) t e = let p : f s ≡ t = cc in (s, refl, p)
 
-sequence_found : (which : SequenceKind) (found : Option Held) (s : Of Listed) → sequence_in which found ≡ Some s → found ≡ Some (a_sequence which s)
+sequence_found : (which : SequenceKind) (found : Option Held) (s : Of Listed) → sequence_in which found ≡ Some s →
+    found ≡ Some (a_sequence which s)
 sequence_found of_list None s f = none_some s f
 sequence_found of_vector None s f = none_some s f
 sequence_found of_list (Some (a_sequence of_list o)) s f = cc
@@ -125,7 +128,7 @@ held_reply (a_sequence which (of_integers o)) source operation args =
           let m = mapped (λ s. a_sequence which (of_integers s)) _ k f in
           let a = another_stays o found args _ _ stays.source_stays m.0 m.1 in
           let held = a_sequence which (of_integers a.0) in
-          (held, sequence_found which source _ (integers_found _ a.0 a.1), subst (λ x. HeldStays held x) m.2 (refl, passed a.0 _ m.0 none a.2));
+          (held, sequence_found which source _ (integers_found _ a.0 a.1), subst (HeldStays held) m.2 (refl, passed a.0 _ m.0 none a.2));
     }
 held_reply (a_sequence which (of_texts o)) source operation args =
     let found = texts_in (sequence_in which source) in
@@ -136,7 +139,7 @@ held_reply (a_sequence which (of_texts o)) source operation args =
           let m = mapped (λ s. a_sequence which (of_texts s)) _ k f in
           let a = another_stays o found args _ _ stays.source_stays m.0 m.1 in
           let held = a_sequence which (of_texts a.0) in
-          (held, sequence_found which source _ (texts_found _ a.0 a.1), subst (λ x. HeldStays held x) m.2 (refl, passed a.0 _ m.0 none a.2));
+          (held, sequence_found which source _ (texts_found _ a.0 a.1), subst (HeldStays held) m.2 (refl, passed a.0 _ m.0 none a.2));
     }
 
 source_set_stays : (e now : State) (place : Option ℕ) (found : Option Held) → StateStays e now →

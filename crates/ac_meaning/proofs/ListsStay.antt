@@ -44,8 +44,8 @@ module _ {V : Type 0} (o : Object ℕ V) (source : Source (Object ℕ V)) (args 
   common_stays own replaces common_call.Length = alone o source _ refl (same o _)
 
 module _ {T : Type 0} (tools : Tools T) (o : Object ℕ T) (source : Source (Object ℕ T)) (args : Arguments) where
-  pub sequence_stays : (reverses sorts : Call (Object ℕ T) Done) → Stays o reverses.reason reverses.after → Stays o sorts.reason sorts.after →
-      (c : SequenceCall) → ReplyStays o source (sequence_reply tools o source args reverses sorts c)
+  pub sequence_stays : (reverses sorts : Call (Object ℕ T) Done) → Stays o reverses.reason reverses.after →
+      Stays o sorts.reason sorts.after → (c : SequenceCall) → ReplyStays o source (sequence_reply tools o source args reverses sorts c)
   sequence_stays reverses sorts h k sequence_call.Append =
       alone o source _ refl (grows o _ _ _ (first_check o (room_for_copies o args.second.count)))
   sequence_stays reverses sorts h k sequence_call.Prepend =

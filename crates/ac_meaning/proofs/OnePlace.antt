@@ -90,9 +90,11 @@ held_own (a_sequence which (of_texts o)) kind =
 released_own : (h k : Held) (kind : GuardKind) → number_of k ≡ number_of h →
     held_without (guard_on h kind) k ≡ with_rows_by (λ V o. release_call (is_a_set h) kind o) k
 released_own (a_sequence which l) (a_sequence other (of_integers o)) kind e =
-    λ i. a_sequence other (of_integers (where_own o (release_call false kind o) (number_of (a_sequence which l) == o.number) (same_number (number_of (a_sequence which l)) o.number e) i))
+    let number = number_of (a_sequence which l) in
+    λ i. a_sequence other (of_integers (where_own o (release_call false kind o) (number == o.number) (same_number number o.number e) i))
 released_own (a_sequence which l) (a_sequence other (of_texts o)) kind e =
-    λ i. a_sequence other (of_texts (where_own o (release_call false kind o) (number_of (a_sequence which l) == o.number) (same_number (number_of (a_sequence which l)) o.number e) i))
+    let number = number_of (a_sequence which l) in
+    λ i. a_sequence other (of_texts (where_own o (release_call false kind o) (number == o.number) (same_number number o.number e) i))
 
 pub guards_are_on_one_object : GuardsAreOnOneObject
 guards_are_on_one_object = record {

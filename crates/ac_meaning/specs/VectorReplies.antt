@@ -20,7 +20,8 @@ module _ {T : Type 0} (tools : Tools T) (o : Object ℕ T) (source : Source (Obj
   vector_alone_reply vector_call.FirstIndex = tells o (answers_integer (vector.first_index_call o))
   vector_alone_reply vector_call.LastIndex = tells o (answers_integer (vector.last_index_call o))
   vector_alone_reply vector_call.ElementIndex = looks o value_answer (as_value tools (vector.element_index_call o args.first.count))
-  vector_alone_reply vector_call.ReplaceIndex = changes_ok (vector.replace_index_call o args.first.count (tools.from_value args.second.value))
+  vector_alone_reply vector_call.ReplaceIndex =
+      changes_ok (vector.replace_index_call o args.first.count (tools.from_value args.second.value))
   vector_alone_reply vector_call.SwapIndex = changes_ok (vector.swap_index_call o args.first.count args.second.count)
   vector_alone_reply vector_call.InsertIndex =
       changes_ok (vector.insert_index_call o args.first.count (tools.from_value args.second.value) args.third.count)
@@ -46,7 +47,8 @@ module _ {T : Type 0} (tools : Tools T) (o : Object ℕ T) (source : Source (Obj
   -- an operation of another kind's objects is none of a vector's
   abbrev pub vector_reply : Operation → Reply (Object ℕ T)
   vector_reply (operation.Common c) = common_reply o source args (sequence_own tools o) c
-  vector_reply (operation.Sequence c) = sequence_reply tools o source args (vector.reverse_elements_call o) (vector.sort_call tools.less o) c
+  vector_reply (operation.Sequence c) =
+      sequence_reply tools o source args (vector.reverse_elements_call o) (vector.sort_call tools.less o) c
   vector_reply (operation.Capacity c) = capacity_reply o args c
   vector_reply (operation.Vector c) = vector_alone_reply c
   vector_reply _ = tells o answers_ok
