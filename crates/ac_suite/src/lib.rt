@@ -15,6 +15,10 @@ mod pools;
 #[cfg(test)]
 mod prints;
 #[cfg(test)]
+mod refusals;
+#[cfg(test)]
+mod rows;
+#[cfg(test)]
 mod runs;
 #[cfg(test)]
 mod values;
