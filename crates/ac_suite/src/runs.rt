@@ -16,19 +16,33 @@ const ONE_LIST_LINES: &[u8] = b"3: ok\n4: ok\n5: [5, -7]\n";
 
 const WRONG_TYPE: &[u8] = b"type L is list (integer);\nA : L;\nA.Append (\"7\");\n";
 
-/// Runs an input over memory, in pieces of this size, and gives the status and what is held.
-fn answer<R: Threads + Wait + Sync>(
+/// Whether an input, moved in pieces of this size, ends so and writes just this.
+fn answers<R: Threads + Wait + Sync>(
     rt: &R,
     alloc: Global,
     input: Vec<u8>,
     piece: usize,
-) -> Result<(Status, Vec<u8>), Fail>
+    wanted: (Status, &[u8]),
+) -> Result<bool, Fail>
     requires { 0 < piece }
 {
+    let (status, text) = wanted;
     let mut source = MemorySource::new(input, piece, Vec::new(alloc));
     let mut sink = MemorySink::with_room(alloc, 1000, piece, Vec::new(alloc))?;
-    let status = run(rt, alloc, &[], &mut source, &mut sink, &FreeGate);
-    Ok((status, sink.bytes().to_vec(alloc)?))
+    let ended = run(rt, alloc, &[], &mut source, &mut sink, &FreeGate);
+    Ok(ended == status && sink.bytes() == text)
+}
+
+/// The same of the whole input at once, and of one byte after another.
+fn answers_in_pieces<R: Threads + Wait + Sync>(
+    rt: &R,
+    alloc: Global,
+    input: &[u8],
+    wanted: (Status, &[u8]),
+) -> Result<bool, Fail> {
+    let whole = answers(rt, alloc, input.to_vec(alloc)?, WHOLE, wanted)?;
+    let bytes = answers(rt, alloc, input.to_vec(alloc)?, 1, wanted)?;
+    Ok(whole && bytes)
 }
 
 #[test]
@@ -39,12 +53,7 @@ fn answers_in_place_of_no_memory(rt: HostRuntime) -> Result<(), Fail> {
         (b"", Status::Done, b""),
     ];
     for (input, status, text) in rows {
-        for piece in [WHOLE, 1] {
-            let input = input.to_vec(rt.alloc())?;
-            let (ended, held) = answer(&rt, rt.alloc(), input, piece)?;
-            assert!(rt; ended == status);
-            assert!(rt; held.as_slice() == text);
-        }
+        assert!(rt; answers_in_pieces(&rt, rt.alloc(), input, (status, text))?);
     }
     Ok(())
 }
@@ -56,86 +65,83 @@ fn takes_the_longest_input_and_no_longer_one(rt: HostRuntime) -> Result<(), Fail
         (1048577, Status::Refused, b"input: limit\n".as_slice()),
     ];
     for (len, status, text) in rows {
-        for piece in [WHOLE, 1] {
-            let input = vec![in rt.alloc(); b' '; len]?;
-            let (ended, held) = answer(&rt, rt.alloc(), input, piece)?;
-            assert!(rt; ended == status);
-            assert!(rt; held.as_slice() == text);
-        }
+        let input = vec![in rt.alloc(); b' '; len]?;
+        assert!(rt; answers_in_pieces(&rt, rt.alloc(), &input, (status, text))?);
     }
     Ok(())
 }
 
-/// Runs the source into the sink, and gives the status and what is held.
-fn ended<R: Threads + Wait + Sync>(
+/// Whether the list ends with this status and these bytes held, over a source that fails at the calls `reads`, and a sink that takes
+/// pieces of this size and fails at the calls `writes`.
+fn ends_so<R: Threads + Wait + Sync>(
     rt: &R,
     alloc: Global,
-    mut source: MemorySource,
-    mut sink: MemorySink,
-) -> Result<(u8, Vec<u8>), Fail> {
-    let status = run(rt, alloc, &[], &mut source, &mut sink, &FreeGate);
-    Ok((status.number(), sink.bytes().to_vec(alloc)?))
+    reads: &[u64],
+    piece: usize,
+    writes: &[u64],
+    wanted: (u8, &[u8]),
+) -> Result<bool, Fail>
+    requires { 0 < piece }
+{
+    let (status, held) = wanted;
+    let mut source = MemorySource::new(ONE_LIST.to_vec(alloc)?, WHOLE, reads.to_vec(alloc)?);
+    let mut sink = MemorySink::with_room(alloc, 100, piece, writes.to_vec(alloc)?)?;
+    let ended = run(rt, alloc, &[], &mut source, &mut sink, &FreeGate);
+    Ok(ended.number() == status && sink.bytes() == held)
 }
 
 #[test]
 fn ends_where_a_line_is_cut(rt: HostRuntime) -> Result<(), Fail> {
-    let alloc = rt.alloc();
-    let source = MemorySource::new(ONE_LIST.to_vec(alloc)?, WHOLE, Vec::new(alloc));
-    let sink = MemorySink::with_room(alloc, 100, 4, vec![in alloc; 2]?)?;
-    let (status, held) = ended(&rt, alloc, source, sink)?;
-    assert!(rt; status == 4);
-    assert!(rt; held.as_slice() == b"3: o".as_slice());
+    assert!(rt; ends_so(&rt, rt.alloc(), &[], 4, &[2], (4, b"3: o"))?);
     Ok(())
 }
 
 // Each line is one piece, handed over as soon as its command has run.
 #[test]
 fn ends_where_the_sink_fails(rt: HostRuntime) -> Result<(), Fail> {
-    let alloc = rt.alloc();
-    let source = MemorySource::new(ONE_LIST.to_vec(alloc)?, WHOLE, Vec::new(alloc));
-    let sink = MemorySink::with_room(alloc, 100, WHOLE, vec![in alloc; 3]?)?;
-    let (status, held) = ended(&rt, alloc, source, sink)?;
-    assert!(rt; status == 4);
-    assert!(rt; held.as_slice() == b"3: ok\n4: ok\n".as_slice());
+    assert!(rt; ends_so(&rt, rt.alloc(), &[], WHOLE, &[3], (4, b"3: ok\n4: ok\n"))?);
     Ok(())
 }
 
 #[test]
 fn ends_where_the_source_fails(rt: HostRuntime) -> Result<(), Fail> {
-    let alloc = rt.alloc();
-    let source = MemorySource::new(ONE_LIST.to_vec(alloc)?, WHOLE, vec![in alloc; 1]?);
-    let sink = MemorySink::with_room(alloc, 100, WHOLE, Vec::new(alloc))?;
-    let (status, held) = ended(&rt, alloc, source, sink)?;
-    assert!(rt; status == 3);
-    assert!(rt; held.as_slice() == b"".as_slice());
+    assert!(rt; ends_so(&rt, rt.alloc(), &[1], WHOLE, &[], (3, b""))?);
     Ok(())
+}
+
+/// Whether a word is refused with nothing read or written.
+fn is_refused<R: Threads + Wait + Sync>(rt: &R, alloc: Global, word: &str) -> Result<bool, Fail> {
+    let words = vec![in alloc; String::from_str(alloc, word)?]?;
+    let mut source = MemorySource::new(ONE_LIST.to_vec(alloc)?, WHOLE, Vec::new(alloc));
+    let mut sink = MemorySink::with_room(alloc, 100, WHOLE, Vec::new(alloc))?;
+    let ended = run(rt, alloc, &words, &mut source, &mut sink, &FreeGate);
+    Ok(ended.number() == 2 && source.rest() == ONE_LIST && sink.bytes().is_empty())
 }
 
 #[test]
 fn refuses_words_that_it_does_not_know(rt: HostRuntime) -> Result<(), Fail> {
-    let alloc = rt.alloc();
-    let words = vec![in alloc; String::from_str(alloc, "--bad")?]?;
-    let mut source = MemorySource::new(ONE_LIST.to_vec(alloc)?, WHOLE, Vec::new(alloc));
-    let mut sink = MemorySink::with_room(alloc, 100, WHOLE, Vec::new(alloc))?;
-    let status = run(&rt, alloc, &words, &mut source, &mut sink, &FreeGate);
-    assert!(rt; status.number() == 2);
-    assert!(rt; source.rest() == ONE_LIST);
-    assert!(rt; sink.bytes() == b"".as_slice());
+    assert!(rt; is_refused(&rt, rt.alloc(), "--bad")?);
     FreeGate.before(1);
     Ok(())
 }
 
-/// Checks an input into the sink, and gives the status and what is held.
-fn checked<R: Threads + Wait + Sync>(
+/// Whether a check of an input ends so and writes just this, into a sink that takes pieces of this size and fails at the calls `writes`.
+fn checks<R: Threads + Wait + Sync>(
     rt: &R,
     alloc: Global,
     input: &[u8],
-    mut sink: MemorySink,
-) -> Result<(Status, Vec<u8>), Fail> {
+    piece: usize,
+    writes: &[u64],
+    wanted: (Status, &[u8]),
+) -> Result<bool, Fail>
+    requires { 0 < piece }
+{
+    let (status, text) = wanted;
     let words = vec![in alloc; String::from_str(alloc, "--check")?]?;
     let mut source = MemorySource::new(input.to_vec(alloc)?, WHOLE, Vec::new(alloc));
-    let status = run(rt, alloc, &words, &mut source, &mut sink, &FreeGate);
-    Ok((status, sink.bytes().to_vec(alloc)?))
+    let mut sink = MemorySink::with_room(alloc, 100, piece, writes.to_vec(alloc)?)?;
+    let ended = run(rt, alloc, &words, &mut source, &mut sink, &FreeGate);
+    Ok(ended == status && sink.bytes() == text)
 }
 
 #[test]
@@ -158,10 +164,7 @@ fn checks_in_place_of_no_memory(rt: HostRuntime) -> Result<(), Fail> {
         ),
     ];
     for (input, status, text) in rows {
-        let sink = MemorySink::with_room(rt.alloc(), 100, WHOLE, Vec::new(rt.alloc()))?;
-        let (ended, held) = checked(&rt, rt.alloc(), input, sink)?;
-        assert!(rt; ended == status);
-        assert!(rt; held.as_slice() == text);
+        assert!(rt; checks(&rt, rt.alloc(), input, WHOLE, &[], (status, text))?);
     }
     Ok(())
 }
@@ -173,11 +176,7 @@ fn a_check_ends_where_the_sink_fails(rt: HostRuntime) -> Result<(), Fail> {
         (b"A.Append (1);\n", b"line"),
     ];
     for (input, front) in rows {
-        let faults = vec![in rt.alloc(); 2]?;
-        let sink = MemorySink::with_room(rt.alloc(), 100, 4, faults)?;
-        let (status, held) = checked(&rt, rt.alloc(), input, sink)?;
-        assert!(rt; status.number() == 4);
-        assert!(rt; held.as_slice() == front);
+        assert!(rt; checks(&rt, rt.alloc(), input, 4, &[2], (Status::WriteFault, front))?);
     }
     Ok(())
 }
