@@ -1,24 +1,10 @@
-//! Tests over the public calls of the other crates: worked rows, and each call that takes memory where there is enough of it.
+//! Tests of whole runs: worked scripts, refused ones, and how a run ends.
 //! They stand here so that no crate of many functions is proved a second time with its tests.
 #![tactic(auto)]
 
-#[cfg(test)]
-mod chains;
-#[cfg(test)]
-mod checks;
-#[cfg(test)]
-mod lists;
-#[cfg(test)]
-mod parses;
-#[cfg(test)]
-mod pools;
-#[cfg(test)]
-mod prints;
 #[cfg(test)]
 mod refusals;
 #[cfg(test)]
 mod rows;
 #[cfg(test)]
 mod runs;
-#[cfg(test)]
-mod values;
