@@ -1,0 +1,362 @@
+//! The array. A contract sees what it sees of a chain: a list of rows, each a name with its value, with the next serial and the
+//! number of spare slots.
+ghost use Rattle.std.specs.Prelude.{◌≡◌, ℕ, ◌+◌, ◌-◌, ◌^◌, ◌<◌, ◌≤◌, ◌↔◌, IsTrue, IsOk, IfOk, OnOk, OnErr, None, Some, length, reverse};
+ghost use Rattle.std.specs.Borrow.{sem};
+ghost use Rattle.std.specs.Prelude.{slice_get};
+ghost use Rattle.std.specs.Ordering.{is_lt};
+ghost use Rattle.ac_base.specs.Rows.{row, values};
+ghost use Rattle.ac_chain.specs.Cut.{IsCut};
+ghost use Rattle.ac_chain.specs.Rows.{Chained, index_of, IsLive, value_of, name_at, name_before, next_name, prev_name, no_rows, with_rows, reserved, inserted, removed, cleared, values_swapped, WalksInOrder, IsFresh, IsSound};
+ghost use Rattle.ac_model.specs.Objects.{plains};
+ghost use Rattle.ac_model.specs.Rows.{over, sorted};
+ghost use Rattle.ac_vector.specs.Turn.{turned};
+
+use crate::growth::least_slots;
+use crate::places::renumber;
+use crate::turning::turn_items;
+use ac_base::{Name, NoMemory, Rank, precedes};
+use ac_pool::Pool;
+use std::alloc::Global;
+use std::cmp::Ordering;
+use std::marker::Model;
+
+/// Values in order, each under a name that follows it. The names are a pool's, which keeps each name's place.
+#[derive(Drop)]
+pub struct Array<T> {
+    values: Vec<T>,
+    names: Vec<Name>,
+    places: Pool<u32>,
+}
+
+impl<T> Model for Array<T> {
+    ghost use Rattle.std.specs.Prelude.{vec_capacity};
+    ghost use Rattle.ac_chain.specs.Rows.{Chained, chained, chained_code};
+
+    ghost Value = { Chained T };
+
+    ghost coded = { chained_code T.code };
+
+    ghost use Rattle.ac_vector.specs.ArrayFields.{rows_in, IsArray};
+
+    ghost view = { λ a. chained (rows_in a.names.items a.values.items) a.places.next_serial a.places.spare };
+
+    ghost invariant = { λ a. IsArray a.names.items a.values.items a.places (vec_capacity a.names) (vec_capacity a.values) };
+}
+
+impl<T> Array<T> {
+    ghost use Rattle.ac_vector.specs.ArrayLends.{lends_value};
+
+    /// An array without rows, which takes no memory. Its first serial is 1.
+    pub fn new(alloc: Global) -> Array<T>
+        ensures empty { result ≡ no_rows 1 0 }
+        ensures sound { IsSound result }
+    {
+        Array {
+            values: Vec::new(alloc),
+            names: Vec::new(alloc),
+            places: Pool::new(alloc),
+        }
+    }
+
+    /// Makes at least `n` slots spare. Where it must grow, the slots become the least `8 * 2^k` that has room for `n` rows more.
+    pub fn reserve(&mut self, n: u64) -> Result<(), NoMemory>
+        requires { length self.old.rows + n ≤ 2 ^ 30 }
+        ensures ok { OnOk result (self.new ≡ reserved self.old n) }
+        ensures err { OnErr result (self.new ≡ self.old) }
+        ensures had_room { n ≤ self.old.spare → IsOk result }
+        ensures sound { IsSound self.new }
+    {
+        if n <= self.spare() {
+            return Ok(());
+        }
+        let len = self.values.len();
+        let more = least_slots(len + n as usize) - len;
+        self.values.reserve_exact(more)?;
+        self.names.reserve_exact(more)?;
+        self.places.reserve(n)
+    }
+
+    /// How many rows there are.
+    pub fn len(&self) -> u64
+        ensures count { result ≡ length self.now.rows }
+        ensures sound { IsSound self.now }
+    {
+        self.places.live()
+    }
+
+    /// How many slots keep nothing.
+    pub fn spare(&self) -> u64
+        ensures count { result ≡ self.now.spare }
+        ensures sound { IsSound self.now }
+    {
+        self.places.spare()
+    }
+
+    /// The serial that the next row gets.
+    pub fn next_serial(&self) -> u64
+        ensures serial { result ≡ self.now.next_serial }
+        ensures sound { IsSound self.now }
+    {
+        self.places.next_serial()
+    }
+
+    /// The name of the row at this place.
+    pub fn name_at(&self, place: u64) -> Name
+        requires { place < length self.now.rows }
+        ensures name { Some result ≡ name_at self.now.rows place }
+        ensures sound { IsSound self.now }
+    {
+        let _places = &self.places;
+        self.names[place as usize]
+    }
+
+    /// The value of the row at this place.
+    pub fn value_at(&self, place: u64) -> &T
+        requires { place < length self.now.rows }
+        ensures value { Some result.now ≡ slice_get (values self.now.rows) place }
+    {
+        let _places = &self.places;
+        &self.values[place as usize]
+    }
+
+    /// The place of the name's row.
+    pub fn index_of(&self, name: Name) -> u64
+        requires { IsLive self.now name }
+        ensures index { result ≡ index_of name self.now.rows }
+        ensures sound { IsSound self.now }
+    {
+        *self.places.get(name).unwrap() as u64
+    }
+
+    /// The values in order.
+    pub fn values(&self) -> &[T]
+        ensures values { result.now ≡ values self.now.rows }
+    {
+        let _places = &self.places;
+        self.values.as_slice()
+    }
+
+    /// The first row's name. A walk from it by `next` meets each row once, in order.
+    pub fn first(&self) -> Option<Name>
+        ensures name { result ≡ name_at self.now.rows 0 }
+        ensures walk { WalksInOrder self.now }
+        ensures sound { IsSound self.now }
+    {
+        self.name_from(0)
+    }
+
+    pub fn last(&self) -> Option<Name>
+        ensures name { result ≡ name_before self.now.rows (length self.now.rows) }
+        ensures sound { IsSound self.now }
+    {
+        self.name_below(self.len())
+    }
+
+    /// The name at this place, if a row stands there.
+    fn name_from(&self, place: u64) -> Option<Name>
+        ensures name { result ≡ name_at self.now.rows place }
+        ensures sound { IsSound self.now }
+    {
+        if place < self.len() {
+            Some(self.name_at(place))
+        } else {
+            None
+        }
+    }
+
+    /// The name before this place.
+    fn name_below(&self, place: u64) -> Option<Name>
+        ensures name { result ≡ name_before self.now.rows place }
+        ensures sound { IsSound self.now }
+    {
+        if place == 0 {
+            None
+        } else {
+            self.name_from(place - 1)
+        }
+    }
+
+    pub fn next(&self, name: Name) -> Option<Name>
+        requires { IsLive self.now name }
+        ensures name { result ≡ next_name self.now name }
+        ensures in_order { (i : ℕ) → name_at self.now.rows i ≡ Some name → result ≡ name_at self.now.rows (i + 1) }
+        ensures sound { IsSound self.now }
+    {
+        self.name_from(self.index_of(name) + 1)
+    }
+
+    pub fn prev(&self, name: Name) -> Option<Name>
+        requires { IsLive self.now name }
+        ensures name { result ≡ prev_name self.now name }
+        ensures in_order { (i : ℕ) → name_at self.now.rows i ≡ Some name → result ≡ name_before self.now.rows i }
+        ensures sound { IsSound self.now }
+    {
+        self.name_below(self.index_of(name))
+    }
+
+    pub fn is_live(&self, name: Name) -> bool
+        ensures live { IsTrue result ↔ IsLive self.now name }
+        ensures sound { IsSound self.now }
+    {
+        self.places.get(name).is_some()
+    }
+
+    /// The value under the name.
+    pub fn at(&self, name: Name) -> &T
+        requires { IsLive self.now name }
+        ensures value { Some result.now ≡ value_of self.now name }
+    {
+        self.value_at(self.index_of(name))
+    }
+
+    /// As `at`, for writing.
+    pub fn at_mut(&mut self, name: Name) -> &mut T
+        requires { IsLive self.old name }
+        ensures* writes_back { sem 𝓛 (lends_value T.row self.entry name result) }
+        ensures value { Some result.now ≡ value_of self.old name }
+    {
+        let place = self.index_of(name);
+        let _places = &self.places;
+        &mut self.values[place as usize]
+    }
+
+    /// Puts a value behind the last row, under a fresh name.
+    pub fn append(&mut self, v: T) -> Name
+        requires spare { 0 < self.old.spare }
+        requires unspent { self.old.next_serial < 2 ^ 64 - 1 }
+        ensures fresh { IsFresh self.old result }
+        ensures inserted { self.new ≡ inserted self.old None (row result v) }
+        ensures sound { IsSound self.new }
+    {
+        let place = self.len();
+        let name = self.places.put_reserved(place as u32);
+        self.names.push_reserved(name);
+        self.values.push_reserved(v);
+        name
+    }
+
+    /// The two values change places.
+    pub fn swap_values(&mut self, a: Name, b: Name)
+        requires a { IsLive self.old a }
+        requires b { IsLive self.old b }
+        ensures swapped { self.new ≡ values_swapped self.old a b }
+        ensures itself { a ≡ b → self.new ≡ self.old }
+        ensures sound { IsSound self.new }
+    {
+        let first = self.index_of(a);
+        let second = self.index_of(b);
+        self.values.swap(first as usize, second as usize);
+    }
+
+    /// The last `count` rows go before the one at `place`.
+    pub fn turn(&mut self, place: u64, count: u64)
+        requires { place + count ≤ length self.old.rows }
+        ensures turned { self.new ≡ with_rows self.old (turned self.old.rows place count) }
+        ensures sound { IsSound self.new }
+    {
+        let _places = &self.places;
+        turn_items(self.values.as_mut_slice(), place as usize, count as usize);
+        turn_items(self.names.as_mut_slice(), place as usize, count as usize);
+        renumber(&mut self.places, self.names.as_slice(), place as usize);
+    }
+
+    /// The values the other way round, and the names in place.
+    pub fn reverse_values(&mut self)
+        ensures reversed { self.new ≡ with_rows self.old (over self.old.rows (reverse (values self.old.rows))) }
+        ensures sound { IsSound self.new }
+    {
+        let _places = &self.places;
+        self.values.reverse();
+    }
+}
+
+impl<T: Drop> Array<T> {
+    /// An array with `n` spare slots.
+    pub fn with_slots(alloc: Global, n: u64) -> Result<Array<T>, NoMemory>
+        requires { n ≤ 2 ^ 30 }
+        ensures empty { IfOk result (λ c. c ≡ no_rows 1 n) }
+        ensures sound { IfOk result (λ c. IsSound c) }
+    {
+        Ok(Array {
+            values: Vec::with_capacity(alloc, n as usize)?,
+            names: Vec::with_capacity(alloc, n as usize)?,
+            places: Pool::with_slots(alloc, n)?,
+        })
+    }
+
+    /// Drops all values, and keeps the slots.
+    pub fn clear(&mut self)
+        ensures cleared { self.new ≡ cleared self.old }
+        ensures sound { IsSound self.new }
+    {
+        self.values.clear();
+        self.names.clear();
+        self.places.clear();
+    }
+
+    /// Drops the last row's value, and frees its slot.
+    fn drop_last(&mut self, name: Name)
+        requires { Some name ≡ name_before self.old.rows (length self.old.rows) }
+        ensures removed { self.new ≡ removed self.old name }
+        ensures sound { IsSound self.new }
+    {
+        let _value = self.values.pop();
+        let _name = self.names.pop();
+        let _place = self.places.take(name);
+    }
+
+    /// Drops the last `count` rows, or all where there are fewer.
+    fn cut_last(&mut self, count: u64)
+        requires sound { IsSound self.old }
+        ensures cut { IsCut self.old (length self.old.rows - count) count self.new }
+        ensures sound { IsSound self.new }
+    {
+        for _i in 0..count {
+            match self.last() {
+                None => return,
+                Some(name) => self.drop_last(name),
+            }
+        }
+    }
+
+    /// Drops the `count` rows from the place on, or all behind it where there are fewer.
+    pub fn cut(&mut self, place: u64, count: u64)
+        requires { place ≤ length self.old.rows }
+        ensures cut { IsCut self.old place count self.new }
+        ensures sound { IsSound self.new }
+    {
+        let behind = self.len() - place;
+        if count < behind {
+            self.turn(place, behind - count);
+            self.cut_last(count);
+        } else {
+            self.cut_last(behind);
+        }
+    }
+}
+
+impl<T: Rank> Array<T> {
+    /// The values in ascending order, those that are level as they stood, and the names in place.
+    pub fn sort_values(&mut self) -> Result<(), NoMemory>
+        ensures ok { OnOk result (self.new ≡ with_rows self.old (over self.old.rows (values (sorted T.is_less (plains self.old.rows))))) }
+        ensures err { OnErr result (self.new ≡ self.old) }
+        ensures sound { IsSound self.new }
+    {
+        let _places = &self.places;
+        self.values.sort_by(|left, right| compare(left, right))?;
+        Ok(())
+    }
+}
+
+/// Which of the two stands first.
+fn compare<T: Rank>(left: &T, right: &T) -> Ordering
+    ensures { is_lt result ≡ T.is_less left.now right.now }
+{
+    if precedes(left, right) {
+        Ordering::Less
+    } else if precedes(right, left) {
+        Ordering::Greater
+    } else {
+        Ordering::Equal
+    }
+}
