@@ -1,0 +1,4 @@
+pub mod Arrays
+pub mod NamesAt
+pub mod Renumbers
+pub mod WalkNames

@@ -169,6 +169,7 @@ impl<T> Array<T> {
         ensures name { result ≡ name_before self.now.rows place }
         ensures sound { IsSound self.now }
     {
+        let _places = &self.places;
         if place == 0 {
             None
         } else {
