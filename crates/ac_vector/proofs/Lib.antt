@@ -2,3 +2,5 @@ pub mod Arrays
 pub mod NamesAt
 pub mod Renumbers
 pub mod WalkNames
+pub mod Rewrites
+pub mod Orderings
