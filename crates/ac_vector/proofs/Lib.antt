@@ -1,6 +1,7 @@
 pub mod Arrays
 pub mod NamesAt
 pub mod Renumbers
+pub mod Turns
 pub mod WalkNames
 pub mod Rewrites
 pub mod Orderings

@@ -13,7 +13,7 @@ ghost use Rattle.ac_vector.specs.Turn.{turned};
 
 use crate::growth::least_slots;
 use crate::places::renumber;
-use crate::turning::turn_items;
+use crate::turning::turn_vector;
 use ac_base::{Name, NoMemory, Rank, precedes};
 use ac_pool::Pool;
 use std::alloc::Global;
@@ -256,8 +256,8 @@ impl<T> Array<T> {
         ensures sound { IsSound self.new }
     {
         let _places = &self.places;
-        turn_items(self.values.as_mut_slice(), place as usize, count as usize);
-        turn_items(self.names.as_mut_slice(), place as usize, count as usize);
+        turn_vector(&mut self.values, place as usize, count as usize);
+        turn_vector(&mut self.names, place as usize, count as usize);
         renumber(&mut self.places, self.names.as_slice(), place as usize);
     }
 
