@@ -1,4 +1,5 @@
 pub mod Arrays
+pub mod CutRows
 pub mod NamesAt
 pub mod Renumbers
 pub mod Turns
