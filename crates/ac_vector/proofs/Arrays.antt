@@ -1,5 +1,5 @@
 -- An array seen as its rows, and what each change of its lists and its pool leaves of them.
-use Rattle.std.proofs.Common.{◌≡◌, ◌≢◌, ℕ, ◌+◌, ◌-◌, ◌<◌, ◌≤◌, List, [], ◌∷◌, ◌++◌, length, Option, Some, None, is_some, refl, sym, ap, ◌∙◌, subst, inl, inr, arith, length-append, append-nil, get_or, Result, Ok, Err}
+use Rattle.std.proofs.Common.{◌≡◌, ◌≢◌, ℕ, ◌+◌, ◌-◌, ◌<◌, ◌≤◌, List, [], ◌∷◌, ◌++◌, length, Some, None, is_some, refl, sym, ap, ◌∙◌, subst, inl, inr, arith, length-append, append-nil, get_or, Result, Ok, Err}
 use Rattle.std.proofs.lemmas.List.{map-append, length-map}
 use Rattle.std.specs.Result.{OnOk, OnErr}
 use Rattle.std.proofs.lemmas.Option.{slice_get_read, slice_get-map}
@@ -11,13 +11,12 @@ use Rattle.ac_pool.specs.Names.{name_cmp}
 use Rattle.ac_pool.specs.Contents as pool
 use Rattle.ac_pool.specs.Contents.{Contents, live_count, slot_count, added, taken}
 use Rattle.ac_pool.proofs.NameLaws.{cases_name}
-use Rattle.ac_pool.proofs.ContentsLaws.{live_value, value_of-added_same, value_of-added_other, value_of-taken_same, value_of-taken_other, live_count-added, live_count-taken, fresh_is_dead, slot_count-no_values, slot_count-added, entries-reserved, reserved_kept, reserved_grown}
-use Rattle.ac_chain.specs.Rows.{Chained, chained, index_of, IsLive, name_at, no_rows, reserved, inserted, removed, cleared, IsFresh, IsSound}
+use Rattle.ac_pool.proofs.ContentsLaws.{live_value, value_of-added_same, value_of-added_other, live_count-added, fresh_is_dead, slot_count-no_values, slot_count-added, entries-reserved}
+use Rattle.ac_chain.specs.Rows.{Chained, chained, index_of, name_at, no_rows, inserted, cleared, IsFresh, IsSound}
 use Rattle.ac_chain.specs.ChainFields.{HasName, IsOnce}
-use Rattle.ac_chain.proofs.Chains.{index_at}
 use Rattle.ac_chain.proofs.Cuts.{live_has, has_live, name_at_has, insert-cut}
 use Rattle.ac_chain.proofs.Moves.{once_from}
-use Rattle.ac_vector.specs.ArrayFields.{rows_in, StandsFor, IsArray, renumbered}
+use Rattle.ac_vector.specs.ArrayFields.{rows_in, StandsFor, IsArray}
 use Rattle.ac_vector.proofs.NamesAt.{same_number, no_name, at_left, at_right, at_either, at_within, at_index, at_names}
 
 module _ {X : Type 0} where
@@ -198,7 +197,7 @@ module _ {X : Type 0} where
         let r = row a v in
         let all : q ≡ added p a (length old.rows) = put ∙ ap (added p a) at in
         let s : StandsFor ks ws q (old.rows ++ r ∷ []) =
-            subst (λ zs. StandsFor ks zs q (old.rows ++ r ∷ [])) (sym values_are) (subst (λ zs. StandsFor zs (vs ++ v ∷ []) q (old.rows ++ r ∷ [])) (sym names_are) (appended old_stands a v q fresh all sound)) in
+        subst (λ zs. StandsFor ks zs q (old.rows ++ r ∷ [])) (sym values_are) (subst (λ zs. StandsFor zs (vs ++ v ∷ []) q (old.rows ++ r ∷ [])) (sym names_are) (appended old_stands a v q fresh all sound)) in
         let slots : slot_count q ≡ slot_count p = ap slot_count put ∙ slot_count-added p a i fresh (let spare = old_spare in omega arith) in
         let next : q.next_serial ≡ old.next_serial + 1 = ap (λ (c : Contents ℕ). c.next_serial) put ∙ ap (λ x. x + 1) old_next in
         let spare : q.spare ≡ old.spare - 1 = ap (λ (c : Contents ℕ). c.spare) put ∙ ap (λ x. x - 1) old_spare in

@@ -1,21 +1,19 @@
 -- An array without its last row, and one without the rows from a place on.
-use Rattle.std.proofs.Common.{◌≡◌, ◌≢◌, ℕ, ◌+◌, ◌-◌, ◌<◌, ◌≤◌, List, [], ◌∷◌, ◌++◌, length, take, drop, Option, Some, None, is_some, refl, sym, ap, ◌∙◌, subst, inl, inr, arith, append-nil, length-append}
+use Rattle.std.proofs.Common.{◌≡◌, ◌≢◌, ℕ, ◌+◌, ◌-◌, List, [], ◌∷◌, ◌++◌, length, take, Some, None, is_some, refl, sym, ap, ◌∙◌, subst, inl, inr, arith, append-nil, length-append}
 use Rattle.std.specs.List.{remove}
 use Rattle.std.proofs.Math.Seq.{take-append_seam}
-use Rattle.std.proofs.lemmas.List.{take-map, drop_all, length-take-le, length-drop, length-map}
+use Rattle.std.proofs.lemmas.List.{take-map, length-map}
 use Rattle.ac_base.specs.declared.name.Name.{Name}
 use Rattle.ac_base.specs.Rows.{Row, names, values}
 use Rattle.ac_pool.specs.Contents as pool
 use Rattle.ac_pool.specs.Contents.{Contents, value_of, IsLive, live_count, slot_count, taken}
 use Rattle.ac_pool.proofs.NameLaws.{cases_name}
 use Rattle.ac_pool.proofs.ContentsLaws.{value_of-taken_same, value_of-taken_other, live_count-taken, slot_count-taken, taken_live}
-use Rattle.ac_chain.specs.Cut.{IsCut}
-use Rattle.ac_chain.specs.Rows.{Chained, chained, index_of, name_at, name_before, with_rows, removed}
-use Rattle.ac_chain.specs.ChainFields.{HasName, IsOnce}
+use Rattle.ac_chain.specs.Rows.{Chained, chained, index_of, name_at, name_before, removed}
+use Rattle.ac_chain.specs.ChainFields.{IsOnce}
 use Rattle.ac_chain.proofs.Cuts.{name_at_has, HasName-right, apart, index_of-cut, remove-cut}
-use Rattle.ac_chain.proofs.Deletes.{LastOf, last_split}
+use Rattle.ac_chain.proofs.Deletes.{last_split}
 use Rattle.ac_vector.specs.ArrayFields.{StandsFor, IsArray}
-use Rattle.ac_vector.specs.Turn.{turned}
 use Rattle.ac_vector.proofs.NamesAt.{at_left, at_either, at_within}
 use Rattle.ac_vector.proofs.Arrays.{view_of, Leaves, leaves, old_stands, once, place_at}
 
@@ -60,11 +58,11 @@ module _ {X : Type 0} where
         let d = last_split old.rows a e in
         let t : StandsFor ns vs p (d.rest ++ d.last ∷ []) = subst (λ zs. StandsFor ns vs p zs) d.is s in
         let same_names : ks ≡ names d.rest = names_are ∙ ap (λ i. take (i - 1) ns) name_count ∙ ap (λ us. take (length us - 1) us) t.named
-            ∙ ap (λ i. take (i - 1) (names (d.rest ++ d.last ∷ []))) (length-map (d.rest ++ d.last ∷ []) (λ (r : Row Name X). r.name))
-            ∙ take-map (λ (r : Row Name X). r.name) (length (d.rest ++ d.last ∷ []) - 1) (d.rest ++ d.last ∷ []) ∙ ap names (take_last d.rest d.last) in
+        ∙ ap (λ i. take (i - 1) (names (d.rest ++ d.last ∷ []))) (length-map (d.rest ++ d.last ∷ []) (λ (r : Row Name X). r.name))
+        ∙ take-map (λ (r : Row Name X). r.name) (length (d.rest ++ d.last ∷ []) - 1) (d.rest ++ d.last ∷ []) ∙ ap names (take_last d.rest d.last) in
         let same_values : ws ≡ values d.rest = values_are ∙ ap (λ i. take (i - 1) vs) value_count ∙ ap (λ us. take (length us - 1) us) t.valued
-            ∙ ap (λ i. take (i - 1) (values (d.rest ++ d.last ∷ []))) (length-map (d.rest ++ d.last ∷ []) (λ (r : Row Name X). r.value))
-            ∙ take-map (λ (r : Row Name X). r.value) (length (d.rest ++ d.last ∷ []) - 1) (d.rest ++ d.last ∷ []) ∙ ap values (take_last d.rest d.last) in
+        ∙ ap (λ i. take (i - 1) (values (d.rest ++ d.last ∷ []))) (length-map (d.rest ++ d.last ∷ []) (λ (r : Row Name X). r.value))
+        ∙ take-map (λ (r : Row Name X). r.value) (length (d.rest ++ d.last ∷ []) - 1) (d.rest ++ d.last ∷ []) ∙ ap values (take_last d.rest d.last) in
         let freed_last : q ≡ taken p d.last.name = freed ∙ ap (taken p) d.named in
         let u : StandsFor ks ws q d.rest = subst (λ us. StandsFor ks us q d.rest) (sym same_values) (subst (λ us. StandsFor us (values d.rest) q d.rest) (sym same_names) (popped_stands d.rest d.last t q freed_last sound)) in
         let live = last_live d.rest d.last t q freed_last sound in
@@ -76,33 +74,3 @@ module _ {X : Type 0} where
         let spare : q.spare ≡ old.spare + 1 = ap (λ (c : Contents ℕ). c.spare) was ∙ ap (λ (c : Chained X). c.spare + 1) is in
         let slots : slot_count q ≡ slot_count p = ap slot_count freed ∙ slot_count-taken p a in
         leaves u k l (omega (arith, h.names)) (omega (arith, h.values)) (removed old a) (λ i. chained (rows i) (next i) (spare i))
-
-  -- the rows to be cut go to the end, and are dropped there
-  pub cut_turned : (old mid now : Chained X) (place count more : ℕ) → place + count + more ≡ length old.rows → mid ≡ with_rows old (turned old.rows place more) → IsCut mid (length mid.rows - count) count now → IsCut old place count now
-  cut_turned old mid now place count more fits is cut =
-      let rs = old.rows in
-      let front = take place rs ++ drop (length rs - more) rs in
-      let back = take (length rs - more - place) (drop place rs) in
-      let long_front : length front ≡ length rs - count = (let a = length-append (take place rs) (drop (length rs - more) rs) in let b = length-take-le place rs (omega arith) in let c = length-drop (length rs - more) rs in omega arith) in
-      let long_back : length back ≡ count = (let a = length-drop place rs in length-take-le (length rs - more - place) (drop place rs) (omega arith) ∙ omega arith) in
-      let are : mid.rows ≡ front ++ back = ap (λ (c : Chained X). c.rows) is in
-      let long : length mid.rows ≡ length rs = ap length are ∙ length-append front back ∙ omega arith in
-      let at : length mid.rows - count ≡ length front = omega arith in
-      let kept : take (length mid.rows - count) mid.rows ≡ front = (λ i. take (at i) (are i)) ∙ take-append_seam front back in
-      let none : drop (length mid.rows - count + count) mid.rows ≡ [] = drop_all (length mid.rows - count + count) mid.rows (omega arith) in
-      let place_is : length rs - more ≡ place + count = omega arith in
-      let spare : mid.spare ≡ old.spare = ap (λ (c : Chained X). c.spare) is in
-      let slots = cut.slots in
-      record {
-        rows = cut.rows ∙ (λ i. kept i ++ none i) ∙ append-nil front ∙ ap (λ i. take place rs ++ drop i rs) place_is;
-        next = cut.next ∙ ap (λ (c : Chained X). c.next_serial) is;
-        slots = omega arith;
-      }
-
-  -- all rows behind the place are cut
-  pub cut_all : (old now : Chained X) (place count behind : ℕ) → place + behind ≡ length old.rows → behind ≤ count → IsCut old (length old.rows - behind) behind now → IsCut old place count now
-  cut_all old now place count behind fits enough cut =
-      let at : length old.rows - behind ≡ place = omega arith in
-      let none : drop (length old.rows - behind + behind) old.rows ≡ [] = drop_all (length old.rows - behind + behind) old.rows (omega arith) in
-      let gone : drop (place + count) old.rows ≡ [] = drop_all (place + count) old.rows (omega arith) in
-      record { rows = cut.rows ∙ (λ i. take (at i) old.rows ++ none i) ∙ ap (λ zs. take place old.rows ++ zs) (sym gone); next = cut.next; slots = cut.slots }

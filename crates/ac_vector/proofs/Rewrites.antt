@@ -1,6 +1,6 @@
 -- Other values under an array's names: one written, two exchanged, all of them.
-use Rattle.std.proofs.Common.{◌≡◌, ℕ, ◌<◌, ◌≤◌, List, [], ◌∷◌, length, map, get_or, set, Option, Some, None, refl, sym, ap, ◌∙◌, subst, arith, if◌then◌else◌, suc}
-use Rattle.std.specs.List.{swap, slice_get}
+use Rattle.std.proofs.Common.{◌≡◌, ℕ, ◌<◌, ◌≤◌, List, [], ◌∷◌, length, get_or, set, Some, refl, sym, ap, ◌∙◌, subst, arith, if◌then◌else◌, suc}
+use Rattle.std.specs.List.{swap}
 use Rattle.std.specs.Option.{option_map}
 use Rattle.std.proofs.Math.Seq.{map-set_same}
 use Rattle.std.proofs.lemmas.List.{map-set, set-get_or, length-map}
@@ -14,7 +14,7 @@ use Rattle.std.specs.Ordering.{eq_by_cmp}
 use Rattle.ac_chain.specs.Rows.{Chained, chained, index_of, IsLive, value_of, with_rows, with_value, values_swapped, values_exchanged}
 use Rattle.ac_chain.proofs.Cuts.{live_has, Cut, cut, cut-row}
 use Rattle.ac_model.specs.Rows.{over}
-use Rattle.ac_vector.specs.ArrayFields.{rows_in, StandsFor, IsArray}
+use Rattle.ac_vector.specs.ArrayFields.{IsArray}
 use Rattle.ac_vector.proofs.Arrays.{view_of, Leaves, leaves, old_stands, rewritten, length_values}
 
 module _ {X : Type 0} where
@@ -58,6 +58,10 @@ module _ {X : Type 0} where
   module _ {ns : List Name} {vs : List X} {p : Contents ℕ} {m n : ℕ} {old : Chained X} (h : IsArray ns vs p m n) (is : view_of ns vs p ≡ old) where
     fields : chained old.rows p.next_serial p.spare ≡ old
     fields = λ i. chained old.rows ((is i).next_serial) ((is i).spare)
+
+    -- a place that was found in the fields is that in the rows
+    pub place_seen : (a : Name) (i : ℕ) → i ≡ index_of a (view_of ns vs p).rows → i ≡ index_of a old.rows
+    place_seen a i at = at ∙ ap (λ (c : Chained X). index_of a c.rows) is
 
     -- the rows have other values
     pub rewritten_array : (ws : List X) (l : ℕ) (zs : List (Row Name X)) → names zs ≡ names old.rows → ws ≡ values zs → l ≡ n → Leaves ns ws p m l (with_rows old zs)

@@ -1,11 +1,10 @@
 -- An array whose last rows went before a place: the same names, with new places behind it.
-use Rattle.std.proofs.Common.{◌≡◌, ℕ, ◌+◌, ◌-◌, ◌≤◌, List, ◌++◌, length, map, take, drop, Option, Some, is_some, refl, sym, ap, ◌∙◌, subst, inl, inr, arith, append_assoc, length-append}
+use Rattle.std.proofs.Common.{◌≡◌, ℕ, ◌+◌, ◌-◌, ◌≤◌, List, ◌++◌, length, map, take, drop, Some, is_some, refl, sym, ap, ◌∙◌, subst, inl, inr, arith, append_assoc, length-append}
 use Rattle.std.proofs.Math.Seq.{drop-append_seam}
 use Rattle.std.proofs.lemmas.List.{map-append, take-map, drop-map, length-map, take-append-drop, drop-drop, length-take-le}
 use Rattle.ac_base.specs.declared.name.Name.{Name}
 use Rattle.ac_base.specs.Rows.{Row, names, values}
 use Rattle.ac_pool.specs.Contents.{Contents, value_of, IsLive, slot_count}
-use Rattle.ac_pool.proofs.ContentsLaws.{live_value}
 use Rattle.ac_chain.specs.Rows.{Chained, chained, name_at, with_rows}
 use Rattle.ac_chain.specs.ChainFields.{HasName, IsOnce}
 use Rattle.ac_chain.proofs.Cuts.{name_at_has, HasName-left, HasName-right, HasName-either, once_left, once_right, once-append, apart}
@@ -108,7 +107,7 @@ module _ {X : Type 0} where
         let long : length (take place rs) ≡ place = length-take-le place rs (omega arith) in
         let t = turned_pieces (take place rs) mid_of last_of (subst (λ zs. StandsFor ns vs p zs) pieces s) in
         let u : StandsFor (names (turned rs place count)) (values (turned rs place count)) (renumbered (names (last_of ++ mid_of)) (length (take place rs)) p) (turned rs place count) =
-            subst (λ zs. StandsFor (names zs) (values zs) (renumbered (names (last_of ++ mid_of)) (length (take place rs)) p) zs) (sym turned-pieces) t in
+        subst (λ zs. StandsFor (names zs) (values zs) (renumbered (names (last_of ++ mid_of)) (length (take place rs)) p) zs) (sym turned-pieces) t in
         subst (λ q. StandsFor (names (turned rs place count)) (values (turned rs place count)) q (turned rs place count)) (λ i. renumbered (sym behind i) (long i) p) u
 
   module _ {ns : List Name} {vs : List X} {p : Contents ℕ} {m n : ℕ} {old : Chained X} (h : IsArray ns vs p m n) (is : view_of ns vs p ≡ old) where

@@ -1,4 +1,3 @@
-use Rattle.std.proofs.Common.{sym, subst}
 use Rattle.ac_vector.proofs.Arrays.{appended_array, fresh_name}
 use Rattle.ac_vector.proofs.array.Array.append.Goals as goal
 

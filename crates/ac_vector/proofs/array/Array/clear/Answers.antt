@@ -1,4 +1,4 @@
-use Rattle.ac_vector.proofs.Arrays.{Leaves, cleared_array}
+use Rattle.ac_vector.proofs.Arrays.{cleared_array}
 use Rattle.ac_vector.proofs.array.Array.clear.Goals as goal
 
 pub invariant_of-self : goal.invariant_of-self

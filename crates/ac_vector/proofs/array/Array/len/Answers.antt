@@ -1,10 +1,9 @@
-use Rattle.std.proofs.Common.{◌≡◌, length, sym, ap, ◌∙◌, subst}
-use Rattle.ac_chain.specs.Rows.{Chained, IsSound}
-use Rattle.ac_vector.proofs.Arrays.{sound_of}
+use Rattle.std.proofs.Common.{◌∙◌}
+use Rattle.ac_vector.proofs.Arrays.{old_stands, old_sound, length_values}
 use Rattle.ac_vector.proofs.array.Array.len.Goals as goal
 
 pub returns-clause-count : goal.returns-clause-count
-returns-clause-count g c = c.live.ensures.count ∙ sym c.self.invariant.stands.count ∙ ap (λ (k : Chained _). length k.rows) c.self.view_is
+returns-clause-count g c = c.len.ensures ∙ c.self.inside.values.ok.0 ∙ length_values (old_stands c.self.invariant c.self.view_is)
 
 pub returns-clause-sound : goal.returns-clause-sound
-returns-clause-sound g c = subst (λ x. IsSound x) c.self.view_is (sound_of c.self.invariant.stands)
+returns-clause-sound g c = old_sound c.self.invariant c.self.view_is

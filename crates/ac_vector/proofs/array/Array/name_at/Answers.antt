@@ -1,4 +1,3 @@
-use Rattle.std.proofs.Common.{subst}
 use Rattle.ac_vector.proofs.Arrays.{old_stands, old_sound, name_there}
 use Rattle.ac_vector.proofs.array.Array.name_at.Goals as goal
 

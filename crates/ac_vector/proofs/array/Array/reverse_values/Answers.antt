@@ -1,4 +1,4 @@
-use Rattle.std.proofs.Common.{◌≡◌, sym, ap, ◌∙◌, length, reverse}
+use Rattle.std.proofs.Common.{ap, ◌∙◌, reverse}
 use Rattle.std.proofs.lemmas.List.{length-reverse, length-map}
 use Rattle.ac_base.specs.Rows.{Row, values}
 use Rattle.ac_vector.proofs.Arrays.{old_stands}
