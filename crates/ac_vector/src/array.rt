@@ -1,8 +1,7 @@
 //! The array. A contract sees what it sees of a chain: a list of rows, each a name with its value, with the next serial and the
 //! number of spare slots.
-ghost use Rattle.std.specs.Prelude.{◌≡◌, ℕ, ◌+◌, ◌-◌, ◌^◌, ◌<◌, ◌≤◌, ◌↔◌, IsTrue, IsOk, IfOk, OnOk, OnErr, None, Some, length, reverse};
+ghost use Rattle.std.specs.Prelude.{◌≡◌, ℕ, ◌+◌, ◌-◌, ◌^◌, ◌<◌, ◌≤◌, ◌↔◌, IsTrue, IsOk, IfOk, OnOk, OnErr, None, Some, length, reverse, slice_get};
 ghost use Rattle.std.specs.Borrow.{sem};
-ghost use Rattle.std.specs.Prelude.{slice_get};
 ghost use Rattle.std.specs.Ordering.{is_lt};
 ghost use Rattle.ac_base.specs.Rows.{row, values};
 ghost use Rattle.ac_chain.specs.Cut.{IsCut};
