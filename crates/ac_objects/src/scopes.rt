@@ -17,7 +17,7 @@ use ac_base::{Elem, GREATEST_LENGTH, Limit, NoMemory, Text, Value};
 use ac_check::ResolvedDecl;
 use ac_cursor::{Cursor, Tag};
 use ac_list::List;
-use ac_syntax::ElemKind;
+use ac_syntax::{ElemKind, Kind};
 use std::alloc::Global;
 
 /// How many elements stand under a name.
@@ -145,7 +145,10 @@ impl Objects {
                 line,
                 def,
                 capacity,
-            } => self.declare_object(*line, def.first, *capacity),
+            } => match def.kind {
+                Kind::List => self.declare_object(*line, def.first, *capacity),
+                _ => Err(DeclareFault::NoMemory),
+            },
             ResolvedDecl::Cursor => self.declare_name(Bound::Cursor(Cursor::NoElement)),
             ResolvedDecl::Integer => self.declare_name(Bound::Value(Value::Int(0))),
             ResolvedDecl::Text => match Text::blank(self.alloc) {
