@@ -6,3 +6,14 @@ pub mod Turns
 pub mod WalkNames
 pub mod Rewrites
 pub mod Orderings
+pub mod Capacities
+pub mod Orders
+pub mod CursorPlaces
+pub mod ByIndex
+pub mod Appends
+pub mod Inserts
+pub mod Reserves
+pub mod Refills
+pub mod Copies
+pub mod Drains
+pub mod FirstNew

@@ -1,3 +1,5 @@
 pub mod ArrayFields
 pub mod ArrayLends
 pub mod Turn
+pub mod Parts
+pub mod Popped

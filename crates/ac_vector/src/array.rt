@@ -8,6 +8,7 @@ ghost use Rattle.ac_chain.specs.Cut.{IsCut};
 ghost use Rattle.ac_chain.specs.Rows.{Chained, index_of, IsLive, value_of, name_at, name_before, next_name, prev_name, no_rows, with_rows, reserved, inserted, removed, cleared, values_swapped, WalksInOrder, IsFresh, IsSound};
 ghost use Rattle.ac_model.specs.Objects.{plains};
 ghost use Rattle.ac_model.specs.Rows.{over, sorted};
+ghost use Rattle.ac_vector.specs.Popped.{IsPopped};
 ghost use Rattle.ac_vector.specs.Turn.{turned};
 
 use crate::growth::least_slots;
@@ -236,6 +237,30 @@ impl<T> Array<T> {
         name
     }
 
+    /// Takes the last row out, whose name this is, and frees its slot. Its value is the answer.
+    fn take_last(&mut self, name: Name) -> Option<T>
+        requires { Some name ≡ name_before self.old.rows (length self.old.rows) }
+        ensures value { result ≡ value_of self.old name }
+        ensures removed { self.new ≡ removed self.old name }
+        ensures sound { IsSound self.new }
+    {
+        let value = self.values.pop();
+        let _name = self.names.pop();
+        let _place = self.places.take(name);
+        value
+    }
+
+    /// Takes the last row out, if there is one. Its value is the answer.
+    pub fn pop(&mut self) -> Option<T>
+        ensures popped { IsPopped self.old result self.new }
+        ensures sound { IsSound self.new }
+    {
+        match self.last() {
+            None => None,
+            Some(name) => self.take_last(name),
+        }
+    }
+
     /// The two values change places.
     pub fn swap_values(&mut self, a: Name, b: Name)
         requires a { IsLive self.old a }
@@ -301,9 +326,7 @@ impl<T: Drop> Array<T> {
         ensures removed { self.new ≡ removed self.old name }
         ensures sound { IsSound self.new }
     {
-        let _value = self.values.pop();
-        let _name = self.names.pop();
-        let _place = self.places.take(name);
+        let _value = self.take_last(name);
     }
 
     /// Drops the last `count` rows, or all where there are fewer.

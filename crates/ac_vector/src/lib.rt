@@ -1,9 +1,15 @@
 //! Vectors (A.18.2): elements in order, each under a name that follows it, with tampering checks.
 #![tactic(auto)]
 
+mod answered;
 mod array;
 mod growth;
+mod moving;
 mod places;
+mod put;
+mod refilling;
 mod turning;
+mod vector;
+mod walked;
 
-pub use array::Array;
+pub use vector::Vector;
