@@ -16,3 +16,5 @@ mod pools;
 mod prints;
 #[cfg(test)]
 mod values;
+#[cfg(test)]
+mod vectors;
