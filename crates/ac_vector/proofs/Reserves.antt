@@ -99,6 +99,10 @@ module _ {X : Type 0} where
   same_object (Ok x) old new err = tt
   same_object (Err e) old new err = ap (λ (x : Container X). x.object) err
 
+  pub fault_same : (r : Result Done NoMemory) (old new : Container X) → OnErr r (new ≡ old) → OnErr (as_fault r) (new ≡ old)
+  fault_same (Ok x) old new err = tt
+  fault_same (Err e) old new err = err
+
   -- Set_Length
   pub set_shorter : (o : Object ℕ X) (blank : X) (n : ℤ) → count_of n ≤ length o.rows → with_rows o (cut o.rows (count_of n) (length o.rows - count_of n)) ≡ (set_length_call o blank n).after
   set_shorter o blank n le =

@@ -13,7 +13,7 @@ use Rattle.ac_model.specs.Letters.{count_of, in_range, reason_if, tampers_cursor
 use Rattle.ac_model.specs.Objects.{plain}
 use Rattle.ac_model.proofs.Reasons.{in_range_none, not_if, passed}
 use Rattle.ac_vector.specs.Parts.{widened}
-use Rattle.ac_vector.proofs.Reserves.{reserve_changes, same_object}
+use Rattle.ac_vector.proofs.Reserves.{fault_same, reserve_changes, same_object}
 use Rattle.ac_vector.proofs.vector.Vector.reserve_capacity.Goals as goal
 
 pub widen-requires-clause-few : goal.widen-requires-clause-few
@@ -38,6 +38,10 @@ returns-clause-changed g c =
     subst (λ q. Changing Same (reserve_capacity_call (plain o) c.args.n) o r.new.self.object q) (sym c.as_fault.ensures)
     (reserve_changes r.result o r.new.self.object c.args.n reason (subst (λ m. OnOk r.result (IsAfter o r.new.self.object (widened (plain o) m))) count r.ensures.ok)
     (same_object r.result c.args.self.now r.new.self r.ensures.err) (subst (λ m. OnErr r.result (IsTrue (asks_for_memory o.limit o.capacity m))) count r.ensures.wants))
+
+pub returns-clause-err : goal.returns-clause-err
+returns-clause-err g c =
+    subst (λ q. OnErr q (c.widen.new.self ≡ c.args.self.now)) (sym c.as_fault.ensures) (fault_same c.widen.result c.args.self.now c.widen.new.self c.widen.ensures.err)
 
 pub returns-clause-slots : goal.returns-clause-slots
 returns-clause-slots g c =
