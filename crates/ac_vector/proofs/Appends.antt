@@ -9,9 +9,9 @@ use Rattle.std.proofs.lemmas.Option.{none-some}
 use Rattle.ac_base.specs.declared.name.Name.{Name}
 use Rattle.ac_base.specs.Rows.{Row, row}
 use Rattle.ac_chain.specs.ChainFields.{first_or, HasName}
-use Rattle.ac_chain.specs.Put.{IsPut, IsFirst, HasFirst}
+use Rattle.ac_chain.specs.Put.{IsPut, HasFirst}
 use Rattle.ac_chain.specs.Rows.{Chained, IsFresh, IsLive, IsSound, inserted, name_at, place_of, reserved, slots_in, with_rows}
-use Rattle.ac_chain.proofs.Cuts.{split, live_has, has_live, HasName-left, HasName-right, slice_get-cut}
+use Rattle.ac_chain.proofs.Cuts.{split, live_has, has_live, HasName-right, slice_get-cut}
 use Rattle.ac_chain.proofs.Puts.{put_none, put_one, put_length, reserved_enough, reserved_kept, reserved_put}
 use Rattle.ac_model.specs.Objects.{plains}
 use Rattle.ac_model.specs.Rows.{fresh}
@@ -89,7 +89,7 @@ module _ {X : Type 0} where
   pub put_fits : (from now : Chained X) (place other : Option Name) (vs : List X) (at count : ℕ) → ForSome place (IsLive from) → at ≡ place_of place from.rows → count ≡ length vs → IsPut from.rows from.next_serial other vs now → at + count ≤ length now.rows
   put_fits from now place other vs at count h e many p = let le = place_within from place h in let all = put_length from.rows from.next_serial other vs now p in omega arith
 
-  no_more : (rows : List (Row Name X)) → None ≡ first_or rows None → rows ≡ []
+  pub no_more : (rows : List (Row Name X)) → None ≡ first_or rows None → rows ≡ []
   no_more [] e = refl
   no_more (r ∷ rows) e = absurd (none-some r.name e)
 

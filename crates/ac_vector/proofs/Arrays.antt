@@ -23,7 +23,7 @@ module _ {X : Type 0} where
   abbrev pub view_of : List Name → List X → Contents ℕ → Chained X
   view_of ns vs p = chained (rows_in ns vs) p.next_serial p.spare
 
-  rows_in-parts : (rs : List (Row Name X)) → rows_in (names rs) (values rs) ≡ rs
+  pub rows_in-parts : (rs : List (Row Name X)) → rows_in (names rs) (values rs) ≡ rs
   rows_in-parts [] = refl
   rows_in-parts (r ∷ rs) = ap (λ k. r ∷ k) (rows_in-parts rs)
 

@@ -17,3 +17,6 @@ pub mod Refills
 pub mod Copies
 pub mod Drains
 pub mod FirstNew
+pub mod Weaves
+pub mod Interleaves
+pub mod Merges

@@ -3,3 +3,4 @@ pub mod ArrayLends
 pub mod Turn
 pub mod Parts
 pub mod Popped
+pub mod Stacks

@@ -1,6 +1,6 @@
 //! The array. A contract sees what it sees of a chain: a list of rows, each a name with its value, with the next serial and the
 //! number of spare slots.
-ghost use Rattle.std.specs.Prelude.{◌≡◌, ℕ, ◌+◌, ◌-◌, ◌^◌, ◌<◌, ◌≤◌, ◌↔◌, IsTrue, IsOk, IfOk, OnOk, OnErr, None, Some, length, reverse, slice_get};
+ghost use Rattle.std.specs.Prelude.{◌≡◌, ℕ, ◌+◌, ◌-◌, ◌^◌, ◌<◌, ◌≤◌, ◌↔◌, IsTrue, IsOk, IfOk, OnOk, OnErr, None, Some, length, reverse, slice_get, take, drop, vec_capacity, []};
 ghost use Rattle.std.specs.Borrow.{sem};
 ghost use Rattle.std.specs.Ordering.{is_lt};
 ghost use Rattle.ac_base.specs.Rows.{row, values};
@@ -9,11 +9,13 @@ ghost use Rattle.ac_chain.specs.Rows.{Chained, index_of, IsLive, value_of, name_
 ghost use Rattle.ac_model.specs.Objects.{plains};
 ghost use Rattle.ac_model.specs.Rows.{over, sorted};
 ghost use Rattle.ac_vector.specs.Popped.{IsPopped};
+ghost use Rattle.ac_vector.specs.Stacks.{IsWoven};
 ghost use Rattle.ac_vector.specs.Turn.{turned};
 
 use crate::growth::least_slots;
 use crate::places::renumber;
 use crate::turning::turn_vector;
+use crate::weaving::{Line, stack_last, weave};
 use ac_base::{Name, NoMemory, Rank, precedes};
 use ac_pool::Pool;
 use std::alloc::Global;
@@ -369,6 +371,27 @@ impl<T: Rank> Array<T> {
         let _places = &self.places;
         self.values.sort_by(|left, right| compare(left, right))?;
         Ok(())
+    }
+
+    /// Merges the rows from the seam on into those before it. The two empty stacks have room for them.
+    pub fn interleave(&mut self, seam: u64, mut mine: Vec<Line<T>>, mut theirs: Vec<Line<T>>)
+        requires seam { seam ≤ length self.old.rows }
+        requires mine { (mine.items ≡ []) × (seam ≤ vec_capacity mine) }
+        requires theirs { (theirs.items ≡ []) × (length self.old.rows ≤ seam + vec_capacity theirs) }
+        ensures woven { IsWoven T.is_less (take seam self.old.rows) (drop seam self.old.rows) self.new.rows }
+        ensures rest { self.new ≡ with_rows self.old self.new.rows }
+        ensures sound { IsSound self.new }
+    {
+        let behind = self.len() - seam;
+        stack_last(
+            &mut self.names,
+            &mut self.values,
+            behind as usize,
+            &mut theirs,
+        );
+        stack_last(&mut self.names, &mut self.values, seam as usize, &mut mine);
+        weave(&mut self.names, &mut self.values, mine, theirs);
+        renumber(&mut self.places, self.names.as_slice(), 0);
     }
 }
 

@@ -11,5 +11,6 @@ mod refilling;
 mod turning;
 mod vector;
 mod walked;
+mod weaving;
 
 pub use vector::Vector;

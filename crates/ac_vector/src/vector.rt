@@ -14,6 +14,7 @@ mod deletions;
 mod indexes;
 mod insertions;
 mod lengths;
+mod merging;
 mod order;
 mod positions;
 mod searches;
