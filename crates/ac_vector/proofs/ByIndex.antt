@@ -1,5 +1,5 @@
 -- Indexes of a vector's elements: an index in range is a place, and its cursor isn't refused.
-use Rattle.std.proofs.Common.{◌≡◌, ℕ, ◌<◌, zero, suc, ℤ, pos, negsuc, Bool, true, false, not, ◌&&◌, ◌||◌, List, [], ◌∷◌, length, Option, Some, None, refl, sym, ap, ◌∙◌, inl, inr, arith, eq-eqb}
+use Rattle.std.proofs.Common.{◌≡◌, ℕ, ◌<◌, zero, suc, ℤ, pos, negsuc, Bool, true, false, not, ◌&&◌, ◌||◌, List, [], ◌∷◌, length, Some, None, refl, sym, ap, ◌∙◌, inl, inr, arith, eq-eqb}
 use Rattle.std.specs.Prelude.{◌==◌, nat_le, nat_lt, slice_get}
 use Rattle.std.proofs.lemmas.Bool.{cond-true, cond-false}
 use Rattle.std.proofs.lemmas.Bool.Decides.{nat_tests}
@@ -14,7 +14,7 @@ use Rattle.ac_chain.specs.Rows.{name_at}
 use Rattle.ac_chain.proofs.Marks.{marked_at}
 use Rattle.ac_model.specs.Calls.{Marks}
 use Rattle.ac_model.specs.Cursors.{cursor_at, mark, needs_cursor}
-use Rattle.ac_model.specs.Letters.{index_in, is_index, judged_in, mark_for, mark_in, mark_of, name_of, needs, place_of_index, reason_if}
+use Rattle.ac_model.specs.Letters.{index_in, is_index, mark_for, mark_in, mark_of, name_of, needs, place_of_index, reason_if}
 use Rattle.ac_model.specs.Objects.{Object, length_of, plain}
 use Rattle.ac_model.specs.Rows.{is_named}
 use Rattle.ac_model.specs.Vectors.{name_in, to_cursor_call}

@@ -1,6 +1,6 @@
 -- The Capacity of a vector, which is the number of its slots.
-use Rattle.std.proofs.Common.{◌≡◌, ℕ, ◌+◌, ◌-◌, ◌≤◌, length, false, Option, Some, Result, Ok, Err, refl, ◌<◌, sym, ap, ◌∙◌, subst, inl, inr, arith, le-leb}
-use Rattle.std.specs.Prelude.{IfOk, IfErr, max, nat_le}
+use Rattle.std.proofs.Common.{◌≡◌, ℕ, ◌+◌, ◌-◌, ◌≤◌, length, false, Some, Result, Ok, Err, refl, ◌<◌, sym, ap, ◌∙◌, subst, inl, inr, arith, le-leb}
+use Rattle.std.specs.Prelude.{IfOk, IfErr, max}
 use Rattle.std.proofs.lemmas.Bool.{cases_lt, cond-true, cond-false, lt-leb}
 use Rattle.std.proofs.lemmas.Bool.Decides.{nat_tests}
 use Rattle.ac_base.specs.declared.limit.Limit.{Limit}

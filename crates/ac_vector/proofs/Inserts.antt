@@ -1,5 +1,5 @@
 -- What a vector is after values were put into it, copies of a source's elements among them.
-use Rattle.std.proofs.Common.{◌≡◌, ℕ, zero, suc, ◌+◌, ◌<◌, ◌≤◌, ℤ, List, [], ◌∷◌, ◌++◌, length, false, Option, Some, None, Result, Ok, Err, refl, sym, ap, ◌∙◌, subst, inl, inr, arith, append-nil}
+use Rattle.std.proofs.Common.{◌≡◌, ℕ, zero, suc, ◌+◌, ◌≤◌, List, [], ◌∷◌, length, false, Option, Some, None, Result, Ok, Err, refl, sym, ap, ◌∙◌, subst, inl, inr, arith}
 use Rattle.std.specs.Prelude.{IfOk, OnErr}
 use Rattle.std.specs.Option.{ForSome, option_map}
 use Rattle.std.proofs.lemmas.List.{length-map}
@@ -20,8 +20,8 @@ use Rattle.ac_base.specs.Rows.{Row, names}
 use Rattle.ac_base.specs.Tampering.{forbids}
 use Rattle.ac_base.proofs.Earlier.{with_none_later}
 use Rattle.ac_chain.specs.Put.{IsPut, HasFirst}
-use Rattle.ac_chain.specs.Rows.{Chained, IsLive, IsSound, name_at, slots_in}
-use Rattle.ac_chain.specs.Sequence.{object_of, IsSequence}
+use Rattle.ac_chain.specs.Rows.{Chained, IsSound, name_at}
+use Rattle.ac_chain.specs.Sequence.{object_of}
 use Rattle.ac_chain.proofs.Chains.{index_at}
 use Rattle.ac_chain.proofs.Cuts.{has_live}
 use Rattle.ac_chain.proofs.Marks.{has_among, place_live}

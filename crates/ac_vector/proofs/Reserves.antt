@@ -1,6 +1,6 @@
 -- A vector's Capacity that is asked for, and its length.
-use Rattle.std.proofs.Common.{◌≡◌, ℕ, ◌+◌, ◌-◌, ◌<◌, ◌≤◌, ℤ, true, false, List, [], ◌∷◌, ◌++◌, length, take, drop, replicate, Option, Some, None, Result, Ok, Err, IsTrue, refl, sym, ap, ◌∙◌, subst, inl, inr, arith, append-nil, le-leb, lt-ltb}
-use Rattle.std.specs.Prelude.{All, IsOk, OnOk, OnErr, max, nat_le, nat_lt}
+use Rattle.std.proofs.Common.{◌≡◌, ℕ, ◌+◌, ◌-◌, ◌<◌, ◌≤◌, ℤ, true, false, [], ◌∷◌, ◌++◌, length, take, drop, replicate, Option, Some, None, Result, Ok, Err, IsTrue, refl, sym, ap, ◌∙◌, subst, inl, inr, arith, append-nil, le-leb, lt-ltb}
+use Rattle.std.specs.Prelude.{All, IsOk, OnOk, OnErr, max, nat_le}
 use Rattle.std.proofs.Math.ListN.{drop_of_length-le}
 use Rattle.std.proofs.Math.Nat.{le-max_left}
 use Rattle.std.proofs.lemmas.Bool.{cases_lt, lt-leb}
@@ -24,7 +24,7 @@ use Rattle.ac_base.specs.declared.name.Name.{Name}
 use Rattle.ac_base.specs.Growth.{pow8}
 use Rattle.ac_base.specs.Guards.{GuardCounts}
 use Rattle.ac_base.specs.Limits.{is_past, numbers_end}
-use Rattle.ac_base.specs.Rows.{Row, names}
+use Rattle.ac_base.specs.Rows.{names}
 use Rattle.ac_chain.specs.Rows.{Chained, IsSound, reserved, slots_in}
 use Rattle.ac_chain.specs.Sequence.{object_of, IsSequence}
 use Rattle.ac_chain.proofs.Grows.{all_from}
@@ -32,7 +32,7 @@ use Rattle.ac_chain.proofs.Marks.{has_among}
 use Rattle.ac_chain.proofs.Puts.{reserved_enough, reserved_kept, reserved_slots}
 use Rattle.ac_model.specs.Calls.{Changing, Done, IsAfter, Marks, Same}
 use Rattle.ac_model.specs.Common.{asks_for_memory, reserve_capacity_call}
-use Rattle.ac_model.specs.Containers.{Container, container, slots_of}
+use Rattle.ac_model.specs.Containers.{Container}
 use Rattle.ac_model.specs.Forms.{as_fault}
 use Rattle.ac_model.specs.Letters.{count_of, in_range, is_among, room, room_in, tampers_cursors}
 use Rattle.ac_model.specs.Objects.{Object, grown_unless, plain, plain_row, plains, with_rows}

@@ -1,4 +1,4 @@
-use Rattle.std.proofs.Common.{◌≡◌, ◌+◌, ◌≤◌, ◌<◌, ◌^◌, length, refl, sym, ap, ◌∙◌, subst}
+use Rattle.std.proofs.Common.{◌≡◌, ◌+◌, ◌≤◌, ◌<◌, ◌^◌, refl, sym, subst}
 use Rattle.ac_vector.proofs.Appends.{appending_start, appending_more, appending_room, appending_end}
 use Rattle.ac_vector.proofs.Drains.{back, back_count, back_none, back_step, draining_end, draining_more}
 use Rattle.ac_vector.proofs.moving.move_back.Goals as goal

@@ -1,4 +1,4 @@
-use Rattle.std.proofs.Common.{◌≡◌, ◌≤◌, ◌<◌, ◌+◌, ◌^◌, None, sym, ap, ◌∙◌, subst}
+use Rattle.std.proofs.Common.{◌≡◌, ◌≤◌, ◌<◌, ◌+◌, ◌^◌, None, sym, ◌∙◌, subst}
 use Rattle.ac_chain.specs.Put.{IsPut}
 use Rattle.ac_vector.proofs.Drains.{turned_back, turned_cleared, turned_count}
 use Rattle.ac_vector.proofs.moving.move_end.Goals as goal

@@ -1,4 +1,4 @@
-use Rattle.std.proofs.Common.{sym, ap, ◌∙◌}
+use Rattle.std.proofs.Common.{sym, ◌∙◌}
 use Rattle.ac_vector.proofs.Appends.{appending_start, appending_more, appending_room, appending_end}
 use Rattle.ac_vector.proofs.put.append_each.Goals as goal
 

@@ -1,4 +1,4 @@
-use Rattle.std.proofs.Common.{◌≡◌, ◌≤◌, length, ap, ◌∙◌, subst, sym}
+use Rattle.std.proofs.Common.{◌≡◌, ◌≤◌, length, ap, ◌∙◌, subst}
 use Rattle.ac_chain.specs.Put.{HasFirst}
 use Rattle.ac_chain.specs.Rows.{reserved, slots_in}
 use Rattle.ac_chain.proofs.Puts.{reserved_enough, reserved_put}

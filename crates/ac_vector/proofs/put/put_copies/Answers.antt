@@ -1,4 +1,4 @@
-use Rattle.std.proofs.Common.{replicate, sym, subst, ◌+◌}
+use Rattle.std.proofs.Common.{replicate, sym, subst}
 use Rattle.ac_chain.specs.Put.{IsPut}
 use Rattle.ac_chain.proofs.Puts.{put_none, copies_fit}
 use Rattle.ac_vector.proofs.Appends.{last_copies_put, last_copies_first, last_copies_slots}

@@ -1,4 +1,4 @@
-use Rattle.std.proofs.Common.{◌≡◌, Some, length, sym, ap, ◌∙◌, subst}
+use Rattle.std.proofs.Common.{Some, length, sym, ap, ◌∙◌, subst}
 use Rattle.ac_model.specs.Objects.{plain}
 use Rattle.ac_model.specs.Calls.{Changing, Same}
 use Rattle.ac_model.specs.Common.{assign_call}

@@ -1,4 +1,4 @@
-use Rattle.std.proofs.Common.{None, ap, ◌∙◌, Some}
+use Rattle.std.proofs.Common.{ap, ◌∙◌, Some}
 use Rattle.ac_chain.specs.Rows.{slots_in}
 use Rattle.ac_model.specs.Rows.{is_ascending}
 use Rattle.ac_model.specs.Containers.{Container}

@@ -1,9 +1,3 @@
-use Rattle.std.proofs.Common.{replicate, None, refl, subst}
-use Rattle.ac_model.specs.Calls.{Changing, Marks, Same, call, takes_some}
-use Rattle.ac_model.specs.Objects.{length_of, plain}
-use Rattle.ac_model.specs.Putting.{done}
-use Rattle.ac_model.specs.Sequences.{with_new, first_new}
-use Rattle.ac_model.specs.Letters.{no_mark}
 use Rattle.ac_model.proofs.Changes.{done_slots}
 use Rattle.ac_vector.proofs.Reserves.{blanks_done}
 use Rattle.ac_vector.proofs.vector.Vector.lengthen.Goals as goal

@@ -1,4 +1,4 @@
-use Rattle.std.proofs.Common.{◌<◌, Some, length, sym, ap, ◌∙◌, subst, arith}
+use Rattle.std.proofs.Common.{◌<◌, Some, length, ap, ◌∙◌, subst, arith}
 use Rattle.ac_chain.specs.Rows.{slots_in}
 use Rattle.ac_model.specs.Containers.{Container}
 use Rattle.ac_chain.proofs.SequenceLooks.{live_needed}

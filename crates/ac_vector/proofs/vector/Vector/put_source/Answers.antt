@@ -1,7 +1,6 @@
-use Rattle.std.proofs.Common.{◌≡◌, ◌+◌, length, Option, Some, refl, ap, ◌∙◌}
+use Rattle.std.proofs.Common.{◌≡◌, ◌+◌, length, Option, Some, ap}
 use Rattle.ac_base.specs.declared.name.Name.{Name}
-use Rattle.ac_chain.specs.Rows.{Chained, slots_in}
-use Rattle.ac_chain.specs.Sequence.{object_of}
+use Rattle.ac_chain.specs.Rows.{slots_in}
 use Rattle.ac_chain.proofs.Puts.{put_length}
 use Rattle.ac_chain.proofs.SequenceGrows.{named_live, takes_few, takes_names, takes_within, sequence_grown, grown_slots}
 use Rattle.ac_model.specs.Containers.{Container}

@@ -1,6 +1,5 @@
 use Rattle.std.proofs.Common.{◌≡◌, ◌≤◌, ◌∷◌, [], IsTrue, false, sym, ap, ◌∙◌, subst, to_z-of_z, w64}
 use Rattle.std.specs.Prelude.{max, OnOk, OnErr}
-use Rattle.ac_base.specs.FirstReason.{first_reason}
 use Rattle.ac_base.specs.Growth.{pow8}
 use Rattle.ac_base.specs.Limits.{is_past}
 use Rattle.ac_base.specs.declared.limit.TheConstants.{GREATEST_LENGTH}

@@ -1,4 +1,4 @@
-use Rattle.std.proofs.Common.{◌≡◌, ◌-◌, Some, refl, sym, ap, ◌∙◌}
+use Rattle.std.proofs.Common.{◌-◌, Some, refl, sym, ap, ◌∙◌}
 use Rattle.ac_chain.specs.Rows.{slots_in}
 use Rattle.ac_chain.proofs.SequenceDeletes.{cut_at}
 use Rattle.ac_chain.proofs.SequenceRefills.{source_is}

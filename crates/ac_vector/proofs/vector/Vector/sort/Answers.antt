@@ -1,4 +1,4 @@
-use Rattle.std.proofs.Common.{◌≡◌, ◌∷◌, [], None, Some, refl, sym, ap, ◌∙◌, subst}
+use Rattle.std.proofs.Common.{◌≡◌, ◌∷◌, [], None, Some, sym, ap, ◌∙◌, subst}
 use Rattle.ac_base.specs.FirstReason.{first_reason}
 use Rattle.ac_chain.specs.Rows.{slots_in}
 use Rattle.ac_chain.specs.Sequence.{object_of}

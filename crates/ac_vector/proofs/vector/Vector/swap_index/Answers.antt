@@ -1,4 +1,4 @@
-use Rattle.std.proofs.Common.{◌∷◌, [], refl, sym, ap, ◌∙◌, subst, to_z-of_z, w64}
+use Rattle.std.proofs.Common.{◌∷◌, [], refl, sym, ◌∙◌, subst, to_z-of_z, w64}
 use Rattle.ac_base.proofs.FirstReason.{none_found}
 use Rattle.ac_base.specs.FirstReason.{first_reason}
 use Rattle.ac_model.specs.Calls.{IsAfter, Marks}

@@ -1,4 +1,4 @@
-use Rattle.std.proofs.Common.{◌≡◌, ◌-◌, Some, false, sym, ap, ◌∙◌, subst}
+use Rattle.std.proofs.Common.{◌≡◌, ◌-◌, false, sym, ap, ◌∙◌, subst}
 use Rattle.std.specs.Prelude.{◌≤◌, max}
 use Rattle.ac_base.specs.Growth.{pow8}
 use Rattle.ac_base.specs.Limits.{is_past}
