@@ -141,6 +141,19 @@ fn elements_move_to_another_vector(rt: HostRuntime) {
 }
 
 #[test]
+fn a_merge_takes_a_tie_from_the_target(rt: HostRuntime) {
+    let mut v = three(&rt, rt.alloc(), 1);
+    let mut w = made(&rt, rt.alloc(), 2);
+    assert!(rt; w.append(5, 1).is_ok());
+    assert!(rt; w.append(20, 1).is_ok());
+    let last = v.last();
+    assert!(rt; v.merge(&mut w).is_ok());
+    assert!(rt; holds(&v, &[5, 10, 20, 20, 30]));
+    assert!(rt; v.to_index(last).ok() == Some(5));
+    assert!(rt; w.is_empty());
+}
+
+#[test]
 fn a_bounded_vector_refuses_what_it_has_no_room_for(rt: HostRuntime) {
     let Ok(mut v) = Vector::new(rt.alloc(), tag(&rt, 1), Limit::Bounded(2)) else {
         panic!(rt; "no memory");
