@@ -3,7 +3,7 @@ use Rattle.std.proofs.Common.{◌≡◌, ℕ, zero, suc, ◌+◌, ◌-◌, ◌^�
 use Rattle.std.specs.Prelude.{◌==◌, if◌then◌else◌}
 use Rattle.std.specs.Option.{ForSome, option_map}
 use Rattle.std.proofs.Math.Seq.{take-append_seam, drop-append_seam}
-use Rattle.std.proofs.lemmas.List.{length-replicate, replicate_more}
+use Rattle.std.proofs.lemmas.List.{length-replicate, nil_from_length, replicate_more}
 use Rattle.std.proofs.lemmas.Bool.{cond-false}
 use Rattle.std.proofs.lemmas.Option.{none-some}
 use Rattle.ac_base.specs.declared.name.Name.{Name}
@@ -72,13 +72,9 @@ module _ {X : Type 0} where
       let spare = p.spare in let risen = p.put.risen in
       (omega arith, omega arith)
 
-  empty : (xs : List X) → length xs ≡ 0 → xs ≡ []
-  empty [] e = refl
-  empty (x ∷ xs) e = absurd (omega arith)
-
   pub appending_end : (from : Chained X) (all left : List X) (now : Chained X) → Appending from all left now → length left ≡ 0 → (IsPut from.rows from.next_serial None all now) × (now.spare + length all ≡ from.spare)
   appending_end from all left now p none =
-      let is : p.done ≡ all = sym (p.order ∙ ap (λ vs. p.done ++ vs) (empty left none) ∙ append-nil p.done) in
+      let is : p.done ≡ all = sym (p.order ∙ ap (λ vs. p.done ++ vs) (nil_from_length left none) ∙ append-nil p.done) in
       (subst (λ vs. IsPut from.rows from.next_serial None vs now) is p.put, subst (λ vs. now.spare + length vs ≡ from.spare) is p.spare)
 
   -- the place of a live name, or the end

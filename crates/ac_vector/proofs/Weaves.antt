@@ -1,7 +1,7 @@
 -- Rows on two stacks, taken off in the order of both.
 use Rattle.std.proofs.Common.{◌≡◌, ℕ, ◌+◌, ◌-◌, ◌≤◌, Bool, true, false, List, [], ◌∷◌, ◌++◌, length, map, reverse, take, drop, Some, None, refl, sym, ap, ◌∙◌, subst, inl, inr, arith, append_assoc, append-nil, length-append}
 use Rattle.std.proofs.lemmas.Bool.{cond-true, cond-false}
-use Rattle.std.proofs.lemmas.List.{map-append, length-map, length-reverse, reverse-append}
+use Rattle.std.proofs.lemmas.List.{map-append, length-map, length-reverse, nil_from_length, reverse-append}
 use Rattle.std.proofs.Math.Seq.{take-append_seam, drop-append_seam}
 use Rattle.ac_base.specs.declared.name.Name.{Name}
 use Rattle.ac_base.specs.Rows.{Row, names, values}
@@ -15,10 +15,6 @@ use Rattle.ac_vector.specs.declared.weaving.Line.{Line}
 use Rattle.ac_vector.specs.Stacks.{IsNext, Weaves, is_second, line_row, stacked}
 use Rattle.ac_vector.proofs.Arrays.{rows_in-parts}
 use Rattle.ac_vector.specs.ArrayFields.{rows_in}
-
-none_left : {A : Type 0} (xs : List A) → length xs ≡ 0 → xs ≡ []
-none_left [] e = refl
-none_left (x ∷ xs) e = absurd (omega arith)
 
 module _ {X : Type 0} where
   stacked-push : (lines : List (Line X)) (l : Line X) → stacked (lines ++ l ∷ []) ≡ line_row l ∷ stacked lines
@@ -77,14 +73,14 @@ module _ {X : Type 0} where
         let m = length-map (stacked mine) (λ (r : Row Name X). r.name) ∙ length-stacked mine in
         let t = length-map (stacked theirs) (λ (r : Row Name X). r.name) ∙ length-stacked theirs in
         let all = sym (length-map rs (λ (r : Row Name X). r.name)) ∙ ap length (sym all_names) ∙ length-append ks (names (stacked mine) ++ names (stacked theirs)) in
-        none_left ks (omega (arith, length-append (names (stacked mine)) (names (stacked theirs))))
+        nil_from_length ks (omega (arith, length-append (names (stacked mine)) (names (stacked theirs))))
 
     no_more_values : ws ≡ []
     no_more_values =
         let m = length-map (stacked mine) (λ (r : Row Name X). r.value) ∙ length-stacked mine in
         let t = length-map (stacked theirs) (λ (r : Row Name X). r.value) ∙ length-stacked theirs in
         let all = sym (length-map rs (λ (r : Row Name X). r.value)) ∙ ap length (sym all_values) ∙ length-append ws (values (stacked mine) ++ values (stacked theirs)) in
-        none_left ws (omega (arith, length-append (values (stacked mine)) (values (stacked theirs))))
+        nil_from_length ws (omega (arith, length-append (values (stacked mine)) (values (stacked theirs))))
 
     together : stacked mine ++ stacked theirs ≡ rs
     together =
