@@ -16,6 +16,7 @@ use Rattle.ac_meaning.specs.UnderGuards.{held_with, held_without}
 use Rattle.ac_meaning.proofs.OnePlace.{guards_are_on_one_object}
 use Rattle.ac_objects.specs.declared.object.Object.{Object}
 use Rattle.ac_objects.specs.declared.object.Object.TheVariants.{Integers, Texts}
+use Rattle.ac_objects.specs.declared.sequence.Sequence.TheVariants.{List as a_list, Vector as a_vector}
 use Rattle.ac_objects.specs.declared.bound.Bound.{Bound}
 use Rattle.ac_objects.specs.declared.bound.Bound.TheVariants as bound
 use Rattle.ac_objects.specs.Blocks.{IsHeldAt}
@@ -35,8 +36,10 @@ guards_agree l counts (cursor.At object name) same agrees =
     λ e. let own = agrees (e ∙ same) in record { given = own.given; slot = own.slot }
 
 pub counts_go_on : (o : Object) (counts : GuardCounts) → counts.number ≡ number_of (held_of o) → GoesOn o (with_counts o counts)
-counts_go_on (Integers l) counts same = record { number = same; agrees = λ c. guards_agree l counts c same }
-counts_go_on (Texts l) counts same = record { number = same; agrees = λ c. guards_agree l counts c same }
+counts_go_on (Integers (a_list l)) counts same = record { number = same; agrees = λ c. guards_agree l counts c same }
+counts_go_on (Integers (a_vector v)) counts same = record { number = same; agrees = λ c. guards_agree v counts c same }
+counts_go_on (Texts (a_list l)) counts same = record { number = same; agrees = λ c. guards_agree l counts c same }
+counts_go_on (Texts (a_vector v)) counts same = record { number = same; agrees = λ c. guards_agree v counts c same }
 
 more_number : (kind : GuardKind) (counts : GuardCounts) → (one_more kind counts).number ≡ counts.number
 more_number guard.Cursors counts = refl
@@ -66,17 +69,25 @@ less_goes_on o kind = counts_go_on o (one_less kind (counts_in o)) (less_number 
 
 more_held : (o : Object) (kind : GuardKind) →
     held_of (with_one_more o (raised_kind (is_a_set (held_of o)) kind)) ≡ with_rows_by (λ V p. hold_call (is_a_set (held_of o)) kind p) (held_of o)
-more_held (Integers l) guard.Cursors = refl
-more_held (Integers l) guard.Elements = refl
-more_held (Texts l) guard.Cursors = refl
-more_held (Texts l) guard.Elements = refl
+more_held (Integers (a_list l)) guard.Cursors = refl
+more_held (Integers (a_vector v)) guard.Cursors = refl
+more_held (Integers (a_list l)) guard.Elements = refl
+more_held (Integers (a_vector v)) guard.Elements = refl
+more_held (Texts (a_list l)) guard.Cursors = refl
+more_held (Texts (a_vector v)) guard.Cursors = refl
+more_held (Texts (a_list l)) guard.Elements = refl
+more_held (Texts (a_vector v)) guard.Elements = refl
 
 less_held : (o : Object) (kind : GuardKind) →
     held_of (with_one_less o kind) ≡ with_rows_by (λ V p. release_call (is_a_set (held_of o)) kind p) (held_of o)
-less_held (Integers l) guard.Cursors = refl
-less_held (Integers l) guard.Elements = refl
-less_held (Texts l) guard.Cursors = refl
-less_held (Texts l) guard.Elements = refl
+less_held (Integers (a_list l)) guard.Cursors = refl
+less_held (Integers (a_vector v)) guard.Cursors = refl
+less_held (Integers (a_list l)) guard.Elements = refl
+less_held (Integers (a_vector v)) guard.Elements = refl
+less_held (Texts (a_list l)) guard.Cursors = refl
+less_held (Texts (a_vector v)) guard.Cursors = refl
+less_held (Texts (a_list l)) guard.Elements = refl
+less_held (Texts (a_vector v)) guard.Elements = refl
 
 own_guard : (o : Object) (g : HeldGuard) → g.object ≡ number_of (held_of o) → g ≡ guard_on (held_of o) g.kind
 own_guard (Integers l) g e = λ i. record { object = e i; kind = g.kind }

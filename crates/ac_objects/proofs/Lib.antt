@@ -11,7 +11,7 @@ pub mod Given
 pub mod Found
 pub mod Walked
 pub mod Sources
-pub mod CalledLists
+pub mod CalledSequences
 pub mod NewObjects
 pub mod Declaring
 pub mod Places

@@ -8,10 +8,9 @@ use Rattle.ac_base.specs.declared.cursor.Cursor.{Cursor}
 use Rattle.ac_base.specs.declared.cursor.Cursor.TheVariants as cursor
 use Rattle.ac_syntax.specs.declared.kind.ElemKind.{ElemKind}
 use Rattle.ac_syntax.specs.declared.kind.ElemKind.TheVariants.{Integer, Str}
-use Rattle.ac_syntax.specs.declared.kind.Kind.TheVariants.{List as a_list_kind}
 use Rattle.ac_syntax.specs.declared.type_def.TypeDef.{TypeDef}
 use Rattle.ac_check.specs.declared.resolved.ResolvedDecl.TheVariants as decl
-use Rattle.ac_meaning.specs.Holdings.{number_of}
+use Rattle.ac_meaning.specs.Holdings.{SequenceKind, number_of, new_sequence, sequence_kind, new_held}
 use Rattle.ac_meaning.specs.Environment as meant
 use Rattle.ac_meaning.specs.Environment.{Declared, declared, number_taken}
 use Rattle.ac_meaning.specs.Numbers.{NumbersDiffer}
@@ -19,7 +18,7 @@ use Rattle.ac_meaning.proofs.NumbersApart.{numbers_go_on}
 use Rattle.ac_objects.specs.declared.object.Object.{Object}
 use Rattle.ac_objects.specs.declared.bound.Bound.{Bound}
 use Rattle.ac_objects.specs.declared.bound.Bound.TheVariants as bound
-use Rattle.ac_objects.specs.Declarations.{new_list, object_declared}
+use Rattle.ac_objects.specs.Declarations.{object_declared}
 use Rattle.ac_objects.specs.World.{World, world, held_of, bound_of, state_of, ObjectAgrees, BoundAgrees, IsKnown, cursor_in, IsSound, Persists}
 use Rattle.ac_objects.proofs.Given.{none_agrees, other_agrees}
 use Rattle.ac_objects.proofs.InScope.{no_cursor}
@@ -39,9 +38,12 @@ taken_sound bounds next sound = record {
   cursors_known = λ i d h. taken_known bounds next (cursor_in (get_or bounds i d)) (sound.cursors_known i d h);
 }
 
-new_number : (first : ElemKind) (number : ℕ) (capacity : Option ℕ) → number_of (new_list first number capacity) ≡ number
-new_number Integer number capacity = refl
-new_number Str number capacity = refl
+number_by : (which : SequenceKind) (first : ElemKind) (number : ℕ) (capacity : Option ℕ) → number_of (new_sequence which first number capacity) ≡ number
+number_by which Integer number capacity = refl
+number_by which Str number capacity = refl
+
+new_number : (def : TypeDef) (number : ℕ) (capacity : Option ℕ) → number_of (new_held def number capacity) ≡ number
+new_number def number capacity = number_by (sequence_kind def.kind) def.first number capacity
 
 -- the declaration of an object, where a number is left
 
@@ -49,25 +51,24 @@ unspent : (b : Bool) (x y : Declared) → b ≡ true → (if b then x else y) �
 unspent true x y e = refl
 unspent false x y e = absurd (cc)
 
-declared_below : (first : ElemKind) (line : ℕ) (capacity : Option ℕ) (e : meant.State) → e.next < numbers_end →
-    object_declared first line capacity e ≡ declared (number_taken (meant.with_name e (meant.binds_object (new_list first e.next capacity))))
-declared_below first line capacity e h = unspent (nat_lt e.next numbers_end) _ _ (lt-ltb e.next numbers_end h)
+declared_below : (def : TypeDef) (line : ℕ) (capacity : Option ℕ) (e : meant.State) → e.next < numbers_end →
+    object_declared def line capacity e ≡ declared (number_taken (meant.with_name e (meant.binds_object (new_held def e.next capacity))))
+declared_below def line capacity e h = unspent (nat_lt e.next numbers_end) _ _ (lt-ltb e.next numbers_end h)
 
-differ_taken : (first : ElemKind) (capacity : Option ℕ) (e : meant.State) → e.next < numbers_end → NumbersDiffer e →
-    NumbersDiffer (number_taken (meant.with_name e (meant.binds_object (new_list first e.next capacity))))
-differ_taken first capacity e h d =
-    let def : TypeDef = record { bounded = false; kind = a_list_kind; first = first; second = None; keyed = false } in
-    let step : meant.unless_spent (meant.after_decls []) (object_declared first 0 capacity e)
-    ≡ declared (number_taken (meant.with_name e (meant.binds_object (new_list first e.next capacity)))) =
-    ap (meant.unless_spent (meant.after_decls [])) (declared_below first 0 capacity e h) in
+differ_taken : (def : TypeDef) (capacity : Option ℕ) (e : meant.State) → e.next < numbers_end → NumbersDiffer e →
+    NumbersDiffer (number_taken (meant.with_name e (meant.binds_object (new_held def e.next capacity))))
+differ_taken def capacity e h d =
+    let step : meant.unless_spent (meant.after_decls []) (object_declared def 0 capacity e)
+    ≡ declared (number_taken (meant.with_name e (meant.binds_object (new_held def e.next capacity)))) =
+    ap (meant.unless_spent (meant.after_decls [])) (declared_below def 0 capacity e h) in
     subst NumbersDiffer (ap (λ (x : Declared). x.after) step) (numbers_go_on.decls (decl.Object 0 def capacity ∷ []) e d)
 
-module _ (bounds : List Bound) (next : ℕ) (o : Object) (first : ElemKind) (capacity : Option ℕ) (is : held_of o ≡ new_list first next capacity) where
+module _ (bounds : List Bound) (next : ℕ) (o : Object) (def : TypeDef) (capacity : Option ℕ) (is : held_of o ≡ new_held def next capacity) where
   abbrev pub after_making : World
   after_making = world (bounds ++ bound.Object o ∷ []) (next + 1)
 
   own_number : number_of (held_of o) ≡ next
-  own_number = ap number_of is ∙ new_number first next capacity
+  own_number = ap number_of is ∙ new_number def next capacity
 
   new_agrees : (c : Cursor) → IsKnown (world bounds next) c → ObjectAgrees o c
   new_agrees cursor.NoElement known = none_agrees (bound.Object o)
@@ -79,14 +80,14 @@ module _ (bounds : List Bound) (next : ℕ) (o : Object) (first : ElemKind) (cap
     agrees = All-push (λ b. BoundAgrees b c) bounds (bound.Object o) known.agrees (new_agrees c known);
   }
 
-  pub made_state : state_of after_making ≡ number_taken (meant.with_name (state_of (world bounds next)) (meant.binds_object (new_list first next capacity)))
+  pub made_state : state_of after_making ≡ number_taken (meant.with_name (state_of (world bounds next)) (meant.binds_object (new_held def next capacity)))
   made_state =
       ap (λ bs. record { bounds = bs; next = next + 1 }) (map_push bound_of bounds (bound.Object o))
       ∙ ap (λ h. number_taken (meant.with_name (state_of (world bounds next)) (meant.binds_object h))) is
 
   pub made_sound : next < numbers_end → IsSound (world bounds next) → IsSound after_making
   made_sound below sound = record {
-    numbers_differ = subst NumbersDiffer (sym made_state) (differ_taken first capacity (state_of (world bounds next)) below sound.numbers_differ);
+    numbers_differ = subst NumbersDiffer (sym made_state) (differ_taken def capacity (state_of (world bounds next)) below sound.numbers_differ);
     cursors_known = All-push (λ b. IsKnown after_making (cursor_in b)) bounds (bound.Object o)
         (λ i d h. made_persists (cursor_in (get_or bounds i d)) (sound.cursors_known i d h))
         (no_cursor after_making);
@@ -102,18 +103,18 @@ module _ (w : World) (bounds : List Bound) (next after tag : ℕ) (view : world 
   number_persists = subst (λ v. Persists v (world bounds after)) view
       (subst (λ n. Persists (world bounds next) (world bounds n)) next_now (taken_known bounds next))
 
-  module _ (now : List Bound) (o : Object) (first : ElemKind) (capacity : Option ℕ) (ok : Bool)
-      (pushed : now ≡ (if ok then bounds ++ bound.Object o ∷ [] else bounds)) (is : held_of o ≡ new_list first tag capacity) where
-    is_next : held_of o ≡ new_list first next capacity
-    is_next = is ∙ ap (λ n. new_list first n capacity) tag_is
+  module _ (now : List Bound) (o : Object) (def : TypeDef) (capacity : Option ℕ) (ok : Bool)
+      (pushed : now ≡ (if ok then bounds ++ bound.Object o ∷ [] else bounds)) (is : held_of o ≡ new_held def tag capacity) where
+    is_next : held_of o ≡ new_held def next capacity
+    is_next = is ∙ ap (λ n. new_held def n capacity) tag_is
 
     either_persists : (ok : Bool) → Persists (world bounds next) (world (if ok then bounds ++ bound.Object o ∷ [] else bounds) (next + 1))
-    either_persists true = made_persists bounds next o first capacity is_next
+    either_persists true = made_persists bounds next o def capacity is_next
     either_persists false = taken_known bounds next
 
     either_sound : (ok : Bool) → next < numbers_end → IsSound (world bounds next) →
         IsSound (world (if ok then bounds ++ bound.Object o ∷ [] else bounds) (next + 1))
-    either_sound true below sound = made_sound bounds next o first capacity is_next below sound
+    either_sound true below sound = made_sound bounds next o def capacity is_next below sound
     either_sound false below sound = taken_sound bounds next sound
 
     pub object_persists : Persists w (world now after)

@@ -1,4 +1,4 @@
--- The source of a call on a list or a vector: none and the object itself are one. Of a list, only a listing answers a text.
+-- The source of a call on a list or a vector: none and the object itself are one. And only a listing answers a text.
 use Rattle.std.proofs.Common.{◌≡◌, ◌==◌, ℕ, ℤ, List, Bool, true, false, refl, sym, ap, subst, ◌∙◌, eq-eqb, Option, Some, None, if◌then◌else◌}
 use Rattle.std.specs.Prelude.{⊤}
 use Rattle.ac_base.specs.declared.value.Value.{Value}
@@ -12,6 +12,8 @@ use Rattle.ac_check.specs.declared.operation.CommonCall.{CommonCall}
 use Rattle.ac_check.specs.declared.operation.CommonCall.TheVariants as common_call
 use Rattle.ac_check.specs.declared.operation.SequenceCall.{SequenceCall}
 use Rattle.ac_check.specs.declared.operation.SequenceCall.TheVariants as sequence_call
+use Rattle.ac_check.specs.declared.operation.CapacityCall.{CapacityCall}
+use Rattle.ac_check.specs.declared.operation.CapacityCall.TheVariants as capacity_call
 use Rattle.ac_check.specs.declared.operation.VectorCall.{VectorCall}
 use Rattle.ac_check.specs.declared.operation.VectorCall.TheVariants as vector_call
 use Rattle.ac_check.specs.declared.operation.ListCall.{ListCall}
@@ -19,7 +21,7 @@ use Rattle.ac_check.specs.declared.operation.ListCall.TheVariants as list_call
 use Rattle.ac_meaning.specs.Elements.{Text, Tools, integers, texts, of_integers, of_texts}
 use Rattle.ac_meaning.specs.Answers.{Answer, answers_ok, answers_value, answers_truth, answers_place, answers_list, answers_raised, answers_stalled}
 use Rattle.ac_meaning.specs.Replies.{Arguments, Source, without, itself, another, by_source, seen_by, source_in, Reply, value_answer, carried}
-use Rattle.ac_meaning.specs.SequenceReplies.{OwnCalls, sequence_own, common_reply, sequence_reply}
+use Rattle.ac_meaning.specs.SequenceReplies.{OwnCalls, sequence_own, common_reply, sequence_reply, capacity_reply}
 use Rattle.ac_meaning.specs.ListReplies.{list_alone_reply, list_reply}
 use Rattle.ac_meaning.specs.VectorReplies.{vector_alone_reply, vector_reply}
 use Rattle.ac_meaning.specs.Holdings.{SequenceKind, of_list, of_vector, Held, a_sequence, reply_by, reply_of}
@@ -69,7 +71,7 @@ module _ {T : Type 0} (tools : Tools T) (o : Object ℕ T) (args : Arguments) wh
   links_alone list_call.SpliceOne = refl
   links_alone list_call.SpliceWithin = refl
 
-  pub list_alone : (op : Operation) → list_reply tools o without args op ≡ list_reply tools o itself args op
+  list_alone : (op : Operation) → list_reply tools o without args op ≡ list_reply tools o itself args op
   list_alone (operation.Common c) = common_own (sequence_own tools o) c
   list_alone (operation.Sequence c) = sequence_alone (list.reverse_elements_call o) (list.sort_call tools.less o) c
   list_alone (operation.List c) = links_alone c
@@ -94,13 +96,13 @@ module _ {T : Type 0} (tools : Tools T) (o : Object ℕ T) (args : Arguments) wh
   indexed_alone vector_call.FindIndex = refl
   indexed_alone vector_call.ReverseFindIndex = refl
 
-  pub vector_alone : (op : Operation) → vector_reply tools o without args op ≡ vector_reply tools o itself args op
+  vector_alone : (op : Operation) → vector_reply tools o without args op ≡ vector_reply tools o itself args op
   vector_alone (operation.Common c) = common_own (sequence_own tools o) c
   vector_alone (operation.Sequence c) = sequence_alone (vector.reverse_elements_call o) (vector.sort_call tools.less o) c
   vector_alone (operation.Vector c) = indexed_alone c
   vector_alone _ = refl
 
-  reply_alone : (which : SequenceKind) (op : Operation) → reply_by tools o without args which op ≡ reply_by tools o itself args which op
+  pub reply_alone : (which : SequenceKind) (op : Operation) → reply_by tools o without args which op ≡ reply_by tools o itself args which op
   reply_alone of_list op = list_alone op
   reply_alone of_vector op = vector_alone op
 
@@ -195,6 +197,32 @@ module _ {T : Type 0} (tools : Tools T) (o : Object ℕ T) (source : Source (Obj
   list_lists (operation.List c) = alone_lists (sequence_own tools o).listing c
   list_lists _ = tt
 
-  pub listed : (op : Operation) (text : List ℕ) → (list_reply tools o source args op).answer ≡ answers_list text →
-      (text ≡ (sequence_own tools o).listing) × ((list_reply tools o source args op).after ≡ o)
-  listed op text e = subst (λ a. Lists (sequence_own tools o).listing o (list_reply tools o source args op).after a) e (list_lists op)
+  indexed_lists : (listing : List ℕ) (c : VectorCall) → ReplyLists listing o (vector_alone_reply tools o source args c)
+  indexed_lists listing vector_call.ElementIndex = value_lists listing o o _
+  indexed_lists listing vector_call.InsertVectorIndex = by_source_lists listing o source _ _ tt (λ s seen. tt)
+  indexed_lists listing vector_call.InsertVector = by_source_lists listing o source _ _ tt (λ s seen. tt)
+  indexed_lists listing vector_call.InsertVectorPos = by_source_lists listing o source _ _ tt (λ s seen. tt)
+  indexed_lists listing vector_call.AppendVector = by_source_lists listing o source _ _ tt (λ s seen. tt)
+  indexed_lists listing vector_call.PrependVector = by_source_lists listing o source _ _ tt (λ s seen. tt)
+  indexed_lists listing _ = tt
+
+  capacity_lists : (listing : List ℕ) (c : CapacityCall) → ReplyLists listing o (capacity_reply o args c)
+  capacity_lists listing capacity_call.Capacity = tt
+  capacity_lists listing capacity_call.ReserveCapacity = tt
+
+  vector_lists : (op : Operation) → ReplyLists (sequence_own tools o).listing o (vector_reply tools o source args op)
+  vector_lists (operation.Common c) = common_lists o source args (sequence_own tools o) c
+  vector_lists (operation.Sequence c) =
+      sequence_lists (sequence_own tools o).listing (vector.reverse_elements_call o) (vector.sort_call tools.less o) c
+  vector_lists (operation.Capacity c) = capacity_lists (sequence_own tools o).listing c
+  vector_lists (operation.Vector c) = indexed_lists (sequence_own tools o).listing c
+  vector_lists _ = tt
+
+  each_lists : (which : SequenceKind) (op : Operation) → ReplyLists (sequence_own tools o).listing o (reply_by tools o source args which op)
+  each_lists of_list op = list_lists op
+  each_lists of_vector op = vector_lists op
+
+  pub listed : (which : SequenceKind) (op : Operation) (text : List ℕ) → (reply_by tools o source args which op).answer ≡ answers_list text →
+      (text ≡ (sequence_own tools o).listing) × ((reply_by tools o source args which op).after ≡ o)
+  listed which op text e =
+      subst (λ a. Lists (sequence_own tools o).listing o (reply_by tools o source args which op).after a) e (each_lists which op)

@@ -20,13 +20,14 @@ use Rattle.ac_objects.specs.declared.reply.Said.TheVariants as said
 use Rattle.ac_objects.specs.declared.reply.Placed.{Placed}
 use Rattle.ac_objects.specs.declared.reply.Reply.{Reply}
 use Rattle.ac_objects.specs.Arguments.{AllAgree}
+use Rattle.ac_objects.specs.Sequences.{rows_of}
 use Rattle.ac_objects.specs.Standing.{counts_in_held}
 use Rattle.ac_objects.specs.World.{held_of, ObjectAgrees}
 
 -- the cursors among the arguments have the slots that the object would find
 abbrev pub AgreesWith : Object → Arguments → Type 0
-AgreesWith (Integers l) args = AllAgree l.object args
-AgreesWith (Texts l) args = AllAgree l.object args
+AgreesWith (Integers s) args = AllAgree (rows_of s).object args
+AgreesWith (Texts s) args = AllAgree (rows_of s).object args
 
 -- no element, or one of the object's own, with the slot that it would find
 abbrev pub IsFound : Object → Cursor → Type 0
@@ -76,7 +77,7 @@ pub record Lasts (old new : Object) : Type 0 where
   pub cursors : (c : Cursor) → ObjectAgrees old c → ObjectAgrees new c
   pub counts : counts_in_held (held_of new) ≡ counts_in_held (held_of old)
 
--- and of a list
+-- and of a list or a vector
 pub record ListLasts {V : Type 0} (old new : Container V) : Type 0 where
   pub cursors : (c : Cursor) → Agrees old.object c → Agrees new.object c
   pub counts : guards_of new ≡ guards_of old
@@ -91,7 +92,7 @@ WritesTo w old new (Ok done) = (w.reason ≡ None) × (held_of new ≡ w.after)
 WritesTo w old new (Err (fault.Raised reason)) = (w.reason ≡ Some reason) × (new ≡ old)
 WritesTo w old new (Err fault.NoMemory) = new ≡ old
 
--- the same in a list
+-- the same in a list or a vector
 abbrev pub WritesIn : {V : Type 0} → (lists.Object ℕ V → Call (lists.Object ℕ V) Done) → (old new : Container V) → Result Done Fault → Type 0
 WritesIn call old new (Ok done) = ((call (plain old.object)).reason ≡ None) × IsAfter old.object new.object (call (plain old.object)).after
 WritesIn call old new (Err (fault.Raised reason)) = ((call (plain old.object)).reason ≡ Some reason) × (new ≡ old)

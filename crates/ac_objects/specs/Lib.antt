@@ -1,6 +1,7 @@
 pub mod Arguments
 pub mod Listed
-pub mod ListCalls
+pub mod Sequences
+pub mod SequenceCalls
 pub mod Replied
 pub mod Shown
 pub mod World

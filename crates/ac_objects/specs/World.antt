@@ -5,11 +5,12 @@ use Rattle.ac_base.specs.declared.cursor.Cursor.TheVariants as cursor
 use Rattle.ac_model.specs.Objects.{plain}
 use Rattle.ac_model.specs.Cursors.{plain_mark, Agrees}
 use Rattle.ac_meaning.specs.Elements.{of_integers, of_texts}
-use Rattle.ac_meaning.specs.Holdings.{Held, a_sequence, of_list}
+use Rattle.ac_meaning.specs.Holdings.{Held, a_sequence}
 use Rattle.ac_meaning.specs.Environment as meant
 use Rattle.ac_meaning.specs.Numbers.{NumbersDiffer}
 use Rattle.ac_objects.specs.declared.object.Object.{Object}
 use Rattle.ac_objects.specs.declared.object.Object.TheVariants.{Integers, Texts}
+use Rattle.ac_objects.specs.Sequences.{rows_of, kind_of}
 use Rattle.ac_objects.specs.declared.bound.Bound.{Bound}
 use Rattle.ac_objects.specs.declared.bound.Bound.TheVariants as bound
 
@@ -24,8 +25,8 @@ world bounds next = record { bounds = bounds; next = next }
 -- without the slots of names: as the meaning of scripts has them
 
 abbrev pub held_of : Object → Held
-held_of (Integers l) = a_sequence of_list (of_integers (plain l.object))
-held_of (Texts l) = a_sequence of_list (of_texts (plain l.object))
+held_of (Integers s) = a_sequence (kind_of s) (of_integers (plain (rows_of s).object))
+held_of (Texts s) = a_sequence (kind_of s) (of_texts (plain (rows_of s).object))
 
 abbrev pub bound_of : Bound → meant.Bound
 bound_of bound.Type = meant.binds_type
@@ -41,8 +42,8 @@ state_of w = record { bounds = map bound_of w.bounds; next = w.next }
 
 -- the slot of the cursor is the one that the object would find
 abbrev pub ObjectAgrees : Object → Cursor → Type 0
-ObjectAgrees (Integers l) c = Agrees l.object c
-ObjectAgrees (Texts l) c = Agrees l.object c
+ObjectAgrees (Integers s) c = Agrees (rows_of s).object c
+ObjectAgrees (Texts s) c = Agrees (rows_of s).object c
 
 abbrev pub BoundAgrees : Bound → Cursor → Type 0
 BoundAgrees bound.Type c = ⊤

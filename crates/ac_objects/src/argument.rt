@@ -46,6 +46,18 @@ impl Argument {
         }
     }
 
+    /// As an index that a search goes back from, which is the greatest where it is left out.
+    #[inline(always)]
+    pub fn last_index(&self) -> i64
+        ensures { result ≡ (argument_of self.now).last_index }
+    {
+        match self {
+            Argument::Value(Value::Int(number)) => *number,
+            Argument::Value(Value::Text(_)) => 0,
+            Argument::Absent | Argument::Place(_) => i64::MAX,
+        }
+    }
+
     #[inline(always)]
     pub fn into_value(self) -> Value
         ensures { result ≡ (argument_of self).value }

@@ -34,6 +34,8 @@ pub trait ScriptElement: Rank {
     ghost same_is: { tools.same ≡ Self.is_same };
 
     ghost less_is: { tools.less ≡ Self.is_less };
+
+    ghost blank_is: { tools.blank ≡ Self.blank_element };
 }
 
 impl ScriptElement for i64 {
@@ -42,6 +44,8 @@ impl ScriptElement for i64 {
     ghost same_is = { refl };
 
     ghost less_is = { refl };
+
+    ghost blank_is = { refl };
 
     fn from_value(_alloc: Global, value: Value) -> Result<i64, NoMemory> {
         match value {
@@ -65,6 +69,8 @@ impl ScriptElement for Text {
     ghost same_is = { refl };
 
     ghost less_is = { refl };
+
+    ghost blank_is = { refl };
 
     fn from_value(alloc: Global, value: Value) -> Result<Text, NoMemory> {
         match value {

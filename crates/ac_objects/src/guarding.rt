@@ -1,18 +1,58 @@
 //! The guards that blocks hold on the objects of a script.
 ghost use Rattle.std.specs.Prelude.{◌≡◌, true, false, Some, refl};
 ghost use Rattle.ac_model.specs.Common.{hold_call};
+ghost use Rattle.ac_model.specs.Containers.{guards_of};
 ghost use Rattle.ac_meaning.specs.Holdings.{Held, with_rows_by, is_a_set, guard_on};
 ghost use Rattle.ac_meaning.specs.Environment.{object_at, objects_by};
 ghost use Rattle.ac_meaning.specs.UnderGuards.{held_with, held_without};
 ghost use Rattle.ac_objects.specs.Blocks.{HasRoom, IsHeldAt, OthersHeld};
 ghost use Rattle.ac_objects.specs.Counts as counts;
+ghost use Rattle.ac_objects.specs.Sequences.{rows_of};
 ghost use Rattle.ac_objects.specs.Standing.{IsObject, counts_in_held};
 ghost use Rattle.ac_objects.specs.World.{held_of, state_of, Persists};
 
 use crate::bound::Bound;
 use crate::object::Object;
 use crate::objects::Objects;
+use crate::sequence::Sequence;
 use ac_cursor::{GuardKey, GuardKind, Guarded};
+
+impl<T> Guarded for Sequence<T> {
+    ghost is_set = { λ _. false };
+
+    ghost guards = { λ s. guards_of (rows_of s) };
+
+    ghost with_guards = { counts.sequence_with };
+
+    ghost guards_given = { counts.sequence_given };
+
+    ghost guards_own = { counts.sequence_own };
+
+    ghost rest_kept = { counts.sequence_rest };
+
+    ghost set_kept = { λ _ _. refl };
+
+    fn hold(&mut self, kind: GuardKind) -> GuardKey {
+        match self {
+            Sequence::List(list) => list.hold(kind),
+            Sequence::Vector(vector) => vector.hold(kind),
+        }
+    }
+
+    fn release(&mut self, key: GuardKey) {
+        match self {
+            Sequence::List(list) => list.release(key),
+            Sequence::Vector(vector) => vector.release(key),
+        }
+    }
+
+    fn held(&self, kind: GuardKind) -> u64 {
+        match self {
+            Sequence::List(list) => list.held(kind),
+            Sequence::Vector(vector) => vector.held(kind),
+        }
+    }
+}
 
 impl Guarded for Object {
     ghost is_set = { λ o. is_a_set (held_of o) };
@@ -31,22 +71,22 @@ impl Guarded for Object {
 
     fn hold(&mut self, kind: GuardKind) -> GuardKey {
         match self {
-            Object::Integers(list) => list.hold(kind),
-            Object::Texts(list) => list.hold(kind),
+            Object::Integers(sequence) => sequence.hold(kind),
+            Object::Texts(sequence) => sequence.hold(kind),
         }
     }
 
     fn release(&mut self, key: GuardKey) {
         match self {
-            Object::Integers(list) => list.release(key),
-            Object::Texts(list) => list.release(key),
+            Object::Integers(sequence) => sequence.release(key),
+            Object::Texts(sequence) => sequence.release(key),
         }
     }
 
     fn held(&self, kind: GuardKind) -> u64 {
         match self {
-            Object::Integers(list) => list.held(kind),
-            Object::Texts(list) => list.held(kind),
+            Object::Integers(sequence) => sequence.held(kind),
+            Object::Texts(sequence) => sequence.held(kind),
         }
     }
 }

@@ -4,24 +4,23 @@ ghost use Rattle.ac_model.specs.Forms.{seen_by as mark_by};
 ghost use Rattle.ac_model.specs.Objects.{plain};
 ghost use Rattle.ac_model.specs.Sequences.{element_call, write_call};
 ghost use Rattle.ac_model.specs.Cursors.{plain_mark};
-ghost use Rattle.ac_meaning.specs.Holdings.{reply_of, number_of, element_value, write};
+ghost use Rattle.ac_meaning.specs.Holdings.{reply_by, reply_of, number_of, element_value, write};
 ghost use Rattle.ac_meaning.specs.Replies.{itself, another, seen_by, as_value};
-ghost use Rattle.ac_meaning.specs.ListReplies.{list_reply};
 ghost use Rattle.ac_objects.specs.Arguments.{AllAgree, arguments_of};
 ghost use Rattle.ac_objects.specs.Called.{AgreesWith, Called, CalledWith, Lasts, AreValid, WritesTo, WritesIn};
-ghost use Rattle.ac_objects.specs.Replied.{Replied, RepliedWith};
+ghost use Rattle.ac_objects.specs.SequenceCalls.{Answered, AnsweredWith};
+ghost use Rattle.ac_objects.specs.Sequences.{rows_of, kind_of, source_like};
 ghost use Rattle.ac_objects.specs.World.{held_of, ObjectAgrees};
 
 use crate::argument::Arguments;
 use crate::element::ScriptElement;
-use crate::list_calls::call_list;
-use crate::list_source_calls::call_list_with;
 use crate::object::Object;
+use crate::operating::{operate, operate_with};
 use crate::reply::Reply;
+use crate::sequence::Sequence;
 use ac_base::{Fault, NoMemory, Value};
 use ac_check::Operation;
 use ac_cursor::Cursor;
-use ac_list::List;
 use std::alloc::Global;
 
 /// Makes a call on an object without a source, or with itself as the source.
@@ -37,12 +36,12 @@ pub fn call_object(
     ensures lasts { Lasts object.old object.new }
 {
     match object {
-        Object::Integers(list) => call_own(list, alloc, operation, args),
-        Object::Texts(list) => call_own(list, alloc, operation, args),
+        Object::Integers(sequence) => call_own(sequence, alloc, operation, args),
+        Object::Texts(sequence) => call_own(sequence, alloc, operation, args),
     }
 }
 
-/// Makes a call on an object with another one as the source, which is none where it is of another type.
+/// Makes a call on an object with another one as the source, which is none where it is of another kind or type.
 pub fn call_objects(
     object: &mut Object,
     source: &mut Object,
@@ -59,57 +58,87 @@ pub fn call_objects(
     ensures source_lasts { Lasts source.old source.new }
 {
     match object {
-        Object::Integers(list) => match source {
-            Object::Integers(other) => call_two(list, other, alloc, operation, args),
-            Object::Texts(_) => call_own(list, alloc, operation, args),
+        Object::Integers(sequence) => match source {
+            Object::Integers(other) => call_two(sequence, other, alloc, operation, args),
+            Object::Texts(_) => call_own(sequence, alloc, operation, args),
         },
-        Object::Texts(list) => match source {
-            Object::Integers(_) => call_own(list, alloc, operation, args),
-            Object::Texts(other) => call_two(list, other, alloc, operation, args),
+        Object::Texts(sequence) => match source {
+            Object::Integers(_) => call_own(sequence, alloc, operation, args),
+            Object::Texts(other) => call_two(sequence, other, alloc, operation, args),
         },
     }
 }
 
 #[inline(always)]
 fn call_own<T: ScriptElement>(
-    list: &mut List<T>,
+    sequence: &mut Sequence<T>,
     alloc: Global,
     operation: Operation,
     args: Arguments,
 ) -> Result<Reply, Fault>
-    requires agree { AllAgree list.old.object args }
-    ensures replied { Replied
-        (list_reply T.tools (plain list.old.object) itself (seen_by (plain list.old.object) (arguments_of args)) operation)
-        list.old list.new result }
-    ensures valid { AreValid list.old list.new }
+    requires agree { AllAgree (rows_of sequence.old).object args }
+    ensures replied { let o = plain (rows_of sequence.old).object in
+        Answered (reply_by T.tools o itself (seen_by o (arguments_of args)) (kind_of sequence.old) operation) sequence.old sequence.new result }
+    ensures kind { kind_of sequence.new ≡ kind_of sequence.old }
+    ensures valid { AreValid (rows_of sequence.old) (rows_of sequence.new) }
 {
-    list.law();
-    let called = call_list(list, alloc, operation, args);
-    list.law();
+    sequence.law();
+    let called = operate(sequence, alloc, operation, args);
+    sequence.law();
     called
 }
 
+/// The source is none where it is of another kind.
 fn call_two<T: ScriptElement>(
-    list: &mut List<T>,
-    source: &mut List<T>,
+    sequence: &mut Sequence<T>,
+    source: &mut Sequence<T>,
     alloc: Global,
     operation: Operation,
     args: Arguments,
 ) -> Result<Reply, Fault>
-    requires agree { AllAgree list.old.object args }
-    requires agree_with_source { AllAgree source.old.object args }
-    ensures replied { RepliedWith
-        (list_reply T.tools (plain list.old.object)
-        (another (plain source.old.object) (seen_by (plain source.old.object) (arguments_of args)))
-        (seen_by (plain list.old.object) (arguments_of args)) operation)
-        list.old source.old list.new source.new result }
-    ensures valid { AreValid list.old list.new }
-    ensures source_valid { AreValid source.old source.new }
+    requires agree { AllAgree (rows_of sequence.old).object args }
+    requires agree_with_source { AllAgree (rows_of source.old).object args }
+    ensures replied { let o = plain (rows_of sequence.old).object in let s = plain (rows_of source.old).object in
+        let own = source_like (kind_of sequence.old) (kind_of source.old) (another s (seen_by s (arguments_of args))) in
+        AnsweredWith (reply_by T.tools o own (seen_by o (arguments_of args)) (kind_of sequence.old) operation)
+        sequence.old source.old sequence.new source.new result }
+    ensures kind { kind_of sequence.new ≡ kind_of sequence.old }
+    ensures source_kind { kind_of source.new ≡ kind_of source.old }
+    ensures valid { AreValid (rows_of sequence.old) (rows_of sequence.new) }
+    ensures source_valid { AreValid (rows_of source.old) (rows_of source.new) }
 {
-    list.law();
     source.law();
-    let called = call_list_with(list, source, alloc, operation, args);
-    list.law();
+    if sequence.is_like(source) {
+        call_like(sequence, source, alloc, operation, args)
+    } else {
+        call_own(sequence, alloc, operation, args)
+    }
+}
+
+/// With a source of the same kind.
+fn call_like<T: ScriptElement>(
+    sequence: &mut Sequence<T>,
+    source: &mut Sequence<T>,
+    alloc: Global,
+    operation: Operation,
+    args: Arguments,
+) -> Result<Reply, Fault>
+    requires like { kind_of sequence.old ≡ kind_of source.old }
+    requires agree { AllAgree (rows_of sequence.old).object args }
+    requires agree_with_source { AllAgree (rows_of source.old).object args }
+    ensures replied { let o = plain (rows_of sequence.old).object in let s = plain (rows_of source.old).object in
+        AnsweredWith
+        (reply_by T.tools o (another s (seen_by s (arguments_of args))) (seen_by o (arguments_of args)) (kind_of sequence.old) operation)
+        sequence.old source.old sequence.new source.new result }
+    ensures kind { kind_of sequence.new ≡ kind_of sequence.old }
+    ensures source_kind { kind_of source.new ≡ kind_of source.old }
+    ensures valid { AreValid (rows_of sequence.old) (rows_of sequence.new) }
+    ensures source_valid { AreValid (rows_of source.old) (rows_of source.new) }
+{
+    sequence.law();
+    source.law();
+    let called = operate_with(sequence, source, alloc, operation, args);
+    sequence.law();
     source.law();
     called
 }
@@ -121,16 +150,20 @@ pub fn element_of(object: &Object, alloc: Global, at: Cursor) -> Result<Value, N
     ensures { IfOk result (λ value. (element_value (held_of object.now) (plain_mark at)).answer ≡ Some value) }
 {
     match object {
-        Object::Integers(list) => copied(list, alloc, at),
-        Object::Texts(list) => copied(list, alloc, at),
+        Object::Integers(sequence) => copied(sequence, alloc, at),
+        Object::Texts(sequence) => copied(sequence, alloc, at),
     }
 }
 
-fn copied<T: ScriptElement>(list: &List<T>, alloc: Global, at: Cursor) -> Result<Value, NoMemory>
-    requires { (element_call (plain list.now.object) (mark_by list.now at)).reason ≡ None }
-    ensures { IfOk result (λ value. (as_value T.tools (element_call (plain list.now.object) (mark_by list.now at))).answer ≡ Some value) }
+fn copied<T: ScriptElement>(
+    sequence: &Sequence<T>,
+    alloc: Global,
+    at: Cursor,
+) -> Result<Value, NoMemory>
+    requires { (element_call (plain (rows_of sequence.now).object) (mark_by (rows_of sequence.now) at)).reason ≡ None }
+    ensures { IfOk result (λ value. (as_value T.tools (element_call (plain (rows_of sequence.now).object) (mark_by (rows_of sequence.now) at))).answer ≡ Some value) }
 {
-    match list.element(at) {
+    match sequence.element(at) {
         Ok(element) => element.to_value(alloc),
         Err(_) => unreachable!(),
     }
@@ -148,23 +181,25 @@ pub fn write_element(
     ensures lasts { Lasts object.old object.new }
 {
     match object {
-        Object::Integers(list) => written(list, alloc, at, value),
-        Object::Texts(list) => written(list, alloc, at, value),
+        Object::Integers(sequence) => written(sequence, alloc, at, value),
+        Object::Texts(sequence) => written(sequence, alloc, at, value),
     }
 }
 
 fn written<T: ScriptElement>(
-    list: &mut List<T>,
+    sequence: &mut Sequence<T>,
     alloc: Global,
     at: Cursor,
     value: Value,
 ) -> Result<(), Fault>
-    ensures written { WritesIn (λ o. write_call o (mark_by list.old at) (T.tools.from_value value)) list.old list.new result }
-    ensures valid { AreValid list.old list.new }
+    ensures written { WritesIn (λ o. write_call o (mark_by (rows_of sequence.old) at) (T.tools.from_value value))
+        (rows_of sequence.old) (rows_of sequence.new) result }
+    ensures kind { kind_of sequence.new ≡ kind_of sequence.old }
+    ensures valid { AreValid (rows_of sequence.old) (rows_of sequence.new) }
 {
-    list.law();
+    sequence.law();
     let element = T::from_value(alloc, value)?;
-    let done = list.write(at, element);
-    list.law();
+    let done = sequence.write(at, element);
+    sequence.law();
     done
 }

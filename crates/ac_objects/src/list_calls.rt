@@ -1,108 +1,21 @@
-//! The calls of lists, but those with another list.
+//! The calls of lists alone, in which elements move with their cursors.
 ghost use Rattle.std.specs.Prelude.{◌≡◌};
-ghost use Rattle.ac_model.specs.Objects.{plain};
-ghost use Rattle.ac_meaning.specs.Replies.{itself, seen_by};
-ghost use Rattle.ac_meaning.specs.ListReplies.{list_reply};
-ghost use Rattle.ac_objects.specs.Arguments.{AllAgree, arguments_of};
-ghost use Rattle.ac_objects.specs.Replied.{Replied};
-ghost use Rattle.ac_objects.specs.ListCalls.{CommonReplied, SequenceReplied, ListAloneReplied};
-
-mod common;
-mod deletions;
-mod links;
-mod looks;
-mod orders;
-mod own_cursors;
-mod puts;
+ghost use Rattle.ac_model.specs.Containers.{slots_of, Grows};
+ghost use Rattle.ac_model.specs.Forms.{Does, DoesBoth, seen_by};
+ghost use Rattle.ac_model.specs.Lists as lists;
+ghost use Rattle.ac_objects.specs.SequenceCalls.{ListAloneReplied, ListAloneRepliedWith};
+ghost use Rattle.ac_objects.specs.Replied.{IsAnswer};
 
 use crate::argument::Arguments;
 use crate::element::ScriptElement;
 use crate::reply::{Reply, Said};
-use ac_base::{Fault, Value};
-use ac_check::{CommonCall, ListCall, Operation, SequenceCall};
+use ac_base::Fault;
+use ac_check::ListCall;
+use ac_cursor::Cursor;
 use ac_list::List;
-use std::alloc::Global;
 
-/// Makes a call on a list that is its own source, where the call has one.
-#[inline(always)]
-pub fn call_list<T: ScriptElement>(
-    list: &mut List<T>,
-    alloc: Global,
-    operation: Operation,
-    args: Arguments,
-) -> Result<Reply, Fault>
-    requires agree { AllAgree list.old.object args }
-    ensures { Replied (list_reply T.tools (plain list.old.object) itself (seen_by (plain list.old.object) (arguments_of args)) operation)
-        list.old list.new result }
-{
-    match operation {
-        Operation::Common(call) => common_call(list, alloc, call, args),
-        Operation::Sequence(call) => sequence_call(list, alloc, call, args),
-        Operation::List(call) => links_call(list, call, args),
-        _ => Ok(Reply::says(Said::Done)),
-    }
-}
-
-/// A call that lists have with all kinds of rows.
-#[inline(always)]
-pub fn common_call<T: ScriptElement>(
-    list: &mut List<T>,
-    alloc: Global,
-    call: CommonCall,
-    args: Arguments,
-) -> Result<Reply, Fault>
-    ensures { CommonReplied T.tools call args list.old list.new result }
-{
-    match call {
-        CommonCall::IsEmpty => Ok(Reply::says(Said::Truth(list.is_empty()))),
-        CommonCall::Clear => common::clear(list),
-        CommonCall::Assign => common::assign(list),
-        CommonCall::MoveFrom => common::move_from(list),
-        CommonCall::Equal => Ok(Reply::says(Said::Truth(list.equal_self()))),
-        CommonCall::HasElement => common::has_element(list, args),
-        CommonCall::Element => common::element(list, alloc, args),
-        CommonCall::ReplaceElement => common::replace_element(list, alloc, args),
-        CommonCall::Print => Ok(Reply::says(Said::Listing)),
-        CommonCall::Length => Ok(Reply::says(Said::Value(Value::Int(list.length())))),
-    }
-}
-
-/// A call that lists have with vectors.
-pub fn sequence_call<T: ScriptElement>(
-    list: &mut List<T>,
-    alloc: Global,
-    call: SequenceCall,
-    args: Arguments,
-) -> Result<Reply, Fault>
-    ensures { SequenceReplied T.tools call args list.old list.new result }
-{
-    match call {
-        SequenceCall::Append => puts::append(list, alloc, args),
-        SequenceCall::Prepend => puts::prepend(list, alloc, args),
-        SequenceCall::Insert => puts::insert(list, alloc, args),
-        SequenceCall::InsertPos => puts::insert_pos(list, alloc, args),
-        SequenceCall::Delete => deletions::delete(list, args),
-        SequenceCall::DeleteFirst => deletions::delete_first(list, args),
-        SequenceCall::DeleteLast => deletions::delete_last(list, args),
-        SequenceCall::First => Ok(Reply::says(Said::Place(own_cursors::first(list)))),
-        SequenceCall::Last => Ok(Reply::says(Said::Place(own_cursors::last(list)))),
-        SequenceCall::FirstElement => looks::first_element(list, alloc),
-        SequenceCall::LastElement => looks::last_element(list, alloc),
-        SequenceCall::Next => looks::next(list, args),
-        SequenceCall::Previous => looks::previous(list, args),
-        SequenceCall::Find => looks::find(list, alloc, args),
-        SequenceCall::ReverseFind => looks::reverse_find(list, alloc, args),
-        SequenceCall::Contains => looks::contains(list, alloc, args),
-        SequenceCall::Swap => orders::swap(list, args),
-        SequenceCall::ReverseElements => orders::reverse_elements(list),
-        SequenceCall::Sort => orders::sort(list),
-        SequenceCall::IsSorted => Ok(Reply::says(Said::Truth(list.is_sorted()))),
-        SequenceCall::Merge => orders::merge(list),
-    }
-}
-
-/// A call of lists alone.
-pub fn links_call<T: ScriptElement>(
+/// A call of lists alone, where the list is its own source if the call has one.
+pub fn list_call<T: ScriptElement>(
     list: &mut List<T>,
     call: ListCall,
     args: Arguments,
@@ -110,9 +23,105 @@ pub fn links_call<T: ScriptElement>(
     ensures { ListAloneReplied T.tools call args list.old list.new result }
 {
     match call {
-        ListCall::SwapLinks => links::swap_links(list, args),
-        ListCall::Splice => links::splice(list, args),
-        ListCall::SpliceOne => links::splice_one(list, args),
-        ListCall::SpliceWithin => links::splice_within(list, args),
+        ListCall::SwapLinks => swap_links(list, args),
+        ListCall::Splice => splice_self(list, args),
+        ListCall::SpliceOne => splice_one_self(list, args),
+        ListCall::SpliceWithin => splice_within(list, args),
     }
+}
+
+/// The same with another list as the source. The variable that a splice of one element sets is a cursor of the target.
+pub fn list_call_with<T: ScriptElement>(
+    list: &mut List<T>,
+    source: &mut List<T>,
+    call: ListCall,
+    args: Arguments,
+) -> Result<Reply, Fault>
+    ensures { ListAloneRepliedWith T.tools call args list.old source.old list.new source.new result }
+{
+    match call {
+        ListCall::Splice => splice(list, source, args),
+        ListCall::SpliceOne => splice_one(list, source, args),
+        ListCall::SwapLinks | ListCall::SpliceWithin => list_call(list, call, args),
+    }
+}
+
+fn swap_links<T: ScriptElement>(list: &mut List<T>, args: Arguments) -> Result<Reply, Fault>
+    ensures { ListAloneReplied T.tools ListCall.SwapLinks args list.old list.new result }
+{
+    list.swap_links(args.first.cursor(), args.second.cursor())?;
+    Ok(Reply::says(Said::Done))
+}
+
+fn splice_self<T: ScriptElement>(list: &mut List<T>, args: Arguments) -> Result<Reply, Fault>
+    ensures { ListAloneReplied T.tools ListCall.Splice args list.old list.new result }
+{
+    list.splice_self(args.first.cursor())?;
+    Ok(Reply::says(Said::Done))
+}
+
+fn splice_one_self<T: ScriptElement>(list: &mut List<T>, args: Arguments) -> Result<Reply, Fault>
+    ensures { ListAloneReplied T.tools ListCall.SpliceOne args list.old list.new result }
+{
+    let before = args.first.cursor();
+    let moved = own_splice_one_self(list, before, args.third.cursor())?;
+    Ok(Reply::sets(2, moved))
+}
+
+fn splice_within<T: ScriptElement>(list: &mut List<T>, args: Arguments) -> Result<Reply, Fault>
+    ensures { ListAloneReplied T.tools ListCall.SpliceWithin args list.old list.new result }
+{
+    list.splice_within(args.first.cursor(), args.second.cursor())?;
+    Ok(Reply::says(Said::Done))
+}
+
+fn splice<T: ScriptElement>(
+    list: &mut List<T>,
+    source: &mut List<T>,
+    args: Arguments,
+) -> Result<Reply, Fault>
+    ensures { ListAloneRepliedWith T.tools ListCall.Splice args list.old source.old list.new source.new result }
+{
+    list.splice(args.first.cursor(), source)?;
+    Ok(Reply::says(Said::Done))
+}
+
+fn splice_one<T: ScriptElement>(
+    list: &mut List<T>,
+    source: &mut List<T>,
+    args: Arguments,
+) -> Result<Reply, Fault>
+    ensures { ListAloneRepliedWith T.tools ListCall.SpliceOne args list.old source.old list.new source.new result }
+{
+    let moved = own_splice_one(list, args.first.cursor(), source, args.third.cursor())?;
+    Ok(Reply::sets(2, moved))
+}
+
+/// What the cursor becomes.
+fn own_splice_one_self<T>(list: &mut List<T>, before: Cursor, c: Cursor) -> Result<Cursor, Fault>
+    ensures changed { Does (IsAnswer list.new.object) (λ o. lists.splice_one_self_call o (seen_by list.old before) (seen_by list.old c))
+        list.old list.new result }
+    ensures spare { list.new.spare ≡ list.old.spare }
+{
+    let mut moved = c;
+    list.splice_one_self(before, &mut moved)?;
+    Ok(moved)
+}
+
+/// The cursor of the element where it is now.
+fn own_splice_one<T>(
+    list: &mut List<T>,
+    before: Cursor,
+    source: &mut List<T>,
+    c: Cursor,
+) -> Result<Cursor, Fault>
+    ensures changed { DoesBoth (IsAnswer list.new.object)
+        (λ o s. lists.splice_one_call o (seen_by list.old before) s (seen_by source.old c))
+        list.old source.old list.new source.new result }
+    ensures slots { Grows result list.old list.new }
+    ensures source { slots_of source.new ≡ slots_of source.old }
+{
+    let mut moved = c;
+    list.splice_one(before, source, &mut moved)?;
+    Ok(moved)
 }

@@ -1,4 +1,4 @@
-//! The text that Print answers of a list, written in pieces.
+//! The text that Print answers of an object, written in pieces.
 ghost use Rattle.std.specs.Prelude.{◌≡◌, ◌≤◌, ◌++◌, [], length, None, Some};
 ghost use Rattle.ac_io.specs.declared.pieces.TheConstants.{MOST_WAITING};
 ghost use Rattle.ac_io.specs.Pieces.{Adds};
@@ -8,13 +8,14 @@ ghost use Rattle.ac_meaning.specs.Listings.{separated, bracketed};
 ghost use Rattle.ac_meaning.specs.Environment.{object_at};
 ghost use Rattle.ac_meaning.specs.Holdings.{Held, listing_of};
 ghost use Rattle.ac_objects.specs.Listed.{comma_at};
+ghost use Rattle.ac_objects.specs.Sequences.{rows_of};
 ghost use Rattle.ac_objects.specs.World.{held_of, state_of};
 
 use crate::element::ScriptElement;
 use crate::object::Object;
 use crate::objects::Objects;
+use crate::sequence::Sequence;
 use ac_io::{Sink, WriteFault, add};
-use ac_list::List;
 
 /// What stands before an item.
 fn comma(is_first: bool) -> &'static [u8]
@@ -38,37 +39,37 @@ fn add_item<T: ScriptElement, K: Sink>(
     element.add_literal(text, sink)
 }
 
-/// Adds the items of a list.
+/// Adds the items of a list or a vector.
 fn add_items<T: ScriptElement, K: Sink>(
-    list: &List<T>,
+    sequence: &Sequence<T>,
     text: &mut Vec<u8>,
     sink: &mut K,
 ) -> Result<(), WriteFault>
     ensures adds { Adds K.held K.faults K.room K.counts_failures sink.old sink.new
-        text.old.items text.new.items (separated (λ e. literal_text (T.tools.to_value e)) (contents (plain list.now.object))) result }
+        text.old.items text.new.items (separated (λ e. literal_text (T.tools.to_value e)) (contents (plain (rows_of sequence.now).object))) result }
     ensures short { length text.old.items ≤ MOST_WAITING → length text.new.items ≤ MOST_WAITING }
 {
-    list.law();
-    let mut c = list.first();
-    for place in 0..list.live_nodes() {
-        add_item(list.element(c).unwrap(), place == 0, text, sink)?;
-        c = list.next(c).unwrap();
+    sequence.law();
+    let mut c = sequence.first();
+    for place in 0..sequence.live_nodes() {
+        add_item(sequence.element(c).unwrap(), place == 0, text, sink)?;
+        c = sequence.next(c).unwrap();
     }
     Ok(())
 }
 
-/// Adds the listing of a list to a text that is written in pieces.
-pub fn write_list<T: ScriptElement, K: Sink>(
-    list: &List<T>,
+/// Adds the listing of a list or a vector to a text that is written in pieces.
+pub fn write_sequence<T: ScriptElement, K: Sink>(
+    sequence: &Sequence<T>,
     text: &mut Vec<u8>,
     sink: &mut K,
 ) -> Result<(), WriteFault>
     ensures adds { Adds K.held K.faults K.room K.counts_failures sink.old sink.new
-        text.old.items text.new.items (bracketed (λ e. literal_text (T.tools.to_value e)) (contents (plain list.now.object))) result }
+        text.old.items text.new.items (bracketed (λ e. literal_text (T.tools.to_value e)) (contents (plain (rows_of sequence.now).object))) result }
     ensures short { length text.old.items ≤ MOST_WAITING → length text.new.items ≤ MOST_WAITING }
 {
     add(text, b"[", sink)?;
-    add_items(list, text, sink)?;
+    add_items(sequence, text, sink)?;
     add(text, b"]", sink)
 }
 
@@ -83,8 +84,8 @@ fn write_object<K: Sink>(
     ensures short { length text.old.items ≤ MOST_WAITING → length text.new.items ≤ MOST_WAITING }
 {
     match object {
-        Object::Integers(list) => write_list(list, text, sink),
-        Object::Texts(list) => write_list(list, text, sink),
+        Object::Integers(sequence) => write_sequence(sequence, text, sink),
+        Object::Texts(sequence) => write_sequence(sequence, text, sink),
     }
 }
 

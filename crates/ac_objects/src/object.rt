@@ -1,10 +1,10 @@
 //! An object of a script, of any kind and element type.
+use crate::sequence::Sequence;
 use ac_base::Text;
-use ac_list::List;
 
 /// An object of a script.
 #[derive(Drop)]
 pub enum Object {
-    Integers(List<i64>),
-    Texts(List<Text>),
+    Integers(Sequence<i64>),
+    Texts(Sequence<Text>),
 }

@@ -2,10 +2,12 @@
 ghost use Rattle.std.specs.Prelude.{◌≡◌, ◌++◌, ◌∷◌, ℕ, true, false, length, take, None, Some, IfOk, OnErr, Err};
 ghost use Rattle.ac_meaning.specs.Environment.{object_at, object_in, with_name, leaving, after_decl, after_decls, nodes, nodes_in};
 ghost use Rattle.ac_base.specs.Limits.{IsLimit};
-ghost use Rattle.ac_meaning.specs.Holdings.{limit_by};
+ghost use Rattle.ac_meaning.specs.Holdings.{limit_by, new_held, sequence_kind, is_vector};
+ghost use Rattle.ac_model.specs.Objects.{plain, empty_object};
 ghost use Rattle.ac_meaning.specs.Environment.{declared};
-ghost use Rattle.ac_objects.specs.Declarations.{new_list, object_declared, spent_at};
+ghost use Rattle.ac_objects.specs.Declarations.{object_declared, spent_at};
 ghost use Rattle.ac_objects.specs.Given.{Finds};
+ghost use Rattle.ac_objects.specs.Sequences.{rows_of, kind_of};
 ghost use Rattle.ac_objects.specs.Standing.{IsObject, counts_of};
 ghost use Rattle.ac_objects.specs.World.{held_of, bound_of, cursor_in, state_of, IsKnown, Persists};
 
@@ -13,11 +15,13 @@ use crate::blocks::DeclareFault;
 use crate::bound::Bound;
 use crate::object::Object;
 use crate::objects::Objects;
+use crate::sequence::Sequence;
 use ac_base::{Elem, GREATEST_LENGTH, Limit, NoMemory, Text, Value};
 use ac_check::ResolvedDecl;
 use ac_cursor::{Cursor, Tag};
 use ac_list::List;
-use ac_syntax::{ElemKind, Kind};
+use ac_syntax::{ElemKind, Kind, TypeDef};
+use ac_vector::Vector;
 use std::alloc::Global;
 
 /// How many elements stand under a name.
@@ -25,8 +29,8 @@ fn nodes_in(bound: &Bound) -> u64
     ensures { result ≡ nodes_in (bound_of bound.now) }
 {
     match bound {
-        Bound::Object(Object::Integers(list)) => list.live_nodes(),
-        Bound::Object(Object::Texts(list)) => list.live_nodes(),
+        Bound::Object(Object::Integers(sequence)) => sequence.live_nodes(),
+        Bound::Object(Object::Texts(sequence)) => sequence.live_nodes(),
         _ => 0,
     }
 }
@@ -145,10 +149,7 @@ impl Objects {
                 line,
                 def,
                 capacity,
-            } => match def.kind {
-                Kind::List => self.declare_object(*line, def.first, *capacity),
-                _ => Err(DeclareFault::NoMemory),
-            },
+            } => self.declare_object(*line, def, *capacity),
             ResolvedDecl::Cursor => self.declare_name(Bound::Cursor(Cursor::NoElement)),
             ResolvedDecl::Integer => self.declare_name(Bound::Value(Value::Int(0))),
             ResolvedDecl::Text => match Text::blank(self.alloc) {
@@ -177,19 +178,19 @@ impl Objects {
     fn declare_object(
         &mut self,
         line: u64,
-        first: ElemKind,
+        def: &TypeDef,
         capacity: Option<u64>,
     ) -> Result<(), DeclareFault>
-        ensures declared { IfOk result (λ _. object_declared first line capacity (state_of self.old) ≡ declared (state_of self.new)) }
+        ensures declared { IfOk result (λ _. object_declared def.now line capacity (state_of self.old) ≡ declared (state_of self.new)) }
         ensures spent { (other : ℕ) → result ≡ Err (DeclareFault.Spent other) →
-            object_declared first line capacity (state_of self.old) ≡ spent_at other (state_of self.new) }
+            object_declared def.now line capacity (state_of self.old) ≡ spent_at other (state_of self.new) }
         ensures before { take (length self.old.bounds) self.new.bounds ≡ self.old.bounds }
         ensures persists { Persists self.old self.new }
     {
         let Some(tag) = self.mint.next() else {
             return Err(DeclareFault::Spent { line });
         };
-        let Ok(object) = new_object(self.alloc, first, tag, capacity) else {
+        let Ok(object) = new_object(self.alloc, def, tag, capacity) else {
             return Err(DeclareFault::NoMemory);
         };
         match self.bounds.push(Bound::Object(object)) {
@@ -202,22 +203,46 @@ impl Objects {
 /// An object of this number without elements, and NoMemory where so large a capacity can't be had.
 fn new_object(
     alloc: Global,
-    first: ElemKind,
+    def: &TypeDef,
     tag: Tag,
     capacity: Option<u64>,
 ) -> Result<Object, NoMemory>
-    ensures { IfOk result (λ made. held_of made ≡ new_list first tag capacity) }
+    ensures { IfOk result (λ made. held_of made ≡ new_held def.now tag capacity) }
 {
     let limit = limit_by(capacity)?;
-    match first {
-        ElemKind::Integer => match List::new(alloc, tag, limit) {
-            Ok(list) => Ok(Object::Integers(list)),
+    match def.first {
+        ElemKind::Integer => {
+            let made = new_sequence(alloc, def.kind, tag, limit)?;
+            Ok(Object::Integers(made))
+        }
+        ElemKind::Str => {
+            let made = new_sequence(alloc, def.kind, tag, limit)?;
+            Ok(Object::Texts(made))
+        }
+    }
+}
+
+/// A list or a vector without elements.
+fn new_sequence<T: Drop>(
+    alloc: Global,
+    kind: Kind,
+    tag: Tag,
+    limit: Limit,
+) -> Result<Sequence<T>, NoMemory>
+    requires { IsLimit limit }
+    ensures kind { IfOk result (λ made. kind_of made ≡ sequence_kind kind) }
+    ensures empty { IfOk result (λ made. plain (rows_of made).object ≡ empty_object (is_vector (sequence_kind kind)) tag limit) }
+{
+    match kind {
+        Kind::List => match List::new(alloc, tag, limit) {
+            Ok(list) => Ok(Sequence::List(list)),
             Err(_) => Err(NoMemory),
         },
-        ElemKind::Str => match List::new(alloc, tag, limit) {
-            Ok(list) => Ok(Object::Texts(list)),
+        Kind::Vector => match Vector::new(alloc, tag, limit) {
+            Ok(vector) => Ok(Sequence::Vector(vector)),
             Err(_) => Err(NoMemory),
         },
+        _ => Err(NoMemory),
     }
 }
 

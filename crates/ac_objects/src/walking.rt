@@ -10,31 +10,36 @@ ghost use Rattle.ac_meaning.specs.Holdings.{names_of, number_of, element_value};
 ghost use Rattle.ac_meaning.specs.Execution.{in_order};
 ghost use Rattle.ac_meaning.specs.Walks.{step_call, first_mark};
 ghost use Rattle.ac_objects.specs.Given.{GivenBy, IsGiven, StepsOn};
+ghost use Rattle.ac_objects.specs.Sequences.{rows_of};
 ghost use Rattle.ac_objects.specs.World.{held_of, ObjectAgrees};
 
 use crate::object::Object;
+use crate::sequence::Sequence;
 use ac_base::{Fault, Reason};
 use ac_cursor::Cursor;
-use ac_list::List;
 
-/// The cursor at which a loop over the list begins.
-fn first_of_list<T>(list: &List<T>, backward: bool) -> Cursor
-    ensures given { GivenBy list.now.object result }
-    ensures first { plain_mark result ≡ first_mark list.now.object.number (in_order backward (names (plain list.now.object).rows)) }
+/// The cursor at which a loop over the list or vector begins.
+fn first_in<T>(sequence: &Sequence<T>, backward: bool) -> Cursor
+    ensures given { GivenBy (rows_of sequence.now).object result }
+    ensures first { plain_mark result ≡ first_mark (rows_of sequence.now).object.number (in_order backward (names (plain (rows_of sequence.now).object).rows)) }
 {
-    list.law();
-    if backward { list.last() } else { list.first() }
+    sequence.law();
+    if backward {
+        sequence.last()
+    } else {
+        sequence.first()
+    }
 }
 
 /// The cursor at which a loop goes on behind this one, and No_Element where it doesn't.
 #[inline(always)]
-fn next_in_list<T>(list: &List<T>, backward: bool, at: Cursor) -> Cursor
-    requires { Agrees list.now.object at }
-    ensures given { GivenBy list.now.object result }
-    ensures next { StepsOn backward list.now.object.number (names (plain list.now.object).rows) at result }
+fn next_in<T>(sequence: &Sequence<T>, backward: bool, at: Cursor) -> Cursor
+    requires { Agrees (rows_of sequence.now).object at }
+    ensures given { GivenBy (rows_of sequence.now).object result }
+    ensures next { StepsOn backward (rows_of sequence.now).object.number (names (plain (rows_of sequence.now).object).rows) at result }
 {
-    list.law();
-    match step_in_list(list, backward, at) {
+    sequence.law();
+    match step_in(sequence, backward, at) {
         Ok(next) => next,
         Err(_) => Cursor::NoElement,
     }
@@ -42,22 +47,22 @@ fn next_in_list<T>(list: &List<T>, backward: bool, at: Cursor) -> Cursor
 
 /// Next, or Previous.
 #[inline(always)]
-fn step_in_list<T>(list: &List<T>, backward: bool, at: Cursor) -> Result<Cursor, Fault>
-    ensures { Looks (Marks list.now.object) (λ o. step_call backward o (seen_by list.now at)) list.now result }
+fn step_in<T>(sequence: &Sequence<T>, backward: bool, at: Cursor) -> Result<Cursor, Fault>
+    ensures { Looks (Marks (rows_of sequence.now).object) (λ o. step_call backward o (seen_by (rows_of sequence.now) at)) (rows_of sequence.now) result }
 {
     if backward {
-        list.previous(at)
+        sequence.previous(at)
     } else {
-        list.next(at)
+        sequence.next(at)
     }
 }
 
 /// Why the element at which the cursor stands can't be viewed.
-fn refused_in_list<T>(list: &List<T>, at: Cursor) -> Option<Reason>
-    requires { Agrees list.now.object at }
-    ensures { result ≡ (element_call (plain list.now.object) (seen (plain list.now.object) (plain_mark at))).reason }
+fn refused_in<T>(sequence: &Sequence<T>, at: Cursor) -> Option<Reason>
+    requires { Agrees (rows_of sequence.now).object at }
+    ensures { result ≡ (element_call (plain (rows_of sequence.now).object) (seen (plain (rows_of sequence.now).object) (plain_mark at))).reason }
 {
-    match list.element(at) {
+    match sequence.element(at) {
         Ok(_) => None,
         Err(Fault::Raised(reason)) => Some(reason),
         Err(Fault::NoMemory) => unreachable!(),
@@ -71,8 +76,8 @@ impl Object {
         ensures first { plain_mark result ≡ first_mark (number_of (held_of self.now)) (in_order backward (names_of (held_of self.now))) }
     {
         match self {
-            Object::Integers(list) => first_of_list(list, backward),
-            Object::Texts(list) => first_of_list(list, backward),
+            Object::Integers(sequence) => first_in(sequence, backward),
+            Object::Texts(sequence) => first_in(sequence, backward),
         }
     }
 
@@ -84,8 +89,8 @@ impl Object {
         ensures next { StepsOn backward (number_of (held_of self.now)) (names_of (held_of self.now)) at result }
     {
         match self {
-            Object::Integers(list) => next_in_list(list, backward, at),
-            Object::Texts(list) => next_in_list(list, backward, at),
+            Object::Integers(sequence) => next_in(sequence, backward, at),
+            Object::Texts(sequence) => next_in(sequence, backward, at),
         }
     }
 
@@ -95,8 +100,8 @@ impl Object {
         ensures { result ≡ (element_value (held_of self.now) (plain_mark at)).reason }
     {
         match self {
-            Object::Integers(list) => refused_in_list(list, at),
-            Object::Texts(list) => refused_in_list(list, at),
+            Object::Integers(sequence) => refused_in(sequence, at),
+            Object::Texts(sequence) => refused_in(sequence, at),
         }
     }
 }

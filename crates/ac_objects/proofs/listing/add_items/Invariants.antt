@@ -6,6 +6,7 @@ use Rattle.ac_model.specs.Letters.{mark_in}
 use Rattle.ac_model.specs.Calls.{Marks}
 use Rattle.ac_syntax.specs.Canonical.{literal_text}
 use Rattle.ac_meaning.specs.Listings.{separated}
+use Rattle.ac_objects.specs.Sequences.{rows_of}
 use Rattle.ac_objects.proofs.Listed.{listed_from}
 use Rattle.ac_objects.proofs.listing.add_items.Given as goal
 
@@ -14,8 +15,8 @@ invariant-loop-place g l =
     let sink = g.K.Sink in
     let literal = λ (e : g.row.T.Denot). literal_text (g.T.ScriptElement.tools.to_value e) in
     record {
-      at : Marks l.list.object l.c (mark_in (plain l.list.object) l.place);
+      at : Marks (rows_of l.sequence).object l.c (mark_in (plain (rows_of l.sequence).object) l.place);
       adds : AddsSoFar sink.held sink.faults sink.room sink.counts_failures l.fn.sink l.sink l.fn.text.items l.text.items
-          (listed_from literal l.place (contents (plain l.list.object))) (separated literal (contents (plain l.list.object)));
+          (listed_from literal l.place (contents (plain (rows_of l.sequence).object))) (separated literal (contents (plain (rows_of l.sequence).object)));
       short : length l.fn.text.items ≤ MOST_WAITING → length l.text.items ≤ MOST_WAITING;
     }

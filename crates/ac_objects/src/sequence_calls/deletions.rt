@@ -1,0 +1,42 @@
+//! The calls of lists and vectors that delete elements by place.
+ghost use Rattle.std.specs.Prelude.{◌≡◌};
+ghost use Rattle.ac_objects.specs.SequenceCalls.{SequenceReplied};
+ghost use Rattle.ac_objects.specs.Sequences.{kind_of};
+
+use crate::argument::Arguments;
+use crate::element::ScriptElement;
+use crate::reply::{Reply, Said};
+use crate::sequence::Sequence;
+use ac_base::Fault;
+use ac_check::SequenceCall;
+
+pub fn delete<T: ScriptElement>(sequence: &mut Sequence<T>, args: Arguments) -> Result<Reply, Fault>
+    ensures replied { SequenceReplied T.tools SequenceCall.Delete args sequence.old sequence.new result }
+    ensures kind { kind_of sequence.new ≡ kind_of sequence.old }
+{
+    let mut position = args.first.cursor();
+    sequence.delete(&mut position, args.second.count())?;
+    Ok(Reply::sets(0, position))
+}
+
+pub fn delete_first<T: ScriptElement>(
+    sequence: &mut Sequence<T>,
+    args: Arguments,
+) -> Result<Reply, Fault>
+    ensures replied { SequenceReplied T.tools SequenceCall.DeleteFirst args sequence.old sequence.new result }
+    ensures kind { kind_of sequence.new ≡ kind_of sequence.old }
+{
+    sequence.delete_first(args.first.count())?;
+    Ok(Reply::says(Said::Done))
+}
+
+pub fn delete_last<T: ScriptElement>(
+    sequence: &mut Sequence<T>,
+    args: Arguments,
+) -> Result<Reply, Fault>
+    ensures replied { SequenceReplied T.tools SequenceCall.DeleteLast args sequence.old sequence.new result }
+    ensures kind { kind_of sequence.new ≡ kind_of sequence.old }
+{
+    sequence.delete_last(args.first.count())?;
+    Ok(Reply::says(Said::Done))
+}

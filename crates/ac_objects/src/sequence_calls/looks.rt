@@ -1,0 +1,85 @@
+//! The calls of lists and vectors that look at its elements.
+ghost use Rattle.ac_model.specs.Objects.{plain};
+ghost use Rattle.ac_model.specs.Sequences as sequences;
+ghost use Rattle.ac_meaning.specs.Replies.{looks, value_answer, as_value};
+ghost use Rattle.ac_objects.specs.SequenceCalls.{Answered, SequenceReplied};
+ghost use Rattle.ac_objects.specs.Sequences.{rows_of};
+
+use super::own_cursors;
+use crate::argument::Arguments;
+use crate::element::ScriptElement;
+use crate::reply::{Reply, Said};
+use crate::sequence::Sequence;
+use ac_base::Fault;
+use ac_check::SequenceCall;
+use std::alloc::Global;
+
+pub fn first_element<T: ScriptElement>(
+    sequence: &Sequence<T>,
+    alloc: Global,
+) -> Result<Reply, Fault>
+    ensures { let o = plain (rows_of sequence.now).object in
+        Answered (looks o value_answer (as_value T.tools (sequences.first_element_call o))) sequence.now sequence.now result }
+{
+    let element = sequence.first_element()?;
+    Ok(Reply::says(Said::Value(element.to_value(alloc)?)))
+}
+
+pub fn last_element<T: ScriptElement>(sequence: &Sequence<T>, alloc: Global) -> Result<Reply, Fault>
+    ensures { let o = plain (rows_of sequence.now).object in
+        Answered (looks o value_answer (as_value T.tools (sequences.last_element_call o))) sequence.now sequence.now result }
+{
+    let element = sequence.last_element()?;
+    Ok(Reply::says(Said::Value(element.to_value(alloc)?)))
+}
+
+pub fn next<T: ScriptElement>(sequence: &Sequence<T>, args: Arguments) -> Result<Reply, Fault>
+    ensures { SequenceReplied T.tools SequenceCall.Next args sequence.now sequence.now result }
+{
+    let next = own_cursors::next(sequence, args.first.cursor())?;
+    Ok(Reply::says(Said::Place(next)))
+}
+
+pub fn previous<T: ScriptElement>(sequence: &Sequence<T>, args: Arguments) -> Result<Reply, Fault>
+    ensures { SequenceReplied T.tools SequenceCall.Previous args sequence.now sequence.now result }
+{
+    let previous = own_cursors::previous(sequence, args.first.cursor())?;
+    Ok(Reply::says(Said::Place(previous)))
+}
+
+pub fn find<T: ScriptElement>(
+    sequence: &Sequence<T>,
+    alloc: Global,
+    args: Arguments,
+) -> Result<Reply, Fault>
+    ensures { SequenceReplied T.tools SequenceCall.Find args sequence.now sequence.now result }
+{
+    let from = args.second.cursor();
+    let element = T::from_value(alloc, args.first.into_value())?;
+    let found = own_cursors::find(sequence, &element, from)?;
+    Ok(Reply::says(Said::Place(found)))
+}
+
+pub fn reverse_find<T: ScriptElement>(
+    sequence: &Sequence<T>,
+    alloc: Global,
+    args: Arguments,
+) -> Result<Reply, Fault>
+    ensures { SequenceReplied T.tools SequenceCall.ReverseFind args sequence.now sequence.now result }
+{
+    let from = args.second.cursor();
+    let element = T::from_value(alloc, args.first.into_value())?;
+    let found = own_cursors::reverse_find(sequence, &element, from)?;
+    Ok(Reply::says(Said::Place(found)))
+}
+
+pub fn contains<T: ScriptElement>(
+    sequence: &Sequence<T>,
+    alloc: Global,
+    args: Arguments,
+) -> Result<Reply, Fault>
+    ensures { SequenceReplied T.tools SequenceCall.Contains args sequence.now sequence.now result }
+{
+    let element = T::from_value(alloc, args.first.into_value())?;
+    Ok(Reply::says(Said::Truth(sequence.contains(&element))))
+}

@@ -1,0 +1,71 @@
+//! The calls of lists and vectors that put elements into them.
+ghost use Rattle.std.specs.Prelude.{◌≡◌};
+ghost use Rattle.ac_objects.specs.SequenceCalls.{SequenceReplied};
+ghost use Rattle.ac_objects.specs.Sequences.{kind_of};
+
+use super::own_cursors;
+use crate::argument::Arguments;
+use crate::element::ScriptElement;
+use crate::reply::{Reply, Said};
+use crate::sequence::Sequence;
+use ac_base::Fault;
+use ac_check::SequenceCall;
+use std::alloc::Global;
+
+pub fn append<T: ScriptElement>(
+    sequence: &mut Sequence<T>,
+    alloc: Global,
+    args: Arguments,
+) -> Result<Reply, Fault>
+    ensures replied { SequenceReplied T.tools SequenceCall.Append args sequence.old sequence.new result }
+    ensures kind { kind_of sequence.new ≡ kind_of sequence.old }
+{
+    let count = args.second.count();
+    let element = T::from_value(alloc, args.first.into_value())?;
+    sequence.append(element, count)?;
+    Ok(Reply::says(Said::Done))
+}
+
+pub fn prepend<T: ScriptElement>(
+    sequence: &mut Sequence<T>,
+    alloc: Global,
+    args: Arguments,
+) -> Result<Reply, Fault>
+    ensures replied { SequenceReplied T.tools SequenceCall.Prepend args sequence.old sequence.new result }
+    ensures kind { kind_of sequence.new ≡ kind_of sequence.old }
+{
+    let count = args.second.count();
+    let element = T::from_value(alloc, args.first.into_value())?;
+    sequence.prepend(element, count)?;
+    Ok(Reply::says(Said::Done))
+}
+
+pub fn insert<T: ScriptElement>(
+    sequence: &mut Sequence<T>,
+    alloc: Global,
+    args: Arguments,
+) -> Result<Reply, Fault>
+    ensures replied { SequenceReplied T.tools SequenceCall.Insert args sequence.old sequence.new result }
+    ensures kind { kind_of sequence.new ≡ kind_of sequence.old }
+{
+    let before = args.first.cursor();
+    let count = args.third.count();
+    let element = T::from_value(alloc, args.second.into_value())?;
+    sequence.insert(before, element, count)?;
+    Ok(Reply::says(Said::Done))
+}
+
+pub fn insert_pos<T: ScriptElement>(
+    sequence: &mut Sequence<T>,
+    alloc: Global,
+    args: Arguments,
+) -> Result<Reply, Fault>
+    ensures replied { SequenceReplied T.tools SequenceCall.InsertPos args sequence.old sequence.new result }
+    ensures kind { kind_of sequence.new ≡ kind_of sequence.old }
+{
+    let before = args.first.cursor();
+    let count = args.fourth.count();
+    let element = T::from_value(alloc, args.second.into_value())?;
+    let first = own_cursors::insert_pos(sequence, before, element, count)?;
+    Ok(Reply::sets(2, first))
+}
