@@ -3,7 +3,7 @@
 
 Prints the program's time for each generated script, the ratio to the baseline's, and the growth from half the script to the whole: 2 is linear. Then the time and the memory of long runs, and what `A.Length` costs. Then the time of `--check` on inputs of 1 MiB that are the worst of their sorts, and the growth. Then the time of a put and a take of the pool, and the ratio; and of an insertion and a removal in the middle of a chain, which stays flat where the chain grows. Then the times of a list's calls, and their growth from 10,000 elements to 1,000,000, and the memory of a slot. Needs rustc; isn't part of the gate.
 
-With `--peer COMMAND` it prints instead the times of three scripts beside those of another interpreter of the same language, and the ratio: below 1 is faster.
+With `--peer COMMAND` it prints instead the times of some scripts beside those of another interpreter of the same language, and the ratio: below 1 is faster.
 
 With `--before PROGRAM`, where PROGRAM is `crates/ac_bench/out/ac_bench` of another checkout, built there by `rt run`, it prints instead the times of each workload with that program and with this checkout's, which run in turn, beside one another, and the ratio: below 1 is faster than before.
 """
@@ -83,8 +83,21 @@ def dispatch():
             + rounds(rounds("X := X + 1;\nY := X;\nV.Is_Empty;\n", "V", "C"), "Rep"))
 
 
-# a script, and how many commands of its kind it has
-BESIDE_A_PEER = [("list_churn", list_churn), ("list_sort_merge", list_sort_merge), ("dispatch", dispatch)]
+def vector_append_read():
+    """An append, and elements that are read and written by their indexes, forwards and backwards."""
+    return (driven("type T is vector (integer);\n", "V : T;\nN : integer;\nX : integer;\n", 200_000)
+            + rounds("N := N + 1;\nV.Append (N);\nX := V.Element (N);\nV.Last_Index;\n")
+            + rounds("V.Replace_Element (N, X);\nV.Element (N);\nN := N - 1;\n")
+            + "V.Length;\nV.First_Element;\nV.Last_Element;\nV.Find_Index (77);\n")
+
+
+def vector_sort():
+    return (driven("type T is vector (integer);\n", "A : T;\nB : T;\nN : integer;\nK : integer;\n", 200_000)
+            + "K := 100000;\n" + rounds("N := N + 7919;\nK := K - 104729;\nA.Append (N);\nA.Append (K);\n")
+            + "A.Is_Sorted;\nA.Sort;\nA.Is_Sorted;\nA.Length;\nA.First_Element;\nA.Last_Element;\nB.Assign (A);\nB.Reverse_Elements;\nB.Sort;\nB.Equal (A);\n")
+
+
+BESIDE_A_PEER = [("list_churn", list_churn), ("list_sort_merge", list_sort_merge), ("dispatch", dispatch), ("vector_append_read", vector_append_read), ("vector_sort", vector_sort)]
 
 
 def lengths(count):
@@ -103,6 +116,7 @@ def nested_loops(turns):
 
 LARGE = [
     ("1,000,000 elements, appended and printed", "type T is list (integer);\nA : T;\nA.Append (7, 1000000);\nA.Length;\nA.Print;\nA.Sort;\nA.Clear;\n"),
+    ("the same of a vector", "type T is vector (integer);\nA : T;\nA.Append (7, 1000000);\nA.Length;\nA.Print;\nA.Sort;\nA.Clear;\n"),
     ("a loop over 1,000,000 elements", "type T is list (integer);\nA : T;\nX : integer;\nA.Append (7, 1000000);\nfor E of A loop\nX := E;\nend loop;\n"),
     ("sixteen nested loops, 2,000,000 lines", nested_loops(2_000_000)),
     ("10,000 strings of 1,000 bytes, printed", f'type T is list (string);\nA : T;\nA.Append ("{"x" * 1000}", 10000);\nA.Print;\nA.Sort;\nA.Print;\n'),

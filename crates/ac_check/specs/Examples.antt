@@ -239,13 +239,15 @@ declares def = TypeDecl 1 A def
 
 abbrev refused : List Kind
 refused =
-    kind.Vector ∷ kind.HashedMap ∷ kind.OrderedMap ∷ kind.HashedSet ∷ kind.OrderedSet ∷ kind.Tree ∷ kind.Holder ∷ kind.Queue ∷ kind.PriorityQueue ∷ []
+    kind.HashedMap ∷ kind.OrderedMap ∷ kind.HashedSet ∷ kind.OrderedSet ∷ kind.Tree ∷ kind.Holder ∷ kind.Queue ∷ kind.PriorityQueue ∷ []
 
--- only lists are made yet, of one sort of element, and none has keys
-abbrev pub MakesLists : Type 0
-MakesLists = TellsDecls []
-    (declares (list_of Integer) ∷ declares (list_of Str) ∷ declares (def true kind.List Str None false) ∷ [])
+-- only vectors and lists are made yet, of one sort of element, and none has keys
+abbrev pub MakesSequences : Type 0
+MakesSequences = TellsDecls []
+    (declares (list_of Integer) ∷ declares (list_of Str) ∷ declares (def true kind.List Str None false)
+    ∷ declares (def false kind.Vector Integer None false) ∷ declares (def true kind.Vector Str None false) ∷ [])
     (declares (def false kind.List Integer (Some Integer) false) ∷ declares (def false kind.List Str None true)
+    ∷ declares (def false kind.Vector Integer (Some Integer) false) ∷ declares (def false kind.Vector Str None true)
     ∷ (map (λ k. declares (def false k Integer None false)) refused ++ map (λ k. declares (def false k Str (Some Integer) false)) refused))
 
 abbrev named : ℕ → Scope

@@ -70,7 +70,7 @@ goes_backward kind.PriorityQueue = false
 
 -- scripts can have objects of the kind
 abbrev pub is_built : Kind → Bool
-is_built kind.Vector = false
+is_built kind.Vector = true
 is_built kind.List = true
 is_built kind.HashedMap = false
 is_built kind.OrderedMap = false

@@ -52,7 +52,7 @@ pub fn goes_backward(kind: Kind) -> bool
 fn is_built(kind: Kind) -> bool
     ensures { result ≡ kinds.is_built kind }
 {
-    matches!(kind, Kind::List)
+    matches!(kind, Kind::Vector | Kind::List)
 }
 
 /// What the elements are: a map's are its second.

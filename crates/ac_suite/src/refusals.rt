@@ -273,8 +273,13 @@ fn names_that_are_not_in_scope(rt: HostRuntime) -> Result<(), Fail> {
     each_row_is_met(&rt, rt.alloc(), NAMES_THAT_ARE_NOT_IN_SCOPE)
 }
 
-const RULES_OF_TYPES: &str = r#"type V is vector (integer);
+const RULES_OF_TYPES: &str = r#"type W is tree (integer);
 ==> line 1: wrong type
+====
+type T is vector (integer);
+A : T;
+A.Splice (no_element, A);
+==> line 3: wrong type
 ====
 type L is list (integer, integer);
 ==> line 1: wrong type

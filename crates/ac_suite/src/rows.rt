@@ -33,7 +33,7 @@ fn is_met<R: Threads + Wait + Sync>(rt: &R, alloc: Global, row: &str) -> Result<
     writes(rt, alloc, script, status, wanted)
 }
 
-fn each_row_is_met<R: Threads + Wait + Abort + Sync>(
+pub(crate) fn each_row_is_met<R: Threads + Wait + Abort + Sync>(
     rt: &R,
     alloc: Global,
     table: &str,
@@ -341,7 +341,7 @@ A.Append (1);
 4: raised PROGRAM_ERROR (element tampering)
 6: ok
 ====
-type T is vector (integer);
+type T is tree (integer);
 ==> 1
 line 1: wrong type
 ";
