@@ -1,0 +1,6 @@
+pub mod Bucketing
+pub mod InBucket
+pub mod Linking
+pub mod Links
+pub mod Removing
+pub mod Walks

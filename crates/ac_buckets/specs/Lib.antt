@@ -1,0 +1,3 @@
+pub mod BucketFields
+pub mod Linked
+pub mod Pairs

@@ -1,0 +1,75 @@
+ghost use Rattle.std.specs.Prelude.{◌≡◌, ◌≤◌, [], length};
+
+use super::*;
+use ac_base::Name;
+
+// Pairs in every 64th bucket, under the serials from 1 on.
+fn fill(buckets: &mut Buckets, count: u32)
+    requires empty { buckets.old.pairs ≡ [] }
+    requires room { (count ≤ buckets.old.spare) × (count ≤ 1000) }
+    ensures { length buckets.new.pairs ≡ count }
+{
+    for slot in 0..count {
+        buckets.add(
+            slot * 64,
+            Name {
+                slot,
+                serial: u64::from(slot) + 1,
+            },
+        );
+    }
+}
+
+// How many names a walk of the bucket meets.
+fn met(buckets: &Buckets, hash: u32) -> u64 {
+    let mut at = buckets.first_in(hash);
+    for count in 0..1000 {
+        let Some(name) = at else {
+            return count;
+        };
+        at = buckets.next_in(hash, name);
+    }
+    1000
+}
+
+#[test]
+fn sizes_double_and_stay(rt: HostRuntime) {
+    let mut buckets = Buckets::new(rt.alloc());
+    assert!(rt; buckets.size() == 64);
+    assert!(rt; buckets.grow(64).is_ok());
+    assert!(rt; buckets.size() == 64);
+    assert!(rt; buckets.grow(65).is_ok());
+    assert!(rt; buckets.size() == 128);
+    assert!(rt; buckets.grow(128).is_ok());
+    assert!(rt; buckets.size() == 128);
+    buckets.clear();
+    assert!(rt; buckets.size() == 128);
+}
+
+#[test]
+fn each_pair_is_met_once_before_and_after_a_growth(rt: HostRuntime) {
+    let mut buckets = Buckets::new(rt.alloc());
+    assert!(rt; buckets.grow(128).is_ok());
+    fill(&mut buckets, 128);
+    assert!(rt; met(&buckets, 0) == 64);
+    assert!(rt; met(&buckets, 64) == 64);
+    assert!(rt; buckets.grow(1).is_ok());
+    assert!(rt; buckets.size() == 256);
+    for hash in [0, 64, 128, 192] {
+        assert!(rt; met(&buckets, hash) == 32);
+    }
+    assert!(rt; met(&buckets, 1) == 0);
+}
+
+#[test]
+fn a_dropped_pair_is_not_met(rt: HostRuntime) {
+    let mut buckets = Buckets::new(rt.alloc());
+    assert!(rt; buckets.grow(4).is_ok());
+    fill(&mut buckets, 4);
+    let second = Name { slot: 1, serial: 2 };
+    assert!(rt; met(&buckets, 0) == 4);
+    assert!(rt; !buckets.drop_one(0, second));
+    assert!(rt; buckets.drop_one(64, second));
+    assert!(rt; !buckets.drop_one(64, second));
+    assert!(rt; met(&buckets, 0) == 3);
+}
