@@ -1,0 +1,15 @@
+pub mod Climbs
+pub mod Closing
+pub mod Heights
+pub mod Keeping
+pub mod Lowering
+pub mod Names
+pub mod Opening
+pub mod Reading
+pub mod Removal
+pub mod Rising
+pub mod Sides
+pub mod SlotNames
+pub mod Standing
+pub mod Turning
+pub mod Turns

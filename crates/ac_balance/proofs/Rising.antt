@@ -1,0 +1,187 @@
+-- One step up from a place keeps what holds on the way.
+use Rattle.std.proofs.Common.{◌≡◌, ℕ, ◌+◌, ◌-◌, ◌^◌, ◌<◌, max, Bool, false, List, [], ◌∷◌, length, Option, Some, None, is_some, IsSome, refl, sym, ap, ◌∙◌, subst, inl, inr, arith, if◌then◌else◌}
+use Rattle.ac_base.specs.declared.name.Name.{Name}
+use Rattle.ac_pool.specs.Contents.{Contents, value_of, IsLive, IsSound}
+use Rattle.ac_pool.proofs.NameLaws.{ties_itself, ties_no_other}
+use Rattle.ac_balance.specs.declared.links.Node.{Node}
+use Rattle.ac_balance.specs.declared.places.Place.{Place}
+use Rattle.ac_base.specs.Rows.{Row}
+use Rattle.ac_balance.specs.Trees.{Tree, leaf, node, in_order, height, Level, Balanced, balanced, Step, on_left, on_right, side_of, joined, settled, plugged, Fits}
+use Rattle.ac_balance.specs.TreeFields.{root, left_link, right_link, parent_link, left_of, right_of, height_of, high, balanced_in, parent_of, same_names, is_left_in, settled_in, risen}
+use Rattle.ac_balance.specs.Link.{name_in}
+use Rattle.ac_balance.specs.Climbing.{Has, Once, Hangs, name_of, above_in, Framed, IsSide, IsRooted, Open, Climbing, Climbed, HasName, Relinks, Keeps}
+use Rattle.ac_balance.proofs.SlotNames.{linked_name}
+use Rattle.ac_balance.proofs.Keeping.{keeps_itself, keeps_then, sound_still}
+use Rattle.ac_balance.proofs.Standing.{Nodes, some_name, Stands-same, high-is, linked_root}
+use Rattle.ac_balance.proofs.Names.{IsAround, once_order, plugged_once, height_le, plugged_le, named, part_has}
+use Rattle.ac_balance.proofs.Turning.{Gives, balanced-gives}
+use Rattle.ac_balance.proofs.Climbs.{settled-order, settled-step, plugged-balanced, plugged-order, around}
+
+module _ {X : Type 0} where
+  pub Framed-same : (f g : Nodes X) (steps : List (Step X)) (o : Option Name) (h : ℕ) → ((a : Name) → IsAround a steps → g a ≡ f a) → Framed f steps o h → Framed g steps o h
+  Framed-same f g [] o h same k = tt
+  Framed-same f g (on_left x r ∷ steps) o h same k =
+      (same x.name (inl refl) ∙ k.0, Stands-same f g (Some x.name) r (λ a m. same a (inr (inl m))) k.1, Framed-same f g steps (Some x.name) (max h (height r) + 1) (λ a m. same a (inr (inr m))) k.2)
+  Framed-same f g (on_right l x ∷ steps) o h same k =
+      (same x.name (inl refl) ∙ k.0, Stands-same f g (Some x.name) l (λ a m. same a (inr (inl m))) k.1, Framed-same f g steps (Some x.name) (max h (height l) + 1) (λ a m. same a (inr (inr m))) k.2)
+
+  -- the parent is balanced over the part
+  pub settled-gives : (c : Contents (Node X)) (sound : IsSound c) (s : Step X) (steps : List (Step X)) (t : Tree X) (o : Option Name) (h : ℕ) (b : Bool) → Framed (value_of c) (s ∷ steps) o h → IsSide b (s ∷ steps)
+      → Hangs (value_of c) t → Once (settled s t) → height (settled s t) < 2 ^ 32 → Gives c (settled_in c (name_of s) b (root t)) (settled s t)
+  unfolding settled_in
+  settled-gives c sound (on_left x r) steps t o h b f side hangs once few =
+      let er : right_of c x.name ≡ root r = ap (λ n. name_in c (right_link n)) f.0 ∙ linked_root c sound (Some x.name) r f.1 in
+      subst (λ m. Gives c m (balanced t x r)) (λ i. if sym side i then balanced_in c (root t) x.name (sym er i) else balanced_in c (left_of c x.name) x.name (root t))
+      (balanced-gives c sound t x r hangs (record { node = _; found = f.0; value = refl }) (record { parent = Some x.name; stands = f.1 }) once few)
+  settled-gives c sound (on_right l x) steps t o h b f side hangs once few =
+      let el : left_of c x.name ≡ root l = ap (λ n. name_in c (left_link n)) f.0 ∙ linked_root c sound (Some x.name) l f.1 in
+      subst (λ m. Gives c m (balanced l x t)) (λ i. if sym side i then balanced_in c (root t) x.name (right_of c x.name) else balanced_in c (sym el i) x.name (root t))
+      (balanced-gives c sound l x t (record { parent = Some x.name; stands = f.1 }) (record { node = _; found = f.0; value = refl }) hangs once few)
+
+  -- how far the stored heights are from their bound
+  abbrev pub left_to : Contents (Node X) → Option Name → ℕ
+  left_to c None = 0
+  left_to c (Some a) = 2 ^ 32 - height_of (value_of c a)
+
+  settled-plugged : (s : Step X) (steps : List (Step X)) (t : Tree X) → in_order (plugged steps (settled s t)) ≡ in_order (plugged steps (joined s t))
+  settled-plugged s steps t = plugged-order steps (settled s t) ∙ ap (around steps) (settled-order s t) ∙ sym (plugged-order steps (joined s t))
+
+  -- the names above the place are live
+  above-live : (f : Nodes X) (steps : List (Step X)) (o : Option Name) (h : ℕ) → Framed f steps o h → (a : Name) → above_in steps ≡ Some a → IsSome (f a)
+  above-live f [] o h k a e = cc
+  above-live f (on_left x r ∷ steps) o h k a e = subst (λ n. IsSome (f n)) (some_name x.name a e) (ap is_some k.0)
+  above-live f (on_right l x ∷ steps) o h k a e = subst (λ n. IsSome (f n)) (some_name x.name a e) (ap is_some k.0)
+
+  pub parent-is : (c : Contents (Node X)) (sound : IsSound c) (s : Step X) (steps : List (Step X)) (o : Option Name) (h : ℕ) → Framed (value_of c) (s ∷ steps) o h → parent_of c (name_of s) ≡ above_in steps
+  parent-is c sound (on_left x r) steps o h k = ap (λ n. name_in c (parent_link n)) k.0 ∙ linked_name c sound (above_in steps) (above-live (value_of c) steps (Some x.name) _ k.2)
+  parent-is c sound (on_right l x) steps o h k = ap (λ n. name_in c (parent_link n)) k.0 ∙ linked_name c sound (above_in steps) (above-live (value_of c) steps (Some x.name) _ k.2)
+
+  height-is : (f : Nodes X) (s : Step X) (steps : List (Step X)) (o : Option Name) (h : ℕ) → Framed f (s ∷ steps) o h → height_of (f (name_of s)) ≡ max h (height (side_of s)) + 1
+  height-is f (on_left x r) steps o h k = ap height_of k.0
+  height-is f (on_right l x) steps o h k = ap height_of k.0
+
+  framed-rest : (f : Nodes X) (s : Step X) (steps : List (Step X)) (o : Option Name) (h : ℕ) → Framed f (s ∷ steps) o h → Framed f steps (Some (name_of s)) (max h (height (side_of s)) + 1)
+  framed-rest f (on_left x r) steps o h k = k.2
+  framed-rest f (on_right l x) steps o h k = k.2
+
+  other_root : (n : Name) (t : Tree X) → (Has n t → ⊥) → same_names (root t) (Some n) ≡ false
+  other_root n leaf ne = refl
+  other_root n (node l x r) ne = ties_no_other x.name n (λ e. ne (inl (sym e)))
+
+  pub side-is : (c : Contents (Node X)) (sound : IsSound c) (steps : List (Step X)) (n : Name) (h : ℕ) → IsLive c n → (IsAround n steps → ⊥) → Framed (value_of c) steps (Some n) h → IsSide (is_left_in c (above_in steps) n) steps
+  side-is c sound [] n h live ne k = tt
+  side-is c sound (on_left x r ∷ steps) n h live ne k =
+      let there : left_of c x.name ≡ Some n = ap (λ o. name_in c (left_link o)) k.0 ∙ linked_name c sound (Some n) (λ a e. subst (IsLive c) (some_name n a e) live) in
+      ap (λ o. same_names o (Some n)) there ∙ ties_itself n
+  side-is c sound (on_right l x ∷ steps) n h live ne k =
+      let there : left_of c x.name ≡ root l = ap (λ o. name_in c (left_link o)) k.0 ∙ linked_root c sound (Some x.name) l k.1 in
+      ap (λ o. same_names o (Some n)) there ∙ other_root n l (λ m. ne (inr (inl m)))
+
+  falls : (c d : Contents (Node X)) (x : Name) (steps : List (Step X)) (k : ℕ) → height_of (value_of c x) ≡ k → k < 2 ^ 32 → Framed (value_of d) steps (Some x) k → left_to d (above_in steps) < left_to c (Some x)
+  falls c d x [] k e few f = omega (arith, e, few)
+  falls c d x (s ∷ steps) k e few f = let up = height-is (value_of d) s steps (Some x) k f in omega (arith, e, few, up)
+
+  named_there : (s : Step X) (t : Tree X) → Has (name_of s) (joined s t)
+  named_there (on_left x r) t = inl refl
+  named_there (on_right l x) t = inl refl
+
+  joined_high : (s : Step X) (t : Tree X) → height (joined s t) ≡ max (height t) (height (side_of s)) + 1
+  joined_high (on_left x r) t = refl
+  joined_high (on_right l x) t = omega arith
+
+  rooted-up : (base : Option Name) (s : Step X) (steps : List (Step X)) → IsRooted base (s ∷ steps) → IsRooted base steps
+  rooted-up base s [] h = tt
+  rooted-up base s (r ∷ steps) h = h
+
+  pub record Raised (c : Contents (Node X)) (x : Name) (d : Contents (Node X)) (q : Place) (base : Option Name) (rows : List (Row Name X)) : Type 0 where
+    pub climbing : Climbing d q base rows
+    pub was : climbing.was ≡ height_of (value_of c x)
+    pub less : left_to d q.parent < left_to c (Some x)
+    pub relinks : Relinks rows c d
+
+  step-live : (f : Nodes X) (s : Step X) (steps : List (Step X)) (o : Option Name) (h : ℕ) → Framed f (s ∷ steps) o h → IsSome (f (name_of s))
+  step-live f (on_left x r) steps o h k = ap is_some k.0
+  step-live f (on_right l x) steps o h k = ap is_some k.0
+
+  raised : (c : Contents (Node X)) (p : Place) (base : Option Name) (rows : List (Row Name X)) (s : Step X) (steps : List (Step X)) (t : Tree X) (h : ℕ) → Open c p base rows (s ∷ steps) t h → Fits (s ∷ steps) h → Balanced t → Level h (height t)
+      → Raised c (name_of s) (settled_in c (name_of s) p.is_left (root t)).nodes (risen c (name_of s) p.is_left (root t)) base rows
+  raised c p base rows s steps t h o fits bal near =
+      let n = name_of s in let k = max h (height (side_of s)) + 1 in let u = settled s t in
+      let m = settled_in c n p.is_left (root t) in
+      let ordered : in_order (plugged steps u) ≡ rows = settled-plugged s steps t ∙ o.ordered in
+      let once : Once (plugged steps u) = once_order (plugged (s ∷ steps) t) (plugged steps u) (sym (settled-plugged s steps t)) o.once in
+      let apart = plugged_once steps u once in
+      let low = height_le u in let lower = plugged_le steps u in let len = ap length ordered in let few = o.few in
+      let up = settled-step s t h fits.0 fits.1 bal near in
+      let gives = settled-gives c o.sound s steps t o.link h p.is_left o.framed o.side o.hangs apart.0 (omega (arith, low, lower, len, few)) in
+      let framed : Framed (value_of m.nodes) steps (Some n) k = Framed-same (value_of c) (value_of m.nodes) steps (Some n) k (λ a z. gives.becomes.aside a (λ w. apart.1 a w z)) (framed-rest (value_of c) s steps o.link h o.framed) in
+      let parent = parent-is c o.sound s steps o.link h o.framed in
+      let was = height-is (value_of c) s steps o.link h o.framed in
+      let tall = joined_high s t in let low2 = height_le (joined s t) in let lower2 = plugged_le steps (joined s t) in let len2 = ap length o.ordered in let nu = near.up in
+      let not_around : IsAround n steps → ⊥ = λ z. (plugged_once steps (joined s t) o.once).1 n (named_there s t) z in
+      let small : k < 2 ^ 32 = omega (arith, tall, low2, lower2, len2, few, nu) in
+      record {
+        climbing = record {
+          steps = steps;
+          part = u;
+          was = k;
+          stands = record {
+            link = Some n;
+            parent = parent;
+            rooted = rooted-up base s steps o.rooted;
+            side = subst (λ z. IsSide (is_left_in c z n) steps) (sym parent) (side-is c o.sound steps n k (step-live (value_of c) s steps o.link h o.framed) not_around (framed-rest (value_of c) s steps o.link h o.framed));
+            top = sym gives.top;
+            framed = framed;
+            hangs = gives.becomes.hangs;
+            ordered = ordered;
+            once = once;
+            few = few;
+            sound = sound_still c m.nodes gives.becomes.keeps o.sound;
+          };
+          fits = fits.2;
+          balanced = up.0;
+          near = up.1;
+        };
+        was = sym was;
+        less = subst (λ z. left_to m.nodes z < left_to c (Some n)) (sym parent) (falls c m.nodes n steps k was small framed);
+        relinks = record { aside = λ a z. gives.becomes.aside a (λ w. z (subst (HasName a) ordered (named a (plugged steps u) (part_has steps u a w)))); keeps = gives.becomes.keeps };
+      }
+
+  raise : (c : Contents (Node X)) (p : Place) (base : Option Name) (rows : List (Row Name X)) (x : Name) (steps : List (Step X)) (t : Tree X) (h : ℕ) → p.parent ≡ Some x → Open c p base rows steps t h → Fits steps h → Balanced t → Level h (height t)
+      → Raised c x (settled_in c x p.is_left p.top).nodes (risen c x p.is_left p.top) base rows
+  raise c p base rows x [] t h e o fits bal near = let bad = sym e ∙ o.parent in cc
+  raise c p base rows x (s ∷ steps) t h e o fits bal near =
+      let both : Some (name_of s) ≡ Some x = sym o.parent ∙ e in let same : name_of s ≡ x = cc in
+      subst (λ z. Raised c z (settled_in c z p.is_left p.top).nodes (risen c z p.is_left p.top) base rows) same
+      (subst (λ z. Raised c (name_of s) (settled_in c (name_of s) p.is_left z).nodes (risen c (name_of s) p.is_left z) base rows) (sym o.top) (raised c p base rows s steps t h o fits bal near))
+
+  pub rises : (c : Contents (Node X)) (p : Place) (base : Option Name) (rows : List (Row Name X)) (x : Name) → p.parent ≡ Some x → Climbing c p base rows → Raised c x (settled_in c x p.is_left p.top).nodes (risen c x p.is_left p.top) base rows
+  rises c p base rows x e k = raise c p base rows x k.steps k.part k.was e k.stands k.fits k.balanced k.near
+
+  -- the height is what it was: nothing above changes
+  pub stops : (c : Contents (Node X)) (p : Place) (base : Option Name) (rows : List (Row Name X)) (k : Climbing c p base rows) → high c p.top ≡ k.was → Climbed c p base rows
+  stops c p base rows k e =
+      let is : k.was ≡ height k.part = sym e ∙ ap (high c) k.stands.top ∙ high-is c k.part k.stands.hangs in
+      record { steps = k.steps; part = k.part; stands = subst (λ n. Open c p base rows k.steps k.part n) is k.stands; balanced = plugged-balanced k.steps k.part (subst (λ n. Fits k.steps n) is k.fits) k.balanced }
+
+  -- there is ne node above
+  at_root : (c : Contents (Node X)) (p : Place) (base : Option Name) (rows : List (Row Name X)) (steps : List (Step X)) (t : Tree X) (h : ℕ) → p.parent ≡ None → Open c p base rows steps t h → Balanced t → Climbed c p base rows
+  at_root c p base rows [] t h e o bal = record { steps = []; part = t; stands = record { link = None; parent = o.parent; rooted = tt; side = tt; top = o.top; framed = tt; hangs = o.hangs; ordered = o.ordered; once = o.once; few = o.few; sound = o.sound }; balanced = bal }
+  at_root c p base rows (s ∷ steps) t h e o bal = let bad = sym e ∙ o.parent in cc
+
+  pub ends : (c : Contents (Node X)) (p : Place) (base : Option Name) (rows : List (Row Name X)) → p.parent ≡ None → Climbing c p base rows → Climbed c p base rows
+  ends c p base rows e k = at_root c p base rows k.steps k.part k.was e k.stands k.balanced
+
+  pub relinks_itself : (rows : List (Row Name X)) (c : Contents (Node X)) → Relinks rows c c
+  relinks_itself rows c = record { aside = λ a n. refl; keeps = keeps_itself c }
+
+  pub relinks_then : (rows : List (Row Name X)) (c d e : Contents (Node X)) → Relinks rows c d → Relinks rows d e → Relinks rows c e
+  relinks_then rows c d e p q = record { aside = λ a n. q.aside a n ∙ p.aside a n; keeps = keeps_then c d e p.keeps q.keeps }
+
+  pub rises_to : (c d : Contents (Node X)) (p q : Place) (base : Option Name) (rows : List (Row Name X)) (x : Name) → p.parent ≡ Some x → d ≡ (settled_in c x p.is_left p.top).nodes → q ≡ risen c x p.is_left p.top
+      → Climbing c p base rows → Raised c x d q base rows
+  rises_to c d p q base rows x e is was k = subst (λ z. Raised c x z q base rows) (sym is) (subst (λ z. Raised c x (settled_in c x p.is_left p.top).nodes z base rows) (sym was) (rises c p base rows x e k))
+
+  pub stops_at : (c d : Contents (Node X)) (p q : Place) (base : Option Name) (rows : List (Row Name X)) (x : Name) (was now : ℕ) → p.parent ≡ Some x → d ≡ (settled_in c x p.is_left p.top).nodes → q ≡ risen c x p.is_left p.top
+      → was ≡ high c (Some x) → now ≡ high d q.top → now ≡ was → Climbing c p base rows → Climbed d q base rows × Relinks rows c d
+  stops_at c d p q base rows x was now e is it old new same k = let up = rises_to c d p q base rows x e is it k in (stops d q base rows up.climbing (sym new ∙ same ∙ old ∙ sym up.was), up.relinks)

@@ -1,0 +1,135 @@
+-- The turns by names do what the turns of trees say.
+use Rattle.std.proofs.Common.{◌≡◌, ◌+◌, ◌-◌, ◌^◌, ◌<◌, max, Bool, true, false, nat_le, nat_lt, if◌then◌else◌, Some, refl, sym, ap, ◌∙◌, subst, inl, inr, arith}
+use Rattle.ac_base.specs.declared.name.Name.{Name}
+use Rattle.ac_pool.specs.Contents.{Contents, value_of, IsSound}
+use Rattle.ac_balance.specs.declared.links.Node.{Node}
+use Rattle.ac_base.specs.Rows.{Row}
+use Rattle.ac_balance.specs.Trees.{Tree, leaf, node, height, twice_left, from_left, twice_right, from_right, balanced}
+use Rattle.ac_balance.specs.TreeFields.{root, left_of, right_of, high, fastened, Made, made, twice_left_in, from_left_in, twice_right_in, from_right_in, balanced_in}
+use Rattle.ac_balance.specs.Climbing.{Has, Once, Hangs}
+use Rattle.ac_balance.proofs.Keeping.{keeps_then}
+use Rattle.ac_balance.proofs.Standing.{Nodes, IsAt, IsAt-same, Hangs-same, high-is, Becomes, fastened-becomes, left-is, right-is}
+
+module _ {X : Type 0} where
+  -- the tree has become t, and m names its topmost row
+  pub record Gives (c : Contents (Node X)) (m : Made X) (t : Tree X) : Type 0 where
+    pub becomes : Becomes c m.nodes t
+    pub top : root t ≡ Some m.top
+
+  hung : (f : Nodes X) (l : Tree X) (x : Row Name X) (r : Tree X) → Hangs f (node l x r) → IsAt f x × Hangs f l × Hangs f r
+  hung f l x r h = (record { node = _; found = h.stands.0; value = refl }, record { parent = Some x.name; stands = h.stands.1 }, record { parent = Some x.name; stands = h.stands.2 })
+
+  -- one tree is made, and then a tree above it
+  becomes-left : (c : Contents (Node X)) (a : Tree X) (x : Row Name X) (l r : Tree X) (y : Row Name X) → let t = node a x l in let all = node t y r in Once all → max (height t) (height r) + 1 < 2 ^ 32
+      → IsAt (value_of c) x → Hangs (value_of c) a → Hangs (value_of c) l → IsAt (value_of c) y → Hangs (value_of c) r
+      → Becomes c (fastened (fastened c x.name (root a) (root l)) y.name (Some x.name) (root r)) all
+  becomes-left c a x l r y once few at ha hl aty hr =
+      let t = node a x l in
+      let one = fastened-becomes c a x l once.3 (omega arith) at ha hl in
+      let d = fastened c x.name (root a) (root l) in
+      let two = fastened-becomes d t y r once few (IsAt-same (value_of c) (value_of d) y (one.aside y.name once.0) aty) one.hangs (Hangs-same (value_of c) (value_of d) r (λ k q. one.aside k (λ p. once.2 k p q)) hr) in
+      record { hangs = two.hangs; aside = λ k n. two.aside k n ∙ one.aside k (λ p. n (inr (inl p))); keeps = keeps_then c d _ one.keeps two.keeps }
+
+  becomes-right : (c : Contents (Node X)) (l : Tree X) (y : Row Name X) (a : Tree X) (x : Row Name X) (r : Tree X) → let t = node a x r in let all = node l y t in Once all → max (height l) (height t) + 1 < 2 ^ 32
+      → IsAt (value_of c) x → Hangs (value_of c) a → Hangs (value_of c) r → IsAt (value_of c) y → Hangs (value_of c) l
+      → Becomes c (fastened (fastened c x.name (root a) (root r)) y.name (root l) (Some x.name)) all
+  becomes-right c l y a x r once few at ha hr aty hl =
+      let t = node a x r in
+      let one = fastened-becomes c a x r once.4 (omega arith) at ha hr in
+      let d = fastened c x.name (root a) (root r) in
+      let two = fastened-becomes d l y t once few (IsAt-same (value_of c) (value_of d) y (one.aside y.name once.1) aty) (Hangs-same (value_of c) (value_of d) l (λ k q. one.aside k (λ p. once.2 k q p)) hl) one.hangs in
+      record { hangs = two.hangs; aside = λ k n. two.aside k n ∙ one.aside k (λ p. n (inr (inr p))); keeps = keeps_then c d _ one.keeps two.keeps }
+
+  -- two trees are made, and then one above both
+  becomes-both : (c : Contents (Node X)) (a : Tree X) (x : Row Name X) (b : Tree X) (z : Row Name X) (s : Tree X) (y : Row Name X) (r : Tree X)
+      → let t = node a x b in let u = node s y r in let all = node t z u in Once all → max (height t) (height u) + 1 < 2 ^ 32
+      → IsAt (value_of c) x → Hangs (value_of c) a → Hangs (value_of c) b → IsAt (value_of c) y → Hangs (value_of c) s → Hangs (value_of c) r → IsAt (value_of c) z
+      → Becomes c (fastened (fastened (fastened c x.name (root a) (root b)) y.name (root s) (root r)) z.name (Some x.name) (Some y.name)) all
+  becomes-both c a x b z s y r once few atx ha hb aty hs hr atz =
+      let t = node a x b in let u = node s y r in
+      let one = fastened-becomes c a x b once.3 (omega arith) atx ha hb in
+      let d = fastened c x.name (root a) (root b) in
+      let keep : (k : Name) → Has k u → value_of d k ≡ value_of c k = λ k q. one.aside k (λ p. once.2 k p q) in
+      let two = fastened-becomes d s y r once.4 (omega arith) (IsAt-same (value_of c) (value_of d) y (keep y.name (inl refl)) aty)
+      (Hangs-same (value_of c) (value_of d) s (λ k q. keep k (inr (inl q))) hs) (Hangs-same (value_of c) (value_of d) r (λ k q. keep k (inr (inr q))) hr) in
+      let e = fastened d y.name (root s) (root r) in
+      let three = fastened-becomes e t z u once few
+      (IsAt-same (value_of c) (value_of e) z (two.aside z.name once.1 ∙ one.aside z.name once.0) atz)
+      (Hangs-same (value_of d) (value_of e) t (λ k p. two.aside k (λ q. once.2 k p q)) one.hangs) two.hangs in
+      record { hangs = three.hangs; aside = λ k n. three.aside k n ∙ two.aside k (λ q. n (inr (inr q))) ∙ one.aside k (λ p. n (inr (inl p))); keeps = keeps_then c d _ one.keeps (keeps_then d e _ two.keeps three.keeps) }
+
+  twice_left-gives : (c : Contents (Node X)) (sound : IsSound c) (a : Tree X) (y : Row Name X) (b : Tree X) (x : Row Name X) (r : Tree X) → let t = twice_left a y b x r in Once t → height t < 2 ^ 32
+      → IsAt (value_of c) y → Hangs (value_of c) a → Hangs (value_of c) b → IsAt (value_of c) x → Hangs (value_of c) r → Gives c (twice_left_in c (root a) y.name (root b) x.name (root r)) t
+  unfolding twice_left_in
+  twice_left-gives c sound a y leaf x r once few aty ha hb atx hr = record { becomes = becomes-left c a y leaf r x once few aty ha hb atx hr; top = refl }
+  twice_left-gives c sound a y (node p z q) x r once few aty ha hb atx hr =
+      let parts = hung (value_of c) p z q hb in let el = left-is c sound p z q hb in let er = right-is c sound p z q hb in
+      let it = becomes-both c a y p z q x r once few aty ha parts.1 atx parts.2 hr parts.0 in
+      record {
+        becomes = subst (λ d. Becomes c d (node (node a y p) z (node q x r)))
+            (λ i. fastened (fastened (fastened c y.name (root a) (sym el i)) x.name (sym er i) (root r)) z.name (Some y.name) (Some x.name)) it;
+        top = refl;
+      }
+
+  chosen : (c : Contents (Node X)) (k : Bool) (m n : Made X) (t u : Tree X) → (Once t → height t < 2 ^ 32 → Gives c m t) → (Once u → height u < 2 ^ 32 → Gives c n u)
+      → Once (if k then t else u) → height (if k then t else u) < 2 ^ 32 → Gives c (if k then m else n) (if k then t else u)
+  chosen c true m n t u f g once few = f once few
+  chosen c false m n t u f g once few = g once few
+
+  from_left-gives : (c : Contents (Node X)) (sound : IsSound c) (l : Tree X) (x : Row Name X) (r : Tree X) → Hangs (value_of c) l → IsAt (value_of c) x → Hangs (value_of c) r
+      → Once (from_left l x r) → height (from_left l x r) < 2 ^ 32 → Gives c (from_left_in c (root l) x.name (root r)) (from_left l x r)
+  unfolding from_left_in
+  from_left-gives c sound leaf x r hl atx hr once few = record { becomes = fastened-becomes c leaf x r once few atx hl hr; top = refl }
+  from_left-gives c sound (node a y b) x r hl atx hr once few =
+      let parts = hung (value_of c) a y b hl in let el = left-is c sound a y b hl in let er = right-is c sound a y b hl in
+      let ha : high c (left_of c y.name) ≡ height a = ap (high c) el ∙ high-is c a parts.1 in
+      let hb : high c (right_of c y.name) ≡ height b = ap (high c) er ∙ high-is c b parts.2 in
+      let is : from_left_in c (Some y.name) x.name (root r)
+      ≡ (if nat_le (height b) (height a) then made (fastened (fastened c x.name (root b) (root r)) y.name (root a) (Some x.name)) y.name else twice_left_in c (root a) y.name (root b) x.name (root r))
+      = λ i. if nat_le (hb i) (ha i) then made (fastened (fastened c x.name (er i) (root r)) y.name (el i) (Some x.name)) y.name else twice_left_in c (el i) y.name (er i) x.name (root r) in
+      subst (λ m. Gives c m (from_left (node a y b) x r)) (sym is)
+      (chosen c (nat_le (height b) (height a)) _ _ (node a y (node b x r)) (twice_left a y b x r)
+      (λ o f. record { becomes = becomes-right c a y b x r o f atx parts.2 hr parts.0 parts.1; top = refl })
+      (λ o f. twice_left-gives c sound a y b x r o f parts.0 parts.1 parts.2 atx hr) once few)
+
+  twice_right-gives : (c : Contents (Node X)) (sound : IsSound c) (l : Tree X) (x : Row Name X) (a : Tree X) (y : Row Name X) (b : Tree X) → let t = twice_right l x a y b in Once t → height t < 2 ^ 32
+      → Hangs (value_of c) l → IsAt (value_of c) x → Hangs (value_of c) a → IsAt (value_of c) y → Hangs (value_of c) b → Gives c (twice_right_in c (root l) x.name (root a) y.name (root b)) t
+  unfolding twice_right_in
+  twice_right-gives c sound l x leaf y b once few hl atx ha aty hb = record { becomes = becomes-right c l x leaf y b once few aty ha hb atx hl; top = refl }
+  twice_right-gives c sound l x (node p z q) y b once few hl atx ha aty hb =
+      let parts = hung (value_of c) p z q ha in let el = left-is c sound p z q ha in let er = right-is c sound p z q ha in
+      let it = becomes-both c l x p z q y b once few atx hl parts.1 aty parts.2 hb parts.0 in
+      record {
+        becomes = subst (λ d. Becomes c d (node (node l x p) z (node q y b)))
+            (λ i. fastened (fastened (fastened c x.name (root l) (sym el i)) y.name (sym er i) (root b)) z.name (Some x.name) (Some y.name)) it;
+        top = refl;
+      }
+
+  from_right-gives : (c : Contents (Node X)) (sound : IsSound c) (l : Tree X) (x : Row Name X) (r : Tree X) → Hangs (value_of c) l → IsAt (value_of c) x → Hangs (value_of c) r
+      → Once (from_right l x r) → height (from_right l x r) < 2 ^ 32 → Gives c (from_right_in c (root l) x.name (root r)) (from_right l x r)
+  unfolding from_right_in
+  from_right-gives c sound l x leaf hl atx hr once few = record { becomes = fastened-becomes c l x leaf once few atx hl hr; top = refl }
+  from_right-gives c sound l x (node a y b) hl atx hr once few =
+      let parts = hung (value_of c) a y b hr in let el = left-is c sound a y b hr in let er = right-is c sound a y b hr in
+      let ha : high c (left_of c y.name) ≡ height a = ap (high c) el ∙ high-is c a parts.1 in
+      let hb : high c (right_of c y.name) ≡ height b = ap (high c) er ∙ high-is c b parts.2 in
+      let is : from_right_in c (root l) x.name (Some y.name)
+      ≡ (if nat_le (height a) (height b) then made (fastened (fastened c x.name (root l) (root a)) y.name (Some x.name) (root b)) y.name else twice_right_in c (root l) x.name (root a) y.name (root b))
+      = λ i. if nat_le (ha i) (hb i) then made (fastened (fastened c x.name (root l) (el i)) y.name (Some x.name) (er i)) y.name else twice_right_in c (root l) x.name (el i) y.name (er i) in
+      subst (λ m. Gives c m (from_right l x (node a y b))) (sym is)
+      (chosen c (nat_le (height a) (height b)) _ _ (node (node l x a) y b) (twice_right l x a y b)
+      (λ o f. record { becomes = becomes-left c l x a b y o f atx hl parts.1 parts.0 parts.2; top = refl })
+      (λ o f. twice_right-gives c sound l x a y b o f hl atx parts.1 parts.0 parts.2) once few)
+
+  pub balanced-gives : (c : Contents (Node X)) (sound : IsSound c) (l : Tree X) (x : Row Name X) (r : Tree X) → Hangs (value_of c) l → IsAt (value_of c) x → Hangs (value_of c) r
+      → Once (balanced l x r) → height (balanced l x r) < 2 ^ 32 → Gives c (balanced_in c (root l) x.name (root r)) (balanced l x r)
+  unfolding balanced_in
+  balanced-gives c sound l x r hl atx hr once few =
+      let el = high-is c l hl in let er = high-is c r hr in let o = root l in let p = root r in
+      subst (λ m. Gives c m (balanced l x r))
+      (λ i. if nat_lt 1 (sym el i - sym er i) then from_left_in c o x.name p else if nat_lt 1 (sym er i - sym el i) then from_right_in c o x.name p else made (fastened c x.name o p) x.name)
+      (chosen c (nat_lt 1 (height l - height r)) _ _ (from_left l x r) (if nat_lt 1 (height r - height l) then from_right l x r else node l x r)
+      (λ k f. from_left-gives c sound l x r hl atx hr k f)
+      (λ k f. chosen c (nat_lt 1 (height r - height l)) _ _ (from_right l x r) (node l x r)
+      (λ k f. from_right-gives c sound l x r hl atx hr k f)
+      (λ k f. record { becomes = fastened-becomes c l x r k f atx hl hr; top = refl }) k f) once few)

@@ -1,0 +1,18 @@
+//! An ordered index: rows in the ascending order of their keys, each under a name, as a balanced tree in the slots of a pool.
+#![tactic(auto)]
+
+mod entry;
+mod links;
+mod places;
+mod rotation;
+mod search;
+
+pub use entry::Entry;
+#[doc(hidden)]
+pub use links::{Links, Node};
+#[doc(hidden)]
+pub use places::{Place, attach, climb};
+#[doc(hidden)]
+pub use rotation::balance;
+#[doc(hidden)]
+pub use search::{Spot, seek};

@@ -1,0 +1,143 @@
+//! Nodes in a pool, each with links to its parent and to its two sides. The reads and writes of single links.
+//! A link is a slot, and leads to the live name of the slot: the serial stands in the pool alone.
+ghost use Rattle.std.specs.Prelude.{◌≡◌};
+ghost use Rattle.ac_pool.specs.Contents.{value_of};
+ghost use Rattle.ac_balance.specs.Link.{link_of, name_in};
+ghost use Rattle.ac_balance.specs.TreeFields.{left_of, right_of, parent_of, left_link, right_link, parent_link, high, with_parent, with_sides, with_side};
+
+use ac_base::Name;
+use ac_pool::Pool;
+
+/// A link to no node: no pool has so many slots.
+pub(crate) const NO_SLOT: u32 = u32::MAX;
+
+/// The link to a live name.
+pub(crate) fn link_to(to: Option<Name>) -> u32
+    ensures { result ≡ link_of to }
+{
+    match to {
+        Some(name) => name.slot,
+        None => NO_SLOT,
+    }
+}
+
+#[derive(Drop)]
+pub struct Node<T> {
+    pub value: T,
+    pub parent: u32,
+    pub left: u32,
+    pub right: u32,
+    /// How many nodes the longest way down has, this one counted.
+    pub height: u32,
+}
+
+#[derive(Drop)]
+pub struct Links<T> {
+    pub nodes: Pool<Node<T>>,
+    pub root: Option<Name>,
+}
+
+/// The name to which a link leads.
+fn name_in<T>(nodes: &Pool<Node<T>>, slot: u32) -> Option<Name>
+    ensures { result ≡ name_in nodes.now slot }
+{
+    nodes.name_in(slot)
+}
+
+fn left_link<T>(nodes: &Pool<Node<T>>, name: Name) -> u32
+    ensures { result ≡ left_link (value_of nodes.now name) }
+{
+    match nodes.get(name) {
+        Some(node) => node.left,
+        None => NO_SLOT,
+    }
+}
+
+fn right_link<T>(nodes: &Pool<Node<T>>, name: Name) -> u32
+    ensures { result ≡ right_link (value_of nodes.now name) }
+{
+    match nodes.get(name) {
+        Some(node) => node.right,
+        None => NO_SLOT,
+    }
+}
+
+fn parent_link<T>(nodes: &Pool<Node<T>>, name: Name) -> u32
+    ensures { result ≡ parent_link (value_of nodes.now name) }
+{
+    match nodes.get(name) {
+        Some(node) => node.parent,
+        None => NO_SLOT,
+    }
+}
+
+pub(crate) fn left<T>(nodes: &Pool<Node<T>>, name: Name) -> Option<Name>
+    ensures { result ≡ left_of nodes.now name }
+{
+    name_in(nodes, left_link(nodes, name))
+}
+
+pub(crate) fn right<T>(nodes: &Pool<Node<T>>, name: Name) -> Option<Name>
+    ensures { result ≡ right_of nodes.now name }
+{
+    name_in(nodes, right_link(nodes, name))
+}
+
+pub(crate) fn parent<T>(nodes: &Pool<Node<T>>, name: Name) -> Option<Name>
+    ensures { result ≡ parent_of nodes.now name }
+{
+    name_in(nodes, parent_link(nodes, name))
+}
+
+pub(crate) fn height<T>(nodes: &Pool<Node<T>>, name: Option<Name>) -> u32
+    ensures { result ≡ high nodes.now name }
+{
+    match name {
+        Some(name) => match nodes.get(name) {
+            Some(node) => node.height,
+            None => 0,
+        },
+        None => 0,
+    }
+}
+
+#[tactic(auto, unfolding(crate::specs::TreeFields::with_parent))]
+pub(crate) fn set_parent<T>(nodes: &mut Pool<Node<T>>, name: Option<Name>, to: Option<Name>)
+    ensures { nodes.new ≡ with_parent nodes.old name to }
+{
+    if let Some(name) = name {
+        if let Some(node) = nodes.get_mut(name) {
+            node.parent = link_to(to);
+        }
+    }
+}
+
+#[tactic(auto, unfolding(crate::specs::TreeFields::with_sides))]
+pub(crate) fn set_sides<T>(
+    nodes: &mut Pool<Node<T>>,
+    name: Name,
+    left: Option<Name>,
+    right: Option<Name>,
+    height: u32,
+)
+    ensures { nodes.new ≡ with_sides nodes.old name left right height }
+{
+    if let Some(node) = nodes.get_mut(name) {
+        node.left = link_to(left);
+        node.right = link_to(right);
+        node.height = height;
+    }
+}
+
+#[tactic(auto, unfolding(crate::specs::TreeFields::with_side))]
+pub(crate) fn set_side<T>(nodes: &mut Pool<Node<T>>, name: Name, is_left: bool, to: Option<Name>)
+    ensures { nodes.new ≡ with_side nodes.old name is_left to }
+{
+    if let Some(node) = nodes.get_mut(name) {
+        if is_left {
+            node.left = link_to(to);
+        } else {
+            node.right = link_to(to);
+        }
+    }
+}

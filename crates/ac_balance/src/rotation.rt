@@ -1,0 +1,141 @@
+//! The turns that keep the two sides of each node within one of each other in height.
+ghost use Rattle.std.specs.Prelude.{◌≡◌};
+ghost use Rattle.ac_balance.specs.TreeFields.{fastened, twice_left_in, from_left_in, twice_right_in, from_right_in, balanced_in};
+
+use crate::links::{Node, height, left, right, set_parent, set_sides};
+use ac_base::Name;
+use ac_pool::Pool;
+
+/// Gives the name's node these two sides.
+#[tactic(auto, unfolding(crate::specs::TreeFields::fastened))]
+fn fasten<T>(nodes: &mut Pool<Node<T>>, name: Name, left: Option<Name>, right: Option<Name>)
+    ensures { nodes.new ≡ fastened nodes.old name left right }
+{
+    let sides = height(nodes, left).max(height(nodes, right));
+    set_sides(nodes, name, left, right, sides.saturating_add(1));
+    set_parent(nodes, left, Some(name));
+    set_parent(nodes, right, Some(name));
+}
+
+#[tactic(auto, unfolding(crate::specs::TreeFields::twice_left_in))]
+fn twice_left<T>(
+    nodes: &mut Pool<Node<T>>,
+    outer: Option<Name>,
+    top: Name,
+    inner: Option<Name>,
+    at: Name,
+    right_side: Option<Name>,
+) -> Name
+    ensures nodes { nodes.new ≡ (twice_left_in nodes.old outer top inner at right_side).nodes }
+    ensures top { result ≡ (twice_left_in nodes.old outer top inner at right_side).top }
+{
+    let Some(middle) = inner else {
+        fasten(nodes, top, outer, None);
+        fasten(nodes, at, Some(top), right_side);
+        return at;
+    };
+    let first = left(nodes, middle);
+    let second = right(nodes, middle);
+    fasten(nodes, top, outer, first);
+    fasten(nodes, at, second, right_side);
+    fasten(nodes, middle, Some(top), Some(at));
+    middle
+}
+
+/// The left side is too high: its topmost node, or a node below that, becomes the topmost.
+#[tactic(auto, unfolding(crate::specs::TreeFields::from_left_in))]
+fn from_left<T>(
+    nodes: &mut Pool<Node<T>>,
+    left_side: Option<Name>,
+    at: Name,
+    right_side: Option<Name>,
+) -> Name
+    ensures nodes { nodes.new ≡ (from_left_in nodes.old left_side at right_side).nodes }
+    ensures top { result ≡ (from_left_in nodes.old left_side at right_side).top }
+{
+    let Some(top) = left_side else {
+        fasten(nodes, at, None, right_side);
+        return at;
+    };
+    let outer = left(nodes, top);
+    let inner = right(nodes, top);
+    if height(nodes, inner) > height(nodes, outer) {
+        return twice_left(nodes, outer, top, inner, at, right_side);
+    }
+    fasten(nodes, at, inner, right_side);
+    fasten(nodes, top, outer, Some(at));
+    top
+}
+
+#[tactic(auto, unfolding(crate::specs::TreeFields::twice_right_in))]
+fn twice_right<T>(
+    nodes: &mut Pool<Node<T>>,
+    left_side: Option<Name>,
+    at: Name,
+    inner: Option<Name>,
+    top: Name,
+    outer: Option<Name>,
+) -> Name
+    ensures nodes { nodes.new ≡ (twice_right_in nodes.old left_side at inner top outer).nodes }
+    ensures top { result ≡ (twice_right_in nodes.old left_side at inner top outer).top }
+{
+    let Some(middle) = inner else {
+        fasten(nodes, top, None, outer);
+        fasten(nodes, at, left_side, Some(top));
+        return at;
+    };
+    let first = left(nodes, middle);
+    let second = right(nodes, middle);
+    fasten(nodes, at, left_side, first);
+    fasten(nodes, top, second, outer);
+    fasten(nodes, middle, Some(at), Some(top));
+    middle
+}
+
+/// The right side is too high.
+#[tactic(auto, unfolding(crate::specs::TreeFields::from_right_in))]
+fn from_right<T>(
+    nodes: &mut Pool<Node<T>>,
+    left_side: Option<Name>,
+    at: Name,
+    right_side: Option<Name>,
+) -> Name
+    ensures nodes { nodes.new ≡ (from_right_in nodes.old left_side at right_side).nodes }
+    ensures top { result ≡ (from_right_in nodes.old left_side at right_side).top }
+{
+    let Some(top) = right_side else {
+        fasten(nodes, at, left_side, None);
+        return at;
+    };
+    let inner = left(nodes, top);
+    let outer = right(nodes, top);
+    if height(nodes, inner) > height(nodes, outer) {
+        return twice_right(nodes, left_side, at, inner, top, outer);
+    }
+    fasten(nodes, at, left_side, inner);
+    fasten(nodes, top, Some(at), outer);
+    top
+}
+
+/// Puts a node between two sides whose heights differ by at most two, and gives the topmost.
+#[tactic(auto, unfolding(crate::specs::TreeFields::balanced_in))]
+pub fn balance<T>(
+    nodes: &mut Pool<Node<T>>,
+    left_side: Option<Name>,
+    at: Name,
+    right_side: Option<Name>,
+) -> Name
+    ensures nodes { nodes.new ≡ (balanced_in nodes.old left_side at right_side).nodes }
+    ensures top { result ≡ (balanced_in nodes.old left_side at right_side).top }
+{
+    let left_height = height(nodes, left_side);
+    let right_height = height(nodes, right_side);
+    if left_height.saturating_sub(right_height) > 1 {
+        return from_left(nodes, left_side, at, right_side);
+    }
+    if right_height.saturating_sub(left_height) > 1 {
+        return from_right(nodes, left_side, at, right_side);
+    }
+    fasten(nodes, at, left_side, right_side);
+    at
+}

@@ -1,0 +1,106 @@
+//! The counted search from the root down.
+ghost use Rattle.std.specs.Prelude.{◌≡◌, ◌≤◌, ◌+◌, ◌*◌};
+ghost use Rattle.ac_pool.specs.Contents.{value_of, IsLive};
+ghost use Rattle.ac_balance.specs.declared.links.Node.{Node};
+ghost use Rattle.ac_balance.specs.declared.entry.Entry.{Entry};
+ghost use Rattle.ac_balance.specs.Trees.{Tree, height};
+ghost use Rattle.ac_balance.specs.Seeking.{IsTree, Stood, Seeks, lowered, start};
+
+use crate::entry::Entry;
+use crate::links::{Node, left, right};
+use ac_base::{Name, Rank, Steps};
+use ac_pool::Pool;
+use std::sync::ledger::Ledger;
+
+/// How far a search is: the part it has come to, its place, and the nearest rows on both sides.
+#[derive(Clone, Copy)]
+pub struct Spot {
+    pub part: Option<Name>,
+    pub parent: Option<Name>,
+    pub is_left: bool,
+    pub below: Option<Name>,
+    pub above: Option<Name>,
+}
+
+fn start(root: Option<Name>) -> Spot
+    ensures { result ≡ start root }
+{
+    Spot {
+        part: root,
+        parent: None,
+        is_left: false,
+        below: None,
+        above: None,
+    }
+}
+
+fn lower<T>(nodes: &Pool<Node<T>>, spot: Spot, name: Name, is_left: bool) -> Spot
+    ensures { result ≡ lowered nodes.now spot name is_left }
+{
+    if is_left {
+        return Spot {
+            part: left(nodes, name),
+            parent: Some(name),
+            is_left: true,
+            below: spot.below,
+            above: Some(name),
+        };
+    }
+    Spot {
+        part: right(nodes, name),
+        parent: Some(name),
+        is_left: false,
+        below: Some(name),
+        above: spot.above,
+    }
+}
+
+fn is_before<K: Rank, V, L: Ledger>(
+    k: &K,
+    nodes: &Pool<Node<Entry<K, V>>>,
+    name: Name,
+    steps: &mut Steps<L>,
+) -> bool
+    requires { IsLive nodes.now name }
+    ensures answer { (n : Node (Entry K V)) → value_of nodes.now name ≡ Some n → result ≡ K.is_less k.now n.value.key }
+    ensures one_step { steps.new ≡ steps.old + 1 }
+{
+    k.less(&nodes.get(name).unwrap().value.key, steps)
+}
+
+fn is_after<K: Rank, V, L: Ledger>(
+    k: &K,
+    nodes: &Pool<Node<Entry<K, V>>>,
+    name: Name,
+    steps: &mut Steps<L>,
+) -> bool
+    requires { IsLive nodes.now name }
+    ensures answer { (n : Node (Entry K V)) → value_of nodes.now name ≡ Some n → result ≡ K.is_less n.value.key k.now }
+    ensures one_step { steps.new ≡ steps.old + 1 }
+{
+    nodes.get(name).unwrap().value.key.less(k, steps)
+}
+
+/// The place of the key, with at most two steps for each level of the tree.
+pub fn seek<K: Rank, V, L: Ledger>(
+    nodes: &Pool<Node<Entry<K, V>>>,
+    root: Option<Name>,
+    k: &K,
+    steps: &mut Steps<L>,
+) -> Spot
+    requires { IsTree nodes.now root }
+    ensures found { (t : Tree (Entry K V)) → Stood nodes.now root t → Seeks nodes.now t (λ e. K.is_less e.key k.now) (λ e. K.is_less k.now e.key) result }
+    ensures few { (t : Tree (Entry K V)) → Stood nodes.now root t → steps.new ≤ steps.old + 2 * height t }
+{
+    let mut spot = start(root);
+    while let Some(name) = spot.part {
+        if is_before(k, nodes, name, steps) {
+            spot = lower(nodes, spot, name, true);
+        } else if is_after(k, nodes, name, steps) {
+            spot = lower(nodes, spot, name, false);
+        } else {
+            return spot;
+        }
+    }
+    spot
+}
