@@ -8,13 +8,13 @@ use Rattle.ac_balance.specs.declared.links.Links.{Links}
 use Rattle.ac_balance.specs.declared.places.Place.{Place}
 use Rattle.ac_base.specs.Rows.{Row}
 use Rattle.ac_balance.specs.Trees.{Tree, height, Balanced, Step, on_left, on_right, side_of, joined, plugged}
-use Rattle.ac_balance.specs.TreeFields.{node_with, linked, root, Stands, with_parent, side_written, with_side, attached}
+use Rattle.ac_balance.specs.TreeFields.{node_with, linked, root, Stands, with_parent, side_written, with_side, links, attached}
 use Rattle.ac_balance.specs.Link.{link_of}
-use Rattle.ac_balance.specs.Climbing.{Has, HasName, Once, name_of, above_in, Framed, IsSide, Open, Climbed, Closed, Keeps, Relinks}
+use Rattle.ac_balance.specs.Climbing.{Has, HasName, Once, name_of, above_in, Framed, IsSide, Open, Climbed, Closed, Keeps, Relinks, Closes}
 use Rattle.ac_balance.proofs.Keeping.{keeps_then, keeps_parent, keeps_side, sound_still}
 use Rattle.ac_balance.proofs.Standing.{Stands-same, Stands-moved, root_has, with_parent-writes}
 use Rattle.ac_balance.proofs.Names.{IsAround, plugged_once, named, part_has}
-use Rattle.ac_balance.proofs.Rising.{Framed-same}
+use Rattle.ac_balance.proofs.Rising.{Framed-same, relinks_then}
 use Rattle.ac_balance.proofs.Opening.{mend, root-top}
 
 module _ {X : Type 0} where
@@ -68,11 +68,6 @@ module _ {X : Type 0} where
   moved : (c : Contents (Node X)) (t : Tree X) (p q : Option Name) → Once t → Stands (value_of c) p t → Stands (value_of (with_parent c (root t) q)) q t
   moved c t p q once h = let w = with_parent-writes c (root t) q in Stands-moved (value_of c) _ p q t once w.here (λ a k n. w.there a n) h
 
-  -- what is linked, and what that leaves as it was
-  pub record Closes (l m : Links X) (rows : List (Row Name X)) : Type 0 where
-    pub closed : Closed m rows
-    pub relinks : Relinks rows l.nodes m.nodes
-
   closes_in : (l : Links X) (p : Place) (base : Option Name) (rows : List (Row Name X)) (steps : List (Step X)) (t : Tree X) → base ≡ l.root → Open l.nodes p base rows steps t (height t) → Balanced (plugged steps t)
       → Closes l (attached l (above_in steps) p.is_left (root t)) rows
   unfolding attached
@@ -112,3 +107,8 @@ module _ {X : Type 0} where
   closes l p rows k = let o = k.stands in
       subst (λ z. Closes l (attached l z p.is_left p.top) rows) (sym o.parent)
       (subst (λ z. Closes l (attached l (above_in k.steps) p.is_left z) rows) (sym o.top) (closes_in l p l.root rows k.steps k.part refl o k.balanced))
+
+  pub mends : (l : Links X) (d : Contents (Node X)) (q : Place) (m : Links X) (rows : List (Row Name X)) → Climbed d q l.root rows × Relinks rows l.nodes d → m ≡ attached (links d l.root) q.parent q.is_left q.top → Closes l m rows
+  mends l d q m rows k is =
+      let it = closes (links d l.root) q rows k.0 in
+      subst (λ (z : Links X). Closes l z rows) (sym is) (record { closed = it.closed; relinks = relinks_then rows l.nodes d _ k.1 it.relinks })

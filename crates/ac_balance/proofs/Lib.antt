@@ -1,5 +1,6 @@
 pub mod Climbs
 pub mod Closing
+pub mod Cuts
 pub mod Heights
 pub mod Keeping
 pub mod Lowering
@@ -13,3 +14,4 @@ pub mod SlotNames
 pub mod Standing
 pub mod Turning
 pub mod Turns
+pub mod Walks

@@ -11,34 +11,34 @@ module _ {X : Type 0} where
   IsOnce [] = Unit {0}
   IsOnce (r ∷ rows) = (HasName r.name rows → ⊥) × IsOnce rows
 
-  HasName-left : (a : Name) (xs ys : List (Row Name X)) → HasName a xs → HasName a (xs ++ ys)
+  pub HasName-left : (a : Name) (xs ys : List (Row Name X)) → HasName a xs → HasName a (xs ++ ys)
   HasName-left a [] ys h = absurd h
   HasName-left a (x ∷ xs) ys h = elim h [ inl e ↦ inl e | inr t ↦ inr (HasName-left a xs ys t) ]
 
-  HasName-right : (a : Name) (xs ys : List (Row Name X)) → HasName a ys → HasName a (xs ++ ys)
+  pub HasName-right : (a : Name) (xs ys : List (Row Name X)) → HasName a ys → HasName a (xs ++ ys)
   HasName-right a [] ys h = h
   HasName-right a (x ∷ xs) ys h = inr (HasName-right a xs ys h)
 
-  HasName-either : (a : Name) (xs ys : List (Row Name X)) → HasName a (xs ++ ys) → HasName a xs ⊎ HasName a ys
+  pub HasName-either : (a : Name) (xs ys : List (Row Name X)) → HasName a (xs ++ ys) → HasName a xs ⊎ HasName a ys
   HasName-either a [] ys h = inr h
   HasName-either a (x ∷ xs) ys h = elim h [ inl e ↦ inl (inl e) | inr t ↦ elim (HasName-either a xs ys t) [ inl l ↦ inl (inr l) | inr r ↦ inr r ] ]
 
-  once_left : (xs ys : List (Row Name X)) → IsOnce (xs ++ ys) → IsOnce xs
+  pub once_left : (xs ys : List (Row Name X)) → IsOnce (xs ++ ys) → IsOnce xs
   once_left [] ys h = tt
   once_left (x ∷ xs) ys h = (λ t. h.0 (HasName-left x.name xs ys t), once_left xs ys h.1)
 
-  once_right : (xs ys : List (Row Name X)) → IsOnce (xs ++ ys) → IsOnce ys
+  pub once_right : (xs ys : List (Row Name X)) → IsOnce (xs ++ ys) → IsOnce ys
   once_right [] ys h = h
   once_right (x ∷ xs) ys h = once_right xs ys h.1
 
-  apart : (xs ys : List (Row Name X)) → IsOnce (xs ++ ys) → (a : Name) → HasName a xs → HasName a ys → ⊥
+  pub apart : (xs ys : List (Row Name X)) → IsOnce (xs ++ ys) → (a : Name) → HasName a xs → HasName a ys → ⊥
   apart [] ys h a l r = absurd l
   apart (x ∷ xs) ys h a l r = elim l [
     | inl e ↦ h.0 (HasName-right x.name xs ys (subst (λ n. HasName n ys) e r))
     | inr t ↦ apart xs ys h.1 a t r
   ]
 
-  once-append : (xs ys : List (Row Name X)) → IsOnce xs → IsOnce ys → ((a : Name) → HasName a xs → HasName a ys → ⊥) → IsOnce (xs ++ ys)
+  pub once-append : (xs ys : List (Row Name X)) → IsOnce xs → IsOnce ys → ((a : Name) → HasName a xs → HasName a ys → ⊥) → IsOnce (xs ++ ys)
   once-append [] ys p q n = q
   once-append (x ∷ xs) ys p q n = (
     λ t. elim (HasName-either x.name xs ys t) [ inl l ↦ p.0 l | inr r ↦ n x.name (inl refl) r ],
@@ -121,7 +121,7 @@ module _ {X : Type 0} where
   plugged_le [] t = omega arith
   plugged_le (s ∷ steps) t = let up = plugged_le steps (joined s t) in let here = joined_le s t in omega (arith, up, here)
 
-  once_put : (xs : List (Row Name X)) (r : Row Name X) (ys : List (Row Name X)) → IsOnce (xs ++ ys) → (HasName r.name (xs ++ ys) → ⊥) → IsOnce (xs ++ r ∷ ys)
+  pub once_put : (xs : List (Row Name X)) (r : Row Name X) (ys : List (Row Name X)) → IsOnce (xs ++ ys) → (HasName r.name (xs ++ ys) → ⊥) → IsOnce (xs ++ r ∷ ys)
   once_put xs r ys h n = once-append xs (r ∷ ys) (once_left xs ys h) (λ q. n (HasName-right r.name xs ys q), once_right xs ys h) (λ a l q. elim q [
     | inl e ↦ n (HasName-left r.name xs ys (subst (λ k. HasName k xs) e l))
     | inr t ↦ apart xs ys h a l t

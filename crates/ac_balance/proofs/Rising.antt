@@ -47,7 +47,7 @@ module _ {X : Type 0} where
   settled-plugged s steps t = plugged-order steps (settled s t) ∙ ap (around steps) (settled-order s t) ∙ sym (plugged-order steps (joined s t))
 
   -- the names above the place are live
-  above-live : (f : Nodes X) (steps : List (Step X)) (o : Option Name) (h : ℕ) → Framed f steps o h → (a : Name) → above_in steps ≡ Some a → IsSome (f a)
+  pub above-live : (f : Nodes X) (steps : List (Step X)) (o : Option Name) (h : ℕ) → Framed f steps o h → (a : Name) → above_in steps ≡ Some a → IsSome (f a)
   above-live f [] o h k a e = cc
   above-live f (on_left x r ∷ steps) o h k a e = subst (λ n. IsSome (f n)) (some_name x.name a e) (ap is_some k.0)
   above-live f (on_right l x ∷ steps) o h k a e = subst (λ n. IsSome (f n)) (some_name x.name a e) (ap is_some k.0)
@@ -77,7 +77,7 @@ module _ {X : Type 0} where
       let there : left_of c x.name ≡ root l = ap (λ o. name_in c (left_link o)) k.0 ∙ linked_root c sound (Some x.name) l k.1 in
       ap (λ o. same_names o (Some n)) there ∙ other_root n l (λ m. ne (inr (inl m)))
 
-  falls : (c d : Contents (Node X)) (x : Name) (steps : List (Step X)) (k : ℕ) → height_of (value_of c x) ≡ k → k < 2 ^ 32 → Framed (value_of d) steps (Some x) k → left_to d (above_in steps) < left_to c (Some x)
+  pub falls : (c d : Contents (Node X)) (x : Name) (steps : List (Step X)) (k : ℕ) → height_of (value_of c x) ≡ k → k < 2 ^ 32 → Framed (value_of d) steps (Some x) k → left_to d (above_in steps) < left_to c (Some x)
   falls c d x [] k e few f = omega (arith, e, few)
   falls c d x (s ∷ steps) k e few f = let up = height-is (value_of d) s steps (Some x) k f in omega (arith, e, few, up)
 

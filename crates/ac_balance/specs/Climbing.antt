@@ -117,3 +117,15 @@ module _ {X : Type 0} where
     pub once : Once tree
     pub few : length rows ≤ 2 ^ 30
     pub sound : IsSound l.nodes
+
+  -- what is linked together again, and what that leaves as it was
+  pub record Closes (l m : Links X) (rows : List (Row Name X)) : Type 0 where
+    pub closed : Closed m rows
+    pub relinks : Relinks rows l.nodes m.nodes
+
+  pub record IsMendable (l : Links X) (p : Place) : Type 0 where
+    pub rows : List (Row Name X)
+    pub climbing : Climbing l.nodes p l.root rows
+
+  abbrev pub Mends : Links X → Place → Links X → Type 0
+  Mends l p m = (rows : List (Row Name X)) → Climbing l.nodes p l.root rows → Closes l m rows

@@ -1,5 +1,8 @@
 pub mod Climbing
+pub mod IndexFields
+pub mod Indexed
 pub mod Link
 pub mod Seeking
 pub mod TreeFields
 pub mod Trees
+pub mod Walking

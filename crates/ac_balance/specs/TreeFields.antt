@@ -141,6 +141,10 @@ module _ {X : Type 0} where
   abbrev pub risen : Contents (Node X) → Name → Bool → Option Name → Place
   risen c x on_left o = let up = parent_of c x in place up (is_left_in c up x) (Some (settled_in c x on_left o).top)
 
+  -- the place at which the name's node is
+  abbrev pub place_in : Contents (Node X) → Name → Option Name → Place
+  place_in c a o = let up = parent_of c a in place up (is_left_in c up a) o
+
   abbrev pub read_on : Contents (Node X) → Name → Option (Node X) → (Option Name → Tree X) → Tree X
   read_on c a None rest = leaf
   read_on c a (Some n) rest = node (rest (name_in c n.left)) (row a n.value) (rest (name_in c n.right))

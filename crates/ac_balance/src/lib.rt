@@ -6,13 +6,16 @@ mod links;
 mod places;
 mod rotation;
 mod search;
+mod walk;
 
 pub use entry::Entry;
 #[doc(hidden)]
 pub use links::{Links, Node};
 #[doc(hidden)]
-pub use places::{Place, attach, climb};
+pub use places::{Place, mend};
 #[doc(hidden)]
 pub use rotation::balance;
 #[doc(hidden)]
 pub use search::{Spot, seek};
+#[doc(hidden)]
+pub use walk::{leftmost, predecessor, rightmost, successor};

@@ -1,7 +1,7 @@
 //! A part of the tree and its place, and the way up from there.
 ghost use Rattle.std.specs.Prelude.{◌≡◌};
-ghost use Rattle.ac_balance.specs.TreeFields.{is_left_in, settled_in, risen, attached};
-ghost use Rattle.ac_balance.specs.Climbing.{IsClimbing, Climbs};
+ghost use Rattle.ac_balance.specs.TreeFields.{is_left_in, settled_in, risen, attached, place_in};
+ghost use Rattle.ac_balance.specs.Climbing.{IsClimbing, Climbs, IsMendable, Mends};
 
 use crate::links::{Links, Node, height, left, parent, right, set_parent, set_side};
 use crate::rotation::balance;
@@ -16,7 +16,19 @@ pub struct Place {
     pub top: Option<Name>,
 }
 
-fn is_on_left<T>(nodes: &Pool<Node<T>>, above: Option<Name>, name: Name) -> bool
+/// The place at which a node is, for another part.
+pub(crate) fn place_of<T>(nodes: &Pool<Node<T>>, name: Name, top: Option<Name>) -> Place
+    ensures { result ≡ place_in nodes.now name top }
+{
+    let above = parent(nodes, name);
+    Place {
+        parent: above,
+        is_left: is_on_left(nodes, above, name),
+        top,
+    }
+}
+
+pub(crate) fn is_on_left<T>(nodes: &Pool<Node<T>>, above: Option<Name>, name: Name) -> bool
     ensures { result ≡ is_left_in nodes.now above name }
 {
     match above {
@@ -54,7 +66,7 @@ fn rise<T>(nodes: &mut Pool<Node<T>>, name: Name, is_left: bool, top: Option<Nam
 }
 
 /// Balances the nodes above the place, from the parent up, until the height of one is what it was.
-pub fn climb<T>(nodes: &mut Pool<Node<T>>, from: Place) -> Place
+fn climb<T>(nodes: &mut Pool<Node<T>>, from: Place) -> Place
     requires { IsClimbing nodes.old from }
     ensures { Climbs nodes.old from nodes.new result }
 {
@@ -71,7 +83,7 @@ pub fn climb<T>(nodes: &mut Pool<Node<T>>, from: Place) -> Place
 
 /// Links the part with the node above it, or makes it the whole.
 #[tactic(auto, unfolding(crate::specs::TreeFields::attached))]
-pub fn attach<T>(links: &mut Links<T>, place: Place)
+fn attach<T>(links: &mut Links<T>, place: Place)
     ensures { links.new ≡ attached links.old place.parent place.is_left place.top }
 {
     match place.parent {
@@ -79,4 +91,13 @@ pub fn attach<T>(links: &mut Links<T>, place: Place)
         None => links.root = place.top,
     }
     set_parent(&mut links.nodes, place.top, place.parent);
+}
+
+/// Balances the nodes above the place, and links the tree together again.
+pub fn mend<T>(links: &mut Links<T>, place: Place)
+    requires { IsMendable links.old place }
+    ensures { Mends links.old place links.new }
+{
+    let place = climb(&mut links.nodes, place);
+    attach(links, place);
 }

@@ -1,0 +1,16 @@
+use Rattle.std.proofs.Common.{sym, ◌∙◌}
+use Rattle.ac_balance.specs.Walking.{last_name}
+use Rattle.ac_balance.proofs.Walks.{leans_whole, leans_right, leans_last, lower_right}
+use Rattle.ac_balance.proofs.walk.rightmost.Goals as goal
+
+pub loop-next-init : goal.loop-next-init
+loop-next-init g c = λ t h. leans_whole _ last_name t _ h
+
+pub loop-next-smaller : goal.loop-next-smaller
+loop-next-smaller g c = lower_right _ _ _ _ (c.loop-next.invariant c.requires.tree c.requires.stood) (sym c.right.ensures ∙ c.in-Some.is)
+
+pub loop-next-preserved : goal.loop-next-preserved
+loop-next-preserved g c = λ t h. leans_right _ t _ _ (c.loop-next.invariant t h) (sym c.right.ensures ∙ c.in-Some.is)
+
+pub returns : goal.returns
+returns g c = λ t h. leans_last _ t _ (c.loop-next.invariant t h) (sym c.right.ensures ∙ c.in_default.is)

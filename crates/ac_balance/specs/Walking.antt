@@ -1,0 +1,40 @@
+-- A node at its place in a tree, and the ends of a list of rows.
+use Rattle.std.specs.Prelude.{◌≡◌, ◌≤◌, ◌^◌, List, length, Option, Some, None}
+use Rattle.ac_base.specs.declared.name.Name.{Name}
+use Rattle.ac_base.specs.Rows.{Row}
+use Rattle.ac_pool.specs.Contents.{Contents, value_of, IsSound}
+use Rattle.ac_balance.specs.declared.links.Node.{Node}
+use Rattle.ac_balance.specs.Trees.{Tree, node, in_order, Step, plugged}
+use Rattle.ac_balance.specs.TreeFields.{root, Stands}
+use Rattle.ac_balance.specs.Climbing.{Once}
+use Rattle.ac_balance.specs.Indexed.{name_at, name_before}
+
+module _ {X : Type 0} where
+  abbrev pub first_name : List (Row Name X) → Option Name
+  first_name rows = name_at rows 0
+
+  abbrev pub last_name : List (Row Name X) → Option Name
+  last_name rows = name_before rows (length rows)
+
+  -- the part under the name stands at a place of the whole tree
+  pub record Placed (c : Contents (Node X)) (a : Name) (steps : List (Step X)) (t : Tree X) : Type 0 where
+    pub top : root t ≡ Some a
+    pub stands : Stands (value_of c) None (plugged steps t)
+    pub once : Once (plugged steps t)
+    pub few : length (in_order (plugged steps t)) ≤ 2 ^ 30
+    pub sound : IsSound c
+
+  pub record IsPlaced (c : Contents (Node X)) (a : Name) : Type 0 where
+    pub steps : List (Step X)
+    pub part : Tree X
+    pub placed : Placed c a steps part
+
+  abbrev pub AtNode : Contents (Node X) → Name → List (Step X) → Tree X → Row Name X → Tree X → Type 0
+  AtNode c a steps l x r = Placed c a steps (node l x r)
+
+  pub record IsAtNode (c : Contents (Node X)) (a : Name) : Type 0 where
+    pub steps : List (Step X)
+    pub left : Tree X
+    pub row : Row Name X
+    pub right : Tree X
+    pub placed : AtNode c a steps left row right
