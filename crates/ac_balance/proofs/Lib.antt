@@ -2,6 +2,7 @@ pub mod Climbs
 pub mod Closing
 pub mod Cuts
 pub mod Heights
+pub mod Indexes
 pub mod Keeping
 pub mod Lowering
 pub mod Names
@@ -9,6 +10,8 @@ pub mod Opening
 pub mod Reading
 pub mod Removal
 pub mod Rising
+pub mod Searched
+pub mod Searches
 pub mod Sides
 pub mod SlotNames
 pub mod Standing

@@ -17,6 +17,7 @@ module _ {X : Type 0} where
     pub rest : Tree X
     pub seeking : Seeking c t lo hi s steps rest
     pub few : now + 2 * height rest ≤ before + 2 * height t
+    pub counted : before ≤ now
 
   pub starts : (c : Contents (Node X)) (o : Option Name) (t : Tree X) (lo hi : X → Bool) (n : ℕ) → Stood c o t → Descends c t lo hi (start o) n n
   starts c o t lo hi n h = record {
@@ -24,6 +25,7 @@ module _ {X : Type 0} where
     rest = t;
     seeking = record { whole = refl; hangs = h.hangs; part = h.top; parent = refl; side = tt; below = refl; above = refl; led = tt };
     few = omega arith;
+    counted = omega arith;
   }
 
   -- the part is a node under the name
@@ -34,22 +36,23 @@ module _ {X : Type 0} where
     pub r : Tree X
     pub seeking : Seeking c t lo hi s steps (node l x r)
     pub few : now + 2 * height (node l x r) ≤ before + 2 * height t
+    pub counted : before ≤ now
     pub name : x.name ≡ a
     pub node : Node X
     pub found : value_of c a ≡ Some node
     pub value : node.value ≡ x.value
 
-  lies_in : (c : Contents (Node X)) (t : Tree X) (lo hi : X → Bool) (s : Spot) (a : Name) (before now : ℕ) (steps : List (Step X)) (u : Tree X) → s.part ≡ Some a → Seeking c t lo hi s steps u → now + 2 * height u ≤ before + 2 * height t → Lies c t lo hi s a before now
-  lies_in c t lo hi s a before now steps leaf e k few = let bad = sym e ∙ k.part in cc
-  lies_in c t lo hi s a before now steps (node l x r) e k few =
+  lies_in : (c : Contents (Node X)) (t : Tree X) (lo hi : X → Bool) (s : Spot) (a : Name) (before now : ℕ) (steps : List (Step X)) (u : Tree X) → s.part ≡ Some a → Seeking c t lo hi s steps u → now + 2 * height u ≤ before + 2 * height t → before ≤ now → Lies c t lo hi s a before now
+  lies_in c t lo hi s a before now steps leaf e k few counted = let bad = sym e ∙ k.part in cc
+  lies_in c t lo hi s a before now steps (node l x r) e k few counted =
       let both : Some x.name ≡ Some a = sym k.part ∙ e in let same : x.name ≡ a = cc in
-      record { steps = steps; l = l; x = x; r = r; seeking = k; few = few; name = same; node = _; found = ap (value_of c) (sym same) ∙ k.hangs.stands.0; value = refl }
+      record { steps = steps; l = l; x = x; r = r; seeking = k; few = few; counted = counted; name = same; node = _; found = ap (value_of c) (sym same) ∙ k.hangs.stands.0; value = refl }
 
   pub lies : (c : Contents (Node X)) (t : Tree X) (lo hi : X → Bool) (s : Spot) (a : Name) (before now : ℕ) → s.part ≡ Some a → Descends c t lo hi s before now → Lies c t lo hi s a before now
-  lies c t lo hi s a before now e d = lies_in c t lo hi s a before now d.steps d.rest e d.seeking d.few
+  lies c t lo hi s a before now e d = lies_in c t lo hi s a before now d.steps d.rest e d.seeking d.few d.counted
 
-  pub goes_left : (c : Contents (Node X)) (sound : IsSound c) (t : Tree X) (lo hi : X → Bool) (s q : Spot) (a : Name) (before now after : ℕ) (k : Lies c t lo hi s a before now) → hi k.node.value ≡ true → after ≤ now + 2 → q ≡ lowered c s a true → Descends c t lo hi q before after
-  goes_left c sound t lo hi s q a before now after k h le e = let n = k.x.name in let f = k.few in
+  pub goes_left : (c : Contents (Node X)) (sound : IsSound c) (t : Tree X) (lo hi : X → Bool) (s q : Spot) (a : Name) (before now after : ℕ) (k : Lies c t lo hi s a before now) → hi k.node.value ≡ true → now ≤ after → after ≤ now + 2 → q ≡ lowered c s a true → Descends c t lo hi q before after
+  goes_left c sound t lo hi s q a before now after k h more le e = let n = k.x.name in let f = k.few in
       subst (λ z. Descends c t lo hi z before after) (sym e)
       (subst (λ b. Descends c t lo hi (lowered c s b true) before after) k.name
       (record {
@@ -66,10 +69,11 @@ module _ {X : Type 0} where
           led = (ap hi (sym k.value) ∙ h, k.seeking.led);
         };
         few = omega arith;
+        counted = let were = k.counted in omega (arith, were, more);
       }))
 
-  pub goes_right : (c : Contents (Node X)) (sound : IsSound c) (t : Tree X) (lo hi : X → Bool) (s q : Spot) (a : Name) (before now after : ℕ) (k : Lies c t lo hi s a before now) → lo k.node.value ≡ true → after ≤ now + 2 → q ≡ lowered c s a false → Descends c t lo hi q before after
-  goes_right c sound t lo hi s q a before now after k h le e = let n = k.x.name in let f = k.few in
+  pub goes_right : (c : Contents (Node X)) (sound : IsSound c) (t : Tree X) (lo hi : X → Bool) (s q : Spot) (a : Name) (before now after : ℕ) (k : Lies c t lo hi s a before now) → lo k.node.value ≡ true → now ≤ after → after ≤ now + 2 → q ≡ lowered c s a false → Descends c t lo hi q before after
+  goes_right c sound t lo hi s q a before now after k h more le e = let n = k.x.name in let f = k.few in
       subst (λ z. Descends c t lo hi z before after) (sym e)
       (subst (λ b. Descends c t lo hi (lowered c s b false) before after) k.name
       (record {
@@ -86,6 +90,7 @@ module _ {X : Type 0} where
           led = (ap lo (sym k.value) ∙ h, k.seeking.led);
         };
         few = omega arith;
+        counted = let were = k.counted in omega (arith, were, more);
       }))
 
   pub meets : (c : Contents (Node X)) (t : Tree X) (lo hi : X → Bool) (s : Spot) (a : Name) (before now : ℕ) (k : Lies c t lo hi s a before now) → lo k.node.value ≡ false → hi k.node.value ≡ false → Seeks c t lo hi s

@@ -9,6 +9,11 @@ use Rattle.ac_balance.specs.TreeFields.{root, Stands}
 use Rattle.ac_balance.specs.Climbing.{Once}
 use Rattle.ac_balance.specs.Indexed.{name_at, name_before}
 
+-- the first of the two names that there is
+abbrev pub or_else : Option Name → Option Name → Option Name
+or_else None o = o
+or_else (Some a) o = Some a
+
 module _ {X : Type 0} where
   abbrev pub first_name : List (Row Name X) → Option Name
   first_name rows = name_at rows 0

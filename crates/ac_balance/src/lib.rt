@@ -2,6 +2,7 @@
 #![tactic(auto)]
 
 mod entry;
+mod index;
 mod links;
 mod places;
 mod rotation;
@@ -9,6 +10,7 @@ mod search;
 mod walk;
 
 pub use entry::Entry;
+pub use index::{OrderIndex, Present};
 #[doc(hidden)]
 pub use links::{Links, Node};
 #[doc(hidden)]

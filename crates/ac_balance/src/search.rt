@@ -91,6 +91,7 @@ pub fn seek<K: Rank, V, L: Ledger>(
     requires { IsTree nodes.now root }
     ensures found { (t : Tree (Entry K V)) → Stood nodes.now root t → Seeks nodes.now t (λ e. K.is_less e.key k.now) (λ e. K.is_less k.now e.key) result }
     ensures few { (t : Tree (Entry K V)) → Stood nodes.now root t → steps.new ≤ steps.old + 2 * height t }
+    ensures counted { steps.old ≤ steps.new }
 {
     let mut spot = start(root);
     while let Some(name) = spot.part {

@@ -16,7 +16,7 @@ pub loop-spot-preserved-then-is_before : goal.loop-spot-preserved-then-is_before
 loop-spot-preserved-then-is_before g c = λ t h.
     let k = lies _ _ _ _ _ _ _ _ c.in-Some.is (c.loop-spot.invariant t h) in
     let one = c.is_before.ensures.one_step in
-    goes_left _ h.sound _ _ _ _ _ _ _ _ _ k (sym (c.is_before.ensures.answer k.node k.found) ∙ c.if-is_before.true) (omega arith) c.lower-spot.ensures
+    goes_left _ h.sound _ _ _ _ _ _ _ _ _ k (sym (c.is_before.ensures.answer k.node k.found) ∙ c.if-is_before.true) (omega arith) (omega arith) c.lower-spot.ensures
 
 pub is_after-requires : goal.is_after-requires
 is_after-requires g c = live _ _ _ _ _ _ _ _ (lies _ _ _ _ _ _ _ _ c.in-Some.is (c.loop-spot.invariant c.requires.tree c.requires.stood))
@@ -29,7 +29,7 @@ pub loop-spot-preserved : goal.loop-spot-preserved
 loop-spot-preserved g c = λ t h.
     let k = lies _ _ _ _ _ _ _ _ c.in-Some.is (c.loop-spot.invariant t h) in
     let one = c.is_before.ensures.one_step in let two = c.is_after.ensures.one_step in
-    goes_right _ h.sound _ _ _ _ _ _ _ _ _ k (sym (c.is_after.ensures.answer k.node k.found) ∙ c.if-is_after.true) (omega arith) c.lower-spot-then-is_after.ensures
+    goes_right _ h.sound _ _ _ _ _ _ _ _ _ k (sym (c.is_after.ensures.answer k.node k.found) ∙ c.if-is_after.true) (omega arith) (omega arith) c.lower-spot-then-is_after.ensures
 
 pub returns-else-is_after-clause-found : goal.returns-else-is_after-clause-found
 returns-else-is_after-clause-found g c = λ t h.
@@ -47,3 +47,11 @@ returns-clause-found g c = λ t h. misses _ _ _ _ _ _ _ c.in_default.is (c.loop-
 
 pub returns-clause-few : goal.returns-clause-few
 returns-clause-few g c = λ t h. let d = c.loop-spot.invariant t h in let f = d.few in omega arith
+
+pub returns-else-is_after-clause-counted : goal.returns-else-is_after-clause-counted
+returns-else-is_after-clause-counted g c =
+    let k = lies _ _ _ _ _ _ _ _ c.in-Some.is (c.loop-spot.invariant c.requires.tree c.requires.stood) in let were = k.counted in
+    let one = c.is_before.ensures.one_step in let two = c.is_after.ensures.one_step in omega (arith, were, one, two)
+
+pub returns-clause-counted : goal.returns-clause-counted
+returns-clause-counted g c = let d = c.loop-spot.invariant c.requires.tree c.requires.stood in d.counted

@@ -1,0 +1,214 @@
+//! The ordered index. A contract sees its rows, each a name with a key and a value, in the ascending order of their keys.
+ghost use Rattle.std.specs.Prelude.{◌≡◌, ℕ, not, ◌+◌, ◌-◌, ◌^◌, ◌<◌, ◌≤◌, IsOk, IfOk, IfErr, OnOk, OnErr, Some, None, option_copied, length};
+ghost use Rattle.std.specs.Option.{option_copied_mut};
+ghost use Rattle.std.specs.Borrow.{sem};
+ghost use Rattle.ac_base.specs.Order.{are_level};
+ghost use Rattle.ac_balance.specs.Walking.{first_name, last_name, or_else};
+ghost use Rattle.ac_balance.specs.Indexed.{Indexed, IsThere, key_of, value_of, next_name, prev_name, first_where, last_where, no_rows, reserved, cleared, added, IsFresh, IsSound, FewSteps};
+
+use crate::entry::Entry;
+use crate::links::{Links, NO_SLOT, Node};
+use crate::places::{Place, mend};
+use crate::search::{Spot, seek};
+use crate::walk::{leftmost, predecessor, rightmost, successor};
+use ac_base::{Name, NoMemory, Rank, Steps};
+use ac_pool::Pool;
+use std::alloc::Global;
+use std::marker::{Brand, Model};
+use std::sync::ledger::{Blank, Ledger};
+
+/// A row that was not added, since one with an equivalent key is there.
+#[derive(Debug, Drop)]
+pub struct Present<K, V> {
+    pub at: Name,
+    pub k: K,
+    pub v: V,
+}
+
+/// Rows under names, in the ascending order of their keys, of which no two are equivalent. The names are a pool's, and so is the memory.
+#[derive(Drop)]
+pub struct OrderIndex<K: Rank, V> {
+    links: Links<Entry<K, V>>,
+}
+
+impl<K: Rank, V> Model for OrderIndex<K, V> {
+    ghost use Rattle.ac_balance.specs.Indexed.{Indexed, indexed, indexed_code};
+
+    ghost Value = { Indexed K V };
+
+    ghost coded = { indexed_code K.code V.code };
+
+    ghost use Rattle.ac_balance.specs.IndexFields.{rows_in, IsOrderIndex};
+
+    ghost view = { λ x. indexed (rows_in x.links) x.links.nodes.next_serial x.links.nodes.spare };
+
+    ghost invariant = { λ x. IsOrderIndex K.is_less x.links };
+}
+
+impl<K: Rank, V> OrderIndex<K, V> {
+    /// An index without rows, which takes no memory. Its first serial is 1.
+    pub fn new(alloc: Global) -> OrderIndex<K, V>
+        ensures empty { result ≡ no_rows 1 0 }
+        ensures sound { IsSound K.is_less result }
+    {
+        OrderIndex {
+            links: Links {
+                nodes: Pool::new(alloc),
+                root: None,
+            },
+        }
+    }
+
+    /// Makes at least `n` slots spare. Where it must grow, the slots become the least `8 * 2^k` that has room for `n` rows more.
+    pub fn reserve(&mut self, n: u64) -> Result<(), NoMemory>
+        requires { length self.old.rows + n ≤ 2 ^ 30 }
+        ensures ok { OnOk result (self.new ≡ reserved self.old n) }
+        ensures err { OnErr result (self.new ≡ self.old) }
+        ensures had_room { n ≤ self.old.spare → IsOk result }
+        ensures sound { IsSound K.is_less self.new }
+    {
+        self.links.nodes.reserve(n)
+    }
+
+    /// How many rows there are.
+    pub fn len(&self) -> u64
+        ensures count { result ≡ length self.now.rows }
+        ensures sound { IsSound K.is_less self.now }
+    {
+        self.links.nodes.live()
+    }
+
+    /// How many slots keep nothing.
+    pub fn spare(&self) -> u64
+        ensures count { result ≡ self.now.spare }
+        ensures sound { IsSound K.is_less self.now }
+    {
+        self.links.nodes.spare()
+    }
+
+    /// The serial that the next row gets.
+    pub fn next_serial(&self) -> u64
+        ensures serial { result ≡ self.now.next_serial }
+        ensures sound { IsSound K.is_less self.now }
+    {
+        self.links.nodes.next_serial()
+    }
+
+    /// The name of the first row, in O(log n).
+    pub fn first(&self) -> Option<Name>
+        ensures { result ≡ first_name self.now.rows }
+    {
+        match self.links.root {
+            Some(root) => Some(leftmost(&self.links.nodes, root)),
+            None => None,
+        }
+    }
+
+    /// The name of the last row, in O(log n).
+    pub fn last(&self) -> Option<Name>
+        ensures { result ≡ last_name self.now.rows }
+    {
+        match self.links.root {
+            Some(root) => Some(rightmost(&self.links.nodes, root)),
+            None => None,
+        }
+    }
+
+    /// The name of the row behind the name's, in O(log n). A walk over all rows is linear.
+    pub fn after(&self, name: Name) -> Option<Name>
+        requires { IsThere self.now name }
+        ensures { result ≡ next_name self.now name }
+    {
+        successor(&self.links.nodes, name)
+    }
+
+    /// The name of the row before the name's, in O(log n). A walk over all rows is linear.
+    pub fn before(&self, name: Name) -> Option<Name>
+        requires { IsThere self.now name }
+        ensures { result ≡ prev_name self.now name }
+    {
+        predecessor(&self.links.nodes, name)
+    }
+
+    /// The key of the name's row, or `None` where it has none.
+    pub fn key(&self, name: Name) -> Option<&K>
+        ensures key { option_copied result ≡ key_of self.now name }
+    {
+        match self.links.nodes.get(name) {
+            Some(node) => Some(&node.value.key),
+            None => None,
+        }
+    }
+
+    /// The value of the name's row, or `None` where it has none.
+    pub fn value(&self, name: Name) -> Option<&V>
+        ensures value { option_copied result ≡ value_of self.now name }
+    {
+        match self.links.nodes.get(name) {
+            Some(node) => Some(&node.value.value),
+            None => None,
+        }
+    }
+
+    /// The name of the row whose key is equivalent, or `None` where there is none.
+    pub fn find<L: Ledger>(&self, k: &K, steps: &mut Steps<L>) -> Option<Name>
+        ensures name { result ≡ first_where (λ x. are_level K.is_less x k.now) self.now }
+        ensures few { FewSteps (length self.now.rows) steps.old steps.new }
+    {
+        let spot = seek(&self.links.nodes, self.links.root, k, steps);
+        spot.part
+    }
+
+    /// The name of the last row whose key isn't greater.
+    pub fn floor<L: Ledger>(&self, k: &K, steps: &mut Steps<L>) -> Option<Name>
+        ensures name { result ≡ last_where (λ x. not (K.is_less k.now x)) self.now }
+        ensures few { FewSteps (length self.now.rows) steps.old steps.new }
+    {
+        let spot = seek(&self.links.nodes, self.links.root, k, steps);
+        either(spot.part, spot.below)
+    }
+
+    /// The name of the first row whose key isn't less.
+    pub fn ceiling<L: Ledger>(&self, k: &K, steps: &mut Steps<L>) -> Option<Name>
+        ensures name { result ≡ first_where (λ x. not (K.is_less x k.now)) self.now }
+        ensures few { FewSteps (length self.now.rows) steps.old steps.new }
+    {
+        let spot = seek(&self.links.nodes, self.links.root, k, steps);
+        either(spot.part, spot.above)
+    }
+}
+
+impl<K: Rank + Drop, V: Drop> OrderIndex<K, V> {
+    /// Drops all rows, and keeps the slots.
+    pub fn clear(&mut self)
+        ensures cleared { self.new ≡ cleared self.old }
+        ensures sound { IsSound K.is_less self.new }
+    {
+        self.links.nodes.clear();
+        self.links.root = None;
+    }
+
+    /// An index with `n` spare slots.
+    pub fn with_slots(alloc: Global, n: u64) -> Result<OrderIndex<K, V>, NoMemory>
+        requires { n ≤ 2 ^ 30 }
+        ensures empty { IfOk result (λ x. x ≡ no_rows 1 n) }
+        ensures sound { IfOk result (λ x. IsSound K.is_less x) }
+    {
+        Ok(OrderIndex {
+            links: Links {
+                nodes: Pool::with_slots(alloc, n)?,
+                root: None,
+            },
+        })
+    }
+}
+
+/// The first of the two names that there is.
+fn either(name: Option<Name>, other: Option<Name>) -> Option<Name>
+    ensures { result ≡ or_else name other }
+{
+    match name {
+        Some(_) => name,
+        None => other,
+    }
+}
