@@ -2,6 +2,7 @@ pub mod Climbing
 pub mod IndexFields
 pub mod Indexed
 pub mod Link
+pub mod Present
 pub mod Seeking
 pub mod TreeFields
 pub mod Trees

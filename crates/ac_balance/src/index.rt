@@ -5,17 +5,18 @@ ghost use Rattle.std.specs.Borrow.{sem};
 ghost use Rattle.ac_base.specs.Order.{are_level};
 ghost use Rattle.ac_balance.specs.Walking.{first_name, last_name, or_else};
 ghost use Rattle.ac_balance.specs.Indexed.{Indexed, IsThere, key_of, value_of, next_name, prev_name, first_where, last_where, no_rows, reserved, cleared, added, IsFresh, IsSound, FewSteps};
+ghost use Rattle.ac_balance.specs.Present.{IsPresent};
 
 use crate::entry::Entry;
-use crate::links::{Links, NO_SLOT, Node};
+use crate::links::{Links, alone};
 use crate::places::{Place, mend};
-use crate::search::{Spot, seek};
+use crate::search::{place_for, seek};
 use crate::walk::{leftmost, predecessor, rightmost, successor};
 use ac_base::{Name, NoMemory, Rank, Steps};
 use ac_pool::Pool;
 use std::alloc::Global;
-use std::marker::{Brand, Model};
-use std::sync::ledger::{Blank, Ledger};
+use std::marker::Model;
+use std::sync::ledger::Ledger;
 
 /// A row that was not added, since one with an equivalent key is there.
 #[derive(Debug, Drop)]
@@ -92,6 +93,36 @@ impl<K: Rank, V> OrderIndex<K, V> {
         ensures sound { IsSound K.is_less self.now }
     {
         self.links.nodes.next_serial()
+    }
+
+    /// Adds a row, in O(log n). Where one with an equivalent key is there, the key and the value come back.
+    pub fn add(&mut self, k: K, v: V) -> Result<Name, Present<K, V>>
+        requires spare { 0 < self.old.spare }
+        requires unspent { self.old.next_serial < 2 ^ 64 - 1 }
+        ensures fresh { IfOk result (IsFresh self.old) }
+        ensures absent { OnOk result (first_where (λ x. are_level K.is_less x k) self.old ≡ None) }
+        ensures added { IfOk result (λ name. self.new ≡ added K.is_less self.old name k v) }
+        ensures present { IfErr result (IsPresent K.is_less self.old k v) }
+        ensures err { OnErr result (self.new ≡ self.old) }
+        ensures sound { IsSound K.is_less self.new }
+    {
+        let spot = place_for(&self.links.nodes, self.links.root, &k);
+        if let Some(at) = spot.part {
+            return Err(Present { at, k, v });
+        }
+        let name = self
+            .links
+            .nodes
+            .put_reserved(alone(Entry { key: k, value: v }));
+        mend(
+            &mut self.links,
+            Place {
+                parent: spot.parent,
+                is_left: spot.is_left,
+                top: Some(name),
+            },
+        );
+        Ok(name)
     }
 
     /// The name of the first row, in O(log n).

@@ -3,7 +3,7 @@
 ghost use Rattle.std.specs.Prelude.{◌≡◌};
 ghost use Rattle.ac_pool.specs.Contents.{value_of};
 ghost use Rattle.ac_balance.specs.Link.{link_of, name_in};
-ghost use Rattle.ac_balance.specs.TreeFields.{left_of, right_of, parent_of, left_link, right_link, parent_link, high, with_parent, with_sides, with_side};
+ghost use Rattle.ac_balance.specs.TreeFields.{alone, left_of, right_of, parent_of, left_link, right_link, parent_link, high, with_parent, with_sides, with_side};
 
 use ac_base::Name;
 use ac_pool::Pool;
@@ -35,6 +35,19 @@ pub struct Node<T> {
 pub struct Links<T> {
     pub nodes: Pool<Node<T>>,
     pub root: Option<Name>,
+}
+
+/// A node that isn't linked with any.
+pub(crate) fn alone<T>(value: T) -> Node<T>
+    ensures { result ≡ alone value }
+{
+    Node {
+        value,
+        parent: NO_SLOT,
+        left: NO_SLOT,
+        right: NO_SLOT,
+        height: 1,
+    }
 }
 
 /// The name to which a link leads.

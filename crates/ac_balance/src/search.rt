@@ -1,5 +1,5 @@
 //! The counted search from the root down.
-ghost use Rattle.std.specs.Prelude.{◌≡◌, ◌≤◌, ◌+◌, ◌*◌};
+ghost use Rattle.std.specs.Prelude.{◌≡◌, ◌<◌, ◌≤◌, ◌+◌, ◌*◌};
 ghost use Rattle.ac_pool.specs.Contents.{value_of, IsLive};
 ghost use Rattle.ac_balance.specs.declared.links.Node.{Node};
 ghost use Rattle.ac_balance.specs.declared.entry.Entry.{Entry};
@@ -10,7 +10,8 @@ use crate::entry::Entry;
 use crate::links::{Node, left, right};
 use ac_base::{Name, Rank, Steps};
 use ac_pool::Pool;
-use std::sync::ledger::Ledger;
+use std::marker::Brand;
+use std::sync::ledger::{Blank, Ledger};
 
 /// How far a search is: the part it has come to, its place, and the nearest rows on both sides.
 #[derive(Clone, Copy)]
@@ -104,4 +105,31 @@ pub fn seek<K: Rank, V, L: Ledger>(
         }
     }
     spot
+}
+
+fn sought<K: Rank, V, L: Ledger>(
+    nodes: &Pool<Node<Entry<K, V>>>,
+    root: Option<Name>,
+    k: &K,
+    blank: Blank,
+) -> Spot
+    requires name { blank.name ≡ L.name }
+    requires parts { blank.parts ≡ L.parts }
+    requires some { 0 < blank.parts }
+    requires tree { IsTree nodes.now root }
+    ensures { (t : Tree (Entry K V)) → Stood nodes.now root t → Seeks nodes.now t (λ e. K.is_less e.key k.now) (λ e. K.is_less k.now e.key) result }
+{
+    seek(nodes, root, k, &mut Steps::<L>::new(blank))
+}
+
+/// `seek`, for a caller that counts nothing.
+pub(crate) fn place_for<K: Rank, V>(
+    nodes: &Pool<Node<Entry<K, V>>>,
+    root: Option<Name>,
+    k: &K,
+) -> Spot
+    requires { IsTree nodes.now root }
+    ensures { (t : Tree (Entry K V)) → Stood nodes.now root t → Seeks nodes.now t (λ e. K.is_less e.key k.now) (λ e. K.is_less k.now e.key) result }
+{
+    sought::<K, V, Brand>(nodes, root, k, Blank::new(1))
 }
