@@ -135,9 +135,9 @@ module _ {K V : Type 0} (less : K → K → Bool) (weak : IsWeakOrder less) wher
         vacant l (rows_in l) i.closed i.ascending a k v d (ap (λ c. value_of c a) is ∙ value_of-added_same l.nodes a (alone (entry k v)))
         (λ b ne. ap (λ c. value_of c b) is ∙ value_of-added_other l.nodes a b (alone (entry k v)) ne) sound no_row (omega (arith, n, most, spare)) s none h
 
-    pub added_index : (s : Spot) → Vacant d l.root (rows_in l) s a k v → (m : Links (Entry K V)) → Closes (links d l.root) m (with_row less (rows_in l) a k v)
+    pub added_index : (s : Spot) → Vacant d l.root (rows_in l) s a k v → (m : Links (Entry K V)) (high_before : ℕ) → Closes (links d l.root) m (with_row less (rows_in l) a k v) high_before
         → IsOrderIndex less m × (view_of m ≡ index.added less (view_of l) a k v)
-    added_index s w m closes =
+    added_index s w m high_before closes =
         let rows = with_row less (rows_in l) a k v in let keeps = closes.relinks.keeps in
         let all : (b : Name) → IsLive m.nodes b → HasName b rows = λ b live. put_has (rows_in l) a k v w.put b (go b (sym (keeps.live b) ∙ live)) in
         let count : length rows ≡ live_count m.nodes =

@@ -7,7 +7,7 @@ use Rattle.ac_balance.specs.declared.links.Node.{Node}
 use Rattle.ac_balance.specs.declared.links.Links.{Links}
 use Rattle.ac_balance.specs.declared.places.Place.{Place}
 use Rattle.ac_base.specs.Rows.{Row}
-use Rattle.ac_balance.specs.Trees.{Tree, height, Balanced, Step, on_left, on_right, side_of, joined, plugged}
+use Rattle.ac_balance.specs.Trees.{Tree, height, Level, Balanced, Step, on_left, on_right, side_of, joined, plugged}
 use Rattle.ac_balance.specs.TreeFields.{node_with, linked, root, Stands, with_parent, side_written, with_side, links, attached}
 use Rattle.ac_balance.specs.Link.{link_of}
 use Rattle.ac_balance.specs.Climbing.{Has, HasName, Once, name_of, above_in, Framed, IsSide, Open, Climbed, Closed, Keeps, Relinks, Closes}
@@ -65,19 +65,20 @@ module _ {X : Type 0} where
   joined_names (on_left x r) t = inl refl
   joined_names (on_right l x) t = inl refl
 
-  moved : (c : Contents (Node X)) (t : Tree X) (p q : Option Name) → Once t → Stands (value_of c) p t → Stands (value_of (with_parent c (root t) q)) q t
+  pub moved : (c : Contents (Node X)) (t : Tree X) (p q : Option Name) → Once t → Stands (value_of c) p t → Stands (value_of (with_parent c (root t) q)) q t
   moved c t p q once h = let w = with_parent-writes c (root t) q in Stands-moved (value_of c) _ p q t once w.here (λ a k n. w.there a n) h
 
-  closes_in : (l : Links X) (p : Place) (base : Option Name) (rows : List (Row Name X)) (steps : List (Step X)) (t : Tree X) → base ≡ l.root → Open l.nodes p base rows steps t (height t) → Balanced (plugged steps t)
-      → Closes l (attached l (above_in steps) p.is_left (root t)) rows
+  closes_in : (l : Links X) (p : Place) (base : Option Name) (rows : List (Row Name X)) (steps : List (Step X)) (t : Tree X) → base ≡ l.root → Open l.nodes p base rows steps t (height t) → Balanced (plugged steps t) → (high : ℕ) → Level high (height (plugged steps t))
+      → Closes l (attached l (above_in steps) p.is_left (root t)) rows high
   unfolding attached
-  closes_in l p base rows [] t e o bal =
+  closes_in l p base rows [] t e o bal high near =
       let c = l.nodes in let w = with_parent-writes c (root t) None in let kept = keeps_parent c (root t) None in
       record {
         closed = record { tree = t; top = refl; stands = moved c t o.hangs.parent None o.once o.hangs.stands; balanced = bal; ordered = o.ordered; once = o.once; few = o.few; sound = sound_still c _ kept o.sound };
         relinks = record { aside = λ a n. w.there a (λ is. n (subst (HasName a) o.ordered (named a t (root_has t a is)))); keeps = kept };
+        near = near;
       }
-  closes_in l p base rows (s ∷ steps) t e o bal =
+  closes_in l p base rows (s ∷ steps) t e o bal high near =
       let n = name_of s in let up = plugged_once steps (joined s t) o.once in let here = joined_apart s t up.0 in let part = plugged_once (s ∷ steps) t o.once in
       let put = framed-put l.nodes s steps o.link (root t) (height t) p.is_left o.side here.1 (λ k. up.1 n (joined_names s t) k) o.framed in
       let d = with_side l.nodes n p.is_left (root t) in
@@ -101,14 +102,17 @@ module _ {X : Type 0} where
           aside = λ a z. w.there a (λ is. z (inside a (part_has (s ∷ steps) t a (root_has t a is)))) ∙ put.1 a (λ same. z (inside a (subst (λ b. Has b (plugged (s ∷ steps) t)) (sym same) (part_has steps (joined s t) n (joined_names s t)))));
           keeps = kept;
         };
+        near = near;
       }
 
-  pub closes : (l : Links X) (p : Place) (rows : List (Row Name X)) → Climbed l.nodes p l.root rows → Closes l (attached l p.parent p.is_left p.top) rows
-  closes l p rows k = let o = k.stands in
-      subst (λ z. Closes l (attached l z p.is_left p.top) rows) (sym o.parent)
-      (subst (λ z. Closes l (attached l (above_in k.steps) p.is_left z) rows) (sym o.top) (closes_in l p l.root rows k.steps k.part refl o k.balanced))
+  pub closes : (l : Links X) (p : Place) (rows : List (Row Name X)) (high : ℕ) → Climbed l.nodes p l.root rows high → Closes l (attached l p.parent p.is_left p.top) rows high
+  closes l p rows high k =
+      let o = k.stands in
+      subst (λ z. Closes l (attached l z p.is_left p.top) rows high) (sym o.parent)
+      (subst (λ z. Closes l (attached l (above_in k.steps) p.is_left z) rows high) (sym o.top) (closes_in l p l.root rows k.steps k.part refl o k.balanced high k.near))
 
-  pub mends : (l : Links X) (d : Contents (Node X)) (q : Place) (m : Links X) (rows : List (Row Name X)) → Climbed d q l.root rows × Relinks rows l.nodes d → m ≡ attached (links d l.root) q.parent q.is_left q.top → Closes l m rows
-  mends l d q m rows k is =
-      let it = closes (links d l.root) q rows k.0 in
-      subst (λ (z : Links X). Closes l z rows) (sym is) (record { closed = it.closed; relinks = relinks_then rows l.nodes d _ k.1 it.relinks })
+  pub mends : (l : Links X) (d : Contents (Node X)) (q : Place) (m : Links X) (rows : List (Row Name X)) (high : ℕ) → Climbed d q l.root rows high × Relinks rows l.nodes d → m ≡ attached (links d l.root) q.parent q.is_left q.top
+      → Closes l m rows high
+  mends l d q m rows high k is =
+      let it = closes (links d l.root) q rows high k.0 in
+      subst (λ (z : Links X). Closes l z rows high) (sym is) (record { closed = it.closed; relinks = relinks_then rows l.nodes d _ k.1 it.relinks; near = it.near })

@@ -2,8 +2,10 @@ pub mod Adding
 pub mod Climbs
 pub mod Closing
 pub mod Cuts
+pub mod Cutting
 pub mod Heights
 pub mod Indexes
+pub mod Joining
 pub mod Keeping
 pub mod Lowering
 pub mod Names

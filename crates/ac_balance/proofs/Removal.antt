@@ -2,16 +2,11 @@
 use Rattle.std.proofs.Common.{◌≡◌, ℕ, ◌+◌, max, List, [], ◌∷◌, ◌++◌, refl, sym, ap, ◌∙◌, subst, arith}
 use Rattle.ac_base.specs.declared.name.Name.{Name}
 use Rattle.ac_base.specs.Rows.{Row}
-use Rattle.ac_balance.specs.Trees.{Tree, leaf, node, in_order, height, Level, Balanced, balanced, Step, on_right, side_of, joined, settled, plugged, climbed, before, after, Fits}
+use Rattle.ac_balance.specs.Trees.{Tree, leaf, node, in_order, height, Level, Balanced, balanced, Step, on_right, side_of, joined, settled, plugged, climbed, before, after, tall, Fits}
 use Rattle.ac_balance.proofs.Turns.{balanced-order}
 use Rattle.ac_balance.proofs.Climbs.{around, plugged-order, climbed-order, joined-height, plugged-fits, settled-step, climbed-balanced}
 
 module _ {X : Type 0} where
-  -- the whole height over a place of that height
-  abbrev pub tall : List (Step X) → ℕ → ℕ
-  tall [] h = h
-  tall (s ∷ steps) h = tall steps (max h (height (side_of s)) + 1)
-
   pub plugged-height : (steps : List (Step X)) (t : Tree X) → height (plugged steps t) ≡ tall steps (height t)
   plugged-height [] t = refl
   plugged-height (s ∷ steps) t = plugged-height steps (joined s t) ∙ ap (tall steps) (joined-height s t)
@@ -21,7 +16,7 @@ module _ {X : Type 0} where
   climbed-near (s ∷ steps) t h f p near = let up = settled-step s t h f.0 f.1 p near in climbed-near steps (settled s t) (max h (height (side_of s)) + 1) f.2 up.0 up.1
 
   -- a node without a left side goes, and its right side comes up
-  first_near : (s : Row Name X) (q : Tree X) → Balanced (node leaf s q) → Level (height (node leaf s q)) (height q)
+  pub first_near : (s : Row Name X) (q : Tree X) → Balanced (node leaf s q) → Level (height (node leaf s q)) (height q)
   first_near s q p = record { up = omega arith; down = omega arith }
 
   pub removed-balanced : (steps path : List (Step X)) (l : Tree X) (x s : Row Name X) (q : Tree X) → Balanced (plugged steps (node l x (plugged path (node leaf s q))))

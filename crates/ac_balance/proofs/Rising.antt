@@ -6,7 +6,7 @@ use Rattle.ac_pool.proofs.NameLaws.{ties_itself, ties_no_other}
 use Rattle.ac_balance.specs.declared.links.Node.{Node}
 use Rattle.ac_balance.specs.declared.places.Place.{Place}
 use Rattle.ac_base.specs.Rows.{Row}
-use Rattle.ac_balance.specs.Trees.{Tree, leaf, node, in_order, height, Level, Balanced, balanced, Step, on_left, on_right, side_of, joined, settled, plugged, Fits}
+use Rattle.ac_balance.specs.Trees.{Tree, leaf, node, in_order, height, Level, Balanced, balanced, Step, on_left, on_right, side_of, joined, settled, plugged, tall, Fits}
 use Rattle.ac_balance.specs.TreeFields.{root, left_link, right_link, parent_link, left_of, right_of, height_of, high, balanced_in, parent_of, same_names, is_left_in, settled_in, risen}
 use Rattle.ac_balance.specs.Link.{name_in}
 use Rattle.ac_balance.specs.Climbing.{Has, Once, Hangs, name_of, above_in, Framed, IsSide, IsRooted, Open, Climbing, Climbed, HasName, Relinks, Keeps}
@@ -15,7 +15,11 @@ use Rattle.ac_balance.proofs.Keeping.{keeps_itself, keeps_then, sound_still}
 use Rattle.ac_balance.proofs.Standing.{Nodes, some_name, Stands-same, high-is, linked_root}
 use Rattle.ac_balance.proofs.Names.{IsAround, once_order, plugged_once, height_le, plugged_le, named, part_has}
 use Rattle.ac_balance.proofs.Turning.{Gives, balanced-gives}
+use Rattle.ac_balance.proofs.Removal.{plugged-height}
 use Rattle.ac_balance.proofs.Climbs.{settled-order, settled-step, plugged-balanced, plugged-order, around}
+
+level_same : (h k : ℕ) → k ≡ h → Level h k
+level_same h k e = record { up = omega arith; down = omega arith }
 
 module _ {X : Type 0} where
   pub Framed-same : (f g : Nodes X) (steps : List (Step X)) (o : Option Name) (h : ℕ) → ((a : Name) → IsAround a steps → g a ≡ f a) → Framed f steps o h → Framed g steps o h
@@ -93,18 +97,19 @@ module _ {X : Type 0} where
   rooted-up base s [] h = tt
   rooted-up base s (r ∷ steps) h = h
 
-  pub record Raised (c : Contents (Node X)) (x : Name) (d : Contents (Node X)) (q : Place) (base : Option Name) (rows : List (Row Name X)) : Type 0 where
+  pub record Raised (c : Contents (Node X)) (x : Name) (d : Contents (Node X)) (q : Place) (base : Option Name) (rows : List (Row Name X)) (high_before : ℕ) : Type 0 where
     pub climbing : Climbing d q base rows
     pub was : climbing.was ≡ height_of (value_of c x)
     pub less : left_to d q.parent < left_to c (Some x)
     pub relinks : Relinks rows c d
+    pub whole : tall climbing.steps climbing.was ≡ high_before
 
   step-live : (f : Nodes X) (s : Step X) (steps : List (Step X)) (o : Option Name) (h : ℕ) → Framed f (s ∷ steps) o h → IsSome (f (name_of s))
   step-live f (on_left x r) steps o h k = ap is_some k.0
   step-live f (on_right l x) steps o h k = ap is_some k.0
 
   raised : (c : Contents (Node X)) (p : Place) (base : Option Name) (rows : List (Row Name X)) (s : Step X) (steps : List (Step X)) (t : Tree X) (h : ℕ) → Open c p base rows (s ∷ steps) t h → Fits (s ∷ steps) h → Balanced t → Level h (height t)
-      → Raised c (name_of s) (settled_in c (name_of s) p.is_left (root t)).nodes (risen c (name_of s) p.is_left (root t)) base rows
+      → Raised c (name_of s) (settled_in c (name_of s) p.is_left (root t)).nodes (risen c (name_of s) p.is_left (root t)) base rows (tall (s ∷ steps) h)
   raised c p base rows s steps t h o fits bal near =
       let n = name_of s in let k = max h (height (side_of s)) + 1 in let u = settled s t in
       let m = settled_in c n p.is_left (root t) in
@@ -117,9 +122,9 @@ module _ {X : Type 0} where
       let framed : Framed (value_of m.nodes) steps (Some n) k = Framed-same (value_of c) (value_of m.nodes) steps (Some n) k (λ a z. gives.becomes.aside a (λ w. apart.1 a w z)) (framed-rest (value_of c) s steps o.link h o.framed) in
       let parent = parent-is c o.sound s steps o.link h o.framed in
       let was = height-is (value_of c) s steps o.link h o.framed in
-      let tall = joined_high s t in let low2 = height_le (joined s t) in let lower2 = plugged_le steps (joined s t) in let len2 = ap length o.ordered in let nu = near.up in
+      let high_now = joined_high s t in let low2 = height_le (joined s t) in let lower2 = plugged_le steps (joined s t) in let len2 = ap length o.ordered in let nu = near.up in
       let not_around : IsAround n steps → ⊥ = λ z. (plugged_once steps (joined s t) o.once).1 n (named_there s t) z in
-      let small : k < 2 ^ 32 = omega (arith, tall, low2, lower2, len2, few, nu) in
+      let small : k < 2 ^ 32 = omega (arith, high_now, low2, lower2, len2, few, nu) in
       record {
         climbing = record {
           steps = steps;
@@ -145,32 +150,45 @@ module _ {X : Type 0} where
         was = sym was;
         less = subst (λ z. left_to m.nodes z < left_to c (Some n)) (sym parent) (falls c m.nodes n steps k was small framed);
         relinks = record { aside = λ a z. gives.becomes.aside a (λ w. z (subst (HasName a) ordered (named a (plugged steps u) (part_has steps u a w)))); keeps = gives.becomes.keeps };
+        whole = refl;
       }
 
   raise : (c : Contents (Node X)) (p : Place) (base : Option Name) (rows : List (Row Name X)) (x : Name) (steps : List (Step X)) (t : Tree X) (h : ℕ) → p.parent ≡ Some x → Open c p base rows steps t h → Fits steps h → Balanced t → Level h (height t)
-      → Raised c x (settled_in c x p.is_left p.top).nodes (risen c x p.is_left p.top) base rows
+      → Raised c x (settled_in c x p.is_left p.top).nodes (risen c x p.is_left p.top) base rows (tall steps h)
   raise c p base rows x [] t h e o fits bal near = let bad = sym e ∙ o.parent in cc
   raise c p base rows x (s ∷ steps) t h e o fits bal near =
-      let both : Some (name_of s) ≡ Some x = sym o.parent ∙ e in let same : name_of s ≡ x = cc in
-      subst (λ z. Raised c z (settled_in c z p.is_left p.top).nodes (risen c z p.is_left p.top) base rows) same
-      (subst (λ z. Raised c (name_of s) (settled_in c (name_of s) p.is_left z).nodes (risen c (name_of s) p.is_left z) base rows) (sym o.top) (raised c p base rows s steps t h o fits bal near))
+      let both : Some (name_of s) ≡ Some x = sym o.parent ∙ e in let same : name_of s ≡ x = cc in let high = tall (s ∷ steps) h in
+      subst (λ z. Raised c z (settled_in c z p.is_left p.top).nodes (risen c z p.is_left p.top) base rows high) same
+      (subst (λ z. Raised c (name_of s) (settled_in c (name_of s) p.is_left z).nodes (risen c (name_of s) p.is_left z) base rows high) (sym o.top) (raised c p base rows s steps t h o fits bal near))
 
-  pub rises : (c : Contents (Node X)) (p : Place) (base : Option Name) (rows : List (Row Name X)) (x : Name) → p.parent ≡ Some x → Climbing c p base rows → Raised c x (settled_in c x p.is_left p.top).nodes (risen c x p.is_left p.top) base rows
+  pub rises : (c : Contents (Node X)) (p : Place) (base : Option Name) (rows : List (Row Name X)) (x : Name) → p.parent ≡ Some x → (k : Climbing c p base rows) → Raised c x (settled_in c x p.is_left p.top).nodes (risen c x p.is_left p.top) base rows (tall k.steps k.was)
   rises c p base rows x e k = raise c p base rows x k.steps k.part k.was e k.stands k.fits k.balanced k.near
 
   -- the height is what it was: nothing above changes
-  pub stops : (c : Contents (Node X)) (p : Place) (base : Option Name) (rows : List (Row Name X)) (k : Climbing c p base rows) → high c p.top ≡ k.was → Climbed c p base rows
+  pub stops : (c : Contents (Node X)) (p : Place) (base : Option Name) (rows : List (Row Name X)) (k : Climbing c p base rows) → high c p.top ≡ k.was → Climbed c p base rows (tall k.steps k.was)
   stops c p base rows k e =
       let is : k.was ≡ height k.part = sym e ∙ ap (high c) k.stands.top ∙ high-is c k.part k.stands.hangs in
-      record { steps = k.steps; part = k.part; stands = subst (λ n. Open c p base rows k.steps k.part n) is k.stands; balanced = plugged-balanced k.steps k.part (subst (λ n. Fits k.steps n) is k.fits) k.balanced }
+      record {
+        steps = k.steps;
+        part = k.part;
+        stands = subst (λ n. Open c p base rows k.steps k.part n) is k.stands;
+        balanced = plugged-balanced k.steps k.part (subst (λ n. Fits k.steps n) is k.fits) k.balanced;
+        near = level_same (tall k.steps k.was) (height (plugged k.steps k.part)) (plugged-height k.steps k.part ∙ ap (tall k.steps) (sym is));
+      }
 
-  -- there is ne node above
-  at_root : (c : Contents (Node X)) (p : Place) (base : Option Name) (rows : List (Row Name X)) (steps : List (Step X)) (t : Tree X) (h : ℕ) → p.parent ≡ None → Open c p base rows steps t h → Balanced t → Climbed c p base rows
-  at_root c p base rows [] t h e o bal = record { steps = []; part = t; stands = record { link = None; parent = o.parent; rooted = tt; side = tt; top = o.top; framed = tt; hangs = o.hangs; ordered = o.ordered; once = o.once; few = o.few; sound = o.sound }; balanced = bal }
-  at_root c p base rows (s ∷ steps) t h e o bal = let bad = sym e ∙ o.parent in cc
+  -- there is no node above
+  at_root : (c : Contents (Node X)) (p : Place) (base : Option Name) (rows : List (Row Name X)) (steps : List (Step X)) (t : Tree X) (h : ℕ) → p.parent ≡ None → Open c p base rows steps t h → Balanced t → Level h (height t) → Climbed c p base rows (tall steps h)
+  at_root c p base rows [] t h e o bal near = record {
+    steps = [];
+    part = t;
+    stands = record { link = None; parent = o.parent; rooted = tt; side = tt; top = o.top; framed = tt; hangs = o.hangs; ordered = o.ordered; once = o.once; few = o.few; sound = o.sound };
+    balanced = bal;
+    near = near;
+  }
+  at_root c p base rows (s ∷ steps) t h e o bal near = let bad = sym e ∙ o.parent in cc
 
-  pub ends : (c : Contents (Node X)) (p : Place) (base : Option Name) (rows : List (Row Name X)) → p.parent ≡ None → Climbing c p base rows → Climbed c p base rows
-  ends c p base rows e k = at_root c p base rows k.steps k.part k.was e k.stands k.balanced
+  pub ends : (c : Contents (Node X)) (p : Place) (base : Option Name) (rows : List (Row Name X)) → p.parent ≡ None → (k : Climbing c p base rows) → Climbed c p base rows (tall k.steps k.was)
+  ends c p base rows e k = at_root c p base rows k.steps k.part k.was e k.stands k.balanced k.near
 
   pub relinks_itself : (rows : List (Row Name X)) (c : Contents (Node X)) → Relinks rows c c
   relinks_itself rows c = record { aside = λ a n. refl; keeps = keeps_itself c }
@@ -179,9 +197,13 @@ module _ {X : Type 0} where
   relinks_then rows c d e p q = record { aside = λ a n. q.aside a n ∙ p.aside a n; keeps = keeps_then c d e p.keeps q.keeps }
 
   pub rises_to : (c d : Contents (Node X)) (p q : Place) (base : Option Name) (rows : List (Row Name X)) (x : Name) → p.parent ≡ Some x → d ≡ (settled_in c x p.is_left p.top).nodes → q ≡ risen c x p.is_left p.top
-      → Climbing c p base rows → Raised c x d q base rows
-  rises_to c d p q base rows x e is was k = subst (λ z. Raised c x z q base rows) (sym is) (subst (λ z. Raised c x (settled_in c x p.is_left p.top).nodes z base rows) (sym was) (rises c p base rows x e k))
+      → (k : Climbing c p base rows) → Raised c x d q base rows (tall k.steps k.was)
+  rises_to c d p q base rows x e is was k =
+      let whole = tall k.steps k.was in
+      subst (λ z. Raised c x z q base rows whole) (sym is) (subst (λ z. Raised c x (settled_in c x p.is_left p.top).nodes z base rows whole) (sym was) (rises c p base rows x e k))
 
   pub stops_at : (c d : Contents (Node X)) (p q : Place) (base : Option Name) (rows : List (Row Name X)) (x : Name) (was now : ℕ) → p.parent ≡ Some x → d ≡ (settled_in c x p.is_left p.top).nodes → q ≡ risen c x p.is_left p.top
-      → was ≡ high c (Some x) → now ≡ high d q.top → now ≡ was → Climbing c p base rows → Climbed d q base rows × Relinks rows c d
-  stops_at c d p q base rows x was now e is it old new same k = let up = rises_to c d p q base rows x e is it k in (stops d q base rows up.climbing (sym new ∙ same ∙ old ∙ sym up.was), up.relinks)
+      → was ≡ high c (Some x) → now ≡ high d q.top → now ≡ was → (k : Climbing c p base rows) → Climbed d q base rows (tall k.steps k.was) × Relinks rows c d
+  stops_at c d p q base rows x was now e is it old new same k =
+      let up = rises_to c d p q base rows x e is it k in
+      (subst (λ n. Climbed d q base rows n) up.whole (stops d q base rows up.climbing (sym new ∙ same ∙ old ∙ sym up.was)), up.relinks)

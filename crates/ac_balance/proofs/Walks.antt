@@ -212,7 +212,7 @@ module _ {X : Type 0} where
           (record { steps = steps; part = joined (on_left x r) k.part; placed = placed_above c a (on_left x r) steps k.part p; same = same })
 
   -- the node's own sides
-  own_links : (c : Contents (Node X)) (a : Name) (steps : List (Step X)) (l : Tree X) (x : Row Name X) (r : Tree X) → AtNode c a steps l x r → (left_of c a ≡ root l) × (right_of c a ≡ root r) × Hangs (value_of c) l × Hangs (value_of c) r
+  pub own_links : (c : Contents (Node X)) (a : Name) (steps : List (Step X)) (l : Tree X) (x : Row Name X) (r : Tree X) → AtNode c a steps l x r → (left_of c a ≡ root l) × (right_of c a ≡ root r) × Hangs (value_of c) l × Hangs (value_of c) r
   own_links c a steps l x r p =
       let n = some_name x.name a p.top in let parts = cut (value_of c) steps (node l x r) p.stands in
       let hangs : Hangs (value_of c) (node l x r) = record { parent = above_in steps; stands = parts.1 } in

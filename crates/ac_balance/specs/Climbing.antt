@@ -6,7 +6,7 @@ use Rattle.ac_pool.specs.Contents.{Contents, value_of, live_count, IsSound}
 use Rattle.ac_balance.specs.declared.links.Node.{Node}
 use Rattle.ac_balance.specs.declared.links.Links.{Links}
 use Rattle.ac_balance.specs.declared.places.Place.{Place}
-use Rattle.ac_balance.specs.Trees.{Tree, leaf, node, in_order, height, Level, Balanced, Step, on_left, on_right, plugged, Fits}
+use Rattle.ac_balance.specs.Trees.{Tree, leaf, node, in_order, height, Level, Balanced, Step, on_left, on_right, plugged, tall, Fits}
 use Rattle.ac_balance.specs.TreeFields.{linked, root, Stands}
 
 module _ {X : Type 0} where
@@ -92,12 +92,13 @@ module _ {X : Type 0} where
     pub balanced : Balanced part
     pub near : Level was (height part)
 
-  -- the whole is balanced
-  pub record Climbed (c : Contents (Node X)) (p : Place) (base : Option Name) (rows : List (Row Name X)) : Type 0 where
+  -- the whole is balanced, and its height was high, but for one
+  pub record Climbed (c : Contents (Node X)) (p : Place) (base : Option Name) (rows : List (Row Name X)) (high : ℕ) : Type 0 where
     pub steps : List (Step X)
     pub part : Tree X
     pub stands : Open c p base rows steps part (height part)
     pub balanced : Balanced (plugged steps part)
+    pub near : Level high (height (plugged steps part))
 
   pub record IsClimbing (c : Contents (Node X)) (p : Place) : Type 0 where
     pub base : Option Name
@@ -105,7 +106,7 @@ module _ {X : Type 0} where
     pub climbing : Climbing c p base rows
 
   abbrev pub Climbs : Contents (Node X) → Place → Contents (Node X) → Place → Type 0
-  Climbs c p d q = (base : Option Name) (rows : List (Row Name X)) → Climbing c p base rows → Climbed d q base rows × Relinks rows c d
+  Climbs c p d q = (base : Option Name) (rows : List (Row Name X)) → (k : Climbing c p base rows) → Climbed d q base rows (tall k.steps k.was) × Relinks rows c d
 
   -- the links are the tree's, and the tree is balanced and has these rows
   pub record Closed (l : Links X) (rows : List (Row Name X)) : Type 0 where
@@ -119,13 +120,14 @@ module _ {X : Type 0} where
     pub sound : IsSound l.nodes
 
   -- what is linked together again, and what that leaves as it was
-  pub record Closes (l m : Links X) (rows : List (Row Name X)) : Type 0 where
+  pub record Closes (l m : Links X) (rows : List (Row Name X)) (high : ℕ) : Type 0 where
     pub closed : Closed m rows
     pub relinks : Relinks rows l.nodes m.nodes
+    pub near : Level high (height closed.tree)
 
   pub record IsMendable (l : Links X) (p : Place) : Type 0 where
     pub rows : List (Row Name X)
     pub climbing : Climbing l.nodes p l.root rows
 
   abbrev pub Mends : Links X → Place → Links X → Type 0
-  Mends l p m = (rows : List (Row Name X)) → Climbing l.nodes p l.root rows → Closes l m rows
+  Mends l p m = (rows : List (Row Name X)) → (k : Climbing l.nodes p l.root rows) → Closes l m rows (tall k.steps k.was)

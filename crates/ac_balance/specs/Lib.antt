@@ -1,4 +1,5 @@
 pub mod Climbing
+pub mod Detaching
 pub mod IndexFields
 pub mod Indexed
 pub mod Link

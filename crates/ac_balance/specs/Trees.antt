@@ -90,3 +90,8 @@ module _ {X : Type 0} where
   abbrev pub Fits : List (Step X) → ℕ → Type 0
   Fits [] h = Unit {0}
   Fits (s ∷ steps) h = Level h (height (side_of s)) × Balanced (side_of s) × Fits steps (max h (height (side_of s)) + 1)
+
+  -- the whole height over a place of that height
+  abbrev pub tall : List (Step X) → ℕ → ℕ
+  tall [] h = h
+  tall (s ∷ steps) h = tall steps (max h (height (side_of s)) + 1)

@@ -1,6 +1,7 @@
 //! An ordered index: rows in the ascending order of their keys, each under a name, as a balanced tree in the slots of a pool.
 #![tactic(auto)]
 
+mod detaching;
 mod entry;
 mod index;
 mod links;
@@ -9,6 +10,8 @@ mod rotation;
 mod search;
 mod walk;
 
+#[doc(hidden)]
+pub use detaching::detach;
 pub use entry::Entry;
 pub use index::{OrderIndex, Present};
 #[doc(hidden)]

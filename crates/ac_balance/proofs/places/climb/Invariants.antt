@@ -1,4 +1,5 @@
-use Rattle.std.proofs.Common.{List, Option}
+use Rattle.std.proofs.Common.{◌≡◌, List, Option}
+use Rattle.ac_balance.specs.Trees.{tall}
 use Rattle.ac_base.specs.declared.name.Name.{Name}
 use Rattle.ac_base.specs.Rows.{Row}
 use Rattle.ac_balance.specs.Climbing.{IsClimbing, Climbing, Relinks}
@@ -8,7 +9,7 @@ use Rattle.ac_balance.proofs.places.climb.Given as goal
 abbrev pub invariant-loop-place : goal.invariant-loop-place
 invariant-loop-place g l = record {
   is : IsClimbing l.nodes l.place;
-  kept : (base : Option Name) (rows : List (Row Name _)) → Climbing l.fn.nodes l.fn.from base rows → Climbing l.nodes l.place base rows × Relinks rows l.fn.nodes l.nodes;
+  kept : (base : Option Name) (rows : List (Row Name _)) (k : Climbing l.fn.nodes l.fn.from base rows) → (up : Climbing l.nodes l.place base rows) × (tall up.steps up.was ≡ tall k.steps k.was) × Relinks rows l.fn.nodes l.nodes;
 }
 
 abbrev pub decreases-loop-place : goal.decreases-loop-place

@@ -36,7 +36,7 @@ invariant_of-self g c =
     let is : put.new.self ≡ pool.added l.nodes put.result (alone (entry k v)) = put.ensures.added ∙ ap (pool.added l.nodes put.result) c.alone.ensures in
     let spare : 0 < l.nodes.spare = subst (λ x. 0 < x.spare) (sym c.self.view_is) c.requires.spare in
     let w = fresh_vacant less weak l s put.result k v put.new.self put.ensures.fresh is put.ensures.sound spare c.place_for-spot.result c.in_default.is (c.place_for-spot.ensures s.closed.tree (stood_root less l s)) in
-    let it = added_index less weak l s put.result k v put.new.self put.ensures.fresh is put.ensures.sound spare c.place_for-spot.result w c.mend.new.links (c.mend.ensures _ w.climbing) in
+    let it = added_index less weak l s put.result k v put.new.self put.ensures.fresh is put.ensures.sound spare c.place_for-spot.result w c.mend.new.links _ (c.mend.ensures _ w.climbing) in
     it.0
 
 pub returns-clause-fresh : goal.returns-clause-fresh
@@ -58,7 +58,7 @@ returns-clause-added g c =
     let is : put.new.self ≡ pool.added l.nodes put.result (alone (entry k v)) = put.ensures.added ∙ ap (pool.added l.nodes put.result) c.alone.ensures in
     let spare : 0 < l.nodes.spare = subst (λ x. 0 < x.spare) (sym c.self.view_is) c.requires.spare in
     let w = fresh_vacant less weak l s put.result k v put.new.self put.ensures.fresh is put.ensures.sound spare c.place_for-spot.result c.in_default.is (c.place_for-spot.ensures s.closed.tree (stood_root less l s)) in
-    let it = added_index less weak l s put.result k v put.new.self put.ensures.fresh is put.ensures.sound spare c.place_for-spot.result w c.mend.new.links (c.mend.ensures _ w.climbing) in
+    let it = added_index less weak l s put.result k v put.new.self put.ensures.fresh is put.ensures.sound spare c.place_for-spot.result w c.mend.new.links _ (c.mend.ensures _ w.climbing) in
     subst (λ x. view_of c.mend.new.links ≡ added less x put.result k v) c.self.view_is it.1
 
 pub returns-clause-sound : goal.returns-clause-sound
@@ -67,5 +67,5 @@ returns-clause-sound g c =
     let is : put.new.self ≡ pool.added l.nodes put.result (alone (entry k v)) = put.ensures.added ∙ ap (pool.added l.nodes put.result) c.alone.ensures in
     let spare : 0 < l.nodes.spare = subst (λ x. 0 < x.spare) (sym c.self.view_is) c.requires.spare in
     let w = fresh_vacant less weak l s put.result k v put.new.self put.ensures.fresh is put.ensures.sound spare c.place_for-spot.result c.in_default.is (c.place_for-spot.ensures s.closed.tree (stood_root less l s)) in
-    let it = added_index less weak l s put.result k v put.new.self put.ensures.fresh is put.ensures.sound spare c.place_for-spot.result w c.mend.new.links (c.mend.ensures _ w.climbing) in
+    let it = added_index less weak l s put.result k v put.new.self put.ensures.fresh is put.ensures.sound spare c.place_for-spot.result w c.mend.new.links _ (c.mend.ensures _ w.climbing) in
     sound_of less c.mend.new.links it.0

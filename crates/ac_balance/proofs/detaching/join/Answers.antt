@@ -1,0 +1,24 @@
+use Rattle.std.proofs.Common.{Some, sym, ◌∙◌, subst}
+use Rattle.ac_balance.specs.Trees.{Tree}
+use Rattle.ac_balance.specs.Detaching.{Part}
+use Rattle.ac_balance.proofs.Joining.{joined_both}
+use Rattle.ac_balance.proofs.detaching.join.Goals as goal
+
+pub leftmost-first-requires : goal.leftmost-first-requires
+leftmost-first-requires g c =
+    let n = c.requires in let p = n.beside.right in record { tree = n.right; stood = record { top = sym c.in-Some.is ∙ p.top; hangs = p.hangs; sound = p.sound } }
+
+pub cut_first-requires : goal.cut_first-requires
+cut_first-requires g c =
+    let n = c.requires in let p = n.beside.right in
+    record {
+      tree = n.right;
+      part = subst (λ o. Part c.args.links.now.nodes o n.right) c.in-Some.is p;
+      is_first = c.leftmost-first.ensures n.right (record { top = sym c.in-Some.is ∙ p.top; hangs = p.hangs; sound = p.sound });
+    }
+
+pub returns : goal.returns
+returns g c = λ t u b.
+    let p = b.right in
+    let k = c.cut_first.ensures u (subst (λ o. Part c.args.links.now.nodes o u) c.in-Some.is p) (c.leftmost-first.ensures u (record { top = sym c.in-Some.is ∙ p.top; hangs = p.hangs; sound = p.sound })) in
+    joined_both c.args.links.now c.cut_first.new.links c.args.left_side c.args.right_side t u c.leftmost-first.result c.balance.new.nodes c.balance.result b k c.balance.ensures.nodes c.balance.ensures.top
