@@ -18,6 +18,7 @@ pub mod Searches
 pub mod Sides
 pub mod SlotNames
 pub mod Standing
+pub mod Taking
 pub mod Turning
 pub mod Turns
 pub mod Walks

@@ -1,5 +1,5 @@
 -- What a contract sees of an ordered index: its rows in the ascending order of their keys, the next serial, and how many slots are spare.
-use Rattle.std.specs.Prelude.{◌≡◌, ◌≢◌, ℕ, zero, suc, ◌+◌, ◌-◌, ◌*◌, ◌<◌, ◌≤◌, ◌^◌, Bool, true, List, [], ◌∷◌, length, reverse, find, Option, Some, None, nat_le, if◌then◌else◌, refl}
+use Rattle.std.specs.Prelude.{◌≡◌, ◌≢◌, ℕ, zero, suc, ◌+◌, ◌-◌, ◌*◌, ◌<◌, ◌≤◌, ◌^◌, Bool, true, List, [], ◌∷◌, length, reverse, find, Option, Some, None, is_some, nat_le, if◌then◌else◌, refl}
 use Rattle.std.specs.List.{slice_get, slice_set, insert, remove, prefix_len}
 use Rattle.std.specs.Option.{option_map}
 use Rattle.std.specs.Coded.{Coded, code_by, coded×, coded_ℕ, coded_list}
@@ -120,9 +120,17 @@ module _ {K V : Type 0} where
   abbrev pub added : (K → K → Bool) → Indexed K V → Name → K → V → Indexed K V
   added less c a key value = indexed (with_row less c.rows a key value) (c.next_serial + 1) (c.spare - 1)
 
-  -- the name's row is gone, and its slot is spare
-  abbrev pub removed : Indexed K V → Name → Indexed K V
-  removed c a = indexed (without c.rows a) c.next_serial (c.spare + 1)
+  -- the key and the value of the name's row
+  abbrev pub row_of : Indexed K V → Name → Option (K × V)
+  row_of c a = option_map (λ (e : Entry K V). (e.key, e.value)) (value_at c.rows a)
+
+  -- the name's row is gone
+  abbrev pub without_row : Indexed K V → Name → Indexed K V
+  without_row c a = with_rows c (without c.rows a)
+
+  -- the name's row is gone where it was there, and its slot is spare
+  abbrev pub taken : Indexed K V → Name → Indexed K V
+  taken c a = if is_some (value_at c.rows a) then indexed (without c.rows a) c.next_serial (c.spare + 1) else c
 
   -- the name has another row, at the place where it belongs
   abbrev pub with_new_row : (K → K → Bool) → Indexed K V → Name → K → V → Indexed K V

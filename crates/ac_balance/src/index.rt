@@ -4,11 +4,12 @@ ghost use Rattle.std.specs.Option.{option_copied_mut};
 ghost use Rattle.std.specs.Borrow.{sem};
 ghost use Rattle.ac_base.specs.Order.{are_level};
 ghost use Rattle.ac_balance.specs.Walking.{first_name, last_name, or_else};
-ghost use Rattle.ac_balance.specs.Indexed.{Indexed, IsThere, key_of, value_of, next_name, prev_name, first_where, last_where, no_rows, reserved, cleared, added, IsFresh, IsSound, FewSteps};
+ghost use Rattle.ac_balance.specs.Indexed.{Indexed, IsThere, key_of, value_of, next_name, prev_name, first_where, last_where, no_rows, reserved, cleared, added, row_of, taken, without_row, with_new_row, IsFresh, IsSound, FewSteps};
 ghost use Rattle.ac_balance.specs.Present.{IsPresent};
 
+use crate::detaching::detach;
 use crate::entry::Entry;
-use crate::links::{Links, alone};
+use crate::links::{Links, alone, renew};
 use crate::places::{Place, mend};
 use crate::search::{place_for, seek};
 use crate::walk::{leftmost, predecessor, rightmost, successor};
@@ -125,6 +126,20 @@ impl<K: Rank, V> OrderIndex<K, V> {
         Ok(name)
     }
 
+    /// Takes the row out, in O(log n), and frees its slot. `None` where the name has no row.
+    pub fn take(&mut self, name: Name) -> Option<(K, V)>
+        ensures row { result ≡ row_of self.old name }
+        ensures taken { self.new ≡ taken self.old name }
+        ensures sound { IsSound K.is_less self.new }
+    {
+        if self.links.nodes.get(name).is_none() {
+            return None;
+        }
+        detach(&mut self.links, name);
+        let node = self.links.nodes.take(name).unwrap();
+        Some((node.value.key, node.value.value))
+    }
+
     /// The name of the first row, in O(log n).
     pub fn first(&self) -> Option<Name>
         ensures { result ≡ first_name self.now.rows }
@@ -210,6 +225,26 @@ impl<K: Rank, V> OrderIndex<K, V> {
 }
 
 impl<K: Rank + Drop, V: Drop> OrderIndex<K, V> {
+    /// Gives the name another row, in O(log n). No other row may have an equivalent key.
+    pub fn set_row(&mut self, name: Name, k: K, v: V)
+        requires there { IsThere self.old name }
+        requires only { first_where (λ x. are_level K.is_less x k) (without_row self.old name) ≡ None }
+        ensures row { self.new ≡ with_new_row K.is_less self.old name k v }
+        ensures sound { IsSound K.is_less self.new }
+    {
+        detach(&mut self.links, name);
+        let spot = place_for(&self.links.nodes, self.links.root, &k);
+        renew(&mut self.links.nodes, name, Entry { key: k, value: v });
+        mend(
+            &mut self.links,
+            Place {
+                parent: spot.parent,
+                is_left: spot.is_left,
+                top: Some(name),
+            },
+        );
+    }
+
     /// Drops all rows, and keeps the slots.
     pub fn clear(&mut self)
         ensures cleared { self.new ≡ cleared self.old }

@@ -1,7 +1,7 @@
 //! Nodes in a pool, each with links to its parent and to its two sides. The reads and writes of single links.
 //! A link is a slot, and leads to the live name of the slot: the serial stands in the pool alone.
 ghost use Rattle.std.specs.Prelude.{◌≡◌};
-ghost use Rattle.ac_pool.specs.Contents.{value_of};
+ghost use Rattle.ac_pool.specs.Contents.{value_of, with_value, IsLive};
 ghost use Rattle.ac_balance.specs.Link.{link_of, name_in};
 ghost use Rattle.ac_balance.specs.TreeFields.{alone, left_of, right_of, parent_of, left_link, right_link, parent_link, high, with_parent, with_sides, with_side};
 
@@ -48,6 +48,14 @@ pub(crate) fn alone<T>(value: T) -> Node<T>
         right: NO_SLOT,
         height: 1,
     }
+}
+
+/// Gives a live name another node, that isn't linked with any.
+pub(crate) fn renew<T: Drop>(nodes: &mut Pool<Node<T>>, name: Name, value: T)
+    requires { IsLive nodes.old name }
+    ensures { nodes.new ≡ with_value nodes.old name (alone value) }
+{
+    *nodes.get_mut(name).unwrap() = alone(value);
 }
 
 /// The name to which a link leads.
