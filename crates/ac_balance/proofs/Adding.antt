@@ -31,7 +31,7 @@ use Rattle.ac_balance.proofs.Indexes.{view_of, index_from, view-is, named_live, 
 
 -- rows with one more in between
 module _ {X : Type 0} where
-  ascending-put : (less : X → X → Bool) (xs : List (Row Name X)) (x : Row Name X) (ys : List (Row Name X)) → IsAscending less (xs ++ ys) → Each (λ v. less v x.value) xs → Each (less x.value) ys → IsAscending less (xs ++ x ∷ ys)
+  pub ascending-put : (less : X → X → Bool) (xs : List (Row Name X)) (x : Row Name X) (ys : List (Row Name X)) → IsAscending less (xs ++ ys) → Each (λ v. less v x.value) xs → Each (less x.value) ys → IsAscending less (xs ++ x ∷ ys)
   ascending-put less [] x ys h low high = (high, h)
   ascending-put less (z ∷ xs) x ys h low high = (between xs h.0, ascending-put less xs x ys h.1 low.1 high)
     where

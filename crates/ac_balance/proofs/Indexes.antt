@@ -142,7 +142,7 @@ module _ {X : Type 0} where
     | inr k ↦ elim k [ inl p ↦ found_in a (on_left x r ∷ steps) l p | inr q ↦ found_in a (on_right l x ∷ steps) r q ]
   ]
 
-  cut_order : (steps : List (Step X)) (l : Tree X) (x : Row Name X) (r : Tree X) → in_order (plugged steps (node l x r)) ≡ (before steps ++ in_order l) ++ x ∷ (in_order r ++ after steps)
+  pub cut_order : (steps : List (Step X)) (l : Tree X) (x : Row Name X) (r : Tree X) → in_order (plugged steps (node l x r)) ≡ (before steps ++ in_order l) ++ x ∷ (in_order r ++ after steps)
   cut_order steps l x r =
       plugged-order steps (node l x r) ∙ ap (λ k. before steps ++ k) (append_assoc (in_order l) (x ∷ in_order r) (after steps)) ∙ sym (append_assoc (before steps) (in_order l) (x ∷ (in_order r ++ after steps)))
 
@@ -196,7 +196,7 @@ module _ {X : Type 0} where
       let front = before k.steps ++ in_order k.left in let back = in_order k.right ++ after k.steps in
       ap (name_before rows) (place_of_row l t a rows k) ∙ ap (λ zs. name_before zs (length front)) k.is ∙ name_before-cut front (k.row ∷ back)
 
-  row_located : (l : Links X) (t : Tree X) (a : Name) (rows : List (Row Name X)) (k : Located l t a rows) → value_at rows a ≡ Some k.row.value
+  pub row_located : (l : Links X) (t : Tree X) (a : Name) (rows : List (Row Name X)) (k : Located l t a rows) → value_at rows a ≡ Some k.row.value
   row_located l t a rows k =
       let front = before k.steps ++ in_order k.left in let back = in_order k.right ++ after k.steps in
       ap (option_map (λ (r : Row Name X). r.value)) (ap (slice_get rows) (place_of_row l t a rows k) ∙ ap (λ zs. slice_get zs (length front)) k.is ∙ slice_get-cut front k.row back)

@@ -22,3 +22,4 @@ pub mod Taking
 pub mod Turning
 pub mod Turns
 pub mod Walks
+pub mod Writing

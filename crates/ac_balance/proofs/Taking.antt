@@ -42,7 +42,7 @@ read_none None o none is e f = sym is
 read_none (Some x) o none is e f = let bad : true ≡ false = e ∙ ap not f in cc
 
 module _ {X : Type 0} where
-  ascending-cut : (less : X → X → Bool) (xs : List (Row Name X)) (x : Row Name X) (ys : List (Row Name X)) → IsAscending less (xs ++ x ∷ ys) → IsAscending less (xs ++ ys)
+  pub ascending-cut : (less : X → X → Bool) (xs : List (Row Name X)) (x : Row Name X) (ys : List (Row Name X)) → IsAscending less (xs ++ x ∷ ys) → IsAscending less (xs ++ ys)
   ascending-cut less [] x ys h = h.1
   ascending-cut less (z ∷ xs) x ys h = (within xs h.0, ascending-cut less xs x ys h.1)
     where

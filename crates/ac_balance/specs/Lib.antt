@@ -1,6 +1,7 @@
 pub mod Climbing
 pub mod Detaching
 pub mod IndexFields
+pub mod IndexLends
 pub mod Indexed
 pub mod Link
 pub mod Present

@@ -9,11 +9,12 @@ ghost use Rattle.ac_balance.specs.Present.{IsPresent};
 
 use crate::detaching::detach;
 use crate::entry::Entry;
+use crate::keyed_search::seek_key;
 use crate::links::{Links, alone, renew};
 use crate::places::{Place, mend};
 use crate::search::{place_for, seek};
 use crate::walk::{leftmost, predecessor, rightmost, successor};
-use ac_base::{Name, NoMemory, Rank, Steps};
+use ac_base::{KeyOf, Name, NoMemory, Rank, Steps};
 use ac_pool::Pool;
 use std::alloc::Global;
 use std::marker::Model;
@@ -48,6 +49,8 @@ impl<K: Rank, V> Model for OrderIndex<K, V> {
 }
 
 impl<K: Rank, V> OrderIndex<K, V> {
+    ghost use Rattle.ac_balance.specs.IndexLends.{lends_value};
+
     /// An index without rows, which takes no memory. Its first serial is 1.
     pub fn new(alloc: Global) -> OrderIndex<K, V>
         ensures empty { result ≡ no_rows 1 0 }
@@ -196,6 +199,17 @@ impl<K: Rank, V> OrderIndex<K, V> {
         }
     }
 
+    /// As `key`, of the value for writing.
+    pub fn value_mut(&mut self, name: Name) -> Option<&mut V>
+        ensures* writes_back { sem 𝓛 (lends_value K.row V.row K.is_less K.is_same K.size_of K.blank_element self.entry name result) }
+        ensures value { option_copied_mut result ≡ value_of self.old name }
+    {
+        match self.links.nodes.get_mut(name) {
+            Some(node) => Some(&mut node.value.value),
+            None => None,
+        }
+    }
+
     /// The name of the row whose key is equivalent, or `None` where there is none.
     pub fn find<L: Ledger>(&self, k: &K, steps: &mut Steps<L>) -> Option<Name>
         ensures name { result ≡ first_where (λ x. are_level K.is_less x k.now) self.now }
@@ -224,7 +238,36 @@ impl<K: Rank, V> OrderIndex<K, V> {
     }
 }
 
-impl<K: Rank + Drop, V: Drop> OrderIndex<K, V> {
+impl<K: KeyOf, V> OrderIndex<K, V> {
+    /// The name of the row whose key has an equivalent key.
+    pub fn find_key<L: Ledger>(&self, k: &K::Key, steps: &mut Steps<L>) -> Option<Name>
+        ensures name { result ≡ first_where (λ x. are_level K.Key.is_less (K.key_of x) k.now) self.now }
+        ensures few { FewSteps (length self.now.rows) steps.old steps.new }
+    {
+        let spot = seek_key(&self.links.nodes, self.links.root, k, steps);
+        spot.part
+    }
+
+    /// The name of the last row whose key's key isn't greater.
+    pub fn floor_key<L: Ledger>(&self, k: &K::Key, steps: &mut Steps<L>) -> Option<Name>
+        ensures name { result ≡ last_where (λ x. not (K.Key.is_less k.now (K.key_of x))) self.now }
+        ensures few { FewSteps (length self.now.rows) steps.old steps.new }
+    {
+        let spot = seek_key(&self.links.nodes, self.links.root, k, steps);
+        either(spot.part, spot.below)
+    }
+
+    /// The name of the first row whose key's key isn't less.
+    pub fn ceiling_key<L: Ledger>(&self, k: &K::Key, steps: &mut Steps<L>) -> Option<Name>
+        ensures name { result ≡ first_where (λ x. not (K.Key.is_less (K.key_of x) k.now)) self.now }
+        ensures few { FewSteps (length self.now.rows) steps.old steps.new }
+    {
+        let spot = seek_key(&self.links.nodes, self.links.root, k, steps);
+        either(spot.part, spot.above)
+    }
+}
+
+impl<K: Rank, V: Drop> OrderIndex<K, V> {
     /// Gives the name another row, in O(log n). No other row may have an equivalent key.
     pub fn set_row(&mut self, name: Name, k: K, v: V)
         requires there { IsThere self.old name }

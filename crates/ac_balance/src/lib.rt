@@ -4,6 +4,7 @@
 mod detaching;
 mod entry;
 mod index;
+mod keyed_search;
 mod links;
 mod places;
 mod rotation;
@@ -14,6 +15,8 @@ mod walk;
 pub use detaching::detach;
 pub use entry::Entry;
 pub use index::{OrderIndex, Present};
+#[doc(hidden)]
+pub use keyed_search::seek_key;
 #[doc(hidden)]
 pub use links::{Links, Node};
 #[doc(hidden)]

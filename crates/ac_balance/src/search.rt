@@ -23,7 +23,7 @@ pub struct Spot {
     pub above: Option<Name>,
 }
 
-fn start(root: Option<Name>) -> Spot
+pub(crate) fn start(root: Option<Name>) -> Spot
     ensures { result ≡ start root }
 {
     Spot {
@@ -35,7 +35,7 @@ fn start(root: Option<Name>) -> Spot
     }
 }
 
-fn lower<T>(nodes: &Pool<Node<T>>, spot: Spot, name: Name, is_left: bool) -> Spot
+pub(crate) fn lower<T>(nodes: &Pool<Node<T>>, spot: Spot, name: Name, is_left: bool) -> Spot
     ensures { result ≡ lowered nodes.now spot name is_left }
 {
     if is_left {

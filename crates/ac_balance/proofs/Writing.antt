@@ -1,0 +1,93 @@
+-- The value of a row is written through a `&mut`.
+use Rattle.std.proofs.Common.{◌≡◌, ◌≢◌, ℕ, ◌+◌, ◌≤◌, ◌⊎◌, max, Bool, List, [], ◌∷◌, ◌++◌, length, Option, Some, None, is_some, refl, sym, ap, ◌∙◌, subst, inl, inr, arith}
+use Rattle.std.specs.List.{slice_set}
+use Rattle.std.proofs.lemmas.List.{length-append}
+use Rattle.ac_base.specs.declared.name.Name.{Name}
+use Rattle.ac_base.specs.Rows.{Row, row}
+use Rattle.ac_pool.specs.Contents as pool
+use Rattle.ac_pool.specs.Contents.{Contents, value_of, IsLive}
+use Rattle.ac_pool.proofs.ContentsLaws.{value_of-with_value_same, value_of-with_value_other}
+use Rattle.ac_balance.specs.declared.entry.Entry.{Entry}
+use Rattle.ac_balance.specs.declared.links.Node.{Node}
+use Rattle.ac_balance.specs.declared.links.Links.{Links}
+use Rattle.ac_balance.specs.Trees.{Tree, node, in_order, height, Balanced, plugged, before, after}
+use Rattle.ac_balance.specs.TreeFields.{node_with, linked, root, Stands, links}
+use Rattle.ac_balance.specs.Climbing.{Has, HasName, Once, above_in, Framed, Closed}
+use Rattle.ac_balance.specs.Indexed.{IsAscending, indexed, entry, index_of, value_at, value_put, with_value}
+use Rattle.ac_balance.specs.IndexFields.{StandsFor, rows_in, IsOrderIndex}
+use Rattle.ac_balance.proofs.Names.{IsOnce, IsAround, plugged_once, once_from, once_put}
+use Rattle.ac_balance.proofs.Standing.{Stands-same}
+use Rattle.ac_balance.proofs.Keeping.{keeps_value, sound_still}
+use Rattle.ac_balance.proofs.Climbs.{plugged-fits, plugged-balanced}
+use Rattle.ac_balance.proofs.Opening.{cut, mend, root-top}
+use Rattle.ac_balance.proofs.Rising.{Framed-same}
+use Rattle.ac_balance.proofs.Sides.{ascending-right, before-less}
+use Rattle.ac_balance.proofs.Cuts.{set-cut, once_cut, once_gone, HasName-cut, HasName-put}
+use Rattle.ac_balance.proofs.Names.{HasName-right}
+use Rattle.ac_balance.proofs.Indexes.{view_of, index_from, view-is, Located, located, place_of_row, row_located, cut_order}
+use Rattle.ac_balance.proofs.Adding.{ascending-put}
+use Rattle.ac_balance.proofs.Taking.{ascending-cut}
+
+-- a borrow under the same name that leaves the same
+pub lent_same : {N A B C : Type 0} (n : N) (f h : A → B) → ((w : A) → f w ≡ h w) → ◌≡◌ {A = (N × (A → B)) ⊎ C} (inl (n, f)) (inl (n, h))
+lent_same n f h same = λ j. inl (n, λ w. same w j)
+
+module _ {K V : Type 0} (less : K → K → Bool) (l : Links (Entry K V)) (i : IsOrderIndex less l) where
+  -- the node with another value
+  abbrev pub revalued : Node (Entry K V) → V → Node (Entry K V)
+  revalued n w = node_with (entry n.value.key w) n.parent n.left n.right n.height
+
+  abbrev pub Written : Name → V → Contents (Node (Entry K V)) → Type 0
+  Written a w d = IsOrderIndex less (links d l.root) × (view_of (links d l.root) ≡ with_value (view_of l) a w)
+
+  written_at : (a : Name) (w : V) (p : Located l i.closed.tree a (rows_in l)) → Written p.row.name w (pool.with_value l.nodes p.row.name (linked (entry p.row.value.key w) (above_in p.steps) (root p.left) (root p.right) (max (height p.left) (height p.right) + 1)))
+  written_at a w p =
+      let c = l.nodes in let x = p.row in let e = entry x.value.key w in let y = row x.name e in let b = x.name in let steps = p.steps in
+      let t = node p.left x p.right in let u = node p.left y p.right in
+      let n = linked e (above_in steps) (root p.left) (root p.right) (max (height p.left) (height p.right) + 1) in let d = pool.with_value c b n in
+      let front = before steps ++ in_order p.left in let back = in_order p.right ++ after steps in let rows = rows_in l in
+      let parts = cut (value_of c) steps t p.placed.stands in let once = plugged_once steps t p.placed.once in
+      let other : (k : Name) → k ≢ b → value_of d k ≡ value_of c k = λ k ne. value_of-with_value_other c b k n ne in
+      let stands : Stands (value_of d) (above_in steps) u = (
+        value_of-with_value_same c b n,
+        Stands-same (value_of c) (value_of d) (Some b) p.left (λ k h. other k (λ same. once.0.0 (subst (λ z. Has z p.left) same h))) parts.1.1,
+        Stands-same (value_of c) (value_of d) (Some b) p.right (λ k h. other k (λ same. once.0.1 (subst (λ z. Has z p.right) same h))) parts.1.2,
+      ) in
+      let framed : Framed (value_of d) steps (root u) (height u) = Framed-same (value_of c) (value_of d) steps (Some b) (height t) (λ k z. other k (λ same. once.1 b (inl refl) (subst (λ q. IsAround q steps) same z))) parts.0 in
+      let fits = plugged-fits steps t (subst (λ z. Balanced z) (sym p.whole) i.closed.balanced) in
+      let all_once : IsOnce (front ++ y ∷ back) = once_put front y back (once_cut front x back p.once) (once_gone front x back p.once) in
+      let keeps = keeps_value c b (linked x.value (above_in steps) (root p.left) (root p.right) (max (height p.left) (height p.right) + 1)) n parts.1.0 in
+      let asc : IsAscending (λ f g. less f.key g.key) (front ++ x ∷ back) = subst (IsAscending (λ f g. less f.key g.key)) p.is i.ascending in
+      let l1 = length-append front (x ∷ back) in let l2 = length-append front (y ∷ back) in let l3 = ap length p.is in let few = i.closed.few in let count = i.count in let kept = keeps.count in
+      let closed : Closed (links d l.root) (front ++ y ∷ back) = record {
+        tree = plugged steps u;
+        top = i.closed.top ∙ ap root (sym p.whole) ∙ root-top steps t ∙ sym (root-top steps u);
+        stands = mend (value_of d) steps u framed stands;
+        balanced = plugged-balanced steps u fits.0 fits.1;
+        ordered = cut_order steps p.left y p.right;
+        once = once_from (plugged steps u) (subst (λ zs. IsOnce zs) (sym (cut_order steps p.left y p.right)) all_once);
+        few = omega (arith, l1, l2, l3, few);
+        sound = sound_still c d keeps i.closed.sound;
+      } in
+      let named_still : (k : Name) → HasName k (front ++ x ∷ back) → HasName k (front ++ y ∷ back) = λ k h. elim (HasName-cut k front x back h) [ inl same ↦ HasName-right k front (y ∷ back) (inl same) | inr q ↦ HasName-put k front y back q ] in
+      let s : StandsFor less (links d l.root) (front ++ y ∷ back) = record {
+        closed = closed;
+        ascending = ascending-put (λ f g. less f.key g.key) front y back (ascending-cut (λ f g. less f.key g.key) front x back asc) (before-less (λ f g. less f.key g.key) front x back asc) (ascending-right (λ f g. less f.key g.key) front (x ∷ back) asc).0;
+        all = λ k live. named_still k (subst (HasName k) p.is (i.all k (sym (keeps.live k) ∙ live)));
+        count = omega (arith, l1, l2, l3, count, kept);
+      } in
+      let at : value_at rows b ≡ Some x.value = ap (value_at rows) p.name ∙ row_located l i.closed.tree a rows p in
+      let place : index_of b rows ≡ length front = ap (λ k. index_of k rows) p.name ∙ place_of_row l i.closed.tree a rows p in
+      let set : slice_set rows (index_of b rows) y ≡ front ++ y ∷ back = ap (λ j. slice_set rows j y) place ∙ ap (λ zs. slice_set zs (length front) y) p.is ∙ set-cut front x y back in (
+        index_from less (links d l.root) (front ++ y ∷ back) s,
+        view-is less (links d l.root) (front ++ y ∷ back) s ∙ sym (ap (value_put (view_of l) b w) at ∙ ap (λ zs. indexed zs c.next_serial c.spare) set),
+      )
+
+  pub written : (a : Name) (n : Node (Entry K V)) (w : V) → value_of l.nodes a ≡ Some n → Written a w (pool.with_value l.nodes a (revalued n w))
+  written a n w is =
+      let p = located l (rows_in l) i.closed a (i.all a (ap is_some is)) in
+      let full = linked p.row.value (above_in p.steps) (root p.left) (root p.right) (max (height p.left) (height p.right) + 1) in
+      let here : value_of l.nodes a ≡ Some full = ap (value_of l.nodes) (sym p.name) ∙ (cut (value_of l.nodes) p.steps (node p.left p.row p.right) p.placed.stands).1.0 in
+      let both : Some n ≡ Some full = sym is ∙ here in let same : n ≡ full = cc in
+      subst (λ k. Written a w (pool.with_value l.nodes a (revalued k w))) (sym same)
+      (subst (λ b. Written b w (pool.with_value l.nodes b (revalued full w))) p.name (written_at a w p))

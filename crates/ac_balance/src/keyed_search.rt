@@ -1,0 +1,66 @@
+//! The counted search for a key of rows' keys.
+ghost use Rattle.std.specs.Prelude.{◌≡◌, ◌≤◌, ◌+◌, ◌*◌};
+ghost use Rattle.ac_pool.specs.Contents.{value_of, IsLive};
+ghost use Rattle.ac_balance.specs.declared.links.Node.{Node};
+ghost use Rattle.ac_balance.specs.declared.entry.Entry.{Entry};
+ghost use Rattle.ac_balance.specs.Trees.{Tree, height};
+ghost use Rattle.ac_balance.specs.Seeking.{IsTree, Stood, Seeks};
+
+use crate::entry::Entry;
+use crate::links::Node;
+use crate::search::{Spot, lower, start};
+use ac_base::{KeyOf, Name, Rank, Steps};
+use ac_pool::Pool;
+use std::sync::ledger::Ledger;
+
+fn is_before<K: KeyOf, V, L: Ledger>(
+    k: &K::Key,
+    nodes: &Pool<Node<Entry<K, V>>>,
+    name: Name,
+    steps: &mut Steps<L>,
+) -> bool
+    requires { IsLive nodes.now name }
+    ensures answer { (n : Node (Entry K V)) → value_of nodes.now name ≡ Some n → result ≡ K.Key.is_less k.now (K.key_of n.value.key) }
+    ensures one_step { steps.new ≡ steps.old + 1 }
+{
+    k.less(nodes.get(name).unwrap().value.key.key(), steps)
+}
+
+fn is_after<K: KeyOf, V, L: Ledger>(
+    k: &K::Key,
+    nodes: &Pool<Node<Entry<K, V>>>,
+    name: Name,
+    steps: &mut Steps<L>,
+) -> bool
+    requires { IsLive nodes.now name }
+    ensures answer { (n : Node (Entry K V)) → value_of nodes.now name ≡ Some n → result ≡ K.Key.is_less (K.key_of n.value.key) k.now }
+    ensures one_step { steps.new ≡ steps.old + 1 }
+{
+    nodes.get(name).unwrap().value.key.key().less(k, steps)
+}
+
+/// As `seek`, by the key of each row's key.
+pub fn seek_key<K: KeyOf, V, L: Ledger>(
+    nodes: &Pool<Node<Entry<K, V>>>,
+    root: Option<Name>,
+    k: &K::Key,
+    steps: &mut Steps<L>,
+) -> Spot
+    requires { IsTree nodes.now root }
+    ensures found { (t : Tree (Entry K V)) → Stood nodes.now root t
+        → Seeks nodes.now t (λ e. K.Key.is_less (K.key_of e.key) k.now) (λ e. K.Key.is_less k.now (K.key_of e.key)) result }
+    ensures few { (t : Tree (Entry K V)) → Stood nodes.now root t → steps.new ≤ steps.old + 2 * height t }
+    ensures counted { steps.old ≤ steps.new }
+{
+    let mut spot = start(root);
+    while let Some(name) = spot.part {
+        if is_before(k, nodes, name, steps) {
+            spot = lower(nodes, spot, name, true);
+        } else if is_after(k, nodes, name, steps) {
+            spot = lower(nodes, spot, name, false);
+        } else {
+            return spot;
+        }
+    }
+    spot
+}
