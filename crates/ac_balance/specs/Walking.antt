@@ -1,10 +1,10 @@
 -- A node at its place in a tree, and the ends of a list of rows.
-use Rattle.std.specs.Prelude.{◌≡◌, ◌≤◌, ◌^◌, List, length, Option, Some, None}
+use Rattle.std.specs.Prelude.{◌≡◌, ◌≤◌, ◌^◌, ◌++◌, List, length, Option, Some, None}
 use Rattle.ac_base.specs.declared.name.Name.{Name}
 use Rattle.ac_base.specs.Rows.{Row}
 use Rattle.ac_pool.specs.Contents.{Contents, value_of, IsSound}
 use Rattle.ac_balance.specs.declared.links.Node.{Node}
-use Rattle.ac_balance.specs.Trees.{Tree, node, in_order, Step, plugged}
+use Rattle.ac_balance.specs.Trees.{Tree, node, in_order, Step, plugged, before, after}
 use Rattle.ac_balance.specs.TreeFields.{root, Stands}
 use Rattle.ac_balance.specs.Climbing.{Once}
 use Rattle.ac_balance.specs.Indexed.{name_at, name_before}
@@ -43,3 +43,10 @@ module _ {X : Type 0} where
     pub row : Row Name X
     pub right : Tree X
     pub placed : AtNode c a steps left row right
+
+  -- the name of the row behind a node's, and of the one before it
+  abbrev pub ComesNext : Contents (Node X) → Name → Option Name → Type 0
+  ComesNext c a o = (steps : List (Step X)) (l : Tree X) (x : Row Name X) (r : Tree X) → AtNode c a steps l x r → o ≡ first_name (in_order r ++ after steps)
+
+  abbrev pub ComesBefore : Contents (Node X) → Name → Option Name → Type 0
+  ComesBefore c a o = (steps : List (Step X)) (l : Tree X) (x : Row Name X) (r : Tree X) → AtNode c a steps l x r → o ≡ last_name (before steps ++ in_order l)

@@ -1,10 +1,11 @@
 //! The ordered index. A contract sees its rows, each a name with a key and a value, in the ascending order of their keys.
-ghost use Rattle.std.specs.Prelude.{◌≡◌, ℕ, not, ◌+◌, ◌-◌, ◌^◌, ◌<◌, ◌≤◌, IsOk, IfOk, IfErr, OnOk, OnErr, Some, None, option_copied, length};
+ghost use Rattle.std.specs.Prelude.{◌≡◌, not, ◌+◌, ◌-◌, ◌^◌, ◌<◌, ◌≤◌, IsOk, IfOk, IfErr, OnOk, OnErr, None, option_copied, length};
 ghost use Rattle.std.specs.Option.{option_copied_mut};
 ghost use Rattle.std.specs.Borrow.{sem};
 ghost use Rattle.ac_base.specs.Order.{are_level};
 ghost use Rattle.ac_balance.specs.Walking.{first_name, last_name, or_else};
-ghost use Rattle.ac_balance.specs.Indexed.{Indexed, IsThere, key_of, value_of, next_name, prev_name, first_where, last_where, no_rows, reserved, cleared, added, row_of, taken, without_row, with_new_row, IsFresh, IsSound, FewSteps};
+ghost use Rattle.ac_balance.specs.Indexed.{IsThere, IsFresh, IsSound, FewSteps, first_where, last_where, next_name, prev_name};
+ghost use Rattle.ac_balance.specs.Indexed.{key_of, value_of, row_of, without_row, no_rows, reserved, cleared, added, taken, with_new_row};
 ghost use Rattle.ac_balance.specs.Present.{IsPresent};
 
 use crate::detaching::detach;

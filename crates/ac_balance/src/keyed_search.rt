@@ -1,10 +1,9 @@
 //! The counted search for a key of rows' keys.
 ghost use Rattle.std.specs.Prelude.{◌≡◌, ◌≤◌, ◌+◌, ◌*◌};
-ghost use Rattle.ac_pool.specs.Contents.{value_of, IsLive};
-ghost use Rattle.ac_balance.specs.declared.links.Node.{Node};
+ghost use Rattle.ac_pool.specs.Contents.{IsLive};
 ghost use Rattle.ac_balance.specs.declared.entry.Entry.{Entry};
 ghost use Rattle.ac_balance.specs.Trees.{Tree, height};
-ghost use Rattle.ac_balance.specs.Seeking.{IsTree, Stood, Seeks};
+ghost use Rattle.ac_balance.specs.Seeking.{IsTree, Stood, Leads, OfKey};
 
 use crate::entry::Entry;
 use crate::links::Node;
@@ -20,7 +19,7 @@ fn is_before<K: KeyOf, V, L: Ledger>(
     steps: &mut Steps<L>,
 ) -> bool
     requires { IsLive nodes.now name }
-    ensures answer { (n : Node (Entry K V)) → value_of nodes.now name ≡ Some n → result ≡ K.Key.is_less k.now (K.key_of n.value.key) }
+    ensures answer { OfKey nodes.now name (λ key. result ≡ K.Key.is_less k.now (K.key_of key)) }
     ensures one_step { steps.new ≡ steps.old + 1 }
 {
     k.less(nodes.get(name).unwrap().value.key.key(), steps)
@@ -33,7 +32,7 @@ fn is_after<K: KeyOf, V, L: Ledger>(
     steps: &mut Steps<L>,
 ) -> bool
     requires { IsLive nodes.now name }
-    ensures answer { (n : Node (Entry K V)) → value_of nodes.now name ≡ Some n → result ≡ K.Key.is_less (K.key_of n.value.key) k.now }
+    ensures answer { OfKey nodes.now name (λ key. result ≡ K.Key.is_less (K.key_of key) k.now) }
     ensures one_step { steps.new ≡ steps.old + 1 }
 {
     nodes.get(name).unwrap().value.key.key().less(k, steps)
@@ -47,8 +46,7 @@ pub fn seek_key<K: KeyOf, V, L: Ledger>(
     steps: &mut Steps<L>,
 ) -> Spot
     requires { IsTree nodes.now root }
-    ensures found { (t : Tree (Entry K V)) → Stood nodes.now root t
-        → Seeks nodes.now t (λ e. K.Key.is_less (K.key_of e.key) k.now) (λ e. K.Key.is_less k.now (K.key_of e.key)) result }
+    ensures found { Leads nodes.now root (λ e. K.Key.is_less (K.key_of e.key) k.now) (λ e. K.Key.is_less k.now (K.key_of e.key)) result }
     ensures few { (t : Tree (Entry K V)) → Stood nodes.now root t → steps.new ≤ steps.old + 2 * height t }
     ensures counted { steps.old ≤ steps.new }
 {

@@ -1,10 +1,9 @@
 //! The counted search from the root down.
 ghost use Rattle.std.specs.Prelude.{◌≡◌, ◌<◌, ◌≤◌, ◌+◌, ◌*◌};
-ghost use Rattle.ac_pool.specs.Contents.{value_of, IsLive};
-ghost use Rattle.ac_balance.specs.declared.links.Node.{Node};
+ghost use Rattle.ac_pool.specs.Contents.{IsLive};
 ghost use Rattle.ac_balance.specs.declared.entry.Entry.{Entry};
 ghost use Rattle.ac_balance.specs.Trees.{Tree, height};
-ghost use Rattle.ac_balance.specs.Seeking.{IsTree, Stood, Seeks, lowered, start};
+ghost use Rattle.ac_balance.specs.Seeking.{IsTree, Stood, Leads, OfKey, lowered, start};
 
 use crate::entry::Entry;
 use crate::links::{Node, left, right};
@@ -63,7 +62,7 @@ fn is_before<K: Rank, V, L: Ledger>(
     steps: &mut Steps<L>,
 ) -> bool
     requires { IsLive nodes.now name }
-    ensures answer { (n : Node (Entry K V)) → value_of nodes.now name ≡ Some n → result ≡ K.is_less k.now n.value.key }
+    ensures answer { OfKey nodes.now name (λ key. result ≡ K.is_less k.now key) }
     ensures one_step { steps.new ≡ steps.old + 1 }
 {
     k.less(&nodes.get(name).unwrap().value.key, steps)
@@ -76,7 +75,7 @@ fn is_after<K: Rank, V, L: Ledger>(
     steps: &mut Steps<L>,
 ) -> bool
     requires { IsLive nodes.now name }
-    ensures answer { (n : Node (Entry K V)) → value_of nodes.now name ≡ Some n → result ≡ K.is_less n.value.key k.now }
+    ensures answer { OfKey nodes.now name (λ key. result ≡ K.is_less key k.now) }
     ensures one_step { steps.new ≡ steps.old + 1 }
 {
     nodes.get(name).unwrap().value.key.less(k, steps)
@@ -90,7 +89,7 @@ pub fn seek<K: Rank, V, L: Ledger>(
     steps: &mut Steps<L>,
 ) -> Spot
     requires { IsTree nodes.now root }
-    ensures found { (t : Tree (Entry K V)) → Stood nodes.now root t → Seeks nodes.now t (λ e. K.is_less e.key k.now) (λ e. K.is_less k.now e.key) result }
+    ensures found { Leads nodes.now root (λ e. K.is_less e.key k.now) (λ e. K.is_less k.now e.key) result }
     ensures few { (t : Tree (Entry K V)) → Stood nodes.now root t → steps.new ≤ steps.old + 2 * height t }
     ensures counted { steps.old ≤ steps.new }
 {
@@ -117,7 +116,7 @@ fn sought<K: Rank, V, L: Ledger>(
     requires parts { blank.parts ≡ L.parts }
     requires some { 0 < blank.parts }
     requires tree { IsTree nodes.now root }
-    ensures { (t : Tree (Entry K V)) → Stood nodes.now root t → Seeks nodes.now t (λ e. K.is_less e.key k.now) (λ e. K.is_less k.now e.key) result }
+    ensures { Leads nodes.now root (λ e. K.is_less e.key k.now) (λ e. K.is_less k.now e.key) result }
 {
     seek(nodes, root, k, &mut Steps::<L>::new(blank))
 }
@@ -129,7 +128,7 @@ pub(crate) fn place_for<K: Rank, V>(
     k: &K,
 ) -> Spot
     requires { IsTree nodes.now root }
-    ensures { (t : Tree (Entry K V)) → Stood nodes.now root t → Seeks nodes.now t (λ e. K.is_less e.key k.now) (λ e. K.is_less k.now e.key) result }
+    ensures { Leads nodes.now root (λ e. K.is_less e.key k.now) (λ e. K.is_less k.now e.key) result }
 {
     sought::<K, V, Brand>(nodes, root, k, Blank::new(1))
 }

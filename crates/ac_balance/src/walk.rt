@@ -1,10 +1,8 @@
 //! Walks along the tree: the ends of a part, and the nodes before and after a node.
-ghost use Rattle.std.specs.Prelude.{◌≡◌, ◌++◌, List, Some, length};
-ghost use Rattle.ac_base.specs.Rows.{Row};
-ghost use Rattle.ac_base.specs.declared.name.Name.{Name};
-ghost use Rattle.ac_balance.specs.Trees.{Tree, Step, node, in_order, before, after};
+ghost use Rattle.std.specs.Prelude.{◌≡◌, List, Some};
+ghost use Rattle.ac_balance.specs.Trees.{Tree, Step, in_order, before, after};
 ghost use Rattle.ac_balance.specs.Seeking.{IsTree, Stood};
-ghost use Rattle.ac_balance.specs.Walking.{IsPlaced, Placed, IsAtNode, AtNode, first_name, last_name};
+ghost use Rattle.ac_balance.specs.Walking.{IsPlaced, Placed, IsAtNode, ComesNext, ComesBefore, first_name, last_name};
 
 use crate::links::{Node, left, parent, right};
 use crate::places::is_on_left;
@@ -68,7 +66,7 @@ fn last_above<T>(nodes: &Pool<Node<T>>, name: Name) -> Option<Name>
 /// The node after this one, in order.
 pub fn successor<T>(nodes: &Pool<Node<T>>, name: Name) -> Option<Name>
     requires { IsAtNode nodes.now name }
-    ensures { (steps : List (Step T)) (l : Tree T) (x : Row Name T) (r : Tree T) → AtNode nodes.now name steps l x r → result ≡ first_name (in_order r ++ after steps) }
+    ensures { ComesNext nodes.now name result }
 {
     match right(nodes, name) {
         Some(side) => Some(leftmost(nodes, side)),
@@ -79,7 +77,7 @@ pub fn successor<T>(nodes: &Pool<Node<T>>, name: Name) -> Option<Name>
 /// The node before this one.
 pub fn predecessor<T>(nodes: &Pool<Node<T>>, name: Name) -> Option<Name>
     requires { IsAtNode nodes.now name }
-    ensures { (steps : List (Step T)) (l : Tree T) (x : Row Name T) (r : Tree T) → AtNode nodes.now name steps l x r → result ≡ last_name (before steps ++ in_order l) }
+    ensures { ComesBefore nodes.now name result }
 {
     match left(nodes, name) {
         Some(side) => Some(rightmost(nodes, side)),
