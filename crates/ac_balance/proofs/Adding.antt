@@ -1,12 +1,10 @@
 -- A node that stands alone goes to the place that a search found.
-use Rattle.std.proofs.Common.{◌≡◌, ◌≢◌, ℕ, suc, ◌+◌, ◌-◌, ◌<◌, ◌≤◌, ◌^◌, ◌⊎◌, Bool, true, false, not, List, [], ◌∷◌, ◌++◌, length, Option, Some, None, is_some, IsSome, refl, sym, ap, ◌∙◌, subst, inl, inr, arith}
+use Rattle.std.proofs.Common.{◌≡◌, ◌≢◌, ℕ, suc, ◌+◌, ◌-◌, ◌<◌, ◌^◌, ◌⊎◌, Bool, true, false, not, List, [], ◌∷◌, ◌++◌, length, Option, Some, None, is_some, refl, sym, ap, ◌∙◌, subst, inl, inr, arith}
 use Rattle.std.specs.List.{prefix_len, insert}
 use Rattle.std.proofs.lemmas.Bool.{cond-true, cond-false}
-use Rattle.std.proofs.lemmas.List.{length-append}
 use Rattle.ac_base.specs.declared.name.Name.{Name}
 use Rattle.ac_base.specs.Rows.{Row, row}
 use Rattle.ac_base.specs.Order.{IsWeakOrder}
-use Rattle.ac_pool.specs.Contents as pool
 use Rattle.ac_pool.specs.Contents.{Contents, value_of, IsLive, live_count, IsFresh, added, IsSound}
 use Rattle.ac_pool.proofs.NameLaws.{cases_name}
 use Rattle.ac_pool.proofs.ContentsLaws.{value_of-added_same, value_of-added_other, live_count-added, fresh_is_dead}
@@ -16,17 +14,17 @@ use Rattle.ac_balance.specs.declared.links.Links.{Links}
 use Rattle.ac_balance.specs.declared.search.Spot.{Spot}
 use Rattle.ac_balance.specs.Trees.{Tree, leaf, node, in_order, Balanced, Step, plugged, before, after}
 use Rattle.ac_balance.specs.TreeFields.{alone, root, Stands, place, links}
-use Rattle.ac_balance.specs.Climbing.{Has, HasName, above_in, Climbing, Closed, Closes, Once}
+use Rattle.ac_balance.specs.Climbing.{Has, HasName, above_in, Climbing, Closed, Closes}
 use Rattle.ac_balance.specs.Seeking.{Seeking, Seeks}
 use Rattle.ac_balance.specs.Indexed.{Each, IsAscending, Indexed, indexed, entry, with_row}
 use Rattle.ac_balance.specs.Indexed as index
 use Rattle.ac_balance.specs.IndexFields.{StandsFor, rows_in, IsOrderIndex}
-use Rattle.ac_balance.proofs.Names.{IsAround, once_added, around_has, named, has, HasName-left, HasName-right, HasName-either}
+use Rattle.ac_balance.proofs.Names.{IsAround, once_added, around_has, named, HasName-right}
 use Rattle.ac_balance.proofs.Opening.{added_opens}
 use Rattle.ac_balance.proofs.Climbs.{plugged-order}
-use Rattle.ac_balance.proofs.Sides.{IsProbe, led-sides, each-weaker}
+use Rattle.ac_balance.proofs.Sides.{led-sides, each-weaker}
 use Rattle.ac_balance.proofs.Searches.{probes}
-use Rattle.ac_balance.proofs.Cuts.{insert-cut, HasName-put, HasName-cut, live_has, has_live}
+use Rattle.ac_balance.proofs.Cuts.{insert-cut, HasName-put, HasName-cut}
 use Rattle.ac_balance.proofs.Indexes.{view_of, index_from, view-is, named_live, live_in}
 
 -- rows with one more in between

@@ -1,26 +1,25 @@
 -- A part is cut off and loses its first row.
-use Rattle.std.proofs.Common.{◌≡◌, ℕ, ◌+◌, ◌≤◌, ◌^◌, max, Bool, List, [], ◌∷◌, ◌++◌, length, Option, Some, None, is_some, refl, sym, ap, ◌∙◌, subst, inl, inr, arith, append_assoc}
-use Rattle.std.proofs.lemmas.List.{length-append}
+use Rattle.std.proofs.Common.{◌≡◌, List, [], ◌∷◌, ◌++◌, length, Some, None, refl, sym, ap, ◌∙◌, subst, inr, arith}
 use Rattle.ac_base.specs.declared.name.Name.{Name}
 use Rattle.ac_base.specs.Rows.{Row}
 use Rattle.ac_pool.specs.Contents.{Contents, value_of, IsSound}
 use Rattle.ac_balance.specs.declared.links.Node.{Node}
 use Rattle.ac_balance.specs.declared.links.Links.{Links}
 use Rattle.ac_balance.specs.declared.places.Place.{Place}
-use Rattle.ac_balance.specs.Trees.{Tree, leaf, node, in_order, height, Level, Balanced, Step, on_left, on_right, joined, plugged, before, after, tall, Fits}
-use Rattle.ac_balance.specs.TreeFields.{root, Stands, right_of, with_parent, place, place_in, is_left_in, links}
-use Rattle.ac_balance.specs.Climbing.{Has, HasName, Once, Hangs, above_in, Framed, IsSide, IsRooted, Climbing, Closed, Closes, Relinks, Keeps, IsMendable, Mends}
+use Rattle.ac_balance.specs.Trees.{Tree, leaf, node, in_order, height, Level, Balanced, Step, on_left, plugged, before, after, tall}
+use Rattle.ac_balance.specs.TreeFields.{root, Stands, right_of, with_parent, place_in, is_left_in, links}
+use Rattle.ac_balance.specs.Climbing.{HasName, Once, above_in, IsSide, IsRooted, Climbing, Closes, Relinks, IsMendable, Mends}
 use Rattle.ac_balance.specs.Walking.{first_name, Placed}
 use Rattle.ac_balance.specs.Detaching.{Part, Keeps_row, CutOff}
-use Rattle.ac_balance.proofs.Standing.{some_name, with_parent-writes, root_has, right-is, Stands-same}
-use Rattle.ac_balance.proofs.Keeping.{keeps_parent, keeps_then, sound_still}
-use Rattle.ac_balance.proofs.Names.{IsOnce, once_from, once_rows, named, plugged_once}
+use Rattle.ac_balance.proofs.Standing.{some_name, with_parent-writes, root_has, right-is}
+use Rattle.ac_balance.proofs.Keeping.{keeps_parent, sound_still}
+use Rattle.ac_balance.proofs.Names.{IsOnce, once_from, once_rows, named}
 use Rattle.ac_balance.proofs.Climbs.{plugged-order, plugged-fits}
 use Rattle.ac_balance.proofs.Removal.{plugged-height, first_near}
 use Rattle.ac_balance.proofs.Opening.{cut, rooted-in}
 use Rattle.ac_balance.proofs.Closing.{moved}
 use Rattle.ac_balance.proofs.Rising.{relinks_then}
-use Rattle.ac_balance.proofs.Walks.{Links_of, links_of}
+use Rattle.ac_balance.proofs.Walks.{links_of}
 
 module _ {X : Type 0} where
   -- the way to the first row

@@ -1,34 +1,33 @@
 -- An index seen as its rows.
-use Rattle.std.proofs.Common.{◌≡◌, ◌≢◌, ℕ, suc, ◌+◌, ◌-◌, ◌<◌, ◌≤◌, Bool, List, [], ◌∷◌, ◌++◌, length, Option, Some, None, is_some, IsSome, refl, sym, ap, ◌∙◌, subst, inl, inr, arith, append_assoc, Result, Ok, Err, Bor, add-one}
+use Rattle.std.proofs.Common.{◌≡◌, ℕ, suc, ◌+◌, ◌-◌, ◌<◌, ◌≤◌, Bool, List, [], ◌∷◌, ◌++◌, length, Option, Some, None, is_some, refl, sym, ap, ◌∙◌, subst, inl, inr, arith, append_assoc, Result, Ok, Err, add-one}
 use Rattle.std.specs.Result.{OnOk, OnErr}
 use Rattle.std.specs.List.{slice_get}
-use Rattle.std.specs.Option.{option_map, option_copied}
+use Rattle.std.specs.Option.{option_map}
 use Rattle.std.specs.FinMap as map
 use Rattle.std.proofs.lemmas.Bool.{cond-true, cond-false, cases_lt, le-leb, lt-leb}
 use Rattle.ac_base.specs.declared.name.Name.{Name}
 use Rattle.ac_base.specs.Growth.{pow8}
-use Rattle.ac_base.specs.Rows.{Row, row}
+use Rattle.ac_base.specs.Rows.{Row}
 use Rattle.ac_pool.specs.Names.{name_cmp}
 use Rattle.ac_pool.specs.Contents as pool
 use Rattle.ac_pool.specs.Contents.{Contents, live_count, slot_count}
-use Rattle.ac_pool.proofs.NameLaws.{cases_name}
 use Rattle.ac_pool.proofs.ContentsLaws.{entries-reserved, reserved_kept, reserved_grown}
 use Rattle.ac_balance.specs.declared.entry.Entry.{Entry}
 use Rattle.ac_balance.specs.declared.links.Node.{Node}
 use Rattle.ac_balance.specs.declared.links.Links.{Links}
-use Rattle.ac_balance.specs.Trees.{Tree, leaf, node, in_order, height, Step, on_left, on_right, plugged, before, after}
-use Rattle.ac_balance.specs.TreeFields.{root, Stands, tree_in, read, links}
+use Rattle.ac_balance.specs.Trees.{Tree, leaf, node, in_order, Step, on_left, on_right, plugged, before, after}
+use Rattle.ac_balance.specs.TreeFields.{Stands, tree_in, read, links}
 use Rattle.ac_balance.specs.Climbing.{Has, HasName, Once, Closed}
-use Rattle.ac_balance.specs.Seeking.{Stood, IsTree}
-use Rattle.ac_balance.specs.Walking.{first_name, last_name, Placed, AtNode, IsAtNode}
-use Rattle.ac_balance.specs.Indexed.{Indexed, indexed, index_of, name_at, name_before, value_at, IsThere, key_of, value_of, next_name, prev_name, no_rows, reserved, cleared, IsSound}
+use Rattle.ac_balance.specs.Seeking.{Stood}
+use Rattle.ac_balance.specs.Walking.{first_name, last_name, AtNode, IsAtNode}
+use Rattle.ac_balance.specs.Indexed.{Indexed, indexed, index_of, name_at, name_before, value_at, IsThere, no_rows, reserved, cleared, IsSound}
 use Rattle.ac_balance.specs.IndexFields.{StandsFor, rows_in, IsOrderIndex}
-use Rattle.ac_balance.proofs.Names.{IsOnce, has, named, once_rows, apart, height_le}
+use Rattle.ac_balance.proofs.Names.{IsOnce, has, once_rows, apart, height_le}
 use Rattle.ac_balance.proofs.Standing.{Stands-same, Stands-live}
 use Rattle.ac_balance.proofs.Reading.{read-is}
 use Rattle.ac_balance.proofs.Climbs.{plugged-order}
 use Rattle.ac_balance.proofs.Opening.{cut}
-use Rattle.ac_balance.proofs.Cuts.{index_past, has_live, live_has, once_at, index_of-cut, slice_get-cut, name_at-after, name_before-cut}
+use Rattle.ac_balance.proofs.Cuts.{index_past, live_has, once_at, index_of-cut, slice_get-cut, name_at-after, name_before-cut}
 
 module _ {K V : Type 0} where
   abbrev pub view_of : Links (Entry K V) → Indexed K V

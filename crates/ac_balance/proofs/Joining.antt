@@ -1,24 +1,22 @@
 -- Two parts become one, and take the place of a node that leaves the tree.
-use Rattle.std.proofs.Common.{◌≡◌, ℕ, ◌+◌, ◌≤◌, ◌<◌, ◌^◌, ◌⊎◌, max, Bool, List, [], ◌∷◌, ◌++◌, length, Option, Some, None, is_some, IsSome, refl, sym, ap, ◌∙◌, subst, inl, inr, arith, append-nil, append_assoc}
+use Rattle.std.proofs.Common.{◌≡◌, ℕ, ◌⊎◌, List, [], ◌∷◌, ◌++◌, length, Option, Some, None, is_some, refl, sym, ap, ◌∙◌, subst, inl, inr, arith, append-nil, append_assoc}
 use Rattle.std.proofs.lemmas.List.{length-append}
 use Rattle.std.specs.List.{remove}
 use Rattle.ac_base.specs.declared.name.Name.{Name}
 use Rattle.ac_base.specs.Rows.{Row}
-use Rattle.ac_pool.specs.Contents.{Contents, value_of, IsSound}
+use Rattle.ac_pool.specs.Contents.{Contents, value_of}
 use Rattle.ac_balance.specs.declared.links.Node.{Node}
 use Rattle.ac_balance.specs.declared.links.Links.{Links}
-use Rattle.ac_balance.specs.declared.places.Place.{Place}
 use Rattle.ac_balance.specs.Link.{name_in}
-use Rattle.ac_balance.specs.Trees.{Tree, leaf, node, in_order, height, Level, Balanced, balanced, Step, on_right, plugged, before, after, tall, Fits}
-use Rattle.ac_balance.specs.TreeFields.{root, Stands, linked, left_of, right_of, parent_of, parent_link, is_left_in, balanced_in, place, place_in, links}
-use Rattle.ac_balance.specs.Climbing.{Has, HasName, Once, Hangs, above_in, Framed, IsSide, IsRooted, Climbing, Closed, Closes, Relinks, Keeps, IsMendable, Mends}
-use Rattle.ac_balance.specs.Indexed.{without, index_of}
-use Rattle.ac_balance.specs.Walking.{AtNode}
-use Rattle.ac_balance.specs.Detaching.{Part, CutOff, Beside, Joined, Detached}
+use Rattle.ac_balance.specs.Trees.{Tree, leaf, node, in_order, height, Balanced, balanced, on_right, plugged, before, after}
+use Rattle.ac_balance.specs.TreeFields.{root, linked, left_of, right_of, parent_of, parent_link, is_left_in, balanced_in, place_in, links}
+use Rattle.ac_balance.specs.Climbing.{Has, HasName, Once, Hangs, above_in, Framed, IsSide, IsRooted, Climbing, Closed, Closes, Relinks, Keeps}
+use Rattle.ac_balance.specs.Indexed.{without}
+use Rattle.ac_balance.specs.Detaching.{CutOff, Beside, Joined, Detached}
 use Rattle.ac_balance.proofs.SlotNames.{linked_name}
-use Rattle.ac_balance.proofs.Standing.{Hangs-same, Stands-same, root_has}
+use Rattle.ac_balance.proofs.Standing.{Hangs-same}
 use Rattle.ac_balance.proofs.Keeping.{sound_still}
-use Rattle.ac_balance.proofs.Names.{IsOnce, IsAround, HasName-left, HasName-right, HasName-either, once-append, once_from, once_rows, once_order, named, has, plugged_once, height_le}
+use Rattle.ac_balance.proofs.Names.{IsOnce, HasName-left, HasName-right, HasName-either, once-append, once_from, once_rows, named, has, plugged_once, height_le}
 use Rattle.ac_balance.proofs.Turns.{balanced-order}
 use Rattle.ac_balance.proofs.Turning.{Gives, balanced-gives}
 use Rattle.ac_balance.proofs.Climbs.{plugged-order, plugged-fits, settled-step}
@@ -26,7 +24,7 @@ use Rattle.ac_balance.proofs.Opening.{cut, rooted-in}
 use Rattle.ac_balance.proofs.Rising.{Framed-same, relinks_itself, relinks_then, above-live, side-is}
 use Rattle.ac_balance.proofs.Cuts.{remove-cut, once_cut}
 use Rattle.ac_balance.proofs.Walks.{own_links}
-use Rattle.ac_balance.proofs.Indexes.{Located, located, place_of_row}
+use Rattle.ac_balance.proofs.Indexes.{Located, place_of_row}
 
 module _ {X : Type 0} where
   relinks_more : (xs ys : List (Row Name X)) (c d : Contents (Node X)) → ((a : Name) → HasName a xs → HasName a ys) → Relinks xs c d → Relinks ys c d

@@ -5,7 +5,6 @@ use Rattle.ac_pool.specs.Contents.{Contents, value_of, IsSound}
 use Rattle.ac_balance.specs.declared.links.Node.{Node}
 use Rattle.ac_balance.specs.Trees.{Tree, leaf, node, height}
 use Rattle.ac_balance.specs.TreeFields.{root, Stands, read, read_on}
-use Rattle.ac_balance.specs.Link.{link_of, name_in}
 use Rattle.ac_balance.proofs.Standing.{linked_root}
 
 module _ {X : Type 0} where

@@ -7,7 +7,7 @@ use Rattle.ac_balance.specs.Climbing.{Closed}
 use Rattle.ac_balance.specs.declared.entry.Entry.{Entry}
 use Rattle.ac_balance.specs.declared.links.Links.{Links}
 use Rattle.ac_balance.specs.declared.search.Spot.{Spot}
-use Rattle.ac_balance.specs.Trees.{in_order, height}
+use Rattle.ac_balance.specs.Trees.{height}
 use Rattle.ac_balance.specs.Seeking.{Seeks}
 use Rattle.ac_balance.specs.Indexed.{IsAscending, FewSteps}
 use Rattle.ac_balance.specs.IndexFields.{rows_in, IsOrderIndex}

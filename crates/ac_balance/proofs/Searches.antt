@@ -5,18 +5,18 @@ use Rattle.std.proofs.lemmas.Bool.{cond-true, cond-false}
 use Rattle.std.proofs.lemmas.List.{reverse-append}
 use Rattle.ac_base.specs.declared.name.Name.{Name}
 use Rattle.ac_base.specs.Rows.{Row}
-use Rattle.ac_base.specs.Order.{IsWeakOrder, are_level}
+use Rattle.ac_base.specs.Order.{IsWeakOrder}
 use Rattle.ac_base.specs.WeakOrders.{asymmetric, not_less_transitive}
 use Rattle.ac_pool.specs.Contents.{Contents}
 use Rattle.ac_balance.specs.declared.links.Node.{Node}
 use Rattle.ac_balance.specs.declared.search.Spot.{Spot}
-use Rattle.ac_balance.specs.Trees.{Tree, leaf, node, in_order, height, Balanced, Step, on_left, on_right, plugged, before, after}
+use Rattle.ac_balance.specs.Trees.{Tree, leaf, node, in_order, height, Balanced, Step, on_left, on_right, before, after}
 use Rattle.ac_balance.specs.Seeking.{Seeking, Seeks, IsMet, below_in, after_in}
 use Rattle.ac_balance.specs.Walking.{or_else}
 use Rattle.ac_balance.specs.Indexed.{Each, IsAscending, FewSteps}
 use Rattle.ac_balance.proofs.Heights.{height_squared}
 use Rattle.ac_balance.proofs.Climbs.{plugged-order}
-use Rattle.ac_balance.proofs.Sides.{IsProbe, each-append, each-left, each-right, each-weaker, led-sides, met-sides}
+use Rattle.ac_balance.proofs.Sides.{IsProbe, each-append, each-right, each-weaker, led-sides, met-sides}
 
 both_false : (a b : Bool) → b ≡ true → not (not a && not b) ≡ true
 both_false true b e = refl

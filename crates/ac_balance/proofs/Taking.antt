@@ -1,5 +1,5 @@
 -- A row goes, or goes to another place under its name.
-use Rattle.std.proofs.Common.{◌≡◌, ◌≢◌, ℕ, suc, ◌+◌, ◌-◌, ◌<◌, ◌≤◌, ◌⊎◌, Bool, true, false, not, Bor, List, [], ◌∷◌, ◌++◌, length, Option, Some, None, is_some, IsSome, refl, sym, ap, ◌∙◌, subst, inl, inr, arith}
+use Rattle.std.proofs.Common.{◌≡◌, ◌≢◌, ℕ, ◌+◌, Bool, true, false, not, Bor, List, [], ◌∷◌, ◌++◌, length, Option, Some, None, is_some, IsSome, refl, sym, ap, ◌∙◌, subst, inl, inr, arith}
 use Rattle.std.specs.List.{remove}
 use Rattle.std.specs.Option.{option_map, option_copied}
 use Rattle.std.proofs.lemmas.Bool.{cond-true, cond-false}
@@ -10,7 +10,7 @@ use Rattle.ac_base.specs.Order.{IsWeakOrder, are_level}
 use Rattle.ac_pool.specs.Contents as pool
 use Rattle.ac_pool.specs.Contents.{Contents, value_of, IsLive, live_count, with_value, IsSound}
 use Rattle.ac_pool.proofs.NameLaws.{cases_name}
-use Rattle.ac_pool.proofs.ContentsLaws.{live_value, value_of-with_value_same, value_of-with_value_other, value_of-taken_same, value_of-taken_other, live_count-taken, live_count_above, taken_live}
+use Rattle.ac_pool.proofs.ContentsLaws.{live_value, value_of-with_value_same, value_of-with_value_other, value_of-taken_same, value_of-taken_other, live_count-taken, taken_live}
 use Rattle.ac_balance.specs.declared.entry.Entry.{Entry}
 use Rattle.ac_balance.specs.declared.links.Node.{Node}
 use Rattle.ac_balance.specs.declared.links.Links.{Links}
@@ -19,12 +19,12 @@ use Rattle.ac_balance.specs.TreeFields.{alone, links}
 use Rattle.ac_balance.specs.Climbing.{HasName, Closed, Closes, Keeps}
 use Rattle.ac_balance.specs.Seeking.{Seeks, Stood}
 use Rattle.ac_balance.specs.Detaching.{Detached}
-use Rattle.ac_balance.specs.Indexed.{Each, IsAscending, Indexed, indexed, entry, value_at, without, with_row, taken, row_of, first_where, without_row, with_new_row}
+use Rattle.ac_balance.specs.Indexed.{Each, IsAscending, indexed, entry, value_at, without, with_row, taken, row_of, first_where, without_row, with_new_row}
 use Rattle.ac_balance.specs.IndexFields.{StandsFor, rows_in, IsOrderIndex}
 use Rattle.ac_balance.proofs.Names.{IsOnce, named}
 use Rattle.ac_balance.proofs.Standing.{Stands-same}
 use Rattle.ac_balance.proofs.Keeping.{keeps_value, keeps_then, sound_still}
-use Rattle.ac_balance.proofs.Cuts.{Cut, cut, remove-cut, HasName-cut, HasName-put, once_gone}
+use Rattle.ac_balance.proofs.Cuts.{cut, remove-cut, HasName-cut, once_gone}
 use Rattle.ac_balance.proofs.Indexes.{view_of, index_from, view-is, named_live, rows_once, values_are}
 use Rattle.ac_balance.proofs.Adding.{Vacant, vacant, put_has, put_length}
 use Rattle.ac_balance.proofs.Searched.{sought_rows}

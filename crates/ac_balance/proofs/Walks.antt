@@ -1,21 +1,21 @@
 -- Walks in a tree that stands: down to its ends, and up to the nearest node on the other side.
-use Rattle.std.proofs.Common.{◌≡◌, ℕ, ◌+◌, ◌<◌, ◌≤◌, ◌^◌, max, Bool, true, false, List, [], ◌∷◌, ◌++◌, length, Option, Some, None, is_some, IsSome, refl, sym, ap, ◌∙◌, subst, arith, append_assoc}
+use Rattle.std.proofs.Common.{◌≡◌, ◌<◌, true, false, List, [], ◌∷◌, ◌++◌, Option, Some, None, is_some, refl, sym, ap, ◌∙◌, subst, arith}
 use Rattle.ac_base.specs.declared.name.Name.{Name}
 use Rattle.ac_base.specs.Rows.{Row}
-use Rattle.ac_pool.specs.Contents.{Contents, value_of, IsLive, IsSound}
+use Rattle.ac_pool.specs.Contents.{Contents, value_of, IsSound}
 use Rattle.ac_balance.specs.declared.links.Node.{Node}
 use Rattle.ac_balance.specs.Link.{name_in}
-use Rattle.ac_balance.specs.Trees.{Tree, leaf, node, in_order, height, Step, on_left, on_right, joined, plugged, before, after}
+use Rattle.ac_balance.specs.Trees.{Tree, leaf, node, in_order, height, Step, on_left, on_right, joined, before, after}
 use Rattle.ac_balance.specs.TreeFields.{root, parent_link, parent_of, left_of, right_of, high, Stands, is_left_in}
-use Rattle.ac_balance.specs.Climbing.{Has, Once, Hangs, name_of, above_in, IsSide}
-use Rattle.ac_balance.specs.Seeking.{Stood, IsTree, after_in, below_in}
-use Rattle.ac_balance.specs.Walking.{first_name, last_name, Placed, IsPlaced, AtNode, IsAtNode}
-use Rattle.ac_balance.proofs.Standing.{some_name, high-is, left-is, right-is, Stands-live, root_has}
+use Rattle.ac_balance.specs.Climbing.{Hangs, name_of, above_in, IsSide}
+use Rattle.ac_balance.specs.Seeking.{Stood}
+use Rattle.ac_balance.specs.Walking.{first_name, last_name, Placed, AtNode}
+use Rattle.ac_balance.proofs.Standing.{some_name, high-is, left-is, right-is, root_has}
 use Rattle.ac_balance.proofs.SlotNames.{linked_name}
-use Rattle.ac_balance.proofs.Names.{IsAround, plugged_once, height_le, plugged_le}
-use Rattle.ac_balance.proofs.Rising.{left_to, parent-is, side-is, above-live, falls}
+use Rattle.ac_balance.proofs.Names.{plugged_once, height_le, plugged_le}
+use Rattle.ac_balance.proofs.Rising.{left_to, side-is, above-live, falls}
 use Rattle.ac_balance.proofs.Opening.{cut, root-joined}
-use Rattle.ac_balance.proofs.Cuts.{first_name-append, last_name-append, last_name-cut}
+use Rattle.ac_balance.proofs.Cuts.{last_name-append, last_name-cut}
 
 module _ {X : Type 0} where
   -- a part on the way down to the first row

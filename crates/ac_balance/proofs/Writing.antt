@@ -1,18 +1,18 @@
 -- The value of a row is written through a `&mut`.
-use Rattle.std.proofs.Common.{◌≡◌, ◌≢◌, ℕ, ◌+◌, ◌≤◌, ◌⊎◌, max, Bool, List, [], ◌∷◌, ◌++◌, length, Option, Some, None, is_some, refl, sym, ap, ◌∙◌, subst, inl, inr, arith}
+use Rattle.std.proofs.Common.{◌≡◌, ◌≢◌, ◌+◌, ◌⊎◌, max, Bool, ◌∷◌, ◌++◌, length, Some, is_some, refl, sym, ap, ◌∙◌, subst, inl, inr, arith}
 use Rattle.std.specs.List.{slice_set}
 use Rattle.std.proofs.lemmas.List.{length-append}
 use Rattle.ac_base.specs.declared.name.Name.{Name}
-use Rattle.ac_base.specs.Rows.{Row, row}
+use Rattle.ac_base.specs.Rows.{row}
 use Rattle.ac_pool.specs.Contents as pool
 use Rattle.ac_pool.specs.Contents.{Contents, value_of, IsLive}
 use Rattle.ac_pool.proofs.ContentsLaws.{value_of-with_value_same, value_of-with_value_other}
 use Rattle.ac_balance.specs.declared.entry.Entry.{Entry}
 use Rattle.ac_balance.specs.declared.links.Node.{Node}
 use Rattle.ac_balance.specs.declared.links.Links.{Links}
-use Rattle.ac_balance.specs.Trees.{Tree, node, in_order, height, Balanced, plugged, before, after}
+use Rattle.ac_balance.specs.Trees.{node, in_order, height, Balanced, plugged, before, after}
 use Rattle.ac_balance.specs.TreeFields.{node_with, linked, root, Stands, links}
-use Rattle.ac_balance.specs.Climbing.{Has, HasName, Once, above_in, Framed, Closed}
+use Rattle.ac_balance.specs.Climbing.{Has, HasName, above_in, Framed, Closed}
 use Rattle.ac_balance.specs.Indexed.{IsAscending, indexed, entry, index_of, value_at, value_put, with_value}
 use Rattle.ac_balance.specs.IndexFields.{StandsFor, rows_in, IsOrderIndex}
 use Rattle.ac_balance.proofs.Names.{IsOnce, IsAround, plugged_once, once_from, once_put}

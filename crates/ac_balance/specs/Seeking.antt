@@ -6,7 +6,7 @@ use Rattle.ac_balance.specs.declared.links.Node.{Node}
 use Rattle.ac_balance.specs.declared.entry.Entry.{Entry}
 use Rattle.ac_balance.specs.declared.search.Spot.{Spot}
 use Rattle.ac_balance.specs.Trees.{Tree, leaf, node, Step, on_left, on_right, plugged}
-use Rattle.ac_balance.specs.TreeFields.{Stands, root, left_of, right_of}
+use Rattle.ac_balance.specs.TreeFields.{root, left_of, right_of}
 use Rattle.ac_balance.specs.Climbing.{Hangs, above_in, IsSide}
 
 abbrev pub spot : Option Name → Option Name → Bool → Option Name → Option Name → Spot

@@ -1,5 +1,4 @@
-use Rattle.std.proofs.Common.{Some, sym, ◌∙◌, subst}
-use Rattle.ac_balance.specs.Trees.{Tree}
+use Rattle.std.proofs.Common.{sym, ◌∙◌, subst}
 use Rattle.ac_balance.specs.Detaching.{Part}
 use Rattle.ac_balance.proofs.Joining.{joined_both}
 use Rattle.ac_balance.proofs.detaching.join.Goals as goal

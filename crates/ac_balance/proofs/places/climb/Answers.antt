@@ -1,5 +1,4 @@
 use Rattle.std.proofs.Common.{rules, ◌<◌, refl, sym, ◌∙◌, subst}
-use Rattle.ac_balance.specs.Trees.{tall}
 use Rattle.ac_balance.specs.Climbing.{Climbed}
 use Rattle.ac_balance.proofs.Rising.{left_to, rises_to, stops_at, ends, relinks_itself, relinks_then}
 use Rattle.ac_balance.proofs.places.climb.Goals as goal

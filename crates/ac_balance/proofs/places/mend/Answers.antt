@@ -1,7 +1,3 @@
-use Rattle.std.proofs.Common.{◌≡◌, sym, subst}
-use Rattle.ac_balance.specs.declared.links.Links.{Links}
-use Rattle.ac_balance.specs.TreeFields.{links, attached}
-use Rattle.ac_balance.specs.Climbing.{Closes}
 use Rattle.ac_balance.proofs.Closing.{mends}
 use Rattle.ac_balance.proofs.places.mend.Goals as goal
 

@@ -1,10 +1,8 @@
 use Rattle.std.proofs.Common.{◌≡◌, ◌<◌, Some, None, refl, sym, ap, ◌∙◌, subst}
 use Rattle.ac_base.specs.Order.{are_level}
 use Rattle.ac_pool.specs.Contents as pool
-use Rattle.ac_balance.specs.declared.links.Links.{Links}
 use Rattle.ac_balance.specs.Indexed.{first_where, added, IsFresh, entry, IsSound}
-use Rattle.ac_balance.specs.IndexFields.{IsOrderIndex}
-use Rattle.ac_balance.specs.TreeFields.{alone, links}
+use Rattle.ac_balance.specs.TreeFields.{alone}
 use Rattle.ac_balance.proofs.Indexes.{view_of, stood_root, sound_of}
 use Rattle.ac_balance.proofs.Searched.{sought}
 use Rattle.ac_balance.proofs.Adding.{fresh_vacant, added_index, fresh_name}

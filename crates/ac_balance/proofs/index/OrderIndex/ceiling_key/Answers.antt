@@ -1,4 +1,4 @@
-use Rattle.std.proofs.Common.{◌≡◌, not, length, refl, ◌∙◌, subst}
+use Rattle.std.proofs.Common.{◌≡◌, not, length, ◌∙◌, subst}
 use Rattle.ac_balance.specs.Indexed.{first_where, FewSteps}
 use Rattle.ac_balance.proofs.Indexes.{stood_root}
 use Rattle.ac_balance.proofs.Searched.{sought, few_sought}

@@ -1,4 +1,4 @@
-use Rattle.std.proofs.Common.{◌≡◌, length, refl, ◌∙◌, subst}
+use Rattle.std.proofs.Common.{◌≡◌, length, refl, subst}
 use Rattle.ac_base.specs.Order.{are_level}
 use Rattle.ac_balance.specs.Indexed.{first_where, FewSteps}
 use Rattle.ac_balance.proofs.Indexes.{stood_root}

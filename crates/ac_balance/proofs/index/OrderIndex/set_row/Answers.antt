@@ -1,6 +1,5 @@
 use Rattle.std.proofs.Common.{◌≡◌, None, sym, subst}
 use Rattle.ac_base.specs.Order.{are_level}
-use Rattle.ac_balance.specs.TreeFields.{links}
 use Rattle.ac_balance.specs.Indexed.{IsThere, without, first_where, without_row, with_new_row}
 use Rattle.ac_balance.specs.IndexFields.{rows_in}
 use Rattle.ac_balance.proofs.Cuts.{live_has}
