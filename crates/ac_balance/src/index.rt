@@ -216,8 +216,8 @@ impl<K: Rank, V> OrderIndex<K, V> {
         ensures name { result ≡ first_where (λ x. are_level K.is_less x k.now) self.now }
         ensures few { FewSteps (length self.now.rows) steps.old steps.new }
     {
-        let spot = seek(&self.links.nodes, self.links.root, k, steps);
-        spot.part
+        let found = seek(&self.links.nodes, self.links.root, k, steps);
+        found.part
     }
 
     /// The name of the last row whose key isn't greater.
@@ -225,8 +225,8 @@ impl<K: Rank, V> OrderIndex<K, V> {
         ensures name { result ≡ last_where (λ x. not (K.is_less k.now x)) self.now }
         ensures few { FewSteps (length self.now.rows) steps.old steps.new }
     {
-        let spot = seek(&self.links.nodes, self.links.root, k, steps);
-        either(spot.part, spot.below)
+        let place = seek(&self.links.nodes, self.links.root, k, steps);
+        either(place.part, place.below)
     }
 
     /// The name of the first row whose key isn't less.

@@ -5,17 +5,17 @@ use Rattle.ac_balance.proofs.Indexes.{stood_root}
 use Rattle.ac_balance.proofs.Searched.{sought, few_sought}
 use Rattle.ac_balance.proofs.index.OrderIndex.find.Goals as goal
 
-pub seek-spot-requires : goal.seek-spot-requires
-seek-spot-requires g c = record { tree = c.self.invariant.closed.tree; stood = stood_root g.K.Rank.is_less c.self.inside.links c.self.invariant }
+pub seek-found-requires : goal.seek-found-requires
+seek-found-requires g c = record { tree = c.self.invariant.closed.tree; stood = stood_root g.K.Rank.is_less c.self.inside.links c.self.invariant }
 
 pub returns-clause-name : goal.returns-clause-name
 returns-clause-name g c =
     let s = c.self.invariant in let l = c.self.inside.links in
-    subst (λ x. c.seek-spot.result.part ≡ first_where (λ y. are_level g.K.Rank.is_less y c.args.k.now) x) c.self.view_is
-    (sought g.K.Rank.is_less l s (λ y. y) g.K.Rank.is_less (λ x y. refl) g.met.K.Rank.ordered c.args.k.now c.seek-spot.result (c.seek-spot.ensures.found s.closed.tree (stood_root g.K.Rank.is_less l s))).found
+    subst (λ x. c.seek-found.result.part ≡ first_where (λ y. are_level g.K.Rank.is_less y c.args.k.now) x) c.self.view_is
+    (sought g.K.Rank.is_less l s (λ y. y) g.K.Rank.is_less (λ x y. refl) g.met.K.Rank.ordered c.args.k.now c.seek-found.result (c.seek-found.ensures.found s.closed.tree (stood_root g.K.Rank.is_less l s))).found
 
 pub returns-clause-few : goal.returns-clause-few
 returns-clause-few g c =
     let s = c.self.invariant in let l = c.self.inside.links in
-    subst (λ x. FewSteps (length x.rows) c.args.steps.now c.seek-spot.new.steps) c.self.view_is
-    (few_sought g.K.Rank.is_less l s _ _ c.seek-spot.ensures.counted (c.seek-spot.ensures.few s.closed.tree (stood_root g.K.Rank.is_less l s)))
+    subst (λ x. FewSteps (length x.rows) c.args.steps.now c.seek-found.new.steps) c.self.view_is
+    (few_sought g.K.Rank.is_less l s _ _ c.seek-found.ensures.counted (c.seek-found.ensures.few s.closed.tree (stood_root g.K.Rank.is_less l s)))

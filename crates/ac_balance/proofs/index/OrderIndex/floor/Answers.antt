@@ -4,17 +4,17 @@ use Rattle.ac_balance.proofs.Indexes.{stood_root}
 use Rattle.ac_balance.proofs.Searched.{sought, few_sought}
 use Rattle.ac_balance.proofs.index.OrderIndex.floor.Goals as goal
 
-pub seek-spot-requires : goal.seek-spot-requires
-seek-spot-requires g c = record { tree = c.self.invariant.closed.tree; stood = stood_root g.K.Rank.is_less c.self.inside.links c.self.invariant }
+pub seek-place-requires : goal.seek-place-requires
+seek-place-requires g c = record { tree = c.self.invariant.closed.tree; stood = stood_root g.K.Rank.is_less c.self.inside.links c.self.invariant }
 
 pub returns-clause-name : goal.returns-clause-name
 returns-clause-name g c =
     let s = c.self.invariant in let l = c.self.inside.links in
     subst (λ x. c.either.result ≡ last_where (λ y. not (g.K.Rank.is_less c.args.k.now y)) x) c.self.view_is
-    (c.either.ensures ∙ (sought g.K.Rank.is_less l s (λ y. y) g.K.Rank.is_less (λ x y. refl) g.met.K.Rank.ordered c.args.k.now c.seek-spot.result (c.seek-spot.ensures.found s.closed.tree (stood_root g.K.Rank.is_less l s))).floor)
+    (c.either.ensures ∙ (sought g.K.Rank.is_less l s (λ y. y) g.K.Rank.is_less (λ x y. refl) g.met.K.Rank.ordered c.args.k.now c.seek-place.result (c.seek-place.ensures.found s.closed.tree (stood_root g.K.Rank.is_less l s))).floor)
 
 pub returns-clause-few : goal.returns-clause-few
 returns-clause-few g c =
     let s = c.self.invariant in let l = c.self.inside.links in
-    subst (λ x. FewSteps (length x.rows) c.args.steps.now c.seek-spot.new.steps) c.self.view_is
-    (few_sought g.K.Rank.is_less l s _ _ c.seek-spot.ensures.counted (c.seek-spot.ensures.few s.closed.tree (stood_root g.K.Rank.is_less l s)))
+    subst (λ x. FewSteps (length x.rows) c.args.steps.now c.seek-place.new.steps) c.self.view_is
+    (few_sought g.K.Rank.is_less l s _ _ c.seek-place.ensures.counted (c.seek-place.ensures.few s.closed.tree (stood_root g.K.Rank.is_less l s)))
