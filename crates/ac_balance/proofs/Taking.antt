@@ -30,12 +30,12 @@ use Rattle.ac_balance.proofs.Adding.{Vacant, vacant, put_has, put_length}
 use Rattle.ac_balance.proofs.Searched.{sought_rows}
 
 -- what a read says of a node
+pub copied_some : {A : Type 0} (o : Option (Bor A)) → is_some (option_copied o) ≡ is_some o
+copied_some None = refl
+copied_some (Some r) = refl
+
 pub read_some : {A : Type 0} (r : Option (Bor A)) (o : Option A) (none : Bool) → option_copied r ≡ o → is_some r ≡ not none → none ≡ false → IsSome o
-read_some r o none is e f = ap is_some (sym is) ∙ copied r ∙ e ∙ ap not f
-  where
-    copied : {A : Type 0} (r : Option (Bor A)) → is_some (option_copied r) ≡ is_some r
-    copied None = refl
-    copied (Some x) = refl
+read_some r o none is e f = ap is_some (sym is) ∙ copied_some r ∙ e ∙ ap not f
 
 pub read_none : {A : Type 0} (r : Option (Bor A)) (o : Option A) (none : Bool) → option_copied r ≡ o → is_some r ≡ not none → none ≡ true → o ≡ None
 read_none None o none is e f = sym is

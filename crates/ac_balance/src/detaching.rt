@@ -33,7 +33,7 @@ fn join<T>(links: &mut Links<T>, left_side: Option<Name>, right_side: Option<Nam
 }
 
 /// Takes the node out of the tree.
-pub fn detach<T>(links: &mut Links<T>, name: Name)
+pub(crate) fn detach<T>(links: &mut Links<T>, name: Name)
     requires { IsDetached links.old name }
     ensures { Detaches links.old name links.new }
 {

@@ -1,5 +1,5 @@
 //! The ordered index. A contract sees its rows, each a name with a key and a value, in the ascending order of their keys.
-ghost use Rattle.std.specs.Prelude.{◌≡◌, not, ◌+◌, ◌-◌, ◌^◌, ◌<◌, ◌≤◌, IsOk, IfOk, IfErr, OnOk, OnErr, None, option_copied, length};
+ghost use Rattle.std.specs.Prelude.{◌≡◌, ◌↔◌, not, ◌+◌, ◌-◌, ◌^◌, ◌<◌, ◌≤◌, IsTrue, IsOk, IfOk, IfErr, OnOk, OnErr, None, option_copied, length};
 ghost use Rattle.std.specs.Option.{option_copied_mut};
 ghost use Rattle.std.specs.Borrow.{sem};
 ghost use Rattle.ac_base.specs.Order.{are_level};
@@ -178,6 +178,14 @@ impl<K: Rank, V> OrderIndex<K, V> {
         ensures { result ≡ prev_name self.now name }
     {
         predecessor(&self.links.nodes, name)
+    }
+
+    /// Whether the name has a row.
+    pub fn is_there(&self, name: Name) -> bool
+        ensures there { IsTrue result ↔ IsThere self.now name }
+        ensures sound { IsSound K.is_less self.now }
+    {
+        self.links.nodes.get(name).is_some()
     }
 
     /// The key of the name's row, or `None` where it has none.

@@ -39,7 +39,7 @@ fn is_after<K: KeyOf, V, L: Ledger>(
 }
 
 /// As `seek`, by the key of each row's key.
-pub fn seek_key<K: KeyOf, V, L: Ledger>(
+pub(crate) fn seek_key<K: KeyOf, V, L: Ledger>(
     nodes: &Pool<Node<Entry<K, V>>>,
     root: Option<Name>,
     k: &K::Key,

@@ -11,19 +11,11 @@ mod rotation;
 mod search;
 mod walk;
 
-#[doc(hidden)]
-pub use detaching::detach;
 pub use entry::Entry;
 pub use index::{OrderIndex, Present};
 #[doc(hidden)]
-pub use keyed_search::seek_key;
-#[doc(hidden)]
 pub use links::{Links, Node};
 #[doc(hidden)]
-pub use places::{Place, mend};
+pub use places::Place;
 #[doc(hidden)]
-pub use rotation::balance;
-#[doc(hidden)]
-pub use search::{Spot, seek};
-#[doc(hidden)]
-pub use walk::{leftmost, predecessor, rightmost, successor};
+pub use search::Spot;

@@ -94,7 +94,7 @@ fn attach<T>(links: &mut Links<T>, place: Place)
 }
 
 /// Balances the nodes above the place, and links the tree together again.
-pub fn mend<T>(links: &mut Links<T>, place: Place)
+pub(crate) fn mend<T>(links: &mut Links<T>, place: Place)
     requires { IsMendable links.old place }
     ensures { Mends links.old place links.new }
 {

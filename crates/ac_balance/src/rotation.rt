@@ -119,7 +119,7 @@ fn from_right<T>(
 
 /// Puts a node between two sides whose heights differ by at most two, and gives the topmost.
 #[tactic(auto, unfolding(crate::specs::TreeFields::balanced_in))]
-pub fn balance<T>(
+pub(crate) fn balance<T>(
     nodes: &mut Pool<Node<T>>,
     left_side: Option<Name>,
     at: Name,

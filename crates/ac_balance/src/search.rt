@@ -82,7 +82,7 @@ fn is_after<K: Rank, V, L: Ledger>(
 }
 
 /// The place of the key, with at most two steps for each level of the tree.
-pub fn seek<K: Rank, V, L: Ledger>(
+pub(crate) fn seek<K: Rank, V, L: Ledger>(
     nodes: &Pool<Node<Entry<K, V>>>,
     root: Option<Name>,
     k: &K,

@@ -10,7 +10,7 @@ use ac_base::Name;
 use ac_pool::Pool;
 
 /// The first node of the part under this one.
-pub fn leftmost<T>(nodes: &Pool<Node<T>>, top: Name) -> Name
+pub(crate) fn leftmost<T>(nodes: &Pool<Node<T>>, top: Name) -> Name
     requires { IsTree nodes.now (Some top) }
     ensures { (t : Tree T) → Stood nodes.now (Some top) t → first_name (in_order t) ≡ Some result }
 {
@@ -22,7 +22,7 @@ pub fn leftmost<T>(nodes: &Pool<Node<T>>, top: Name) -> Name
 }
 
 /// The last node of the part under this one.
-pub fn rightmost<T>(nodes: &Pool<Node<T>>, top: Name) -> Name
+pub(crate) fn rightmost<T>(nodes: &Pool<Node<T>>, top: Name) -> Name
     requires { IsTree nodes.now (Some top) }
     ensures { (t : Tree T) → Stood nodes.now (Some top) t → last_name (in_order t) ≡ Some result }
 {
@@ -64,7 +64,7 @@ fn last_above<T>(nodes: &Pool<Node<T>>, name: Name) -> Option<Name>
 }
 
 /// The node after this one, in order.
-pub fn successor<T>(nodes: &Pool<Node<T>>, name: Name) -> Option<Name>
+pub(crate) fn successor<T>(nodes: &Pool<Node<T>>, name: Name) -> Option<Name>
     requires { IsAtNode nodes.now name }
     ensures { ComesNext nodes.now name result }
 {
@@ -75,7 +75,7 @@ pub fn successor<T>(nodes: &Pool<Node<T>>, name: Name) -> Option<Name>
 }
 
 /// The node before this one.
-pub fn predecessor<T>(nodes: &Pool<Node<T>>, name: Name) -> Option<Name>
+pub(crate) fn predecessor<T>(nodes: &Pool<Node<T>>, name: Name) -> Option<Name>
     requires { IsAtNode nodes.now name }
     ensures { ComesBefore nodes.now name result }
 {
