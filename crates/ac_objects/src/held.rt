@@ -161,7 +161,8 @@ fn copied<T: ScriptElement>(
     at: Cursor,
 ) -> Result<Value, NoMemory>
     requires { (element_call (plain (rows_of sequence.now).object) (mark_by (rows_of sequence.now) at)).reason ≡ None }
-    ensures { IfOk result (λ value. (as_value T.tools (element_call (plain (rows_of sequence.now).object) (mark_by (rows_of sequence.now) at))).answer ≡ Some value) }
+    ensures { let rows = rows_of sequence.now in
+        IfOk result (λ value. (as_value T.tools (element_call (plain rows.object) (mark_by rows at))).answer ≡ Some value) }
 {
     match sequence.element(at) {
         Ok(element) => element.to_value(alloc),

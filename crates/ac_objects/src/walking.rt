@@ -21,7 +21,8 @@ use ac_cursor::Cursor;
 /// The cursor at which a loop over the list or vector begins.
 fn first_in<T>(sequence: &Sequence<T>, backward: bool) -> Cursor
     ensures given { GivenBy (rows_of sequence.now).object result }
-    ensures first { plain_mark result ≡ first_mark (rows_of sequence.now).object.number (in_order backward (names (plain (rows_of sequence.now).object).rows)) }
+    ensures first { let o = plain (rows_of sequence.now).object in
+        plain_mark result ≡ first_mark o.number (in_order backward (names o.rows)) }
 {
     sequence.law();
     if backward {
@@ -36,7 +37,7 @@ fn first_in<T>(sequence: &Sequence<T>, backward: bool) -> Cursor
 fn next_in<T>(sequence: &Sequence<T>, backward: bool, at: Cursor) -> Cursor
     requires { Agrees (rows_of sequence.now).object at }
     ensures given { GivenBy (rows_of sequence.now).object result }
-    ensures next { StepsOn backward (rows_of sequence.now).object.number (names (plain (rows_of sequence.now).object).rows) at result }
+    ensures next { let o = plain (rows_of sequence.now).object in StepsOn backward o.number (names o.rows) at result }
 {
     sequence.law();
     match step_in(sequence, backward, at) {
@@ -48,7 +49,8 @@ fn next_in<T>(sequence: &Sequence<T>, backward: bool, at: Cursor) -> Cursor
 /// Next, or Previous.
 #[inline(always)]
 fn step_in<T>(sequence: &Sequence<T>, backward: bool, at: Cursor) -> Result<Cursor, Fault>
-    ensures { Looks (Marks (rows_of sequence.now).object) (λ o. step_call backward o (seen_by (rows_of sequence.now) at)) (rows_of sequence.now) result }
+    ensures { let rows = rows_of sequence.now in
+        Looks (Marks rows.object) (λ o. step_call backward o (seen_by rows at)) rows result }
 {
     if backward {
         sequence.previous(at)
@@ -60,7 +62,7 @@ fn step_in<T>(sequence: &Sequence<T>, backward: bool, at: Cursor) -> Result<Curs
 /// Why the element at which the cursor stands can't be viewed.
 fn refused_in<T>(sequence: &Sequence<T>, at: Cursor) -> Option<Reason>
     requires { Agrees (rows_of sequence.now).object at }
-    ensures { result ≡ (element_call (plain (rows_of sequence.now).object) (seen (plain (rows_of sequence.now).object) (plain_mark at))).reason }
+    ensures { let o = plain (rows_of sequence.now).object in result ≡ (element_call o (seen o (plain_mark at))).reason }
 {
     match sequence.element(at) {
         Ok(_) => None,

@@ -70,7 +70,8 @@ impl<T> Sequence<T> {
 impl<T: Drop> Sequence<T> {
     pub fn move_from(&mut self, source: &mut Sequence<T>) -> Result<(), Fault>
         requires like { kind_of self.old ≡ kind_of source.old }
-        ensures changed { DoesBoth Same common.move_from_call (rows_of self.old) (rows_of source.old) (rows_of self.new) (rows_of source.new) result }
+        ensures changed { DoesBoth Same common.move_from_call (rows_of self.old) (rows_of source.old)
+            (rows_of self.new) (rows_of source.new) result }
         ensures kind { kind_of self.new ≡ kind_of self.old }
         ensures source_kind { kind_of source.new ≡ kind_of source.old }
         ensures slots { Grows result (rows_of self.old) (rows_of self.new) }
@@ -92,7 +93,8 @@ impl<T: Drop> Sequence<T> {
 impl<T: Elem> Sequence<T> {
     pub fn assign(&mut self, source: &Sequence<T>) -> Result<(), Fault>
         requires like { kind_of self.old ≡ kind_of source.now }
-        ensures changed { Does Same (λ o. common.assign_call o (plain (rows_of source.now).object)) (rows_of self.old) (rows_of self.new) result }
+        ensures changed { Does Same (λ o. common.assign_call o (plain (rows_of source.now).object))
+            (rows_of self.old) (rows_of self.new) result }
         ensures kind { kind_of self.new ≡ kind_of self.old }
         ensures slots { Grows result (rows_of self.old) (rows_of self.new) }
     {

@@ -140,7 +140,8 @@ fn last_index_of<T: ScriptElement>(
     element: &T,
     from: &Argument,
 ) -> Result<i64, Fault>
-    ensures { Looks Same (λ o. vectors.reverse_find_index_call T.tools.same o element.now (argument_of from.now).last_index) vector.now result }
+    ensures { Looks Same (λ o. vectors.reverse_find_index_call T.tools.same o element.now (argument_of from.now).last_index)
+        vector.now result }
 {
     vector.reverse_find_index(element, from.last_index())
 }
