@@ -24,7 +24,7 @@ use Rattle.ac_balance.proofs.Opening.{added_opens}
 use Rattle.ac_balance.proofs.Climbs.{plugged-order}
 use Rattle.ac_balance.proofs.Sides.{led-sides, each-weaker}
 use Rattle.ac_balance.proofs.Searches.{probes}
-use Rattle.ac_balance.proofs.Cuts.{insert-cut, HasName-put, HasName-cut}
+use Rattle.ac_balance.proofs.Cuts.{insert-cut, HasName-put}
 use Rattle.ac_balance.proofs.Indexes.{view_of, index_from, view-is, named_live, live_in}
 
 -- rows with one more in between
@@ -67,9 +67,6 @@ module _ {K V : Type 0} (less : K → K → Bool) (weak : IsWeakOrder less) wher
     | inl e ↦ HasName-right b p.front (row a (entry k v) ∷ p.back) (inl e)
     | inr t ↦ HasName-put b p.front (row a (entry k v)) p.back (subst (HasName b) p.were t)
   ])
-
-  pub put_had : (rows : List (Row Name (Entry K V))) (a : Name) (k : K) (v : V) → Put rows a k v → (b : Name) → HasName b (with_row less rows a k v) → (b ≡ a) ⊎ HasName b rows
-  put_had rows a k v p b h = elim (HasName-cut b p.front (row a (entry k v)) p.back (subst (HasName b) p.are h)) [ inl e ↦ inl e | inr t ↦ inr (subst (HasName b) (sym p.were) t) ]
 
   pub put_length : (rows : List (Row Name (Entry K V))) (a : Name) (k : K) (v : V) → Put rows a k v → length (with_row less rows a k v) ≡ length rows + 1
   put_length rows a k v p = let n = length-put p.front (row a (entry k v)) p.back in let m = ap length p.are in let o = ap length p.were in omega (arith, n, m, o)

@@ -2,7 +2,7 @@
 use Rattle.std.proofs.Common.{◌≡◌, ℕ, ◌+◌, max, Bool, true, false, nat_le, List, [], ◌∷◌, ◌++◌, refl, sym, ap, ◌∙◌, subst, arith, append-nil, append_assoc}
 use Rattle.ac_base.specs.declared.name.Name.{Name}
 use Rattle.ac_base.specs.Rows.{Row}
-use Rattle.ac_balance.specs.Trees.{Tree, leaf, node, in_order, height, Level, Balanced, balanced, Step, on_left, on_right, side_of, joined, settled, plugged, climbed, before, after, Fits}
+use Rattle.ac_balance.specs.Trees.{Tree, leaf, node, in_order, height, Level, Balanced, balanced, Step, on_left, on_right, side_of, joined, settled, plugged, before, after, tall, Fits}
 use Rattle.ac_balance.proofs.Turns.{le_false, le_true, Settles, balanced-order, balanced-settled}
 
 Level-back : (h k : ℕ) → Level h k → Level k h
@@ -41,16 +41,9 @@ module _ {X : Type 0} where
   settled-order (on_left x r) t = balanced-order t x r
   settled-order (on_right l x) t = balanced-order l x t
 
-  pub settled-around : (s : Step X) (steps : List (Step X)) (t : Tree X) → around steps (in_order (settled s t)) ≡ around (s ∷ steps) (in_order t)
-  settled-around s steps t = ap (around steps) (settled-order s t) ∙ around-step s steps t
-
   pub plugged-order : (steps : List (Step X)) (t : Tree X) → in_order (plugged steps t) ≡ around steps (in_order t)
   plugged-order [] t = sym (append-nil (in_order t))
   plugged-order (s ∷ steps) t = plugged-order steps (joined s t) ∙ around-step s steps t
-
-  pub climbed-order : (steps : List (Step X)) (t : Tree X) → in_order (climbed steps t) ≡ around steps (in_order t)
-  climbed-order [] t = sym (append-nil (in_order t))
-  climbed-order (s ∷ steps) t = climbed-order steps (settled s t) ∙ settled-around s steps t
 
   -- the balance around a place
   pub joined-balanced : (s : Step X) (t : Tree X) → Level (height t) (height (side_of s)) → Balanced (side_of s) → Balanced t → Balanced (joined s t)
@@ -87,14 +80,10 @@ module _ {X : Type 0} where
       let made = balanced-settled l x t p q (omega arith) (omega arith) in
       (made.0, near_still h (height t) (height l) (height (balanced l x t)) e near (Settles-back (height l) (height t) _ made.1))
 
-  -- balancing on the way up from a place whose height changes by at most one
-  pub climbed-balanced : (steps : List (Step X)) (t : Tree X) (h : ℕ) → Fits steps h → Balanced t → Level h (height t) → Balanced (climbed steps t)
-  climbed-balanced [] t h f p near = p
-  climbed-balanced (s ∷ steps) t h f p near = let up = settled-step s t h f.0 f.1 p near in climbed-balanced steps (settled s t) (max h (height (side_of s)) + 1) f.2 up.0 up.1
+  pub plugged-height : (steps : List (Step X)) (t : Tree X) → height (plugged steps t) ≡ tall steps (height t)
+  plugged-height [] t = refl
+  plugged-height (s ∷ steps) t = plugged-height steps (joined s t) ∙ ap (tall steps) (joined-height s t)
 
-  -- a row more
-  pub added-balanced : (steps : List (Step X)) (x : Row Name X) → Balanced (plugged steps leaf) → Balanced (climbed steps (node leaf x leaf))
-  added-balanced steps x p = climbed-balanced steps (node leaf x leaf) 0 (plugged-fits steps leaf p).0 (record { up = omega arith; down = omega arith }, tt, tt) (record { up = omega arith; down = omega arith })
-
-  pub added-order : (steps : List (Step X)) (x : Row Name X) → in_order (climbed steps (node leaf x leaf)) ≡ before steps ++ x ∷ after steps
-  added-order steps x = climbed-order steps (node leaf x leaf)
+  -- a node without a left side goes, and its right side comes up
+  pub first_near : (s : Row Name X) (q : Tree X) → Balanced (node leaf s q) → Level (height (node leaf s q)) (height q)
+  first_near s q p = record { up = omega arith; down = omega arith }

@@ -122,9 +122,6 @@ module _ {X : Type 0} where
   last_name-append (x ∷ []) (y ∷ ys) a e = e
   last_name-append (x ∷ z ∷ xs) (y ∷ ys) a e = last_name-append (z ∷ xs) (y ∷ ys) a e
 
-  pub cut-row : (a : Name) (rows : List (Row Name X)) (k : Cut a rows) → slice_get rows (index_of a rows) ≡ Some k.at
-  cut-row a rows k = ap (slice_get rows) k.place ∙ ap (λ zs. slice_get zs (length k.before)) k.is ∙ slice_get-cut k.before k.at k.after
-
   pub name_at_has : (rows : List (Row Name X)) (i : ℕ) (a : Name) → name_at rows i ≡ Some a → HasName a rows
   name_at_has [] i a e = cc
   name_at_has (r ∷ rows) zero a e = inl (some_name a r.name (sym e))

@@ -10,12 +10,11 @@ use Rattle.ac_balance.specs.Trees.{Tree, leaf, node, in_order, height, Level, Ba
 use Rattle.ac_balance.specs.TreeFields.{root, Stands, right_of, with_parent, place_in, is_left_in, links}
 use Rattle.ac_balance.specs.Climbing.{HasName, Once, above_in, IsSide, IsRooted, Climbing, Closes, Relinks, IsMendable, Mends}
 use Rattle.ac_balance.specs.Walking.{first_name, Placed}
-use Rattle.ac_balance.specs.Detaching.{Part, Keeps_row, CutOff}
+use Rattle.ac_balance.specs.Detaching.{Part, KeepsValue, CutOff}
 use Rattle.ac_balance.proofs.Standing.{some_name, with_parent-writes, root_has, right-is}
 use Rattle.ac_balance.proofs.Keeping.{keeps_parent, sound_still}
 use Rattle.ac_balance.proofs.Names.{IsOnce, once_from, once_rows, named}
-use Rattle.ac_balance.proofs.Climbs.{plugged-order, plugged-fits}
-use Rattle.ac_balance.proofs.Removal.{plugged-height, first_near}
+use Rattle.ac_balance.proofs.Climbs.{plugged-order, plugged-fits, plugged-height, first_near}
 use Rattle.ac_balance.proofs.Opening.{cut, rooted-in}
 use Rattle.ac_balance.proofs.Closing.{moved}
 use Rattle.ac_balance.proofs.Rising.{relinks_then}
@@ -75,7 +74,7 @@ module _ {X : Type 0} where
     pub are : in_order t ≡ row ∷ rest
     pub name : row.name ≡ first
     pub once : IsOnce (row ∷ rest)
-    pub kept : Keeps_row (with_parent l.nodes (Some top) None) row
+    pub kept : KeepsValue (with_parent l.nodes (Some top) None) row
     pub relinks : Relinks (in_order t) l.nodes (with_parent l.nodes (Some top) None)
     pub climbing : Climbing (with_parent l.nodes (Some top) None) (place_in (with_parent l.nodes (Some top) None) first (right_of (with_parent l.nodes (Some top) None) first)) (Some top) rest
     pub high : tall climbing.steps climbing.was ≡ height t

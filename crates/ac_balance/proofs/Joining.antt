@@ -1,5 +1,5 @@
 -- Two parts become one, and take the place of a node that leaves the tree.
-use Rattle.std.proofs.Common.{◌≡◌, ℕ, ◌⊎◌, List, [], ◌∷◌, ◌++◌, length, Option, Some, None, is_some, refl, sym, ap, ◌∙◌, subst, inl, inr, arith, append-nil, append_assoc}
+use Rattle.std.proofs.Common.{◌≡◌, ℕ, ◌⊎◌, List, ◌∷◌, ◌++◌, length, Option, Some, None, is_some, refl, sym, ap, ◌∙◌, subst, inl, inr, arith, append_assoc}
 use Rattle.std.proofs.lemmas.List.{length-append}
 use Rattle.std.specs.List.{remove}
 use Rattle.ac_base.specs.declared.name.Name.{Name}
@@ -8,7 +8,7 @@ use Rattle.ac_pool.specs.Contents.{Contents, value_of}
 use Rattle.ac_balance.specs.declared.links.Node.{Node}
 use Rattle.ac_balance.specs.declared.links.Links.{Links}
 use Rattle.ac_balance.specs.Link.{name_in}
-use Rattle.ac_balance.specs.Trees.{Tree, leaf, node, in_order, height, Balanced, balanced, on_right, plugged, before, after}
+use Rattle.ac_balance.specs.Trees.{Tree, node, in_order, height, Balanced, balanced, on_right, plugged, before, after}
 use Rattle.ac_balance.specs.TreeFields.{root, linked, left_of, right_of, parent_of, parent_link, is_left_in, balanced_in, place_in, links}
 use Rattle.ac_balance.specs.Climbing.{Has, HasName, Once, Hangs, above_in, Framed, IsSide, IsRooted, Climbing, Closed, Closes, Relinks, Keeps}
 use Rattle.ac_balance.specs.Indexed.{without}
@@ -21,7 +21,7 @@ use Rattle.ac_balance.proofs.Turns.{balanced-order}
 use Rattle.ac_balance.proofs.Turning.{Gives, balanced-gives}
 use Rattle.ac_balance.proofs.Climbs.{plugged-order, plugged-fits, settled-step}
 use Rattle.ac_balance.proofs.Opening.{cut, rooted-in}
-use Rattle.ac_balance.proofs.Rising.{Framed-same, relinks_itself, relinks_then, above-live, side-is}
+use Rattle.ac_balance.proofs.Rising.{Framed-same, relinks_then, above-live, side-is}
 use Rattle.ac_balance.proofs.Cuts.{remove-cut, once_cut}
 use Rattle.ac_balance.proofs.Walks.{own_links}
 use Rattle.ac_balance.proofs.Indexes.{Located, place_of_row}
@@ -29,23 +29,6 @@ use Rattle.ac_balance.proofs.Indexes.{Located, place_of_row}
 module _ {X : Type 0} where
   relinks_more : (xs ys : List (Row Name X)) (c d : Contents (Node X)) → ((a : Name) → HasName a xs → HasName a ys) → Relinks xs c d → Relinks ys c d
   relinks_more xs ys c d f r = record { aside = λ a n. r.aside a (λ h. n (f a h)); keeps = r.keeps }
-
-  no_root : (u : Tree X) → None ≡ root u → u ≡ leaf
-  no_root leaf e = refl
-  no_root (node l x r) e = cc
-
-  pub joined_none : (l : Links X) (o p : Option Name) (t u : Tree X) → p ≡ None → Beside l.nodes o p t u → Joined l l t u o
-  joined_none l o p t u e b =
-      let empty = no_root u (sym e ∙ b.right.top) in
-      subst (λ z. Joined l l t z o) (sym empty) (record {
-        tree = t;
-        is_top = b.left.top;
-        hangs = b.left.hangs;
-        balanced = b.left.balanced;
-        ordered = sym (append-nil (in_order t));
-        near = record { up = omega arith; down = omega arith };
-        relinks = relinks_itself (in_order t ++ []) l.nodes;
-      })
 
   pub joined_both : (l m : Links X) (o p : Option Name) (t u : Tree X) (first : Name) (n : Contents (Node X)) (top : Name) → Beside l.nodes o p t u → CutOff l m u first
       → n ≡ (balanced_in m.nodes o first m.root).nodes → top ≡ (balanced_in m.nodes o first m.root).top → Joined l (links n m.root) t u (Some top)

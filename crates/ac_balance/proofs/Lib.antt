@@ -11,7 +11,6 @@ pub mod Lowering
 pub mod Names
 pub mod Opening
 pub mod Reading
-pub mod Removal
 pub mod Rising
 pub mod Searched
 pub mod Searches

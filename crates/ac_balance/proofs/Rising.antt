@@ -15,8 +15,7 @@ use Rattle.ac_balance.proofs.Keeping.{keeps_itself, keeps_then, sound_still}
 use Rattle.ac_balance.proofs.Standing.{Nodes, some_name, Stands-same, high-is, linked_root}
 use Rattle.ac_balance.proofs.Names.{IsAround, once_order, plugged_once, height_le, plugged_le, named, part_has}
 use Rattle.ac_balance.proofs.Turning.{Gives, balanced-gives}
-use Rattle.ac_balance.proofs.Removal.{plugged-height}
-use Rattle.ac_balance.proofs.Climbs.{settled-order, settled-step, plugged-balanced, plugged-order, around}
+use Rattle.ac_balance.proofs.Climbs.{settled-order, settled-step, plugged-balanced, plugged-order, around, plugged-height}
 
 level_same : (h k : ℕ) → k ≡ h → Level h k
 level_same h k e = record { up = omega arith; down = omega arith }

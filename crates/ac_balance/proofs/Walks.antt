@@ -115,12 +115,12 @@ module _ {X : Type 0} where
   leans_whole c end t a h = record { part = t; stood = h; same = refl }
 
   -- what the links of a node at its place say
-  pub record Links_of (c : Contents (Node X)) (a : Name) (steps : List (Step X)) : Type 0 where
+  pub record LinksOf (c : Contents (Node X)) (a : Name) (steps : List (Step X)) : Type 0 where
     pub parent : parent_of c a ≡ above_in steps
     pub side : IsSide (is_left_in c (above_in steps) a) steps
     pub falls : left_to c (above_in steps) < left_to c (Some a)
 
-  links_in : (c : Contents (Node X)) (steps : List (Step X)) (l : Tree X) (x : Row Name X) (r : Tree X) → Placed c x.name steps (node l x r) → Links_of c x.name steps
+  links_in : (c : Contents (Node X)) (steps : List (Step X)) (l : Tree X) (x : Row Name X) (r : Tree X) → Placed c x.name steps (node l x r) → LinksOf c x.name steps
   links_in c steps l x r p =
       let t = node l x r in let parts = cut (value_of c) steps t p.stands in
       let apart = plugged_once steps t p.once in
@@ -132,11 +132,11 @@ module _ {X : Type 0} where
         falls = falls c c x.name steps (height t) (high-is c t hangs) (omega (arith, low, all, few)) parts.0;
       }
 
-  pub links_of : (c : Contents (Node X)) (a : Name) (steps : List (Step X)) (t : Tree X) → Placed c a steps t → Links_of c a steps
+  pub links_of : (c : Contents (Node X)) (a : Name) (steps : List (Step X)) (t : Tree X) → Placed c a steps t → LinksOf c a steps
   links_of c a steps leaf p = let bad = p.top in cc
   links_of c a steps (node l x r) p =
       let n = some_name x.name a p.top in
-      subst (λ b. Links_of c b steps) n (links_in c steps l x r (record { top = refl; stands = p.stands; once = p.once; few = p.few; sound = p.sound }))
+      subst (λ b. LinksOf c b steps) n (links_in c steps l x r (record { top = refl; stands = p.stands; once = p.once; few = p.few; sound = p.sound }))
 
   pub placed_above : (c : Contents (Node X)) (a : Name) (s : Step X) (steps : List (Step X)) (t : Tree X) → Placed c a (s ∷ steps) t → Placed c (name_of s) steps (joined s t)
   placed_above c a s steps t p = record { top = root-joined s t; stands = p.stands; once = p.once; few = p.few; sound = p.sound }

@@ -22,7 +22,7 @@ module _ {X : Type 0} where
     pub sound : IsSound c
 
   -- the name's node keeps this row's value
-  pub record Keeps_row (c : Contents (Node X)) (x : Row Name X) : Type 0 where
+  pub record KeepsValue (c : Contents (Node X)) (x : Row Name X) : Type 0 where
     pub node : Node X
     pub found : value_of c x.name ≡ Some node
     pub value : node.value ≡ x.value
@@ -33,7 +33,7 @@ module _ {X : Type 0} where
     pub rest : List (Row Name X)
     pub are : in_order t ≡ row ∷ rest
     pub name : row.name ≡ first
-    pub kept : Keeps_row m.nodes row
+    pub kept : KeepsValue m.nodes row
     pub closed : Closed m rest
     pub relinks : Relinks (in_order t) l.nodes m.nodes
     pub near : Level (height t) (height closed.tree)

@@ -71,11 +71,6 @@ module _ {X : Type 0} where
   plugged [] t = t
   plugged (s ∷ steps) t = plugged steps (joined s t)
 
-  -- the same, and each row above the place is balanced
-  abbrev pub climbed : List (Step X) → Tree X → Tree X
-  climbed [] t = t
-  climbed (s ∷ steps) t = climbed steps (settled s t)
-
   abbrev pub before : List (Step X) → List (Row Name X)
   before [] = []
   before (on_left x r ∷ steps) = before steps
