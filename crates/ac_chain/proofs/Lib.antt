@@ -19,11 +19,14 @@ pub mod SequenceCompares
 pub mod SequenceDeletes
 pub mod SequenceFinds
 pub mod SequenceGrows
+pub mod SequenceLinks
 pub mod SequenceLooks
 pub mod SequenceMerges
 pub mod SequenceMoves
 pub mod SequenceRefills
 pub mod SequenceRows
+pub mod SequenceSorts
+pub mod SequenceSplices
 pub mod SequenceStanding
 pub mod SequenceSwaps
 pub mod SequenceValid

@@ -129,17 +129,19 @@ module _ {X : Type 0} where
     | inr f ↦ ap (λ b. not (b && true)) f
   ]
 
+  -- the cursor of the first new row is the definitions' mark
+  pub first_marked : (g : GuardCounts) (l : Limit) (capacity : Option ℕ) (k now : Chained X) (n : ℕ) (first : Option Name) → HasFirst k.next_serial n now first
+      → mark_of g.number (names now.rows) (cursor_at g.number first) ≡ first_new (plain (object_of g l capacity k)) no_mark n
+  first_marked g l capacity k now zero first has = ap (λ f. mark_of g.number (names now.rows) (cursor_at g.number f)) has
+  first_marked g l capacity k now (suc n) None has = absurd has
+  first_marked g l capacity k now (suc n) (Some a) has = marked_live g.number now.rows a (live_has a now.rows has.live) ∙ ap (mark_at g.number) has.serial
+
   -- the copies are put, and the first one's cursor is the answer
   pub put_done : (g : GuardCounts) (l : Limit) (capacity wider : Option ℕ) (k now : Chained X) (n : ℕ) (place : Option Name) (e : X) (first : Option Name) (c : Cursor) → capacity_after l capacity (length now.rows) ≡ wider → IsSequence l k → ForSome place (IsLive k)
       → IsPut k.rows k.next_serial place (replicate n e) now → HasFirst k.next_serial n now first → c ≡ cursor_at g.number first
       → Changing (Marks (object_of g l wider now)) (put_call (object_of g l capacity k) place e n) (object_of g l capacity k) (object_of g l wider now) (Ok c)
   put_done g l capacity wider k now n place e first c risen s h ok has is =
-      (refl, put_after g l capacity wider k now n place (replicate n e) risen (length-replicate n e) s.sound h ok, ap (mark_of g.number (names now.rows)) is ∙ marked n first has)
-    where
-      marked : (n : ℕ) (first : Option Name) → HasFirst k.next_serial n now first → mark_of g.number (names now.rows) (cursor_at g.number first) ≡ first_new (plain (object_of g l capacity k)) no_mark n
-      marked zero first has = ap (λ f. mark_of g.number (names now.rows) (cursor_at g.number f)) has
-      marked (suc n) None has = absurd has
-      marked (suc n) (Some a) has = marked_live g.number now.rows a (live_has a now.rows has.live) ∙ ap (mark_at g.number) has.serial
+      (refl, put_after g l capacity wider k now n place (replicate n e) risen (length-replicate n e) s.sound h ok, ap (mark_of g.number (names now.rows)) is ∙ first_marked g l capacity k now n first has)
 
   -- memory is wanting, and nothing has changed
   pub put_wants : (g : GuardCounts) (l : Limit) (capacity : Option ℕ) (k now : Chained X) (n : ℕ) (place : Option Name) (e : X) → IsSequence l k → HasCapacity capacity k → is_past l (length k.rows + n) ≡ false → now ≡ k → (n ≤ 1 → n ≤ k.spare → ⊥)
@@ -182,13 +184,3 @@ module _ {X : Type 0} where
             (λ n q. subst (λ m. IsNamed (object_of g l capacity k) m) (let same : a ≡ n = cc in same) (has_among a k.rows (live_has a k.rows t.live))),
             ap (λ m. place_at (plains k.rows) m) (sym t.marked),
           )
-
-  -- the reasons that were looked for are the definition's
-  pub refused : (g : GuardCounts) (l : Limit) (capacity : Option ℕ) (k : Chained X) (o : Object Name X) → object_of g l capacity k ≡ o → (n : _) (more len next : ℕ) (place result t a r : Option Reason)
-      → more ≡ count_of n → len ≡ length k.rows → next ≡ k.next_serial → t ≡ forbids class.Cursors g.cursor_guards g.element_guards → a ≡ in_range n
-      → r ≡ first_reason (room_in l next (len + more) more)
-      → result ≡ first_reason (t ∷ place ∷ a ∷ r ∷ []) → result ≡ first_reason (tampers_cursors (plain o) ∷ place ∷ room_for_copies (plain o) n)
-  refused g l capacity k o view n more len next place result t a r em el en et ea er e =
-      let sum : len + more ≡ length (plains k.rows) + count_of n = λ i. (el ∙ sym (length-plains k.rows)) i + em i in
-      e ∙ (λ i. earlier (et i) (earlier place (earlier (ea i) ((with_none_later r ∙ er ∙ (λ j. first_reason (room_in l (en j) (sum j) (em j)))) i))))
-      ∙ ap (λ (p : Object Name X). first_reason (tampers_cursors (plain p) ∷ place ∷ room_for_copies (plain p) n)) view

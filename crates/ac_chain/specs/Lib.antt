@@ -4,6 +4,7 @@ pub mod Link
 pub mod LinksLends
 pub mod Rows
 pub mod Sequence
+pub mod Called
 pub mod Put
 pub mod Cut
 pub mod Refill

@@ -2,6 +2,7 @@
 //! Beside its calls stand those that put, take out, move, sort, merge and look for many values.
 #![tactic(auto)]
 
+pub mod calls;
 mod chain;
 mod cut;
 mod links;
@@ -18,7 +19,7 @@ pub use cut::{remove_from, remove_last};
 #[doc(hidden)]
 pub use links::{Links, Node};
 pub use merge::merge_all;
-pub use put::{put_copies, put_each};
+pub use put::{copies, put_copies, put_each};
 pub use refilling::refill;
 pub use search::{are_equal, end_of, found_back, found_from, is_ascending, start_of};
 pub use sort::sorted_names;

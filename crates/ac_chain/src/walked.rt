@@ -1,5 +1,5 @@
 //! What is walked over by names, as a chain is: rows in order, each a name with its value.
-ghost use Rattle.std.specs.Prelude.{◌≡◌, Some, length};
+ghost use Rattle.std.specs.Prelude.{◌≡◌, ◌↔◌, IsTrue, Some, length};
 ghost use Rattle.ac_chain.specs.Rows.{Chained, IsLive, IsSound, name_at, name_before, next_name, prev_name, value_of};
 
 use crate::chain::Chain;
@@ -14,6 +14,13 @@ pub trait Walked<T> {
     fn len(&self) -> u64
         ensures count { result ≡ length (seen self.now).rows }
         ensures sound { IsSound (seen self.now) };
+
+    /// The serial that the next row gets.
+    fn next_serial(&self) -> u64
+        ensures serial { result ≡ (seen self.now).next_serial };
+
+    fn is_live(&self, name: Name) -> bool
+        ensures live { IsTrue result ↔ IsLive (seen self.now) name };
 
     fn first(&self) -> Option<Name>
         ensures name { result ≡ name_at (seen self.now).rows 0 };
@@ -41,6 +48,16 @@ impl<T> Walked<T> for Chain<T> {
     #[inline]
     fn len(&self) -> u64 {
         self.len()
+    }
+
+    #[inline]
+    fn next_serial(&self) -> u64 {
+        self.next_serial()
+    }
+
+    #[inline]
+    fn is_live(&self, name: Name) -> bool {
+        self.is_live(name)
     }
 
     #[inline]

@@ -1,9 +1,11 @@
 -- A copy of a vector, with the Capacity that was asked for.
-use Rattle.std.proofs.Common.{◌≡◌, ◌⊎◌, ℕ, zero, suc, ◌+◌, ◌≤◌, ◌&&◌, true, false, [], Some, None, length, map, refl, sym, ap, ◌∙◌, subst, inl, inr, arith, le-leb, lt-ltb}
+use Rattle.std.proofs.Common.{◌≡◌, ◌⊎◌, ℕ, zero, suc, ◌+◌, ◌≤◌, ◌&&◌, true, false, [], Some, None, length, map, refl, sym, ap, ◌∙◌, subst, inl, inr, arith, le-leb, lt-ltb, Result, Err}
 use Rattle.std.specs.Prelude.{is_some, max, nat_le, nat_lt, if◌then◌else◌}
 use Rattle.std.proofs.Math.Nat.{le-max_left, le-max_right, max-le}
 use Rattle.std.proofs.lemmas.Bool.{cases_lt, cond-true, cond-false, le-ltb, lt-leb}
 use Rattle.std.proofs.lemmas.List.{length-map}
+use Rattle.ac_base.specs.declared.fault.Fault.{Fault}
+use Rattle.ac_base.specs.declared.fault.Fault.TheVariants as fault
 use Rattle.ac_base.specs.declared.limit.Limit.{Limit}
 use Rattle.ac_base.specs.declared.limit.Limit.TheVariants.{Unbounded, Bounded}
 use Rattle.ac_base.specs.declared.name.Name.{Name}
@@ -13,8 +15,10 @@ use Rattle.ac_base.specs.Limits.{is_past}
 use Rattle.ac_base.specs.Rows.{Row}
 use Rattle.ac_base.specs.declared.limit.TheConstants.{GREATEST_LENGTH}
 use Rattle.ac_base.proofs.Powers.{pow8-enough, pow8-rises}
+use Rattle.ac_model.specs.Calls.{Changing, Done, Same}
 use Rattle.ac_model.specs.Common.{assign_call, copied, copy_call, limit_of_copy}
 use Rattle.ac_model.specs.Containers.{Container, first_spare, slots_of}
+use Rattle.ac_model.specs.Forms.{Makes}
 use Rattle.ac_model.specs.Letters.{reason_if}
 use Rattle.ac_model.specs.Objects.{Object, capacity_after, contents, empty_object, first_capacity, length_of, plain, plain_row}
 use Rattle.ac_model.specs.Rows.{fresh}
@@ -92,3 +96,13 @@ module _ {X : Type 0} where
       let bound = subst (λ n. slots_of made ≤ max (slots_of wide) (pow8 n)) count two in
       let most : max (slots_of wide) (pow8 (length_of o)) ≤ pow8 (max (length_of o) capacity) = max-le (omega arith) second in
       omega arith
+
+  -- a copy wants memory where the assignment to the new object does
+  pub assign_wants : (o : Object Name X) (made new : Object Name X) (number capacity : ℕ) (r : Result Done Fault) (q : Fault) (t : Result (Container X) Fault) → (copy_call (plain o) number capacity).reason ≡ None → (assign_call (plain made) (plain o)).reason ≡ None
+      → Changing Same (assign_call (plain made) (plain o)) made new r → r ≡ Err q → t ≡ Err q → Makes (copy_call (plain o) number capacity) t
+  assign_wants o made new number capacity r q t enough none h is back =
+      subst (λ u. Makes (copy_call (plain o) number capacity) u) (sym back) (by q (subst (λ u. Changing Same (assign_call (plain made) (plain o)) made new u) is h))
+    where
+      by : (q : Fault) → Changing Same (assign_call (plain made) (plain o)) made new (Err q) → Makes (copy_call (plain o) number capacity) (Err q)
+      by (fault.Raised x) h = absurd (let k : None ≡ Some x = sym none ∙ h.0 in cc)
+      by fault.NoMemory h = (refl, enough)

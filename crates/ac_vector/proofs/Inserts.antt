@@ -27,7 +27,7 @@ use Rattle.ac_chain.proofs.Cuts.{has_live}
 use Rattle.ac_chain.proofs.Marks.{has_among, place_live}
 use Rattle.ac_chain.proofs.Moves.{once_from}
 use Rattle.ac_chain.proofs.Puts.{put_length}
-use Rattle.ac_chain.proofs.SequenceGrows.{named_live, put_after}
+use Rattle.ac_chain.proofs.SequenceGrows.{first_marked, named_live, put_after}
 use Rattle.ac_model.specs.Calls.{Changing, Done, IsAfter, Marks, Same, call, takes_some}
 use Rattle.ac_model.specs.Cursors.{IsNamed, cursor_at, cursor_of_first, mark, may_cursor, spot}
 use Rattle.ac_model.specs.Letters.{mark_of, no_mark, place_at, room, room_in, tampers_cursors}
@@ -39,7 +39,6 @@ use Rattle.ac_model.proofs.Changes.{accepted, done_changes}
 use Rattle.ac_model.proofs.Plains.{length-plains}
 use Rattle.ac_model.proofs.Reasons.{after_two, none_first, none_others, room_none}
 use Rattle.ac_vector.specs.Parts.{put_values_call, source_call, variable_after}
-use Rattle.ac_vector.proofs.FirstNew.{first_marked}
 
 module _ {X : Type 0} where
   -- the values are put, and the first one's cursor is the answer

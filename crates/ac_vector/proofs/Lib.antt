@@ -16,7 +16,6 @@ pub mod Reserves
 pub mod Refills
 pub mod Copies
 pub mod Drains
-pub mod FirstNew
 pub mod Weaves
 pub mod Interleaves
 pub mod Merges

@@ -374,7 +374,7 @@ impl<T: Rank> Array<T> {
     }
 
     /// Merges the rows from the seam on into those before it. The two empty stacks have room for them.
-    pub fn interleave(&mut self, seam: u64, mut mine: Vec<Line<T>>, mut theirs: Vec<Line<T>>)
+    pub(crate) fn interleave(&mut self, seam: u64, mut mine: Vec<Line<T>>, mut theirs: Vec<Line<T>>)
         requires seam { seam ≤ length self.old.rows }
         requires mine { (mine.items ≡ []) × (seam ≤ vec_capacity mine) }
         requires theirs { (theirs.items ≡ []) × (length self.old.rows ≤ seam + vec_capacity theirs) }

@@ -1,7 +1,6 @@
 //! Vectors (A.18.2): elements in order, each under a name that follows it, with tampering checks.
 #![tactic(auto)]
 
-mod answered;
 mod array;
 mod growth;
 mod moving;

@@ -6,19 +6,8 @@ ghost use Rattle.ac_chain.specs.Put.{IsPut, HasFirst};
 
 use crate::array::Array;
 use ac_base::{Elem, GREATEST_LENGTH, Name, NoMemory};
+use ac_chain::copies;
 use std::alloc::Global;
-
-/// So many copies of the element. None of them takes no memory.
-fn copies<T: Elem>(alloc: Global, e: &T, n: u64) -> Result<Vec<T>, NoMemory>
-    ensures same { IfOk result (λ made. made.items ≡ replicate n e.now) }
-    ensures none { n ≡ 0 → IsOk result }
-{
-    let mut made = Vec::new(alloc);
-    for _i in 0..n {
-        made.push(e.copy(alloc)?)?;
-    }
-    Ok(made)
-}
 
 /// The place before which a value goes: before the name's row, or at the end.
 fn index_before<T>(array: &Array<T>, place: Option<Name>) -> u64

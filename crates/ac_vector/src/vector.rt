@@ -1,7 +1,6 @@
 //! The vector. A contract sees its object, with the slots of its names, and how many elements more it takes without memory.
-ghost use Rattle.std.specs.Prelude.{◌≡◌, ◌+◌, ◌≤◌, Some, None, IfOk, IfErr, IsOk, true, false, refl};
+ghost use Rattle.std.specs.Prelude.{◌≡◌, ◌+◌, Some, IfOk, IfErr, IsOk, true, false, refl};
 ghost use Rattle.ac_base.specs.Limits.{IsLimit};
-ghost use Rattle.ac_model.specs.Cursors.{needs_cursor, may_cursor, cursor_at};
 ghost use Rattle.ac_model.specs.Containers.{HasSlots, first_spare, slots_of, with_guards, guards_of};
 ghost use Rattle.ac_model.specs.Objects.{IsValid, empty_object, plain, length_of};
 ghost use Rattle.ac_model.specs.Calls.{Same, Lends, Marks};
@@ -9,6 +8,7 @@ ghost use Rattle.ac_model.specs.Forms.{Does, Looks, seen_by};
 ghost use Rattle.ac_model.specs.Common as common;
 ghost use Rattle.ac_model.specs.Sequences as sequences;
 
+mod common;
 mod copies;
 mod deletions;
 mod indexes;
@@ -23,9 +23,10 @@ mod values;
 mod vectors;
 
 use crate::array::Array;
-use ac_base::{Fault, Limit, Name, Reason};
+use ac_base::{Fault, Limit};
+use ac_chain::calls;
 use ac_cursor::{Class, Cursor, GuardKey, GuardKind, Guarded, Guards, Tag};
-use ac_model::{allowed, cursor_at, judge, name_in};
+use ac_model::allowed;
 use std::alloc::Global;
 use std::marker::Model;
 
@@ -142,103 +143,56 @@ impl<T> Vector<T> {
     pub fn has_element(&self, c: Cursor) -> bool
         ensures { result ≡ common.has_element_call (plain self.now.object) (seen_by self.now c) }
     {
-        self.needs(c).is_none()
+        calls::has_element(self, c)
     }
 
     /// First (A.18.2).
     pub fn first(&self) -> Cursor
         ensures { Marks self.now.object result (sequences.first_call (plain self.now.object)) }
     {
-        self.cursor_at(self.rows.first())
+        calls::first(self)
     }
 
     /// Last (A.18.2).
     pub fn last(&self) -> Cursor
         ensures { Marks self.now.object result (sequences.last_call (plain self.now.object)) }
     {
-        self.cursor_at(self.rows.last())
+        calls::last(self)
     }
 
     /// Next (A.18.2).
     pub fn next(&self, b: Cursor) -> Result<Cursor, Fault>
         ensures { Looks (Marks self.now.object) (λ o. sequences.next_call o (seen_by self.now b)) self.now result }
     {
-        if b == Cursor::NoElement {
-            return Ok(Cursor::NoElement);
-        }
-        allowed(self.needs(b))?;
-        Ok(self.cursor_at(self.rows.next(name_in(b))))
+        calls::next(self, b)
     }
 
     /// Previous (A.18.2).
     pub fn previous(&self, b: Cursor) -> Result<Cursor, Fault>
         ensures { Looks (Marks self.now.object) (λ o. sequences.previous_call o (seen_by self.now b)) self.now result }
     {
-        if b == Cursor::NoElement {
-            return Ok(Cursor::NoElement);
-        }
-        allowed(self.needs(b))?;
-        Ok(self.cursor_at(self.rows.prev(name_in(b))))
+        calls::previous(self, b)
     }
 
     /// First_Element (A.18.2).
     pub fn first_element(&self) -> Result<&T, Fault>
         ensures { Looks Lends sequences.first_element_call self.now result }
     {
-        match self.rows.first() {
-            Some(name) => Ok(self.rows.at(name)),
-            None => Err(Fault::Raised(Reason::Empty)),
-        }
+        calls::first_element(self)
     }
 
     /// Last_Element (A.18.2).
     pub fn last_element(&self) -> Result<&T, Fault>
         ensures { Looks Lends sequences.last_element_call self.now result }
     {
-        match self.rows.last() {
-            Some(name) => Ok(self.rows.at(name)),
-            None => Err(Fault::Raised(Reason::Empty)),
-        }
+        calls::last_element(self)
     }
 
     /// Element (A.18.2).
     pub fn element(&self, c: Cursor) -> Result<&T, Fault>
         ensures { Looks Lends (λ o. sequences.element_call o (seen_by self.now c)) self.now result }
     {
-        allowed(self.needs(c))?;
-        Ok(self.rows.at(name_in(c)))
-    }
-
-    /// Why a cursor that must designate an element is refused.
-    fn needs(&self, c: Cursor) -> Option<Reason>
-        ensures { result ≡ needs_cursor self.now.object c }
-    {
-        match c {
-            Cursor::NoElement => Some(Reason::NoElement),
-            Cursor::At { object, name } => self.judge(object, name),
-        }
-    }
-
-    /// Why a cursor that may be No_Element is refused.
-    fn may(&self, c: Cursor) -> Option<Reason>
-        ensures { result ≡ may_cursor self.now.object c }
-    {
-        match c {
-            Cursor::NoElement => None,
-            Cursor::At { object, name } => self.judge(object, name),
-        }
-    }
-
-    fn judge(&self, object: u64, name: Name) -> Option<Reason>
-        ensures { result ≡ needs_cursor self.now.object (Cursor.At object name) }
-    {
-        judge(self.guards.number(), object, self.rows.is_live(name))
-    }
-
-    fn cursor_at(&self, name: Option<Name>) -> Cursor
-        ensures { result ≡ cursor_at self.now.object.number name }
-    {
-        cursor_at(self.guards.number(), name)
+        calls::element(self, c)
     }
 }
 

@@ -12,6 +12,16 @@ impl<T> Walked<T> for Array<T> {
     }
 
     #[inline]
+    fn next_serial(&self) -> u64 {
+        self.next_serial()
+    }
+
+    #[inline]
+    fn is_live(&self, name: Name) -> bool {
+        self.is_live(name)
+    }
+
+    #[inline]
     fn first(&self) -> Option<Name> {
         self.first()
     }

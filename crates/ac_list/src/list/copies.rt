@@ -2,7 +2,7 @@
 ghost use Rattle.std.specs.Prelude.{◌≡◌, ◌∷◌, [], ◌≤◌, ◌&&◌, not, max, nat_lt, IfOk};
 ghost use Rattle.ac_base.specs.Growth.{pow8};
 ghost use Rattle.ac_model.specs.Containers.{Grows, slots_of};
-ghost use Rattle.ac_model.specs.Forms.{Does, Makes, Refuses};
+ghost use Rattle.ac_model.specs.Forms.{Does, Makes};
 ghost use Rattle.ac_base.specs.FirstReason.{first_reason};
 ghost use Rattle.ac_base.specs.declared.limit.TheConstants.{GREATEST_LENGTH};
 ghost use Rattle.ac_model.specs.Objects.{plain, length_of};
@@ -12,10 +12,10 @@ ghost use Rattle.ac_model.specs.Common as common;
 ghost use Rattle.ac_model.specs.Sequences as sequences;
 
 use super::List;
-use ac_base::{Elem, Fault, Limit, Reason};
-use ac_chain::refill;
-use ac_cursor::{Class, Tag, first_reason};
-use ac_model::{allowed, as_fault, limit_of_copy, reason_if, room, too_small};
+use ac_base::{Elem, Fault, Limit};
+use ac_chain::{calls, refill};
+use ac_cursor::{Class, Tag};
+use ac_model::{allowed, as_fault, limit_of_copy, too_small};
 use std::alloc::Global;
 
 impl<T: Elem> List<T> {
@@ -40,18 +40,8 @@ impl<T: Elem> List<T> {
         ensures changed { Does Same (λ o. common.assign_call o (plain source.now.object)) self.old self.new result }
         ensures slots { Grows result self.old self.new }
     {
-        allowed(self.refuses_refill(source.chain.len()))?;
+        allowed(calls::refuses_refill(self, source.chain.len()))?;
         as_fault(refill(&mut self.chain, &source.chain, self.alloc))
-    }
-
-    /// Why so many elements in place of the old ones are refused.
-    fn refuses_refill(&self, length: u64) -> Option<Reason>
-        ensures { result ≡ first_reason (tampers_cursors (plain self.now.object) ∷ room (plain self.now.object) length length) }
-    {
-        first_reason(&[
-            self.guards.forbids(Class::Cursors),
-            room(self.limit, self.chain.next_serial(), length, length),
-        ])
     }
 }
 
@@ -77,15 +67,6 @@ impl<T> List<T> {
         ensures changed { Does Same sequences.merge_self_call self.old self.new result }
         ensures same { self.new ≡ self.old }
     {
-        allowed(self.refuses_merge_self())
-    }
-
-    fn refuses_merge_self(&self) -> Option<Reason>
-        ensures { Refuses sequences.merge_self_call self.now result }
-    {
-        first_reason(&[
-            self.guards.forbids(Class::Cursors),
-            reason_if(!self.is_empty(), Reason::SameContainer),
-        ])
+        allowed(calls::refuses_merge_self(self))
     }
 }

@@ -8,6 +8,7 @@ ghost use Rattle.ac_model.specs.Lists as lists;
 
 use super::List;
 use ac_base::{Fault, Reason};
+use ac_chain::calls;
 use ac_cursor::{Class, Cursor, first_reason};
 use ac_model::{allowed, name_in, place_in};
 
@@ -39,7 +40,7 @@ impl<T> List<T> {
         ensures changed { Does Same (λ o. lists.splice_self_call o (seen_by self.old b)) self.old self.new result }
         ensures same { self.new ≡ self.old }
     {
-        allowed(first_reason(&[self.guards.forbids(Class::Cursors), self.may(b)]))
+        allowed(first_reason(&[self.guards.forbids(Class::Cursors), calls::may(self, b)]))
     }
 
     /// As `splice_within`, with a variable for the element, which keeps its value.
@@ -58,8 +59,8 @@ impl<T> List<T> {
     {
         first_reason(&[
             self.guards.forbids(Class::Cursors),
-            self.needs(first),
-            self.needs(second),
+            calls::needs(self, first),
+            calls::needs(self, second),
         ])
     }
 
@@ -69,8 +70,8 @@ impl<T> List<T> {
     {
         first_reason(&[
             self.guards.forbids(Class::Cursors),
-            self.may(b),
-            self.needs(c),
+            calls::may(self, b),
+            calls::needs(self, c),
         ])
     }
 }

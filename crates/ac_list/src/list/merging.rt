@@ -2,14 +2,13 @@
 ghost use Rattle.std.specs.Prelude.{◌≡◌, ◌+◌, ◌^◌, ◌<◌, ◌≤◌, IfOk, IfErr, drop, length};
 ghost use Rattle.ac_model.specs.Containers.{Grows, slots_of};
 ghost use Rattle.ac_model.specs.Calls.{Same, both};
-ghost use Rattle.ac_model.specs.Forms.{DoesBoth, RefusesBoth};
+ghost use Rattle.ac_model.specs.Forms.{DoesBoth};
 ghost use Rattle.ac_model.specs.Sequences as sequences;
 
 use super::List;
-use ac_base::{Fault, Rank, Reason};
-use ac_chain::merge_all;
-use ac_cursor::{Class, first_reason};
-use ac_model::{allowed, as_fault, room};
+use ac_base::{Fault, Rank};
+use ac_chain::{calls, merge_all};
+use ac_model::{allowed, as_fault};
 
 impl<T: Rank> List<T> {
     /// Merge (A.18.3) of another list: each time the smaller of the two first elements, and this list's where neither is smaller.
@@ -18,20 +17,7 @@ impl<T: Rank> List<T> {
         ensures slots { Grows result self.old self.new }
         ensures source { slots_of source.new ≡ slots_of source.old }
     {
-        allowed(self.refuses_merge(source))?;
+        allowed(calls::refuses_merge(self, source))?;
         as_fault(merge_all(&mut self.chain, &mut source.chain))
-    }
-
-    /// Why a merge is refused.
-    fn refuses_merge(&self, source: &List<T>) -> Option<Reason>
-        ensures { RefusesBoth (sequences.merge_call T.is_less) self.now source.now result }
-    {
-        let more = source.chain.len();
-        let length = self.chain.len() + more;
-        first_reason(&[
-            self.guards.forbids(Class::Cursors),
-            source.guards.forbids(Class::Cursors),
-            room(self.limit, self.chain.next_serial(), length, more),
-        ])
     }
 }

@@ -9,7 +9,7 @@ ghost use Rattle.ac_model.specs.Lists as lists;
 
 use super::List;
 use ac_base::{Fault, Reason};
-use ac_chain::{move_all, move_before, move_one};
+use ac_chain::{calls, move_all, move_before, move_one};
 use ac_cursor::{Class, Cursor, first_reason};
 use ac_model::{allowed, as_fault, cursor_of, name_in, place_in, room};
 
@@ -20,20 +20,8 @@ impl<T: Drop> List<T> {
         ensures slots { Grows result self.old self.new }
         ensures source { slots_of source.new ≡ slots_of source.old }
     {
-        allowed(self.refuses_move(source))?;
+        allowed(calls::refuses_move(self, source))?;
         as_fault(move_all(&mut self.chain, &mut source.chain))
-    }
-
-    /// Why a move is refused.
-    fn refuses_move(&self, source: &List<T>) -> Option<Reason>
-        ensures { RefusesBoth common.move_from_call self.now source.now result }
-    {
-        let length = source.chain.len();
-        first_reason(&[
-            self.guards.forbids(Class::Cursors),
-            source.guards.forbids(Class::Cursors),
-            room(self.limit, self.chain.next_serial(), length, length),
-        ])
     }
 }
 
@@ -57,7 +45,7 @@ impl<T> List<T> {
         first_reason(&[
             self.guards.forbids(Class::Cursors),
             source.guards.forbids(Class::Cursors),
-            self.may(b),
+            calls::may(self, b),
             room(self.limit, self.chain.next_serial(), length, more),
         ])
     }
@@ -98,8 +86,8 @@ impl<T> List<T> {
         first_reason(&[
             self.guards.forbids(Class::Cursors),
             source.guards.forbids(Class::Cursors),
-            self.may(b),
-            source.needs(q),
+            calls::may(self, b),
+            calls::needs(source, q),
             room(self.limit, self.chain.next_serial(), length, 1),
         ])
     }

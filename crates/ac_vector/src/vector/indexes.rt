@@ -11,8 +11,8 @@ ghost use Rattle.ac_model.specs.Objects.{plain, length_of};
 ghost use Rattle.ac_model.specs.Vectors as vectors;
 
 use super::Vector;
-use crate::answered::done;
 use ac_base::{Elem, Fault, GREATEST_LENGTH, Name, Reason};
+use ac_chain::calls::{self, Puts, done};
 use ac_cursor::{Class, Cursor, first_reason};
 use ac_model::{allowed, count_of, in_range, index_in, name_in};
 
@@ -44,7 +44,7 @@ impl<T> Vector<T> {
     {
         match index_in(index, self.rows.len()) {
             Some(_) => Cursor::NoElement,
-            None => self.cursor_at(Some(self.rows.name_at(place_of(index)))),
+            None => calls::named(self, Some(self.rows.name_at(place_of(index)))),
         }
     }
 
@@ -55,7 +55,7 @@ impl<T> Vector<T> {
         if b == Cursor::NoElement {
             return Ok(0);
         }
-        allowed(self.needs(b))?;
+        allowed(calls::needs(self, b))?;
         Ok(self.place_at(b) as i64 + 1)
     }
 
@@ -161,7 +161,7 @@ impl<T: Elem> Vector<T> {
         ensures changed { Does Same (λ o. vectors.insert_index_call o index e n) self.old self.new result }
         ensures slots { Grows result self.old self.new }
     {
-        allowed(self.refuses_copies(index_in(index, self.rows.len() + 1), n))?;
+        allowed(calls::refuses_copies(self, index_in(index, self.rows.len() + 1), n))?;
         done(self.put(self.name_from(place_of(index)), e, count_of(n)))
     }
 }

@@ -14,8 +14,8 @@ ghost use Rattle.ac_model.specs.Common as common;
 ghost use Rattle.ac_model.specs.Vectors as vectors;
 
 use super::Vector;
-use crate::answered::done;
 use ac_base::{Elem, Fault, GREATEST_LENGTH, NoMemory, Reason};
+use ac_chain::calls::{Puts, done};
 use ac_cursor::{Class, first_reason};
 use ac_model::{allowed, as_fault, count_of, in_range, room, too_many};
 

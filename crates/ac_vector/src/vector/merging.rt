@@ -2,14 +2,14 @@
 ghost use Rattle.std.specs.Prelude.{◌≡◌};
 ghost use Rattle.ac_model.specs.Calls.{Same};
 ghost use Rattle.ac_model.specs.Containers.{Grows, slots_of};
-ghost use Rattle.ac_model.specs.Forms.{DoesBoth, RefusesBoth};
+ghost use Rattle.ac_model.specs.Forms.{DoesBoth};
 ghost use Rattle.ac_model.specs.Sequences as sequences;
 
 use super::Vector;
 use crate::moving::merge_all;
-use ac_base::{Fault, Rank, Reason};
-use ac_cursor::{Class, first_reason};
-use ac_model::{allowed, as_fault, room};
+use ac_base::{Fault, Rank};
+use ac_chain::calls;
+use ac_model::{allowed, as_fault};
 
 impl<T: Rank> Vector<T> {
     /// Merge (A.18.2) of another vector: each time the smaller of the two first elements, and this vector's where neither is smaller.
@@ -19,20 +19,7 @@ impl<T: Rank> Vector<T> {
         ensures slots { Grows result self.old self.new }
         ensures source { slots_of source.new ≡ slots_of source.old }
     {
-        allowed(self.refuses_merge(source))?;
+        allowed(calls::refuses_merge(self, source))?;
         as_fault(merge_all(&mut self.rows, &mut source.rows, self.alloc))
-    }
-
-    /// Why a merge is refused.
-    fn refuses_merge(&self, source: &Vector<T>) -> Option<Reason>
-        ensures { RefusesBoth (sequences.merge_call T.is_less) self.now source.now result }
-    {
-        let more = source.rows.len();
-        let length = self.rows.len() + more;
-        first_reason(&[
-            self.guards.forbids(Class::Cursors),
-            source.guards.forbids(Class::Cursors),
-            room(self.limit, self.rows.next_serial(), length, more),
-        ])
     }
 }

@@ -2,7 +2,7 @@
 ghost use Rattle.std.specs.Prelude.{◌≡◌, None};
 ghost use Rattle.ac_model.specs.Calls.{IsAfter, Same};
 ghost use Rattle.ac_model.specs.Cursors.{needs_cursor};
-ghost use Rattle.ac_model.specs.Forms.{Does, Refuses, seen_by};
+ghost use Rattle.ac_model.specs.Forms.{Does, seen_by};
 ghost use Rattle.ac_model.specs.Letters.{name_of};
 ghost use Rattle.ac_model.specs.Objects.{plain, with_rows};
 ghost use Rattle.ac_model.specs.Rows.{with_exchanged_values};
@@ -10,8 +10,9 @@ ghost use Rattle.ac_model.specs.Sequences as sequences;
 ghost use Rattle.ac_model.specs.Vectors as vectors;
 
 use super::Vector;
-use ac_base::{Fault, Rank, Reason};
-use ac_cursor::{Class, Cursor, first_reason};
+use ac_base::{Fault, Rank};
+use ac_chain::calls;
+use ac_cursor::{Class, Cursor};
 use ac_model::{allowed, as_fault, name_in};
 
 impl<T> Vector<T> {
@@ -21,20 +22,9 @@ impl<T> Vector<T> {
             self.old self.new result }
         ensures spare { self.new.spare ≡ self.old.spare }
     {
-        allowed(self.refuses_swap(first, second))?;
+        allowed(calls::refuses_swap(self, first, second))?;
         self.exchange(first, second);
         Ok(())
-    }
-
-    /// Why a swap is refused.
-    fn refuses_swap(&self, first: Cursor, second: Cursor) -> Option<Reason>
-        ensures { Refuses (λ o. sequences.swap_call o (seen_by self.now first) (seen_by self.now second)) self.now result }
-    {
-        first_reason(&[
-            self.guards.forbids(Class::Elements),
-            self.needs(first),
-            self.needs(second),
-        ])
     }
 
     /// The values under the two cursors change places.

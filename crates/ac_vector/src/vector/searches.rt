@@ -9,42 +9,36 @@ ghost use Rattle.ac_model.specs.Sequences as sequences;
 
 use super::Vector;
 use ac_base::{Elem, Fault, Rank};
-use ac_chain::{are_equal, end_of, found_back, found_from, is_ascending, start_of};
+use ac_chain::calls;
 use ac_cursor::Cursor;
-use ac_model::allowed;
 
 impl<T: Elem> Vector<T> {
     /// Find (A.18.2): from the cursor on, or from the first element where it is No_Element.
     pub fn find(&self, e: &T, b: Cursor) -> Result<Cursor, Fault>
         ensures { Looks (Marks self.now.object) (λ o. sequences.find_call T.is_same o e.now (seen_by self.now b)) self.now result }
     {
-        allowed(self.may(b))?;
-        let start = start_of(&self.rows, b);
-        Ok(self.cursor_at(found_from(&self.rows, e, start)))
+        calls::find(self, e, b)
     }
 
     /// Reverse_Find (A.18.2): back from the cursor, or from the last element where it is No_Element.
     pub fn reverse_find(&self, e: &T, b: Cursor) -> Result<Cursor, Fault>
         ensures { Looks (Marks self.now.object) (λ o. sequences.reverse_find_call T.is_same o e.now (seen_by self.now b)) self.now result }
     {
-        allowed(self.may(b))?;
-        let end = end_of(&self.rows, b);
-        Ok(self.cursor_at(found_back(&self.rows, e, end)))
+        calls::reverse_find(self, e, b)
     }
 
     /// Contains (A.18.2).
     pub fn contains(&self, e: &T) -> bool
         ensures { result ≡ sequences.contains_call T.is_same (plain self.now.object) e.now }
     {
-        let first = self.rows.first();
-        found_from(&self.rows, e, first).is_some()
+        calls::contains(self, e)
     }
 
     /// "=" (A.18.2).
     pub fn equal(&self, other: &Vector<T>) -> bool
         ensures { result ≡ sequences.equal_call T.is_same (plain self.now.object) (plain other.now.object) }
     {
-        are_equal(&self.rows, &other.rows)
+        calls::equal(self, other)
     }
 
     /// "=" (A.18.2) of a vector with itself, in constant time.
@@ -60,9 +54,6 @@ impl<T: Rank> Vector<T> {
     pub fn is_sorted(&self) -> bool
         ensures { result ≡ sequences.is_sorted_call T.is_less (plain self.now.object) }
     {
-        match self.rows.first() {
-            Some(first) => is_ascending(&self.rows, first),
-            None => true,
-        }
+        calls::is_sorted(self)
     }
 }

@@ -10,8 +10,9 @@ ghost use Rattle.ac_model.specs.Forms.{Does, seen_by};
 ghost use Rattle.ac_model.specs.Sequences as sequences;
 
 use super::Vector;
-use ac_base::{Fault, Reason};
-use ac_cursor::{Class, Cursor, first_reason};
+use ac_base::Fault;
+use ac_chain::calls;
+use ac_cursor::Cursor;
 use ac_model::{allowed, name_in};
 
 impl<T: Drop> Vector<T> {
@@ -20,7 +21,7 @@ impl<T: Drop> Vector<T> {
         ensures changed { Does Same (λ o. sequences.replace_element_call o (seen_by self.old c) e) self.old self.new result }
         ensures spare { self.new.spare ≡ self.old.spare }
     {
-        allowed(self.refuses_replacement(c))?;
+        allowed(calls::refuses_replacement(self, c))?;
         self.set_value(c, e);
         Ok(())
     }
@@ -30,16 +31,9 @@ impl<T: Drop> Vector<T> {
         ensures changed { Does Same (λ o. sequences.write_call o (seen_by self.old c) e) self.old self.new result }
         ensures spare { self.new.spare ≡ self.old.spare }
     {
-        allowed(self.needs(c))?;
+        allowed(calls::needs(self, c))?;
         self.set_value(c, e);
         Ok(())
-    }
-
-    /// Why a replacement is refused.
-    fn refuses_replacement(&self, c: Cursor) -> Option<Reason>
-        ensures { result ≡ first_reason (tampers_elements (plain self.now.object) ∷ needs_cursor self.now.object c ∷ []) }
-    {
-        first_reason(&[self.guards.forbids(Class::Elements), self.needs(c)])
     }
 
     pub(super) fn set_value(&mut self, c: Cursor, e: T)

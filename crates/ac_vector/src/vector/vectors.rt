@@ -14,10 +14,10 @@ ghost use Rattle.ac_vector.specs.Parts.{put_values_call, source_call, variable_a
 
 use super::Vector;
 use super::indexes::place_of;
-use crate::answered::done;
 use crate::put::put_all;
 use crate::refilling::copies_of;
 use ac_base::{Elem, Fault, GREATEST_LENGTH, Name, Reason};
+use ac_chain::calls::{self, done};
 use ac_cursor::{Class, Cursor, first_reason};
 use ac_model::{allowed, cursor_of_first, index_in, place_in, room};
 
@@ -89,7 +89,7 @@ impl<T: Elem> Vector<T> {
         let _rows = &self.rows;
         let count = source.rows.len();
         set_first(
-            self.insert_source(self.may(b), place_in(b), source),
+            self.insert_source(calls::may(self, b), place_in(b), source),
             count,
             b,
             p,
@@ -102,7 +102,12 @@ impl<T: Elem> Vector<T> {
         ensures slots { Grows result self.old self.new }
     {
         let count = self.rows.len();
-        set_first(self.insert_itself(self.may(b), place_in(b)), count, b, p)
+        set_first(
+            self.insert_itself(calls::may(self, b), place_in(b)),
+            count,
+            b,
+            p,
+        )
     }
 
     /// Append_Vector (A.18.2): copies of the source's elements at the end.
@@ -196,7 +201,7 @@ impl<T: Elem> Vector<T> {
         ensures slots { Grows result self.old self.new }
     {
         match put_all(&mut self.rows, place, values) {
-            Ok(first) => Ok(self.cursor_at(first)),
+            Ok(first) => Ok(calls::named(self, first)),
             Err(_) => Err(Fault::NoMemory),
         }
     }

@@ -3,7 +3,7 @@ use Rattle.ac_base.specs.FirstReason.{first_reason}
 use Rattle.ac_model.specs.Objects.{Object, plain}
 use Rattle.ac_model.specs.Letters.{tampers_cursors}
 use Rattle.ac_model.specs.Containers.{Container}
-use Rattle.ac_list.proofs.Links.{reversed_after}
+use Rattle.ac_chain.proofs.SequenceLinks.{reversed_after}
 use Rattle.ac_model.proofs.Reasons.{passed}
 use Rattle.ac_list.proofs.list.List.reverse_elements.Goals as goal
 

@@ -5,7 +5,7 @@ use Rattle.ac_model.specs.Objects.{Object, plain}
 use Rattle.ac_model.specs.Letters.{tampers_cursors}
 use Rattle.ac_model.specs.Containers.{Container}
 use Rattle.ac_chain.proofs.Sorts.{order_of}
-use Rattle.ac_list.proofs.Sorts.{list_sorted, sorted_after}
+use Rattle.ac_chain.proofs.SequenceSorts.{list_sorted, sorted_after}
 use Rattle.ac_model.proofs.Reasons.{allowed_none}
 use Rattle.ac_list.proofs.list.List.sort.Goals as goal
 

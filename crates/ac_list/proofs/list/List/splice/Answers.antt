@@ -7,7 +7,7 @@ use Rattle.ac_chain.proofs.Transfers.{put_all_length}
 use Rattle.ac_chain.proofs.Moved.{cleared_fewer, cleared_slots}
 use Rattle.ac_chain.proofs.SequenceMoves.{sequence_more, sequence_less, more_slots, less_slots, transferred, emptied}
 use Rattle.ac_chain.proofs.SequenceStanding.{placed_live}
-use Rattle.ac_list.proofs.Splices.{splice_fits, spliced}
+use Rattle.ac_chain.proofs.SequenceSplices.{splice_fits, spliced}
 use Rattle.ac_chain.proofs.SequenceGrows.{widens_none}
 use Rattle.ac_model.proofs.Reasons.{passed}
 use Rattle.ac_list.proofs.list.List.splice.Goals as goal

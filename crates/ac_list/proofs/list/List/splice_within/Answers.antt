@@ -6,7 +6,7 @@ use Rattle.ac_model.specs.Cursors.{needs_cursor, may_cursor}
 use Rattle.ac_model.specs.Containers.{Container}
 use Rattle.ac_chain.proofs.SequenceLooks.{live_needed}
 use Rattle.ac_chain.proofs.SequenceStanding.{placed_live}
-use Rattle.ac_list.proofs.Links.{list_moved, moved_after, moved_mark}
+use Rattle.ac_chain.proofs.SequenceLinks.{list_moved, moved_after, moved_mark}
 use Rattle.ac_model.proofs.Reasons.{passed}
 use Rattle.ac_list.proofs.list.List.splice_within.Goals as goal
 

@@ -5,7 +5,7 @@ use Rattle.ac_model.specs.Objects.{plain}
 use Rattle.ac_model.specs.Cursors.{needs_cursor}
 use Rattle.ac_model.specs.Containers.{Container}
 use Rattle.ac_chain.proofs.SequenceLooks.{live_needed}
-use Rattle.ac_list.proofs.Links.{links_swapped_after}
+use Rattle.ac_chain.proofs.SequenceLinks.{links_swapped_after}
 use Rattle.ac_model.proofs.Reasons.{passed}
 use Rattle.ac_list.proofs.list.List.swap_links.Goals as goal
 

@@ -4,7 +4,7 @@ use Rattle.ac_chain.proofs.SequenceLooks.{live_needed}
 use Rattle.ac_chain.proofs.Moved.{one_length, removed_fewer, removed_slots}
 use Rattle.ac_chain.proofs.SequenceMoves.{sequence_more, sequence_less, less_slots}
 use Rattle.ac_chain.proofs.SequenceStanding.{placed_live}
-use Rattle.ac_list.proofs.Splices.{one_fits, one_slots, one_spliced}
+use Rattle.ac_chain.proofs.SequenceSplices.{one_fits, one_slots, one_spliced}
 use Rattle.ac_model.proofs.Reasons.{passed}
 use Rattle.ac_list.proofs.list.List.take_one.Goals as goal
 

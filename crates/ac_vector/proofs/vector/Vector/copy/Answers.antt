@@ -13,9 +13,8 @@ use Rattle.ac_model.specs.Containers.{Container}
 use Rattle.ac_model.specs.Forms.{Makes}
 use Rattle.ac_model.specs.Letters.{reason_if}
 use Rattle.ac_model.specs.Objects.{Object, length_of, plain}
-use Rattle.ac_vector.proofs.FirstNew.{assign_wants}
 use Rattle.ac_vector.specs.Parts.{widened}
-use Rattle.ac_vector.proofs.Copies.{copied_is, copied_slots, copy_takes, copy_within}
+use Rattle.ac_vector.proofs.Copies.{assign_wants, copied_is, copied_slots, copy_takes, copy_within}
 use Rattle.ac_vector.proofs.vector.Vector.copy.Goals as goal
 
 pub widen-requires-clause-within : goal.widen-requires-clause-within

@@ -30,8 +30,8 @@ pub returns-in-Ok-clause-changed : goal.returns-in-Ok-clause-changed
 returns-in-Ok-clause-changed g c =
     let i = c.self.inside in let view = (ap (λ (x : Container _). x.object) c.self.view_is) in let o = c.args.self.now.object in let now = c.put_all.new.array in let n = length c.args.values.items in
     let count : length now.rows ≡ length i.rows.rows + n = put_length i.rows.rows i.rows.next_serial c.args.place c.args.values.items now c.in-Ok.ensures.put in
-    values_done i.guards i.limit (Some (slots_in i.rows)) (Some (slots_in now)) i.rows now o view c.args.place c.args.values.items c.in-Ok.first c.cursor_at.result
-    (widens_by i.limit i.rows now n c.self.invariant (takes_within i.guards i.limit (Some (slots_in i.rows)) i.rows o view n c.requires.room) count c.in-Ok.ensures.slots) c.self.invariant.sound c.requires.place c.in-Ok.ensures.put c.in-Ok.ensures.first c.cursor_at.ensures
+    values_done i.guards i.limit (Some (slots_in i.rows)) (Some (slots_in now)) i.rows now o view c.args.place c.args.values.items c.in-Ok.first c.named.result
+    (widens_by i.limit i.rows now n c.self.invariant (takes_within i.guards i.limit (Some (slots_in i.rows)) i.rows o view n c.requires.room) count c.in-Ok.ensures.slots) c.self.invariant.sound c.requires.place c.in-Ok.ensures.put c.in-Ok.ensures.first c.named.ensures
 
 pub returns-in-Ok-clause-slots : goal.returns-in-Ok-clause-slots
 returns-in-Ok-clause-slots g c =

@@ -17,5 +17,5 @@ returns-in-None g c =
     let i = c.self.inside in let o = c.args.self.now.object in let view = ap (λ (x : Container _). x.object) c.self.view_is in
     let same = to_z-of_z {w = w64} {z = c.args.index} c.ranges.index in
     let none = sym (indexed i.guards i.limit (Some (slots_in i.rows)) i.rows o view _ c.args.index c.len.result c.index_in.result same c.len.ensures.count c.index_in.ensures) ∙ c.in-None.is in
-    index_cursor o c.args.index c.name_at.result c.cursor_at.result none
-    (c.name_at.ensures.name ∙ (λ t. name_at ((ap (λ (x : Container _). x.object.rows) c.self.view_is) t) ((c.place_of.ensures ∙ ap place_of_index same) t))) c.cursor_at.ensures
+    index_cursor o c.args.index c.name_at.result c.named.result none
+    (c.name_at.ensures.name ∙ (λ t. name_at ((ap (λ (x : Container _). x.object.rows) c.self.view_is) t) ((c.place_of.ensures ∙ ap place_of_index same) t))) c.named.ensures

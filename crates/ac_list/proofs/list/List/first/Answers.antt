@@ -1,8 +1,0 @@
-use Rattle.std.proofs.Common.{None, ap}
-use Rattle.ac_model.specs.Containers.{Container}
-use Rattle.ac_chain.proofs.SequenceLooks.{marks_at}
-use Rattle.ac_list.proofs.list.List.first.Goals as goal
-
-pub returns : goal.returns
-returns g c =
-    let i = c.self.inside in marks_at i.guards i.limit None i.chain c.args.self.now.object (ap (λ (x : Container _). x.object) c.self.view_is) 0 c.first.result c.cursor_at.result c.first.ensures.name c.cursor_at.ensures
