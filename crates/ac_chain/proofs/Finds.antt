@@ -12,7 +12,7 @@ use Rattle.ac_chain.proofs.Chains.{index_at}
 use Rattle.ac_base.specs.Rows.{Row, row, names, values}
 use Rattle.ac_model.specs.Letters.{mark_of, mark_for}
 use Rattle.ac_model.specs.Objects.{plains}
-use Rattle.ac_model.specs.Cursors.{mark, cursor_at}
+use Rattle.ac_model.specs.Cursors.{cursor_at}
 use Rattle.ac_chain.specs.Search.{found_in, count_to}
 use Rattle.ac_chain.proofs.Marks.{marked_live}
 

@@ -4,7 +4,7 @@ use Rattle.std.specs.Prelude.{All}
 use Rattle.std.proofs.lemmas.Bool.{cond-false}
 use Rattle.std.proofs.lemmas.List.{reverse-append}
 use Rattle.ac_base.specs.declared.name.Name.{Name}
-use Rattle.ac_chain.specs.Rows.{Chained, place_of}
+use Rattle.ac_chain.specs.Rows.{Chained}
 use Rattle.ac_chain.specs.ChainFields.{HasName}
 use Rattle.ac_chain.proofs.Cuts.{HasName-left, HasName-right, HasName-either}
 use Rattle.ac_model.specs.Rows as model

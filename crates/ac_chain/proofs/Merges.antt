@@ -12,7 +12,7 @@ use Rattle.ac_chain.specs.ChainFields.{first_or, HasName, IsOnce}
 use Rattle.ac_chain.proofs.Cuts.{insert-cut, live_has, has_live, HasName-right, HasName-cut, name_at-first}
 use Rattle.ac_chain.proofs.Linking.{first_has}
 use Rattle.ac_chain.proofs.Moves.{once_from}
-use Rattle.ac_base.specs.Rows.{names, Row, row}
+use Rattle.ac_base.specs.Rows.{Row, row}
 use Rattle.ac_model.specs.Rows.{fresh, merged}
 use Rattle.ac_model.proofs.Lengths.{length-merged, length-fresh}
 use Rattle.ac_model.proofs.RowLaws.{merged_with_none, merged_heads}

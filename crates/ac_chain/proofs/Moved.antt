@@ -5,10 +5,9 @@ use Rattle.ac_base.specs.declared.limit.Limit.{Limit}
 use Rattle.ac_base.specs.declared.name.Name.{Name}
 use Rattle.ac_chain.specs.Rows.{Chained, IsLive, IsSound, value_of, index_of, removed, cleared, next_name}
 use Rattle.ac_chain.proofs.Cuts.{cut, cut-row, live_has}
-use Rattle.ac_base.specs.Rows.{Row, names}
+use Rattle.ac_base.specs.Rows.{Row}
 use Rattle.ac_base.specs.Limits.{is_past}
 use Rattle.ac_base.specs.declared.limit.TheConstants.{GREATEST_LENGTH}
-use Rattle.ac_model.specs.Letters.{room}
 use Rattle.ac_model.specs.Lists.{one_value}
 use Rattle.ac_chain.specs.Put.{IsPut}
 use Rattle.ac_chain.specs.Cut.{IsCut}

@@ -9,7 +9,7 @@ use Rattle.ac_chain.specs.Rows.{Chained, IsLive, IsSound, IsFresh, place_of, ins
 use Rattle.ac_chain.specs.ChainFields.{first_or, HasName, IsOnce}
 use Rattle.ac_chain.proofs.Cuts.{split, apart, index_of-cut, insert-cut, live_has, has_live, HasName-right, HasName-put}
 use Rattle.ac_chain.proofs.Moves.{once_from}
-use Rattle.ac_base.specs.Rows.{Row, names, row}
+use Rattle.ac_base.specs.Rows.{Row, row}
 use Rattle.ac_model.specs.Rows.{fresh}
 use Rattle.ac_base.specs.Growth.{pow8}
 use Rattle.ac_base.proofs.Powers.{pow8-enough}

@@ -14,9 +14,8 @@ use Rattle.ac_chain.specs.ChainFields.{HasName, IsOnce, last_or}
 use Rattle.ac_chain.proofs.Cuts.{apart, index_of-cut, name_before-cut, slice_get-cut, has_live, HasName-right}
 use Rattle.ac_chain.proofs.Chains.{index_at}
 use Rattle.ac_chain.proofs.Moves.{once_from}
-use Rattle.ac_base.specs.Rows.{Row, row, values}
+use Rattle.ac_base.specs.Rows.{Row, values}
 use Rattle.ac_model.specs.Rows.{fresh}
-use Rattle.ac_model.specs.Objects.{grown}
 use Rattle.ac_model.proofs.Lengths.{length-fresh}
 use Rattle.ac_model.specs.Objects.{plains}
 use Rattle.ac_chain.specs.Put.{IsPut}

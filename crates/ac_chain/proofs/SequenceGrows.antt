@@ -7,16 +7,11 @@ use Rattle.std.proofs.lemmas.List.{length-replicate}
 use Rattle.ac_base.specs.declared.limit.Limit.{Limit}
 use Rattle.ac_base.specs.declared.limit.Limit.TheVariants.{Unbounded, Bounded}
 use Rattle.ac_base.specs.declared.name.Name.{Name}
-use Rattle.ac_base.specs.declared.reason.Reason.{Reason}
 use Rattle.ac_base.specs.declared.fault.NoMemory.{NoMemory}
 use Rattle.ac_base.specs.declared.fault.Fault.TheVariants as fault
-use Rattle.ac_base.specs.Tampering.{forbids}
 use Rattle.ac_base.specs.Guards.{GuardCounts}
-use Rattle.ac_base.specs.declared.guard.Class.TheVariants as class
 use Rattle.ac_base.specs.declared.cursor.Cursor.{Cursor}
 use Rattle.ac_base.specs.declared.cursor.Cursor.TheVariants.{NoElement, At}
-use Rattle.ac_base.specs.FirstReason.{first_reason, earlier}
-use Rattle.ac_base.proofs.Earlier.{with_none_later}
 use Rattle.ac_base.specs.Growth.{pow8}
 use Rattle.ac_chain.specs.Rows.{Chained, IsLive, IsSound, place_of, index_of, name_at}
 use Rattle.ac_chain.specs.ChainFields.{HasName}
@@ -26,9 +21,9 @@ use Rattle.ac_model.specs.Rows.{fresh, put}
 use Rattle.ac_base.specs.Limits.{is_past}
 use Rattle.ac_base.specs.declared.limit.TheConstants.{GREATEST_LENGTH}
 use Rattle.ac_model.specs.Objects.{Object, plain, length_of, grown, capacity_after}
-use Rattle.ac_model.specs.Letters.{room_in, no_mark, mark_at, mark_of, is_among, has_room, tampers_cursors, room, in_range, count_of, place_at}
+use Rattle.ac_model.specs.Letters.{no_mark, mark_at, mark_of, is_among, has_room, room, place_at}
 use Rattle.ac_model.specs.Calls.{Changing, IsAfter, Marks}
-use Rattle.ac_model.specs.Sequences.{with_new, first_new, room_for_copies}
+use Rattle.ac_model.specs.Sequences.{with_new, first_new}
 use Rattle.ac_model.specs.Cursors.{spot, IsNamed}
 use Rattle.ac_model.specs.Containers.{slots_of}
 use Rattle.ac_model.specs.Objects.{plains}

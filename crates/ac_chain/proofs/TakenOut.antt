@@ -1,8 +1,7 @@
 -- A row is taken out: its node first, and then the nodes on both sides are linked with each other.
-use Rattle.std.proofs.Common.{◌≡◌, ◌≢◌, ◌+◌, ◌∷◌, ◌++◌, List, Option, Some, None, is_some, refl, sym, ap, ◌∙◌, subst, inl, inr}
+use Rattle.std.proofs.Common.{◌≡◌, ◌≢◌, ◌+◌, ◌∷◌, ◌++◌, Option, Some, None, is_some, refl, sym, ap, ◌∙◌, subst, inl, inr}
 use Rattle.std.specs.FinMap as map
 use Rattle.ac_base.specs.declared.name.Name.{Name}
-use Rattle.ac_base.specs.Rows.{Row}
 use Rattle.ac_pool.specs.Contents.{Contents, contents, value_of, IsLive, with_value, taken, IsSound}
 use Rattle.ac_pool.proofs.NameLaws.{cases_name, same_names, get-insert_same, get-insert_other, get-remove_same, get-remove_other}
 use Rattle.ac_pool.proofs.ContentsLaws.{live_value, value_of-with_value_other, value_of-taken_other, taken_live}

@@ -1,7 +1,6 @@
 -- What a sort of a chain's rows gives: values with their names, and the names in order.
 use Rattle.std.specs.Prelude.{◌≡◌, List, Bool, IsPermutation}
 use Rattle.ac_base.specs.declared.name.Name.{Name}
-use Rattle.ac_chain.specs.Rows as chain
 use Rattle.ac_base.specs.Rows.{Row, row, names}
 use Rattle.ac_model.specs.Rows as model
 use Rattle.ac_chain.specs.declared.sort.Keyed.{Keyed}

@@ -1,11 +1,11 @@
 //! The array. A contract sees what it sees of a chain: a list of rows, each a name with its value, with the next serial and the
 //! number of spare slots.
-ghost use Rattle.std.specs.Prelude.{◌≡◌, ℕ, ◌+◌, ◌-◌, ◌^◌, ◌<◌, ◌≤◌, ◌↔◌, IsTrue, IsOk, IfOk, OnOk, OnErr, None, Some, length, reverse, slice_get, take, drop, vec_capacity, []};
+ghost use Rattle.std.specs.Prelude.{◌≡◌, ◌+◌, ◌-◌, ◌^◌, ◌<◌, ◌≤◌, IsOk, IfOk, OnOk, OnErr, None, Some, length, reverse, slice_get, take, drop, vec_capacity, []};
 ghost use Rattle.std.specs.Borrow.{sem};
 ghost use Rattle.std.specs.Ordering.{is_lt};
 ghost use Rattle.ac_base.specs.Rows.{row, values};
 ghost use Rattle.ac_chain.specs.Cut.{IsCut};
-ghost use Rattle.ac_chain.specs.Rows.{Chained, index_of, IsLive, value_of, name_at, name_before, next_name, prev_name, no_rows, with_rows, reserved, inserted, removed, cleared, values_swapped, WalksInOrder, IsFresh, IsSound};
+ghost use Rattle.ac_chain.specs.Rows.{Chained, index_of, IsLive, value_of, name_at, name_before, no_rows, with_rows, reserved, inserted, removed, cleared, values_swapped, IsFresh, IsSound};
 ghost use Rattle.ac_model.specs.Objects.{plains};
 ghost use Rattle.ac_model.specs.Rows.{over, sorted};
 ghost use Rattle.ac_vector.specs.Popped.{IsPopped};
@@ -17,6 +17,7 @@ use crate::places::renumber;
 use crate::turning::turn_vector;
 use crate::weaving::{Line, stack_last, weave};
 use ac_base::{Name, NoMemory, Rank, precedes};
+use ac_chain::Walked;
 use ac_pool::Pool;
 use std::alloc::Global;
 use std::cmp::Ordering;
@@ -78,29 +79,12 @@ impl<T> Array<T> {
         self.places.reserve(n)
     }
 
-    /// How many rows there are.
-    pub fn len(&self) -> u64
-        ensures count { result ≡ length self.now.rows }
-        ensures sound { IsSound self.now }
-    {
-        let _places = &self.places;
-        self.values.len() as u64
-    }
-
     /// How many slots keep nothing.
     pub fn spare(&self) -> u64
         ensures count { result ≡ self.now.spare }
         ensures sound { IsSound self.now }
     {
         self.places.spare()
-    }
-
-    /// The serial that the next row gets.
-    pub fn next_serial(&self) -> u64
-        ensures serial { result ≡ self.now.next_serial }
-        ensures sound { IsSound self.now }
-    {
-        self.places.next_serial()
     }
 
     /// The name of the row at this place.
@@ -139,22 +123,6 @@ impl<T> Array<T> {
         self.values.as_slice()
     }
 
-    /// The first row's name. A walk from it by `next` meets each row once, in order.
-    pub fn first(&self) -> Option<Name>
-        ensures name { result ≡ name_at self.now.rows 0 }
-        ensures walk { WalksInOrder self.now }
-        ensures sound { IsSound self.now }
-    {
-        self.name_from(0)
-    }
-
-    pub fn last(&self) -> Option<Name>
-        ensures name { result ≡ name_before self.now.rows (length self.now.rows) }
-        ensures sound { IsSound self.now }
-    {
-        self.name_below(self.len())
-    }
-
     /// The name at this place, if a row stands there.
     fn name_from(&self, place: u64) -> Option<Name>
         ensures name { result ≡ name_at self.now.rows place }
@@ -178,39 +146,6 @@ impl<T> Array<T> {
         } else {
             self.name_from(place - 1)
         }
-    }
-
-    pub fn next(&self, name: Name) -> Option<Name>
-        requires { IsLive self.now name }
-        ensures name { result ≡ next_name self.now name }
-        ensures in_order { (i : ℕ) → name_at self.now.rows i ≡ Some name → result ≡ name_at self.now.rows (i + 1) }
-        ensures sound { IsSound self.now }
-    {
-        self.name_from(self.index_of(name) + 1)
-    }
-
-    pub fn prev(&self, name: Name) -> Option<Name>
-        requires { IsLive self.now name }
-        ensures name { result ≡ prev_name self.now name }
-        ensures in_order { (i : ℕ) → name_at self.now.rows i ≡ Some name → result ≡ name_before self.now.rows i }
-        ensures sound { IsSound self.now }
-    {
-        self.name_below(self.index_of(name))
-    }
-
-    pub fn is_live(&self, name: Name) -> bool
-        ensures live { IsTrue result ↔ IsLive self.now name }
-        ensures sound { IsSound self.now }
-    {
-        self.places.get(name).is_some()
-    }
-
-    /// The value under the name.
-    pub fn at(&self, name: Name) -> &T
-        requires { IsLive self.now name }
-        ensures value { Some result.now ≡ value_of self.now name }
-    {
-        self.value_at(self.index_of(name))
     }
 
     /// As `at`, for writing.
@@ -257,6 +192,7 @@ impl<T> Array<T> {
         ensures popped { IsPopped self.old result self.new }
         ensures sound { IsSound self.new }
     {
+        let _places = &self.places;
         match self.last() {
             None => None,
             Some(name) => self.take_last(name),
@@ -295,6 +231,51 @@ impl<T> Array<T> {
     {
         let _places = &self.places;
         self.values.reverse();
+    }
+}
+
+impl<T> Walked<T> for Array<T> {
+    ghost seen = { λ a. a };
+
+    #[inline]
+    fn len(&self) -> u64 {
+        let _places = &self.places;
+        self.values.len() as u64
+    }
+
+    #[inline]
+    fn next_serial(&self) -> u64 {
+        self.places.next_serial()
+    }
+
+    #[inline]
+    fn is_live(&self, name: Name) -> bool {
+        self.places.get(name).is_some()
+    }
+
+    #[inline]
+    fn first(&self) -> Option<Name> {
+        self.name_from(0)
+    }
+
+    #[inline]
+    fn last(&self) -> Option<Name> {
+        self.name_below(self.len())
+    }
+
+    #[inline]
+    fn next(&self, name: Name) -> Option<Name> {
+        self.name_from(self.index_of(name) + 1)
+    }
+
+    #[inline]
+    fn prev(&self, name: Name) -> Option<Name> {
+        self.name_below(self.index_of(name))
+    }
+
+    #[inline]
+    fn at(&self, name: Name) -> &T {
+        self.value_at(self.index_of(name))
     }
 }
 

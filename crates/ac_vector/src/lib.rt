@@ -9,7 +9,6 @@ mod put;
 mod refilling;
 mod turning;
 mod vector;
-mod walked;
 mod weaving;
 
 pub use vector::Vector;

@@ -9,6 +9,7 @@ ghost use Rattle.ac_chain.specs.Merging.{IsMerged};
 
 use crate::array::Array;
 use ac_base::{GREATEST_LENGTH, NoMemory, Rank};
+use ac_chain::Walked;
 use std::alloc::Global;
 
 /// Moves the values behind the last row, the source's last one first.

@@ -6,7 +6,7 @@ ghost use Rattle.ac_chain.specs.Put.{IsPut, HasFirst};
 
 use crate::array::Array;
 use ac_base::{Elem, GREATEST_LENGTH, Name, NoMemory};
-use ac_chain::copies;
+use ac_chain::{Walked, copies};
 use std::alloc::Global;
 
 /// The place before which a value goes: before the name's row, or at the end.

@@ -8,6 +8,7 @@ ghost use Rattle.ac_chain.specs.Refill.{IsRefilled};
 use crate::array::Array;
 use crate::put::append_each;
 use ac_base::{Elem, GREATEST_LENGTH, NoMemory};
+use ac_chain::Walked;
 use std::alloc::Global;
 
 /// Copies of the values.

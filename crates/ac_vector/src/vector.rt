@@ -24,7 +24,7 @@ mod vectors;
 
 use crate::array::Array;
 use ac_base::{Fault, Limit};
-use ac_chain::calls;
+use ac_chain::{Walked, calls};
 use ac_cursor::{Class, Cursor, GuardKey, GuardKind, Guarded, Guards, Tag};
 use ac_model::allowed;
 use std::alloc::Global;

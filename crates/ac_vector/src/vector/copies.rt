@@ -14,7 +14,7 @@ ghost use Rattle.ac_model.specs.Sequences as sequences;
 use super::Vector;
 use crate::refilling::refill;
 use ac_base::{Elem, Fault, Limit};
-use ac_chain::calls;
+use ac_chain::{Walked, calls};
 use ac_cursor::{Class, Tag};
 use ac_model::{allowed, as_fault, limit_of_copy, too_small};
 use std::alloc::Global;

@@ -10,7 +10,7 @@ ghost use Rattle.ac_model.specs.Sequences as sequences;
 
 use super::Vector;
 use ac_base::Fault;
-use ac_chain::calls;
+use ac_chain::{Walked, calls};
 use ac_cursor::Cursor;
 use ac_model::{allowed, count_of};
 

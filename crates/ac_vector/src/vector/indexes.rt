@@ -12,6 +12,7 @@ ghost use Rattle.ac_model.specs.Vectors as vectors;
 
 use super::Vector;
 use ac_base::{Elem, Fault, GREATEST_LENGTH, Name, Reason};
+use ac_chain::Walked;
 use ac_chain::calls::{self, Puts, done};
 use ac_cursor::{Class, Cursor, first_reason};
 use ac_model::{allowed, count_of, in_range, index_in, name_in};

@@ -15,6 +15,7 @@ ghost use Rattle.ac_model.specs.Vectors as vectors;
 
 use super::Vector;
 use ac_base::{Elem, Fault, GREATEST_LENGTH, NoMemory, Reason};
+use ac_chain::Walked;
 use ac_chain::calls::{Puts, done};
 use ac_cursor::{Class, first_reason};
 use ac_model::{allowed, as_fault, count_of, in_range, room, too_many};

@@ -8,6 +8,7 @@ ghost use Rattle.ac_model.specs.Vectors as vectors;
 use super::Vector;
 use super::indexes::place_of;
 use ac_base::{Elem, Fault, Reason};
+use ac_chain::Walked;
 use ac_model::{allowed, count_of, reason_if};
 
 /// How many values stand before the first equal one.

@@ -17,6 +17,7 @@ use super::indexes::place_of;
 use crate::put::put_all;
 use crate::refilling::copies_of;
 use ac_base::{Elem, Fault, GREATEST_LENGTH, Name, Reason};
+use ac_chain::Walked;
 use ac_chain::calls::{self, done};
 use ac_cursor::{Class, Cursor, first_reason};
 use ac_model::{allowed, cursor_of_first, index_in, place_in, room};

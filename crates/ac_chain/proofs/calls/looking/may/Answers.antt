@@ -1,7 +1,6 @@
 use Rattle.std.proofs.Common.{◌≡◌, subst, sym, ◌∙◌}
 use Rattle.ac_model.specs.Cursors.{may_cursor}
 use Rattle.ac_chain.proofs.Marks.{may_by_name}
-use Rattle.ac_model.specs.Containers.{guards_of}
 use Rattle.ac_chain.proofs.calls.looking.may.Goals as goal
 
 pub returns-in-At : goal.returns-in-At

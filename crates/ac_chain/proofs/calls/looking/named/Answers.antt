@@ -1,7 +1,6 @@
 use Rattle.std.proofs.Common.{ap, ◌∙◌}
 use Rattle.ac_base.specs.Guards.{GuardCounts}
 use Rattle.ac_model.specs.Cursors.{cursor_at}
-use Rattle.ac_model.specs.Containers.{guards_of}
 use Rattle.ac_chain.proofs.calls.looking.named.Goals as goal
 
 pub returns : goal.returns

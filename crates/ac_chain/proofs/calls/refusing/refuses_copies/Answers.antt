@@ -1,4 +1,4 @@
-use Rattle.std.proofs.Common.{◌≡◌, ◌∷◌, [], length, ◌+◌, ap, sym, ◌∙◌, to_z-of_z, w64}
+use Rattle.std.proofs.Common.{◌≡◌, length, ◌+◌, ap, sym, ◌∙◌, to_z-of_z, w64}
 use Rattle.ac_base.specs.FirstReason.{first_reason, earlier}
 use Rattle.ac_base.proofs.Earlier.{with_none_later}
 use Rattle.ac_model.specs.Letters.{count_of, in_range, room}
