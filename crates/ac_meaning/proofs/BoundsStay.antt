@@ -4,10 +4,9 @@ use Rattle.ac_base.specs.declared.reason.Reason.{Reason}
 use Rattle.ac_base.specs.declared.guard.Class.TheVariants as class
 use Rattle.ac_base.specs.Tampering.{forbids}
 use Rattle.ac_model.specs.Objects.{Object}
-use Rattle.ac_meaning.specs.Elements.{Of, of_integers, of_texts}
-use Rattle.ac_meaning.specs.Holdings.{Listed, Held, a_sequence}
+use Rattle.ac_meaning.specs.Holdings.{Held, of_rows}
 use Rattle.ac_meaning.specs.Environment.{Bound, binds_type, binds_object, binds_cursor, binds_value, binds_element, State, bound_in, bound_at, with_bound, object_in}
-use Rattle.ac_meaning.specs.Stays.{Stays, OfStays, HeldStays, BoundStays, EachStays, StateStays}
+use Rattle.ac_meaning.specs.Stays.{Stays, HeldStays, BoundStays, EachStays, StateStays}
 use Rattle.ac_meaning.proofs.CallsStay.{none_some, same}
 
 -- a call that isn't refused
@@ -32,23 +31,12 @@ stays_then o a b h k = record {
       ∙ h.names none tampering t;
 }
 
-of_same : (s : Of Listed) → OfStays s s
-of_same (of_integers o) = same o None
-of_same (of_texts o) = same o None
-
-of_then : (s a b : Of Listed) → OfStays s a → OfStays a b → OfStays s b
-of_then (of_integers o) (of_integers a) (of_integers b) h k = stays_then o a b h k
-of_then (of_texts o) (of_texts a) (of_texts b) h k = stays_then o a b h k
-of_then (of_integers o) (of_integers a) (of_texts b) h k = absurd k
-of_then (of_texts o) (of_texts a) (of_integers b) h k = absurd k
-of_then (of_integers o) (of_texts a) b h k = absurd h
-of_then (of_texts o) (of_integers a) b h k = absurd h
-
 pub held_same : (h : Held) → HeldStays h h
-held_same (a_sequence which s) = (refl, of_same s)
+held_same (of_rows kind o) = (o, refl, same o None)
 
 held_then : (h a b : Held) → HeldStays h a → HeldStays a b → HeldStays h b
-held_then (a_sequence which s) (a_sequence second a) (a_sequence third b) h k = (k.0 ∙ h.0, of_then s a b h.1 k.1)
+held_then (of_rows kind o) a b h k =
+    let l : HeldStays (of_rows kind h.0) b = subst (λ x. HeldStays x b) h.1 k in (l.0, l.1, stays_then o h.0 l.0 h.2 l.2)
 
 pub bound_same : (b : Bound) → BoundStays b b
 bound_same binds_type = tt

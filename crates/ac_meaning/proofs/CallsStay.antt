@@ -98,7 +98,7 @@ pub names-with_value : {V : Type 0} (rows : List (Row ℕ V)) (name : ℕ) (v : 
 names-with_value [] name v = refl
 names-with_value (r ∷ rows) name v = λ i. name_kept r name v (r.name == name) refl i ∷ names-with_value rows name v i
 
-names-with_some_value : {V : Type 0} (rows : List (Row ℕ V)) (name : ℕ) (v : Option V) → names (with_some_value rows name v) ≡ names rows
+pub names-with_some_value : {V : Type 0} (rows : List (Row ℕ V)) (name : ℕ) (v : Option V) → names (with_some_value rows name v) ≡ names rows
 names-with_some_value rows name None = refl
 names-with_some_value rows name (Some v) = names-with_value rows name v
 

@@ -1,5 +1,6 @@
 -- What stays of what the names hold through a command.
-use Rattle.std.proofs.Common.{◌≡◌, ◌==◌, ℕ, ℤ, Bool, true, false, List, slice_get, refl, sym, subst, ◌∙◌, Option, Some, None, option_map, if◌then◌else◌}
+use Rattle.std.proofs.Common.{◌≡◌, ◌==◌, ℕ, ℤ, Bool, true, false, List, slice_get, refl, sym, ap, subst, ◌∙◌, Option, Some, None, option_map, if◌then◌else◌}
+use Rattle.std.proofs.lemmas.Option.{same_Some}
 use Rattle.ac_base.specs.declared.value.Value.{Value}
 use Rattle.ac_base.specs.declared.reason.Reason.{Reason}
 use Rattle.ac_model.specs.Objects.{Object}
@@ -8,24 +9,27 @@ use Rattle.ac_model.specs.Cursors.{seen}
 use Rattle.ac_check.specs.declared.operation.Operation.{Operation}
 use Rattle.ac_check.specs.declared.resolved.ResolvedArg.{ResolvedArg}
 use Rattle.ac_check.specs.Resolved.{ResolvedSimple, calls_at, sets_at, sums_at}
-use Rattle.ac_meaning.specs.Elements.{Text, integers, texts, integer_in, Of, of_integers, of_texts}
+use Rattle.ac_meaning.specs.Elements.{tools_of, integer_in}
 use Rattle.ac_meaning.specs.Answers.{Answer, answers_ok, answers_value, answers_truth, answers_place, answers_list, answers_raised, answers_stalled, answers_integer}
-use Rattle.ac_meaning.specs.Replies.{Arguments, itself, another, seen_by, source_in, Reply, Placed}
-use Rattle.ac_meaning.specs.Holdings.{Listed, SequenceKind, of_list, of_vector, Held, a_sequence, write, sequence_in, integers_in, texts_in, reply_of}
+use Rattle.ac_meaning.specs.Replies.{Arguments, Source, itself, another, seen_by, source_in, Reply, Placed}
+use Rattle.ac_meaning.specs.Holdings.{RowKind, a_sequence, a_map, a_set, RowOf, Held, of_rows, same_kind, rows_in, rows_reply, own_calls, write, reply_of}
 use Rattle.ac_meaning.specs.Environment.{Bound, binds_type, binds_object, binds_cursor, binds_value, binds_element, State, bound_at, with_bound, object_at, value_at}
 use Rattle.ac_meaning.specs.Commands.{Assigned, value_set, mark_set, assigned, element_written, place_in, variable_to, variable_set, source_place, source_of, source_set, after_call, unless_refused, waits_or_goes, replied, call_on, arguments, answer_from, assigned_from, is_integer, sum_of, sum_assigned, performed}
-use Rattle.ac_meaning.specs.Stays.{Stays, SourceStays, HeldStays, StateStays}
-use Rattle.ac_meaning.proofs.CallsStay.{none_some, renamed, names-with_value}
+use Rattle.ac_meaning.specs.Stays.{Stays, SourceStays, ReplyStays, HeldStays, StateStays}
+use Rattle.ac_meaning.proofs.CallsStay.{none_some, same, renamed, names-with_value, names-with_some_value}
 use Rattle.ac_meaning.proofs.VectorsStay.{replies_stay}
+use Rattle.ac_meaning.proofs.KeyedStay.{map_stays, set_stays}
 use Rattle.ac_meaning.proofs.BoundsStay.{passed, state_same, state_then, state_set, object_there}
 
 -- Assignments
 
+own_write_stays : (kind : RowKind) (o : Object ℕ (RowOf kind)) (at : Mark) (v : Value) → Stays o None ((own_calls kind o).write at v).after
+own_write_stays (a_sequence which e) o at v = renamed o None _ (names-with_value o.rows (name_of at) ((tools_of e).from_value v))
+own_write_stays (a_map which k e) o at v = renamed o None _ (names-with_some_value o.rows _ _)
+own_write_stays (a_set which e) o at v = same o None
+
 write_stays : (h : Held) (at : Mark) (v : Value) → HeldStays h (write h at v).after
-write_stays (a_sequence which (of_integers o)) at v =
-    (refl, renamed o None _ (names-with_value o.rows (name_of (seen o at)) (integer_in v)))
-write_stays (a_sequence which (of_texts o)) at v =
-    (refl, renamed o None _ (names-with_value o.rows (name_of (seen o at)) (texts.from_value v)))
+write_stays (of_rows kind o) at v = (((own_calls kind o).write (seen o at) v).after, refl, own_write_stays kind o (seen o at) v)
 
 element_stays : (e : State) (object : ℕ) (at : Mark) (v : Value) (found : Option Held) → object_at e object ≡ found →
     StateStays e (element_written e object at v found).after
@@ -98,48 +102,34 @@ mapped : {S R : Type 0} (f : S → R) (found : Option S) (t : R) → option_map 
 mapped f None t e = none_some t e
 mapped f (Some s) t e = let p : f s ≡ t = cc in (s, refl, p)
 
-sequence_found : (which : SequenceKind) (found : Option Held) (s : Of Listed) → sequence_in which found ≡ Some s →
-    found ≡ Some (a_sequence which s)
-sequence_found of_list None s f = none_some s f
-sequence_found of_vector None s f = none_some s f
-sequence_found of_list (Some (a_sequence of_list o)) s f = cc
-sequence_found of_list (Some (a_sequence of_vector o)) s f = none_some s f
-sequence_found of_vector (Some (a_sequence of_list o)) s f = none_some s f
-sequence_found of_vector (Some (a_sequence of_vector o)) s f = cc
+-- an object of a kind is what is held there
+pub rows_found : (kind : RowKind) (found : Option Held) (s : Object ℕ (RowOf kind)) → rows_in kind found ≡ Some s → found ≡ Some (of_rows kind s)
+rows_found kind None s f = none_some s f
+rows_found kind (Some (of_rows other o)) s f = go (same_kind other kind) f
+  where
+    go : (p : Option (other ≡ kind)) → option_map (λ (q : other ≡ kind). coe 0 1 (i. Object ℕ (RowOf (q i))) o) p ≡ Some s →
+        Some (of_rows other o) ≡ Some (of_rows kind s)
+    go None f = none_some s f
+    go (Some p) f =
+        ap Some ((λ i. of_rows (p i) (coe 0 i (j. Object ℕ (RowOf (p j))) o)) ∙ ap (of_rows kind) (same_Some _ s f))
 
-integers_found : (found : Option (Of Listed)) (s : Object ℕ ℤ) → integers_in found ≡ Some s → found ≡ Some (of_integers s)
-integers_found None s f = none_some s f
-integers_found (Some (of_integers o)) s f = cc
-integers_found (Some (of_texts o)) s f = none_some s f
-
-texts_found : (found : Option (Of Listed)) (s : Object ℕ Text) → texts_in found ≡ Some s → found ≡ Some (of_texts s)
-texts_found None s f = none_some s f
-texts_found (Some (of_integers o)) s f = none_some s f
-texts_found (Some (of_texts o)) s f = cc
+pub rows_stay : (kind : RowKind) (o : Object ℕ (RowOf kind)) (source : Source (Object ℕ (RowOf kind))) (args : Arguments) (op : Operation) →
+    ReplyStays o source (rows_reply kind o source args op)
+rows_stay (a_sequence which e) o source args op = replies_stay which (tools_of e) o source args op
+rows_stay (a_map which k e) o source args op = map_stays (tools_of k) (tools_of e) o source args which op
+rows_stay (a_set which e) o source args op = set_stays (tools_of e) o source args which op
 
 pub held_reply : (h : Held) (source : Option Held) (operation : Operation) (args : Arguments) →
     HeldReply h source (reply_of h source operation args)
-held_reply (a_sequence which (of_integers o)) source operation args =
-    let found = integers_in (sequence_in which source) in
-    let stays = replies_stay which integers o (source_in o found args) (seen_by o args) operation in
+held_reply (of_rows kind o) source operation args =
+    let found = rows_in kind source in
+    let stays = rows_stay kind o (source_in o found args) (seen_by o args) operation in
     record {
-      target = λ none. (refl, passed o _ _ none stays.target);
+      target = λ none. (_, refl, passed o _ _ none stays.target);
       source_stays = λ none k f.
-          let m = mapped (λ s. a_sequence which (of_integers s)) _ k f in
+          let m = mapped (of_rows kind) _ k f in
           let a = another_stays o found args _ _ stays.source_stays m.0 m.1 in
-          let held = a_sequence which (of_integers a.0) in
-          (held, sequence_found which source _ (integers_found _ a.0 a.1), subst (HeldStays held) m.2 (refl, passed a.0 _ m.0 none a.2));
-    }
-held_reply (a_sequence which (of_texts o)) source operation args =
-    let found = texts_in (sequence_in which source) in
-    let stays = replies_stay which texts o (source_in o found args) (seen_by o args) operation in
-    record {
-      target = λ none. (refl, passed o _ _ none stays.target);
-      source_stays = λ none k f.
-          let m = mapped (λ s. a_sequence which (of_texts s)) _ k f in
-          let a = another_stays o found args _ _ stays.source_stays m.0 m.1 in
-          let held = a_sequence which (of_texts a.0) in
-          (held, sequence_found which source _ (texts_found _ a.0 a.1), subst (HeldStays held) m.2 (refl, passed a.0 _ m.0 none a.2));
+          (of_rows kind a.0, rows_found kind source a.0 a.1, (m.0, sym m.2, passed a.0 _ m.0 none a.2));
     }
 
 source_set_stays : (e now : State) (place : Option ℕ) (found : Option Held) → StateStays e now →

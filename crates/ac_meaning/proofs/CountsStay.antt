@@ -6,8 +6,7 @@ use Rattle.ac_base.specs.declared.guard.GuardKind.TheVariants as guard
 use Rattle.ac_base.specs.Guards.{HeldGuard}
 use Rattle.ac_model.specs.Objects.{Object}
 use Rattle.ac_model.specs.Common.{hold_call, release_call, under_guards}
-use Rattle.ac_meaning.specs.Elements.{of_integers, of_texts}
-use Rattle.ac_meaning.specs.Holdings.{Held, a_sequence, from_rows, Guards, is_kind, held_on, guarded, held_under}
+use Rattle.ac_meaning.specs.Holdings.{Held, of_rows, from_rows, Guards, is_kind, held_on, guarded, held_under}
 use Rattle.ac_meaning.specs.Environment.{Bound, binds_type, binds_object, binds_cursor, binds_value, binds_element, bound_by, bound_in, object_in, State, objects_by, under, bound_at, with_name, leaving}
 use Rattle.ac_meaning.specs.Commands.{performed}
 use Rattle.ac_meaning.specs.Stays.{Stays, HeldStays, BoundStays, EachStays}
@@ -41,8 +40,7 @@ object_held : {V : Type 0} (g : HeldGuard) (guards : Guards) (o : Object ℕ V) 
 object_held g guards o = counted guards o (g.object == o.number) g.kind
 
 held_held : (g : HeldGuard) (guards : Guards) (h : Held) → held_under (g ∷ guards) h ≡ held_with g (held_under guards h)
-held_held g guards (a_sequence which (of_integers o)) = λ i. a_sequence which (of_integers (object_held g guards o i))
-held_held g guards (a_sequence which (of_texts o)) = λ i. a_sequence which (of_texts (object_held g guards o i))
+held_held g guards (of_rows kind o) = ap (of_rows kind) (object_held g guards o)
 
 object_released : {V : Type 0} (k : GuardKind) (b : Bool) (o : Object ℕ V) →
     (if b then release_call false k (if b then hold_call false k o else o) else (if b then hold_call false k o else o)) ≡ o
@@ -61,10 +59,8 @@ release_hold {V} g o =
     ∙ object_released g.kind (g.object == o.number) o
 
 held_released : (g : HeldGuard) (guards : Guards) (h : Held) → held_without g (held_under (g ∷ guards) h) ≡ held_under guards h
-held_released g guards (a_sequence which (of_integers o)) =
-    λ i. a_sequence which (of_integers ((ap (release_on g _) (object_held g guards o) ∙ release_hold g (guarded guards _ o)) i))
-held_released g guards (a_sequence which (of_texts o)) =
-    λ i. a_sequence which (of_texts ((ap (release_on g _) (object_held g guards o) ∙ release_hold g (guarded guards _ o)) i))
+held_released g guards (of_rows kind o) =
+    ap (of_rows kind) (ap (release_on g _) (object_held g guards o) ∙ release_hold g (guarded guards _ o))
 
 -- what is done to the objects is done to each alone
 bound_twice : (f g : Held → Held) (b : Bound) → bound_by f (bound_by g b) ≡ bound_by (λ h. f (g h)) b
@@ -95,8 +91,7 @@ guards_come_and_go = record {
 }
 
 pub held_anew : (guards others : Guards) (h : Held) → held_under guards (held_under others h) ≡ held_under guards h
-held_anew guards others (a_sequence which (of_integers o)) = refl
-held_anew guards others (a_sequence which (of_texts o)) = refl
+held_anew guards others (of_rows kind o) = refl
 
 under_anew : (guards others : Guards) (e : State) → under guards (under others e) ≡ under guards e
 under_anew guards others e =
@@ -153,12 +148,8 @@ object_counts guards o after s c e =
     λ i. record after { cursor_guards = cursors i; element_guards = elements i }
 
 held_counts : (guards : Guards) (h after : Held) → HeldStays h after → held_under guards h ≡ h → held_under guards after ≡ after
-held_counts guards (a_sequence which (of_integers o)) (a_sequence other (of_integers after)) s e =
-    λ i. a_sequence other (of_integers (object_counts guards o after s.1 (ap cursors_of e) (ap elements_of e) i))
-held_counts guards (a_sequence which (of_texts o)) (a_sequence other (of_texts after)) s e =
-    λ i. a_sequence other (of_texts (object_counts guards o after s.1 (ap cursors_of e) (ap elements_of e) i))
-held_counts guards (a_sequence which (of_integers o)) (a_sequence other (of_texts after)) s e = absurd s.1
-held_counts guards (a_sequence which (of_texts o)) (a_sequence other (of_integers after)) s e = absurd s.1
+held_counts guards (of_rows kind o) after s e =
+    ap (held_under guards) s.1 ∙ (ap (of_rows kind) (object_counts guards o s.0 s.2 (ap cursors_of e) (ap elements_of e)) ∙ sym s.1)
 
 held_or : Held → Bound → Held
 held_or other binds_type = other

@@ -10,7 +10,7 @@ use Rattle.ac_syntax.specs.declared.view_kind.ViewKind.TheVariants.{Query, Updat
 use Rattle.ac_check.specs.declared.resolved.ResolvedDecl.{ResolvedDecl}
 use Rattle.ac_check.specs.declared.resolved.ResolvedDecl.TheVariants as decl
 use Rattle.ac_check.specs.Resolved.{ResolvedHead, loops_at, views_at, stables_at, declares_at, no_statement, a_command, a_block, resolve}
-use Rattle.ac_meaning.specs.Holdings.{Held, a_sequence, Guards, names_of, number_of}
+use Rattle.ac_meaning.specs.Holdings.{Held, Guards, names_of, number_of}
 use Rattle.ac_meaning.specs.Environment.{Bound, binds_element, State, under, object_at, mark_at, with_name, leaving, Declared, unless_spent, after_decl, after_decls}
 use Rattle.ac_meaning.specs.Execution.{Outcome, scoped, commanded, guards_of_loop, guards_of_stable, guards_of_view, in_order, turn_bound, head_reason, turns, viewed, view_on, on_object, after_declared, block_on, exec_resolved}
 use Rattle.ac_meaning.specs.GuardedNames.{kept, ResolvedKeepsGuarded, KeepsGuarded}
@@ -85,7 +85,7 @@ module _ (body : Guards → State → Outcome) (keeps : KeepsAll body) (guards :
   viewed_keeps number Query object at h e none = scoped_keeps (guards_of_view Query h) e (binds_element object at)
   viewed_keeps number Update object at h e none = scoped_keeps (guards_of_view Update h) e (binds_element object at)
   viewed_keeps number Reference object at h e none = scoped_keeps (guards_of_view Reference h) e (binds_element object at)
-  viewed_keeps number UpdateKey object at (a_sequence which l) e none = none_some NoElement (sym none)
+  viewed_keeps number UpdateKey object at h e none = none_some NoElement (sym none)
 
   view_keeps : (number : ℕ) (view : ViewKind) (object : ℕ) (at : Mark) (h : Held) (e : State) (reason : Option Reason) →
       head_reason view h at ≡ reason → kept guards (view_on body guards number view object at h e).after ≡ kept guards e

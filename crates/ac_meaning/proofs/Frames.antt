@@ -5,16 +5,14 @@ use Rattle.std.proofs.lemmas.List.Folds.{list_any-append}
 use Rattle.std.proofs.lemmas.Option.{slice_get-map}
 use Rattle.std.proofs.Math.Seq.{take-append_seam}
 use Rattle.ac_base.specs.Guards.{HeldGuard}
-use Rattle.ac_meaning.specs.Elements.{of_integers, of_texts}
-use Rattle.ac_meaning.specs.Holdings.{a_sequence, Guards, held_under, number_of, names_of}
+use Rattle.ac_meaning.specs.Holdings.{of_rows, Guards, held_under, number_of, names_of}
 use Rattle.ac_meaning.specs.Environment.{Bound, binds_type, binds_object, binds_cursor, binds_value, binds_element, bound_by, bound_in, State, under, at_rest, bound_at, leaving}
 use Rattle.ac_meaning.specs.GuardedNames.{is_guarded, Frame, of_type, of_object, of_cursor, of_value, of_element, names_if, frame, kept}
 
 -- guards on the objects themselves change nothing of what is kept
 frame_under : (guards held : Guards) (b : Bound) → frame guards (bound_by (held_under held) b) ≡ frame guards b
 frame_under guards held binds_type = refl
-frame_under guards held (binds_object (a_sequence which (of_integers o))) = refl
-frame_under guards held (binds_object (a_sequence which (of_texts o))) = refl
+frame_under guards held (binds_object (of_rows kind o)) = refl
 frame_under guards held (binds_cursor mark) = refl
 frame_under guards held (binds_value v) = refl
 frame_under guards held (binds_element object at) = refl

@@ -11,8 +11,7 @@ use Rattle.ac_base.specs.Rows.{names}
 use Rattle.ac_model.specs.Objects.{Object}
 use Rattle.ac_model.specs.Letters.{tampers_cursors}
 use Rattle.ac_check.specs.Resolved.{ResolvedSimple}
-use Rattle.ac_meaning.specs.Elements.{of_integers, of_texts}
-use Rattle.ac_meaning.specs.Holdings.{Held, a_sequence, Guards, is_kind, held_on, held_under}
+use Rattle.ac_meaning.specs.Holdings.{Held, of_rows, Guards, is_kind, held_on, held_under}
 use Rattle.ac_meaning.specs.Environment.{Bound, binds_type, binds_object, binds_cursor, binds_value, binds_element, bound_by, State, under}
 use Rattle.ac_meaning.specs.Commands.{performed}
 use Rattle.ac_meaning.specs.Execution.{commanded}
@@ -70,12 +69,9 @@ object_names guards o after c e stays =
 
 held_frame : (guards : Guards) (h after : Held) → HeldStays h after → held_under guards h ≡ h →
     frame guards (binds_object after) ≡ frame guards (binds_object h)
-held_frame guards (a_sequence which (of_integers o)) (a_sequence other (of_integers after)) s e =
-    let m = object_names guards o after (ap cursors_of e) (ap elements_of e) s.1 in λ i. of_object (s.1.number i) (m i)
-held_frame guards (a_sequence which (of_texts o)) (a_sequence other (of_texts after)) s e =
-    let m = object_names guards o after (ap cursors_of e) (ap elements_of e) s.1 in λ i. of_object (s.1.number i) (m i)
-held_frame guards (a_sequence which (of_integers o)) (a_sequence other (of_texts after)) s e = absurd s.1
-held_frame guards (a_sequence which (of_texts o)) (a_sequence other (of_integers after)) s e = absurd s.1
+held_frame guards (of_rows kind o) after s e =
+    let m = object_names guards o s.0 (ap cursors_of e) (ap elements_of e) s.2 in
+    ap (λ x. frame guards (binds_object x)) s.1 ∙ (λ i. of_object (s.2.number i) (m i))
 
 bound_frame : (guards : Guards) (b after : Bound) → BoundStays (bound_by (held_under guards) b) after →
     frame guards after ≡ frame guards (bound_by (held_under guards) b)

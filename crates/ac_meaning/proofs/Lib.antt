@@ -2,6 +2,8 @@ pub mod Resolved
 pub mod CallsStay
 pub mod ListsStay
 pub mod VectorsStay
+pub mod KeyedStay
+pub mod RowKinds
 pub mod BoundsStay
 pub mod CommandsStay
 pub mod CountsStay

@@ -4,17 +4,15 @@ use Rattle.std.specs.Prelude.{pos}
 use Rattle.std.proofs.lemmas.Bool.Decides.{nat_tests}
 use Rattle.ac_base.specs.Limits.{numbers_end}
 use Rattle.ac_base.specs.declared.value.Value.TheVariants as value
+use Rattle.ac_base.specs.declared.limit.Limit.{Limit}
 use Rattle.ac_base.specs.declared.guard.GuardKind.{GuardKind}
 use Rattle.ac_base.specs.declared.guard.GuardKind.TheVariants as guard
 use Rattle.ac_base.specs.Guards.{HeldGuard}
 use Rattle.ac_model.specs.Objects.{Object, empty_object}
 use Rattle.ac_model.specs.Letters.{no_mark}
-use Rattle.ac_syntax.specs.declared.kind.ElemKind.{ElemKind}
-use Rattle.ac_syntax.specs.declared.kind.ElemKind.TheVariants.{Integer, Str}
 use Rattle.ac_check.specs.declared.resolved.ResolvedDecl.{ResolvedDecl}
 use Rattle.ac_check.specs.declared.resolved.ResolvedDecl.TheVariants as decl
-use Rattle.ac_meaning.specs.Elements.{of_integers, of_texts}
-use Rattle.ac_meaning.specs.Holdings.{SequenceKind, Held, a_sequence, is_vector, new_sequence, sequence_kind, Guards, is_kind, held_on, guard_on, guarded, held_under, number_of, limit_by, new_held}
+use Rattle.ac_meaning.specs.Holdings.{RowKind, Held, of_rows, have_capacity, kind_by, Guards, is_kind, held_on, guard_on, guarded, held_under, number_of, limit_by, new_held}
 use Rattle.ac_meaning.specs.Environment.{binds_type, binds_object, binds_cursor, binds_value, State, under, object_at, with_name, number_taken, Declared, unless_spent, after_decl, after_decls}
 use Rattle.ac_meaning.specs.Numbers.{NumbersDiffer, GuardsBelow, NewObjectsAreUnguarded}
 use Rattle.ac_meaning.proofs.CountsStay.{parts_under, blocks_keep_counts}
@@ -40,15 +38,10 @@ new_object : {V : Type 0} (guards : Guards) (o : Object ℕ V) → held_on guard
     held_on guards o.number guard.Elements ≡ o.element_guards → guarded guards V o ≡ o
 new_object guards o c e = λ i. record o { cursor_guards = c i; element_guards = e i }
 
-new_unguarded : (guards : Guards) (which : SequenceKind) (first : ElemKind) (number : ℕ) (capacity : Option ℕ) →
-    ((kind : GuardKind) → held_on guards number kind ≡ 0) →
-    held_under guards (new_sequence which first number capacity) ≡ new_sequence which first number capacity
-new_unguarded guards which Integer number capacity none =
-    let start = empty_object (is_vector which) number (limit_by capacity) in
-    λ i. a_sequence which (of_integers (new_object guards start (none guard.Cursors) (none guard.Elements) i))
-new_unguarded guards which Str number capacity none =
-    let start = empty_object (is_vector which) number (limit_by capacity) in
-    λ i. a_sequence which (of_texts (new_object guards start (none guard.Cursors) (none guard.Elements) i))
+new_unguarded : (guards : Guards) (kind : RowKind) (number : ℕ) (limit : Limit) → ((kind : GuardKind) → held_on guards number kind ≡ 0) →
+    let start = of_rows kind (empty_object (have_capacity kind) number limit) in held_under guards start ≡ start
+new_unguarded guards kind number limit none =
+    ap (of_rows kind) (new_object guards (empty_object (have_capacity kind) number limit) (none guard.Cursors) (none guard.Elements))
 
 object_under : (guards : Guards) (e : State) (h : Held) → under guards e ≡ e → held_under guards h ≡ h →
     under guards (number_taken (with_name e (binds_object h))) ≡ number_taken (with_name e (binds_object h))
@@ -66,7 +59,8 @@ decl_under guards e decl.TypeDecl is below = blocks_keep_counts.named guards e b
 decl_under guards e (decl.Object line def capacity) is below =
     either_under guards (nat_lt e.next numbers_end) _ _
     (object_under guards e (new_held def e.next capacity) is
-    (new_unguarded guards (sequence_kind def.kind) def.first e.next capacity (λ kind. below.none_from_next e.next kind (omega arith))))
+    (new_unguarded guards (kind_by def.kind def.first def.second) e.next (limit_by capacity)
+    (λ kind. below.none_from_next e.next kind (omega arith))))
     is
 decl_under guards e decl.Cursor is below = blocks_keep_counts.named guards e (binds_cursor no_mark) is refl
 decl_under guards e decl.Integer is below = blocks_keep_counts.named guards e (binds_value (value.Int (pos 0))) is refl

@@ -1,8 +1,7 @@
 -- Objects go on under their numbers, and names come and go at the end.
-use Rattle.std.proofs.Common.{◌≡◌, ◌<◌, ◌≤◌, ◌++◌, ℕ, zero, suc, List, [], ◌∷◌, take, length, slice_get, refl, ap, subst, arith, Some}
+use Rattle.std.proofs.Common.{◌≡◌, ◌<◌, ◌≤◌, ◌++◌, ℕ, zero, suc, List, [], ◌∷◌, take, length, slice_get, refl, sym, ap, subst, ◌∙◌, arith, Some}
 use Rattle.std.proofs.Math.Seq.{take-append_seam}
-use Rattle.ac_meaning.specs.Elements.{of_integers, of_texts}
-use Rattle.ac_meaning.specs.Holdings.{Held, a_sequence, number_of}
+use Rattle.ac_meaning.specs.Holdings.{Held, of_rows, number_of}
 use Rattle.ac_meaning.specs.Environment.{Bound, binds_type, binds_object, binds_cursor, binds_value, binds_element, bound_in, object_in, State, bound_at}
 use Rattle.ac_meaning.specs.Commands.{performed}
 use Rattle.ac_meaning.specs.Stays.{HeldStays, BoundStays, next_of, ObjectGoesOn, NamesComeAndGo}
@@ -11,16 +10,10 @@ use Rattle.ac_meaning.proofs.BoundsStay.{each_at, same_length, object_there}
 use Rattle.ac_meaning.proofs.CommandsStay.{command_stays}
 
 pub held_number : (h after : Held) → HeldStays h after → number_of after ≡ number_of h
-held_number (a_sequence which (of_integers o)) (a_sequence other (of_integers after)) s = s.1.number
-held_number (a_sequence which (of_texts o)) (a_sequence other (of_texts after)) s = s.1.number
-held_number (a_sequence which (of_integers o)) (a_sequence other (of_texts after)) s = absurd s.1
-held_number (a_sequence which (of_texts o)) (a_sequence other (of_integers after)) s = absurd s.1
+held_number (of_rows kind o) after s = ap number_of s.1 ∙ s.2.number
 
 held_next : (h after : Held) → HeldStays h after → next_of h ≤ next_of after
-held_next (a_sequence which (of_integers o)) (a_sequence other (of_integers after)) s = s.1.next
-held_next (a_sequence which (of_texts o)) (a_sequence other (of_texts after)) s = s.1.next
-held_next (a_sequence which (of_integers o)) (a_sequence other (of_texts after)) s = absurd s.1
-held_next (a_sequence which (of_texts o)) (a_sequence other (of_integers after)) s = absurd s.1
+held_next (of_rows kind o) after s = subst (λ n. o.next ≤ n) (sym (ap next_of s.1)) s.2.next
 
 goes_on : (h : Held) (now : State) (place : ℕ) (b : Bound) → bound_at now place ≡ b → BoundStays (binds_object h) b → ObjectGoesOn h now place
 goes_on h now place (binds_object after) is s = record {

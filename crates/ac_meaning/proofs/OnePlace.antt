@@ -2,11 +2,10 @@
 use Rattle.std.proofs.Common.{◌≡◌, ◌==◌, ◌≤◌, ℕ, zero, suc, Bool, true, false, List, [], ◌∷◌, map, slice_get, slice_set, refl, sym, ap, subst, ◌∙◌, arith, Some, if◌then◌else◌}
 use Rattle.std.proofs.lemmas.Bool.Decides.{nat_tests}
 use Rattle.ac_base.specs.declared.guard.GuardKind.{GuardKind}
-use Rattle.ac_base.specs.Guards.{HeldGuard}
+use Rattle.ac_base.specs.Guards.{HeldGuard, raised_kind, one_more, one_less}
 use Rattle.ac_model.specs.Objects.{Object}
-use Rattle.ac_model.specs.Common.{hold_call, release_call}
-use Rattle.ac_meaning.specs.Elements.{of_integers, of_texts}
-use Rattle.ac_meaning.specs.Holdings.{Held, a_sequence, with_rows_by, number_of, is_a_set, guard_on}
+use Rattle.ac_model.specs.Common.{hold_call, release_call, under_guards, guards_on}
+use Rattle.ac_meaning.specs.Holdings.{Held, of_rows, with_rows_by, number_of, are_sets, is_a_set, guard_on}
 use Rattle.ac_meaning.specs.Environment.{Bound, binds_type, binds_object, binds_cursor, binds_value, binds_element, bound_by, bound_in, object_in, State, objects_by, object_at, with_bound}
 use Rattle.ac_meaning.specs.UnderGuards.{held_with, held_without}
 use Rattle.ac_meaning.specs.Numbers.{has_number, times_numbered, NumbersDiffer, GuardsAreOnOneObject}
@@ -67,34 +66,33 @@ where_own o now true e = refl
 where_own o now false e = absurd (cc)
 
 held_spares : (g : HeldGuard) → SparesOthers g.object (held_with g)
-held_spares g (a_sequence which (of_integers o)) e =
-    λ i. a_sequence which (of_integers (where_other o (hold_call false g.kind o) (g.object == o.number) (another o.number g.object e) i))
-held_spares g (a_sequence which (of_texts o)) e =
-    λ i. a_sequence which (of_texts (where_other o (hold_call false g.kind o) (g.object == o.number) (another o.number g.object e) i))
+held_spares g (of_rows kind o) e =
+    ap (of_rows kind) (where_other o (hold_call false g.kind o) (g.object == o.number) (another o.number g.object e))
 
 released_spares : (g : HeldGuard) → SparesOthers g.object (held_without g)
-released_spares g (a_sequence which (of_integers o)) e =
-    λ i. a_sequence which (of_integers (where_other o (release_call false g.kind o) (g.object == o.number) (another o.number g.object e) i))
-released_spares g (a_sequence which (of_texts o)) e =
-    λ i. a_sequence which (of_texts (where_other o (release_call false g.kind o) (g.object == o.number) (another o.number g.object e) i))
+released_spares g (of_rows kind o) e =
+    ap (of_rows kind) (where_other o (release_call false g.kind o) (g.object == o.number) (another o.number g.object e))
 
 same_number : (n m : ℕ) → m ≡ n → (n == m) ≡ true
 same_number n m e = grind (arith, nat_tests)
 
+-- a kind of guard that is raised once isn't raised again
+raised_once : (is_set : Bool) (kind : GuardKind) → raised_kind false (raised_kind is_set kind) ≡ raised_kind is_set kind
+raised_once true kind = refl
+raised_once false kind = refl
+
 held_own : (h : Held) (kind : GuardKind) → held_with (guard_on h kind) h ≡ with_rows_by (λ V o. hold_call (is_a_set h) kind o) h
-held_own (a_sequence which (of_integers o)) kind =
-    λ i. a_sequence which (of_integers (where_own o (hold_call false kind o) (o.number == o.number) (same_number o.number o.number refl) i))
-held_own (a_sequence which (of_texts o)) kind =
-    λ i. a_sequence which (of_texts (where_own o (hold_call false kind o) (o.number == o.number) (same_number o.number o.number refl) i))
+held_own (of_rows rows o) kind =
+    ap (of_rows rows)
+    (where_own o (hold_call false (raised_kind (are_sets rows) kind) o) (o.number == o.number) (same_number o.number o.number refl)
+    ∙ ap (λ k. under_guards o (one_more k (guards_on o))) (raised_once (are_sets rows) kind))
 
 released_own : (h k : Held) (kind : GuardKind) → number_of k ≡ number_of h →
     held_without (guard_on h kind) k ≡ with_rows_by (λ V o. release_call (is_a_set h) kind o) k
-released_own (a_sequence which l) (a_sequence other (of_integers o)) kind e =
-    let number = number_of (a_sequence which l) in
-    λ i. a_sequence other (of_integers (where_own o (release_call false kind o) (number == o.number) (same_number number o.number e) i))
-released_own (a_sequence which l) (a_sequence other (of_texts o)) kind e =
-    let number = number_of (a_sequence which l) in
-    λ i. a_sequence other (of_texts (where_own o (release_call false kind o) (number == o.number) (same_number number o.number e) i))
+released_own h (of_rows rows o) kind e =
+    ap (of_rows rows)
+    (where_own o (release_call false (raised_kind (is_a_set h) kind) o) (number_of h == o.number) (same_number (number_of h) o.number e)
+    ∙ ap (λ k. under_guards o (one_less k (guards_on o))) (raised_once (is_a_set h) kind))
 
 pub guards_are_on_one_object : GuardsAreOnOneObject
 guards_are_on_one_object = record {

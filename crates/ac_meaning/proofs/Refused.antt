@@ -2,6 +2,7 @@
 use Rattle.std.proofs.Common.{◌≡◌, ℕ, ℤ, Bool, true, false, List, refl, Option, Some, None}
 use Rattle.ac_base.specs.declared.reason.Reason.{Reason}
 use Rattle.ac_base.specs.declared.value.Value.{Value}
+use Rattle.ac_model.specs.Rows.{Entry}
 use Rattle.ac_model.specs.Objects.{Object}
 use Rattle.ac_model.specs.Calls.{Call, Done}
 use Rattle.ac_model.specs.Lists as list
@@ -18,16 +19,31 @@ use Rattle.ac_check.specs.declared.operation.VectorCall.{VectorCall}
 use Rattle.ac_check.specs.declared.operation.VectorCall.TheVariants as vector_call
 use Rattle.ac_check.specs.declared.operation.ListCall.{ListCall}
 use Rattle.ac_check.specs.declared.operation.ListCall.TheVariants as list_call
+use Rattle.ac_check.specs.declared.operation.WalkCall.{WalkCall}
+use Rattle.ac_check.specs.declared.operation.WalkCall.TheVariants as walk_call
+use Rattle.ac_check.specs.declared.operation.OrderedCall.{OrderedCall}
+use Rattle.ac_check.specs.declared.operation.OrderedCall.TheVariants as ordered_call
+use Rattle.ac_check.specs.declared.operation.MapCall.{MapCall}
+use Rattle.ac_check.specs.declared.operation.MapCall.TheVariants as map_call
+use Rattle.ac_check.specs.declared.operation.OrderedMapCall.{OrderedMapCall}
+use Rattle.ac_check.specs.declared.operation.OrderedMapCall.TheVariants as ordered_map_call
+use Rattle.ac_check.specs.declared.operation.SetCall.{SetCall}
+use Rattle.ac_check.specs.declared.operation.SetCall.TheVariants as set_call
+use Rattle.ac_check.specs.declared.operation.OrderedSetCall.{OrderedSetCall}
+use Rattle.ac_check.specs.declared.operation.OrderedSetCall.TheVariants as ordered_set_call
 use Rattle.ac_check.specs.declared.resolved.ResolvedArg.{ResolvedArg}
 use Rattle.ac_check.specs.declared.resolved.ResolvedArg.TheVariants.{Lit, NoElement, At}
 use Rattle.ac_check.specs.Resolved.{calls_at, sets_at, sums_at}
-use Rattle.ac_meaning.specs.Elements.{Tools, integers, texts, integer_in, of_integers, of_texts}
+use Rattle.ac_meaning.specs.Elements.{Tools, tools_of, integer_in}
 use Rattle.ac_meaning.specs.Answers.{Answer, answers_integer}
 use Rattle.ac_meaning.specs.Replies.{Arguments, Source, without, itself, another, by_source, seen_by, source_in, Reply, value_answer}
 use Rattle.ac_meaning.specs.SequenceReplies.{OwnCalls, sequence_own, common_reply, sequence_reply, capacity_reply}
 use Rattle.ac_meaning.specs.ListReplies.{list_alone_reply, list_reply}
 use Rattle.ac_meaning.specs.VectorReplies.{vector_alone_reply, vector_reply}
-use Rattle.ac_meaning.specs.Holdings.{SequenceKind, of_list, of_vector, Held, a_sequence, sequence_in, integers_in, texts_in, reply_by, reply_of}
+use Rattle.ac_meaning.specs.KeyedReplies.{KeyedKind, of_hashed, of_ordered, walk_reply, ordered_reply}
+use Rattle.ac_meaning.specs.MapReplies.{map_own, map_alone_reply, ordered_map_reply, map_reply}
+use Rattle.ac_meaning.specs.SetReplies.{set_own, set_alone_reply, ordered_set_reply, set_reply}
+use Rattle.ac_meaning.specs.Holdings.{SequenceKind, of_list, of_vector, RowKind, a_sequence, a_map, a_set, RowOf, Held, of_rows, rows_in, reply_by, rows_reply, reply_of}
 use Rattle.ac_meaning.specs.Environment.{Bound, binds_type, binds_object, binds_cursor, binds_value, binds_element, State, bound_at, object_at, value_at}
 use Rattle.ac_meaning.specs.Commands.{Performed, Assigned, source_place, source_of, after_call, assigned, unless_refused, waits_or_goes, replied, call_on, arguments, answer_in, answer_from, assigned_from, is_integer, sum_of, sum_assigned}
 use Rattle.ac_meaning.specs.Laws.{IsRefusal, RefusalsLeave}
@@ -102,11 +118,65 @@ module _ {T : Type 0} (tools : Tools T) (o : Object ℕ T) (source : Source (Obj
   reply_plain of_list op h = list_plain op h
   reply_plain of_vector op h = vector_plain op h
 
+module _ {V : Type 0} (o : Object ℕ V) (args : Arguments) where
+  walk_plain : (c : WalkCall) → Plain (walk_reply o args c).answer
+  walk_plain walk_call.First h = h
+  walk_plain walk_call.Next h = h
+  walk_plain walk_call.Delete h = h
+
+  ordered_plain : (first last : Reply (Object ℕ V)) → Plain first.answer → Plain last.answer → (c : OrderedCall) →
+      Plain (ordered_reply o args first last c).answer
+  ordered_plain first last f l ordered_call.FirstElement h = f h
+  ordered_plain first last f l ordered_call.LastElement h = l h
+  ordered_plain first last f l _ h = h
+
+module _ {K T : Type 0} (keys : Tools K) (tools : Tools T) (o : Object ℕ (Entry K T)) (args : Arguments) where
+  map_alone_plain : (which : KeyedKind) (c : MapCall) → Plain (map_alone_reply keys tools which o args c).answer
+  map_alone_plain which map_call.Key h = value_plain _ h
+  map_alone_plain which map_call.ElementKey h = value_plain _ h
+  map_alone_plain which _ h = h
+
+  ordered_map_plain : (which : KeyedKind) (c : OrderedMapCall) → Plain (ordered_map_reply keys tools which o args c).answer
+  ordered_map_plain which ordered_map_call.FirstKey h = value_plain _ h
+  ordered_map_plain which ordered_map_call.LastKey h = value_plain _ h
+  ordered_map_plain which _ h = h
+
+map_plain : {K T : Type 0} (keys : Tools K) (tools : Tools T) (o : Object ℕ (Entry K T)) (source : Source (Object ℕ (Entry K T)))
+    (args : Arguments) (which : KeyedKind) (op : Operation) → Plain (map_reply keys tools o source args which op).answer
+map_plain keys tools o source args which (operation.Common c) h = common_plain o source args (map_own keys tools which o) c h
+map_plain keys tools o source args which (operation.Walk c) h = walk_plain o args c h
+map_plain keys tools o source args which (operation.Map c) h = map_alone_plain keys tools o args which c h
+map_plain keys tools o source args of_hashed (operation.Capacity c) h = capacity_plain o source args c h
+map_plain keys tools o source args of_ordered (operation.Ordered c) h = ordered_plain o args _ _ (value_plain _) (value_plain _) c h
+map_plain keys tools o source args of_ordered (operation.OrderedMap c) h = ordered_map_plain keys tools o args of_ordered c h
+map_plain keys tools o source args _ _ h = h
+
+set_plain : {T : Type 0} (tools : Tools T) (o : Object ℕ T) (source : Source (Object ℕ T)) (args : Arguments) (which : KeyedKind)
+    (op : Operation) → Plain (set_reply tools o source args which op).answer
+set_plain tools o source args which (operation.Common c) h = common_plain o source args (set_own tools which o) c h
+set_plain tools o source args which (operation.Walk c) h = walk_plain o args c h
+set_plain tools o source args which (operation.Set c) h = go c h
+  where
+    go : (c : SetCall) → Plain (set_alone_reply tools which o args c).answer
+    go set_call.Insert h = h
+    go _ h = h
+set_plain tools o source args of_hashed (operation.Capacity c) h = capacity_plain o source args c h
+set_plain tools o source args of_ordered (operation.Ordered c) h = ordered_plain o args _ _ (value_plain _) (value_plain _) c h
+set_plain tools o source args of_ordered (operation.OrderedSet c) h = go c h
+  where
+    go : (c : OrderedSetCall) → Plain (ordered_set_reply tools of_ordered o args c).answer
+    go ordered_set_call.Floor h = h
+    go ordered_set_call.Ceiling h = h
+set_plain tools o source args _ _ h = h
+
+rows_plain : (kind : RowKind) (o : Object ℕ (RowOf kind)) (source : Source (Object ℕ (RowOf kind))) (args : Arguments) (op : Operation) →
+    Plain (rows_reply kind o source args op).answer
+rows_plain (a_sequence which e) o source args op h = reply_plain (tools_of e) o source args which op h
+rows_plain (a_map which k e) o source args op h = map_plain (tools_of k) (tools_of e) o source args which op h
+rows_plain (a_set which e) o source args op h = set_plain (tools_of e) o source args which op h
+
 held_plain : (h : Held) (source : Option Held) (op : Operation) (args : Arguments) → Plain (reply_of h source op args).answer
-held_plain (a_sequence which (of_integers o)) source op args r =
-    reply_plain integers o (source_in o (integers_in (sequence_in which source)) args) (seen_by o args) which op r
-held_plain (a_sequence which (of_texts o)) source op args r =
-    reply_plain texts o (source_in o (texts_in (sequence_in which source)) args) (seen_by o args) which op r
+held_plain (of_rows kind o) source op args r = rows_plain kind o (source_in o (rows_in kind source) args) (seen_by o args) op r
 
 answer_plain : (e : State) (b : Bound) → Plain (answer_in e b)
 answer_plain e binds_type h = h

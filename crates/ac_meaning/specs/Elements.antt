@@ -10,9 +10,10 @@ use Rattle.ac_syntax.specs.declared.kind.ElemKind.TheVariants.{Integer, Str}
 abbrev pub Text : Type 0
 Text = List ℕ
 
--- an element's type: when two elements are equal, which is less, how large one is, what Set_Length adds, and how an element is a value of the script. A value of the other type is no element and counts as the blank one: no script that can run has one there
+-- an element's type: when two elements are equal, which are equivalent as keys without an order, which is less, how large one is, what Set_Length adds, and how an element is a value of the script. A value of the other type is no element and counts as the blank one: no script that can run has one there
 pub record Tools (T : Type 0) : Type 0 where
   pub same : T → T → Bool
+  pub alike : T → T → Bool
   pub less : T → T → Bool
   pub size : T → ℕ
   pub blank : T
@@ -28,16 +29,16 @@ text_in (value.Int _) = []
 text_in (value.Text bytes) = bytes
 
 abbrev pub integers : Tools ℤ
-integers = record { same = int_eq; less = integer_less; size = λ n. 8; blank = pos 0; to_value = value.Int; from_value = integer_in }
+integers = record { same = int_eq; alike = int_eq; less = integer_less; size = λ n. 8; blank = pos 0; to_value = value.Int; from_value = integer_in }
 
 abbrev pub texts : Tools Text
-texts = record { same = text_alike; less = text_less; size = length; blank = []; to_value = value.Text; from_value = text_in }
+texts = record { same = text_alike; alike = text_alike; less = text_less; size = length; blank = []; to_value = value.Text; from_value = text_in }
 
--- a thing with elements, at one of the two types
-pub data Of (F : Type 0 → Type 0) : Type 0 where
-  of_integers : F ℤ → Of F
-  of_texts : F Text → Of F
+-- the elements of each type, and what the calls need of them
+abbrev pub ElementOf : ElemKind → Type 0
+ElementOf Integer = ℤ
+ElementOf Str = Text
 
-abbrev pub of_kind : {F : Type 0 → Type 0} → ElemKind → F ℤ → F Text → Of F
-of_kind Integer integers_held texts_held = of_integers integers_held
-of_kind Str integers_held texts_held = of_texts texts_held
+abbrev pub tools_of : (e : ElemKind) → Tools (ElementOf e)
+tools_of Integer = integers
+tools_of Str = texts

@@ -1,5 +1,5 @@
 -- The objects of a script, of every kind and element type in one type, and the guards on them.
-use Rattle.std.specs.Prelude.{ℕ, ℤ, ◌+◌, Bool, true, false, ◌&&◌, ◌==◌, if◌then◌else◌, List, [], ◌∷◌, Option, Some, None}
+use Rattle.std.specs.Prelude.{◌≡◌, ℕ, ◌+◌, Bool, true, false, ◌&&◌, ◌==◌, if◌then◌else◌, List, [], ◌∷◌, Option, Some, None, option_map, refl}
 use Rattle.ac_base.specs.declared.limit.Limit.{Limit}
 use Rattle.ac_base.specs.declared.limit.Limit.TheVariants.{Unbounded, Bounded}
 use Rattle.ac_base.specs.declared.value.Value.{Value}
@@ -9,45 +9,57 @@ use Rattle.ac_base.specs.declared.guard.GuardKind.{GuardKind}
 use Rattle.ac_base.specs.declared.guard.GuardKind.TheVariants as guard
 use Rattle.ac_base.specs.Guards.{GuardCounts, HeldGuard, raised_kind}
 use Rattle.ac_base.specs.Rows.{names}
+use Rattle.ac_model.specs.Rows.{Entry}
 use Rattle.ac_model.specs.Objects.{Object, empty_object, length_of}
 use Rattle.ac_model.specs.Letters.{Mark}
 use Rattle.ac_model.specs.Calls.{Call, Look}
 use Rattle.ac_model.specs.Common.{under_guards}
 use Rattle.ac_model.specs.Cursors.{seen}
 use Rattle.ac_syntax.specs.declared.kind.ElemKind.{ElemKind}
+use Rattle.ac_syntax.specs.declared.kind.ElemKind.TheVariants.{Integer, Str}
 use Rattle.ac_syntax.specs.declared.kind.Kind.{Kind}
 use Rattle.ac_syntax.specs.declared.kind.Kind.TheVariants as kinds
 use Rattle.ac_syntax.specs.declared.type_def.TypeDef.{TypeDef}
 use Rattle.ac_check.specs.declared.operation.Operation.{Operation}
-use Rattle.ac_meaning.specs.Elements.{Text, Tools, integers, texts, Of, of_integers, of_texts, of_kind}
+use Rattle.ac_meaning.specs.Elements.{Tools, ElementOf, tools_of}
 use Rattle.ac_meaning.specs.Replies.{Arguments, Source, seen_by, source_in, Reply, carried}
 use Rattle.ac_meaning.specs.SequenceReplies.{OwnCalls, sequence_own}
 use Rattle.ac_meaning.specs.ListReplies.{list_reply}
 use Rattle.ac_meaning.specs.VectorReplies.{vector_reply}
-
-abbrev pub Listed : Type 0 → Type 0
-Listed T = Object ℕ T
+use Rattle.ac_meaning.specs.KeyedReplies.{KeyedKind, of_hashed, of_ordered}
+use Rattle.ac_meaning.specs.MapReplies.{map_own, map_reply}
+use Rattle.ac_meaning.specs.SetReplies.{set_own, set_reply}
 
 -- the kinds whose objects are rows in an order that the program makes
 pub data SequenceKind : Type 0 where
   of_list : SequenceKind
   of_vector : SequenceKind
 
--- a constructor for the kinds that have the same rows
+-- the kinds whose objects have rows, with the types of their elements
+pub data RowKind : Type 0 where
+  a_sequence : SequenceKind → ElemKind → RowKind
+  a_map : KeyedKind → (key element : ElemKind) → RowKind
+  a_set : KeyedKind → ElemKind → RowKind
+
+-- what a row holds
+abbrev pub RowOf : RowKind → Type 0
+RowOf (a_sequence _ e) = ElementOf e
+RowOf (a_map _ k e) = Entry (ElementOf k) (ElementOf e)
+RowOf (a_set _ e) = ElementOf e
+
+-- of any kind
 pub data Held : Type 0 where
-  a_sequence : SequenceKind → Of Listed → Held
+  of_rows : (kind : RowKind) → Object ℕ (RowOf kind) → Held
 
 -- what is told of objects with rows, whatever stands in them
 module _ {A : Type 0} (f : (V : Type 0) → Object ℕ V → A) where
   abbrev pub from_rows : Held → A
-  from_rows (a_sequence _ (of_integers o)) = f _ o
-  from_rows (a_sequence _ (of_texts o)) = f _ o
+  from_rows (of_rows kind o) = f _ o
 
 -- and what is changed in them
 module _ (f : (V : Type 0) → Object ℕ V → Object ℕ V) where
   abbrev pub with_rows_by : Held → Held
-  with_rows_by (a_sequence which (of_integers o)) = a_sequence which (of_integers (f _ o))
-  with_rows_by (a_sequence which (of_texts o)) = a_sequence which (of_texts (f _ o))
+  with_rows_by (of_rows kind o) = of_rows kind (f _ o)
 
 -- the number that guards and cursors know an object by
 abbrev pub number_of : Held → ℕ
@@ -61,9 +73,14 @@ names_of h = from_rows (λ V o. names o.rows) h
 abbrev pub nodes_of : Held → ℕ
 nodes_of h = from_rows (λ V o. length_of o) h
 
+abbrev pub are_sets : RowKind → Bool
+are_sets (a_sequence _ _) = false
+are_sets (a_map _ _ _) = false
+are_sets (a_set _ _) = true
+
 -- a set has cursor guards alone
 abbrev pub is_a_set : Held → Bool
-is_a_set (a_sequence _ _) = false
+is_a_set (of_rows kind o) = are_sets kind
 
 -- Guards
 
@@ -108,47 +125,77 @@ guard_on h kind = record { object = number_of h; kind = raised_kind (is_a_set h)
 
 -- Calls
 
+-- whether two kinds are one
+
+abbrev pub both_same : {A B C : Type 0} → (A → B → C) → Option A → Option B → Option C
+both_same f None b = None
+both_same f (Some a) None = None
+both_same f (Some a) (Some b) = Some (f a b)
+
+abbrev pub all_same : {A B C D : Type 0} → (A → B → C → D) → Option A → Option B → Option C → Option D
+all_same f None b c = None
+all_same f (Some a) b c = both_same (f a) b c
+
+abbrev pub same_element : (a b : ElemKind) → Option (a ≡ b)
+same_element Integer Integer = Some refl
+same_element Integer Str = None
+same_element Str Integer = None
+same_element Str Str = Some refl
+
+abbrev pub same_sequence : (a b : SequenceKind) → Option (a ≡ b)
+same_sequence of_list of_list = Some refl
+same_sequence of_list of_vector = None
+same_sequence of_vector of_list = None
+same_sequence of_vector of_vector = Some refl
+
+abbrev pub same_keyed : (a b : KeyedKind) → Option (a ≡ b)
+same_keyed of_hashed of_hashed = Some refl
+same_keyed of_hashed of_ordered = None
+same_keyed of_ordered of_hashed = None
+same_keyed of_ordered of_ordered = Some refl
+
+abbrev pub same_kind : (a b : RowKind) → Option (a ≡ b)
+same_kind (a_sequence which e) (a_sequence other f) =
+    both_same (λ p q i. a_sequence (q i) (p i)) (same_element e f) (same_sequence which other)
+same_kind (a_map which k e) (a_map other l f) =
+    all_same (λ p q r i. a_map (r i) (p i) (q i)) (same_element k l) (same_element e f) (same_keyed which other)
+same_kind (a_set which e) (a_set other f) = both_same (λ p q i. a_set (q i) (p i)) (same_element e f) (same_keyed which other)
+same_kind _ _ = None
+
 -- a held object as one of this kind
-abbrev pub sequence_in : SequenceKind → Option Held → Option (Of Listed)
-sequence_in which None = None
-sequence_in of_list (Some (a_sequence of_list s)) = Some s
-sequence_in of_list (Some (a_sequence of_vector s)) = None
-sequence_in of_vector (Some (a_sequence of_list s)) = None
-sequence_in of_vector (Some (a_sequence of_vector s)) = Some s
+abbrev pub rows_in : (kind : RowKind) → Option Held → Option (Object ℕ (RowOf kind))
+rows_in kind None = None
+rows_in kind (Some (of_rows other o)) = option_map (λ p. coe 0 1 (i. Object ℕ (RowOf (p i))) o) (same_kind other kind)
 
--- and with elements of this type
-abbrev pub integers_in : Option (Of Listed) → Option (Object ℕ ℤ)
-integers_in None = None
-integers_in (Some (of_integers o)) = Some o
-integers_in (Some (of_texts o)) = None
-
-abbrev pub texts_in : Option (Of Listed) → Option (Object ℕ Text)
-texts_in None = None
-texts_in (Some (of_integers o)) = None
-texts_in (Some (of_texts o)) = Some o
-
--- the operation on an object of one of these kinds
+-- the operation on a list or a vector
 module _ {T : Type 0} (tools : Tools T) (o : Object ℕ T) (source : Source (Object ℕ T)) (args : Arguments) where
   abbrev pub reply_by : SequenceKind → Operation → Reply (Object ℕ T)
   reply_by of_list operation = list_reply tools o source args operation
   reply_by of_vector operation = vector_reply tools o source args operation
 
+-- and on an object of any of these kinds
+abbrev pub rows_reply : (kind : RowKind) → Object ℕ (RowOf kind) → Source (Object ℕ (RowOf kind)) → Arguments → Operation →
+    Reply (Object ℕ (RowOf kind))
+rows_reply (a_sequence which e) o source args operation = reply_by (tools_of e) o source args which operation
+rows_reply (a_map which k e) o source args operation = map_reply (tools_of k) (tools_of e) o source args which operation
+rows_reply (a_set which e) o source args operation = set_reply (tools_of e) o source args which operation
+
 -- and of any kind, with the object among the arguments, if there is one
 abbrev pub reply_of : Held → Option Held → Operation → Arguments → Reply Held
-reply_of (a_sequence which (of_integers o)) source operation args =
-    let own = source_in o (integers_in (sequence_in which source)) args in
-    carried (λ s. a_sequence which (of_integers s)) (reply_by integers o own (seen_by o args) which operation)
-reply_of (a_sequence which (of_texts o)) source operation args =
-    let own = source_in o (texts_in (sequence_in which source)) args in
-    carried (λ s. a_sequence which (of_texts s)) (reply_by texts o own (seen_by o args) which operation)
+reply_of (of_rows kind o) source operation args =
+    carried (of_rows kind) (rows_reply kind o (source_in o (rows_in kind source) args) (seen_by o args) operation)
 
 -- The element that a name stands for
 
 -- what each kind means in its own way
+abbrev pub own_calls : (kind : RowKind) → Object ℕ (RowOf kind) → OwnCalls (RowOf kind)
+own_calls (a_sequence which e) o = sequence_own (tools_of e) o
+own_calls (a_map which k e) o = map_own (tools_of k) (tools_of e) which o
+own_calls (a_set which e) o = set_own (tools_of e) which o
+
 module _ {A : Type 0} (f : (V : Type 0) → (Object ℕ V → Held) → Object ℕ V → OwnCalls V → A) where
   abbrev pub by_own : Held → A
-  by_own (a_sequence which (of_integers o)) = f _ (λ s. a_sequence which (of_integers s)) o (sequence_own integers o)
-  by_own (a_sequence which (of_texts o)) = f _ (λ s. a_sequence which (of_texts s)) o (sequence_own texts o)
+  by_own (of_rows kind o) = f _ (of_rows kind) o (own_calls kind o)
 
 -- Element (C), as a value
 abbrev pub element_value : Held → Mark → Look (Option Value)
@@ -171,10 +218,10 @@ listing_of h = by_own (λ V hold o own. own.listing) h
 
 -- The update of a key: why its head is refused, and its end, with the copy. Only a keyed set has one
 abbrev pub key_update_reason : Held → Mark → Option Reason
-key_update_reason (a_sequence _ _) c = Some NoElement
+key_update_reason h c = Some NoElement
 
 abbrev pub key_updated : Held → Mark → Value → Written
-key_updated (a_sequence which s) c v = record { reason = None; after = a_sequence which s }
+key_updated h c v = record { reason = None; after = h }
 
 -- A new object
 
@@ -182,20 +229,33 @@ abbrev pub limit_by : Option ℕ → Limit
 limit_by None = Unbounded
 limit_by (Some most) = Bounded most
 
--- of the two, a vector has a Capacity
+-- which have a Capacity
 abbrev pub is_vector : SequenceKind → Bool
 is_vector of_list = false
 is_vector of_vector = true
 
-abbrev pub new_sequence : SequenceKind → ElemKind → ℕ → Option ℕ → Held
-new_sequence which first number capacity =
-    a_sequence which
-    (of_kind first (empty_object (is_vector which) number (limit_by capacity)) (empty_object (is_vector which) number (limit_by capacity)))
+abbrev pub is_hashed : KeyedKind → Bool
+is_hashed of_hashed = true
+is_hashed of_ordered = false
 
-abbrev pub sequence_kind : Kind → SequenceKind
-sequence_kind kinds.Vector = of_vector
-sequence_kind _ = of_list
+abbrev pub have_capacity : RowKind → Bool
+have_capacity (a_sequence which e) = is_vector which
+have_capacity (a_map which k e) = is_hashed which
+have_capacity (a_set which e) = is_hashed which
 
--- of a type whose objects scripts can have: of vectors or of lists
+abbrev pub element_or : ElemKind → Option ElemKind → ElemKind
+element_or first None = first
+element_or first (Some second) = second
+
+-- of the kinds whose objects scripts can have
+abbrev pub kind_by : Kind → (first : ElemKind) → (second : Option ElemKind) → RowKind
+kind_by kinds.Vector first second = a_sequence of_vector first
+kind_by kinds.HashedMap first second = a_map of_hashed first (element_or first second)
+kind_by kinds.OrderedMap first second = a_map of_ordered first (element_or first second)
+kind_by kinds.HashedSet first second = a_set of_hashed first
+kind_by kinds.OrderedSet first second = a_set of_ordered first
+kind_by _ first second = a_sequence of_list first
+
 abbrev pub new_held : TypeDef → ℕ → Option ℕ → Held
-new_held def number capacity = new_sequence (sequence_kind def.kind) def.first number capacity
+new_held def number capacity =
+    let kind = kind_by def.kind def.first def.second in of_rows kind (empty_object (have_capacity kind) number (limit_by capacity))

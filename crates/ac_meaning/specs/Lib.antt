@@ -5,6 +5,9 @@ pub mod Replies
 pub mod SequenceReplies
 pub mod ListReplies
 pub mod VectorReplies
+pub mod KeyedReplies
+pub mod MapReplies
+pub mod SetReplies
 pub mod Holdings
 pub mod Environment
 pub mod Commands
@@ -18,3 +21,4 @@ pub mod FitsScope
 pub mod Numbers
 pub mod Laws
 pub mod Examples
+pub mod KeyedExamples

@@ -4,9 +4,8 @@ use Rattle.ac_base.specs.declared.reason.Reason.{Reason}
 use Rattle.ac_base.specs.Rows.{names}
 use Rattle.ac_model.specs.Objects.{Object}
 use Rattle.ac_model.specs.Letters.{tampers_cursors}
-use Rattle.ac_meaning.specs.Elements.{Of, of_integers, of_texts}
 use Rattle.ac_meaning.specs.Replies.{Source, without, itself, another, Reply}
-use Rattle.ac_meaning.specs.Holdings.{Listed, Held, a_sequence, from_rows, number_of}
+use Rattle.ac_meaning.specs.Holdings.{RowOf, Held, of_rows, from_rows, number_of}
 use Rattle.ac_meaning.specs.Environment.{Bound, binds_type, binds_object, binds_cursor, binds_value, binds_element, State, bound_at, object_at, with_name, leaving}
 
 -- the object's number and its counts of guards; no name is taken back; and where a guard is held, a call that isn't refused keeps the
@@ -29,16 +28,9 @@ pub record ReplyStays {V : Type 0} (o : Object ℕ V) (source : Source (Object �
   pub target : Stays o r.reason r.after
   pub source_stays : SourceStays source r.reason r.source
 
--- the element type stays too
-abbrev pub OfStays : Of Listed → Of Listed → Type 0
-OfStays (of_integers o) (of_integers after) = Stays o None after
-OfStays (of_integers o) (of_texts after) = ⊥
-OfStays (of_texts o) (of_integers after) = ⊥
-OfStays (of_texts o) (of_texts after) = Stays o None after
-
--- and so does the kind
+-- and its kind
 abbrev pub HeldStays : Held → Held → Type 0
-HeldStays (a_sequence which s) (a_sequence other after) = (other ≡ which) × OfStays s after
+HeldStays (of_rows kind o) after = (now : Object ℕ (RowOf kind)) × (after ≡ of_rows kind now) × Stays o None now
 
 -- a name goes on to hold what it held, a cursor variable another cursor and a variable another value
 abbrev pub BoundStays : Bound → Bound → Type 0

@@ -5,6 +5,7 @@ ghost use Rattle.ac_meaning.specs.Examples.{RefusedSetsNothing, SumsStayInRange,
 ghost use Rattle.ac_meaning.specs.Examples.{ElementsComeAndGo, ElementsMove, ListsGiveAndTake};
 ghost use Rattle.ac_meaning.specs.Examples.{VectorLoopsHoldTheirGuards, IndexesAreInRange, CursorsKeepElements, BoundedVectorIsFull};
 ghost use Rattle.ac_meaning.specs.Examples.{ElementsHaveIndexes, VectorsTakeCopies};
+ghost use Rattle.ac_meaning.specs.KeyedExamples.{MapsKeepArrival, SetsStandAscending, OrderedMapsHaveEnds, SetsAreGuardedWhole};
 ghost use Rattle.ac_meaning.specs.Examples.{MapIsListed, NoNodesAreListed, TreeIsListed, DeepTreeIsListed};
 
 /// What small scripts write, to the byte.
@@ -45,6 +46,14 @@ pub fn vector_scripts()
 pub fn vector_calls()
     ensures elements_have_indexes { ElementsHaveIndexes }
     ensures vectors_take_copies { VectorsTakeCopies }
+{}
+
+/// The same of maps and sets.
+pub fn map_and_set_scripts()
+    ensures maps_keep_arrival { MapsKeepArrival }
+    ensures sets_stand_ascending { SetsStandAscending }
+    ensures ordered_maps_have_ends { OrderedMapsHaveEnds }
+    ensures sets_are_guarded_whole { SetsAreGuardedWhole }
 {}
 
 /// How maps and trees are listed.

@@ -1,0 +1,98 @@
+-- Worked scripts over maps and sets: what they write, to the byte.
+use Rattle.std.specs.Prelude.{◌≡◌, ℕ, codes, false, true, List, [], ◌∷◌, Option, Some, None}
+use Rattle.ac_syntax.specs.Code.{call_at, loop_at, stable_at, stop, one, block}
+use Rattle.ac_syntax.specs.declared.arg.Arg.{Arg}
+use Rattle.ac_syntax.specs.declared.arg.Arg.TheVariants.{NoElement, Var}
+use Rattle.ac_syntax.specs.declared.decl.Decl.{Decl}
+use Rattle.ac_syntax.specs.declared.decl.Decl.TheVariants as decl
+use Rattle.ac_syntax.specs.declared.kind.Kind.{Kind}
+use Rattle.ac_syntax.specs.declared.kind.Kind.TheVariants as kind
+use Rattle.ac_syntax.specs.declared.kind.ElemKind.{ElemKind}
+use Rattle.ac_syntax.specs.declared.kind.ElemKind.TheVariants.{Integer, Str}
+use Rattle.ac_meaning.specs.Examples.{lines, number, string, called, gets, script}
+use Rattle.ac_meaning.specs.Execution.{text_of}
+
+abbrev pub type_of : Kind → ElemKind → Option ElemKind → Decl
+type_of which first second =
+    decl.TypeDecl 1 (codes "t") (record { bounded = false; kind = which; first = first; second = second; keyed = false })
+
+abbrev pub object : ℕ → List ℕ → Decl
+object line name = decl.Object line name (codes "t") None
+
+abbrev pub position : ℕ → List ℕ → Decl
+position line name = decl.CursorVar line name (codes "t")
+
+-- a hashed map's rows stand in order of arrival, and Include replaces one in its place
+abbrev pub MapsKeepArrival : Type 0
+MapsKeepArrival =
+    text_of (script (type_of kind.HashedMap Str (Some Integer) ∷ object 2 (codes "a") ∷ position 3 (codes "c") ∷ [])
+    (one (called 4 (codes "a") (codes "insert") (string (codes "b") ∷ number 1 ∷ []))
+    (one (called 5 (codes "a") (codes "insert") (string (codes "a") ∷ number 2 ∷ []))
+    (one (called 6 (codes "a") (codes "insert") (string (codes "b") ∷ number 3 ∷ []))
+    (one (called 7 (codes "a") (codes "include") (string (codes "b") ∷ number 4 ∷ []))
+    (one (called 8 (codes "a") (codes "insert") (string (codes "a") ∷ number 9 ∷ Var (codes "c") ∷ []))
+    (one (called 9 (codes "a") (codes "element") (Var (codes "c") ∷ []))
+    (one (called 10 (codes "a") (codes "replace") (string (codes "z") ∷ number 1 ∷ []))
+    (one (called 11 (codes "a") (codes "exclude") (string (codes "z") ∷ []))
+    (one (called 12 (codes "a") (codes "delete") (string (codes "z") ∷ []))
+    (one (called 13 (codes "a") (codes "print") []) stop)))))))))))
+    ≡ lines (codes "4: ok" ∷ codes "5: ok" ∷ codes "6: raised CONSTRAINT_ERROR (key present)" ∷ codes "7: ok" ∷ codes "8: false"
+    ∷ codes "9: 2" ∷ codes "10: raised CONSTRAINT_ERROR (key absent)" ∷ codes "11: ok"
+    ∷ codes "12: raised CONSTRAINT_ERROR (key absent)" ∷ codes "13: [\"b\" => 4, \"a\" => 2]" ∷ [])
+
+-- an ordered set's elements stand ascending, and a replaced one goes to its place under its name
+abbrev pub SetsStandAscending : Type 0
+SetsStandAscending =
+    text_of (script (type_of kind.OrderedSet Integer None ∷ object 2 (codes "a") ∷ position 3 (codes "c") ∷ [])
+    (one (called 4 (codes "a") (codes "insert") (number 20 ∷ []))
+    (one (called 5 (codes "a") (codes "insert") (number 10 ∷ []))
+    (one (gets 6 (codes "c") (codes "a") (codes "floor") (number 9 ∷ []))
+    (one (called 7 (codes "a") (codes "has_element") (Var (codes "c") ∷ []))
+    (one (gets 8 (codes "c") (codes "a") (codes "ceiling") (number 20 ∷ []))
+    (one (called 9 (codes "a") (codes "element") (Var (codes "c") ∷ []))
+    (one (gets 10 (codes "c") (codes "a") (codes "floor") (number 19 ∷ []))
+    (one (called 11 (codes "a") (codes "replace_element") (Var (codes "c") ∷ number 20 ∷ []))
+    (one (called 12 (codes "a") (codes "replace_element") (Var (codes "c") ∷ number 30 ∷ []))
+    (one (called 13 (codes "a") (codes "print") [])
+    (one (called 14 (codes "a") (codes "element") (Var (codes "c") ∷ [])) stop))))))))))))
+    ≡ lines (codes "4: ok" ∷ codes "5: ok" ∷ codes "6: no_element" ∷ codes "7: false" ∷ codes "8: cursor" ∷ codes "9: 20"
+    ∷ codes "10: cursor" ∷ codes "11: raised PROGRAM_ERROR (duplicate)" ∷ codes "12: ok" ∷ codes "13: [20, 30]" ∷ codes "14: 30" ∷ [])
+
+-- an ordered map has ends, by its keys
+abbrev pub OrderedMapsHaveEnds : Type 0
+OrderedMapsHaveEnds =
+    text_of (script (type_of kind.OrderedMap Integer (Some Str) ∷ object 2 (codes "a") ∷ object 2 (codes "b") ∷ position 3 (codes "c") ∷ [])
+    (one (called 4 (codes "a") (codes "insert") (number 7 ∷ string (codes "x") ∷ []))
+    (one (called 5 (codes "a") (codes "insert") (number 3 ∷ string (codes "y") ∷ Var (codes "c") ∷ []))
+    (one (called 6 (codes "a") (codes "key") (Var (codes "c") ∷ []))
+    (one (called 7 (codes "a") (codes "last_key") [])
+    (one (called 8 (codes "a") (codes "first_element") [])
+    (one (gets 9 (codes "c") (codes "a") (codes "last") [])
+    (one (gets 10 (codes "c") (codes "a") (codes "previous") (Var (codes "c") ∷ []))
+    (one (called 11 (codes "a") (codes "element") (Var (codes "c") ∷ []))
+    (one (called 12 (codes "b") (codes "assign") (Var (codes "a") ∷ []))
+    (one (called 13 (codes "a") (codes "replace_element") (Var (codes "c") ∷ string (codes "z") ∷ []))
+    (one (called 14 (codes "a") (codes "equal") (Var (codes "b") ∷ []))
+    (one (called 15 (codes "a") (codes "delete_last") [])
+    (one (called 16 (codes "a") (codes "print") [])
+    (one (called 17 (codes "b") (codes "print") [])
+    (one (called 18 (codes "a") (codes "element") (number 7 ∷ [])) stop))))))))))))))))
+    ≡ lines (codes "4: ok" ∷ codes "5: true" ∷ codes "6: 3" ∷ codes "7: 7" ∷ codes "8: \"y\"" ∷ codes "9: cursor" ∷ codes "10: cursor"
+    ∷ codes "11: \"y\"" ∷ codes "12: ok" ∷ codes "13: ok" ∷ codes "14: false" ∷ codes "15: ok" ∷ codes "16: [3 => \"z\"]"
+    ∷ codes "17: [3 => \"y\", 7 => \"x\"]" ∷ codes "18: raised CONSTRAINT_ERROR (key absent)" ∷ [])
+
+-- a set has cursor guards alone: under a loop over its elements, and under a stable view, none is replaced
+abbrev pub SetsAreGuardedWhole : Type 0
+SetsAreGuardedWhole =
+    text_of (script (type_of kind.HashedSet Integer None ∷ object 2 (codes "a") ∷ [])
+    (one (called 3 (codes "a") (codes "insert") (number 5 ∷ []))
+    (one (called 4 (codes "a") (codes "insert") (number 5 ∷ []))
+    (block (loop_at 5 (codes "e") true false (codes "a"))
+    (one (called 6 (codes "a") (codes "replace") (Var (codes "e") ∷ []))
+    (one (called 7 (codes "a") (codes "contains") (Var (codes "e") ∷ [])) stop))
+    (block (stable_at 9 (codes "a"))
+    (one (called 10 (codes "a") (codes "include") (number 5 ∷ [])) stop)
+    (one (called 12 (codes "a") (codes "include") (number 5 ∷ []))
+    (one (called 13 (codes "a") (codes "print") []) stop)))))))
+    ≡ lines (codes "3: ok" ∷ codes "4: raised CONSTRAINT_ERROR (key present)" ∷ codes "6: raised PROGRAM_ERROR (cursor tampering)"
+    ∷ codes "7: true" ∷ codes "10: raised PROGRAM_ERROR (cursor tampering)" ∷ codes "12: ok" ∷ codes "13: [5]" ∷ [])
