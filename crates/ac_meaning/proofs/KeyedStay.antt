@@ -4,7 +4,7 @@ use Rattle.std.specs.Prelude.{pos}
 use Rattle.ac_base.specs.declared.reason.Reason.{Reason}
 use Rattle.ac_base.specs.declared.reason.Reason.TheVariants.{KeyPresent, KeyAbsent, Duplicate}
 use Rattle.ac_base.specs.Rows.{Row, names}
-use Rattle.ac_model.specs.Rows.{Entry, entry, row_by}
+use Rattle.ac_model.specs.Rows.{Entry, row_by}
 use Rattle.ac_model.specs.Objects.{Object}
 use Rattle.ac_model.specs.Letters.{Mark, name_of, needs, in_range, reason_if, room_for_one}
 use Rattle.ac_model.specs.Calls.{Call}

@@ -1,8 +1,7 @@
 -- Worked scripts over maps and sets: what they write, to the byte.
 use Rattle.std.specs.Prelude.{◌≡◌, ℕ, codes, false, true, List, [], ◌∷◌, Option, Some, None}
-use Rattle.ac_syntax.specs.Code.{call_at, loop_at, stable_at, stop, one, block}
-use Rattle.ac_syntax.specs.declared.arg.Arg.{Arg}
-use Rattle.ac_syntax.specs.declared.arg.Arg.TheVariants.{NoElement, Var}
+use Rattle.ac_syntax.specs.Code.{loop_at, stable_at, stop, one, block}
+use Rattle.ac_syntax.specs.declared.arg.Arg.TheVariants.{Var}
 use Rattle.ac_syntax.specs.declared.decl.Decl.{Decl}
 use Rattle.ac_syntax.specs.declared.decl.Decl.TheVariants as decl
 use Rattle.ac_syntax.specs.declared.kind.Kind.{Kind}
