@@ -158,6 +158,36 @@ no_object_agrees (bound.Cursor at) e c = tt
 no_object_agrees (bound.Value v) e c = tt
 no_object_agrees (bound.Element object at) e c = tt
 
+-- a name in the place of the last one, which holds no object
+
+set_last : {X : Type 0} (xs : List X) (last : ℕ) (x : X) → length xs ≡ last + 1 → set xs last x ≡ take last xs ++ x ∷ []
+set_last [] last x h = absurd (omega (arith, h))
+set_last (y ∷ []) zero x h = refl
+set_last (y ∷ (z ∷ xs)) zero x h = absurd (omega (arith, h))
+set_last (y ∷ xs) (suc last) x h = ap (λ ys. y ∷ ys) (set_last xs last x (omega (arith, h)))
+
+module _ (w : World) (bounds now : List Bound) (next last : ℕ) (b : Bound) (view : world bounds next ≡ w) (written : now ≡ set bounds last b)
+    (long : length w.bounds ≡ last + 1) (none : meant.object_in (bound_of b) ≡ None) where
+  turned : now ≡ take last bounds ++ b ∷ []
+  turned = written ∙ set_last bounds last b (ap (λ (v : World). length v.bounds) view ∙ long)
+
+  pub turned_state : state_of (world now next) ≡ meant.with_name (meant.leaving last (state_of w)) (bound_of b)
+  turned_state =
+      ap (λ bs. state_of (world bs next)) turned
+      ∙ (named_state (take last bounds) next b (no_object_agrees b none)
+      ∙ ap (λ e. meant.with_name e (bound_of b)) (left_state bounds next last ∙ ap (λ v. meant.leaving last (state_of v)) view))
+
+  pub turned_persists : Persists w (world now next)
+  turned_persists = subst (λ v. Persists v (world now next)) view
+      (subst (λ bs. Persists (world bounds next) (world bs next)) (sym turned)
+      (λ c known. named_persists (take last bounds) next b (no_object_agrees b none) c (left_persists bounds next last c known)))
+
+  pub turned_sound : IsKnown w (cursor_in b) → IsSound (world bounds next) → IsSound (world now next)
+  turned_sound known sound = subst (λ bs. IsSound (world bs next)) (sym turned)
+      (named_sound (take last bounds) next b (no_object_agrees b none) none
+      (left_persists bounds next last (cursor_in b) (subst (λ v. IsKnown v (cursor_in b)) (sym view) known))
+      (left_sound bounds next last sound))
+
 -- where memory was wanted for it, nothing changed
 module _ (w : World) (bounds now : List Bound) (next : ℕ) (b : Bound) (ok : Bool) (view : world bounds next ≡ w)
     (pushed : now ≡ (if ok then bounds ++ b ∷ [] else bounds)) (none : meant.object_in (bound_of b) ≡ None) where

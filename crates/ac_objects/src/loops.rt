@@ -1,10 +1,10 @@
 //! What begins, goes on with and ends a loop over an object.
-ghost use Rattle.std.specs.Prelude.{◌≡◌, ◌<◌, ◌≤◌, ◌∷◌, true, false, length, take, Some, IfOk, OnErr, Ok};
+ghost use Rattle.std.specs.Prelude.{◌≡◌, ◌<◌, ◌≤◌, ◌∷◌, ◌+◌, true, false, length, take, None, Some, IfOk, OnErr, Ok};
 ghost use Rattle.std.specs.Option.{ForSome};
 ghost use Rattle.ac_model.specs.Letters.{no_mark};
 ghost use Rattle.ac_model.specs.Cursors.{plain_mark};
 ghost use Rattle.ac_meaning.specs.Holdings.{Held, names_of, number_of, guard_on};
-ghost use Rattle.ac_meaning.specs.Environment.{object_at, with_name, leaving};
+ghost use Rattle.ac_meaning.specs.Environment.{object_at, object_in, with_name, leaving};
 ghost use Rattle.ac_meaning.specs.Execution.{in_order, turn_bound, guards_of_loop};
 ghost use Rattle.ac_meaning.specs.Walks.{first_mark};
 ghost use Rattle.ac_objects.specs.Blocks.{holding, releasing, guard_if, guards_of_loop_key, HasRoom, IsHeldAt};
@@ -74,12 +74,12 @@ impl Objects {
         ensures names { key.old.names ≤ length self.new.bounds }
         ensures counts { take key.old.names (counts_of (state_of self.new)) ≡ take key.old.names (counts_of (state_of self.old)) }
     {
-        self.leave_scope(key.names);
         if key.coming == Cursor::NoElement {
+            self.leave_scope(key.names);
             return Ok(false);
         }
         let following = self.next_at(key.object, key.backward, key.coming);
-        self.add(turn_bound(elements, key.object, key.coming))?;
+        self.name_turn(key.names, turn_bound(elements, key.object, key.coming))?;
         key.coming = following;
         Ok(true)
     }
@@ -121,6 +121,41 @@ fn turn_bound(elements: bool, object: usize, at: Cursor) -> Bound
 }
 
 impl Objects {
+    /// Puts a turn's name, which is no object's, behind so many names. Where one name stands there, as that of the turn before,
+    /// it takes its place.
+    #[inline(always)]
+    fn name_turn(&mut self, names: usize, bound: Bound) -> Result<(), NoMemory>
+        requires names { names ≤ length self.old.bounds }
+        requires no_object { object_in (bound_of bound) ≡ None }
+        requires known { IsKnown self.old (cursor_in bound) }
+        ensures named { IfOk result (λ _. state_of self.new ≡ with_name (leaving names (state_of self.old)) (bound_of bound)) }
+        ensures counts { take names (counts_of (state_of self.new)) ≡ take names (counts_of (state_of self.old)) }
+        ensures names { names ≤ length self.new.bounds }
+        ensures persists { Persists self.old self.new }
+    {
+        if self.names() - names == 1 {
+            self.replace_last(names, bound);
+            return Ok(());
+        }
+        self.leave_scope(names);
+        self.add(bound)?;
+        Ok(())
+    }
+
+    /// Puts a name that is no object's in the place of the last one.
+    #[inline(always)]
+    fn replace_last(&mut self, last: usize, bound: Bound)
+        requires last { length self.old.bounds ≡ last + 1 }
+        requires no_object { object_in (bound_of bound) ≡ None }
+        requires known { IsKnown self.old (cursor_in bound) }
+        ensures named { state_of self.new ≡ with_name (leaving last (state_of self.old)) (bound_of bound) }
+        ensures counts { take last (counts_of (state_of self.new)) ≡ take last (counts_of (state_of self.old)) }
+        ensures names { last ≤ length self.new.bounds }
+        ensures persists { Persists self.old self.new }
+    {
+        self.bounds[last] = bound;
+    }
+
     /// The cursor at which a loop over the object at the place begins.
     fn first_at(&self, place: usize, backward: bool) -> Cursor
         ensures first { (h : Held) → object_at (state_of self.now) place ≡ Some h →
