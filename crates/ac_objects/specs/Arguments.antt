@@ -22,6 +22,9 @@ arguments_of args = record {
   fourth = argument_of args.fourth;
 }
 
+abbrev pub no_arguments : Arguments
+no_arguments = record { first = Absent; second = Absent; third = Absent; fourth = Absent }
+
 -- the cursor that an argument gives
 abbrev pub cursor_in : Argument → Cursor
 cursor_in Absent = cursor.NoElement

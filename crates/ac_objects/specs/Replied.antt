@@ -7,7 +7,7 @@ use Rattle.ac_base.specs.declared.fault.Fault.TheVariants as fault
 use Rattle.ac_base.specs.declared.name.Name.{Name}
 use Rattle.ac_model.specs.Objects.{Object}
 use Rattle.ac_model.specs.Letters.{Mark}
-use Rattle.ac_model.specs.Calls.{IsAfter}
+use Rattle.ac_model.specs.Calls.{Done, IsAfter}
 use Rattle.ac_model.specs.Containers.{Container}
 use Rattle.ac_model.specs.Cursors.{IsNamed, plain_mark}
 use Rattle.ac_meaning.specs.Answers.{Answer, answers_ok, answers_value, answers_truth, answers_place, answers_list}
@@ -16,6 +16,11 @@ use Rattle.ac_objects.specs.declared.reply.Said.{Said}
 use Rattle.ac_objects.specs.declared.reply.Said.TheVariants as said
 use Rattle.ac_objects.specs.declared.reply.Placed.{Placed}
 use Rattle.ac_objects.specs.declared.reply.Reply.{Reply}
+
+-- the reply of a call that was made, or why it wasn't
+abbrev pub told : Reply → Result Done Fault → Result Reply Fault
+told reply (Ok done) = Ok reply
+told reply (Err f) = Err f
 
 -- no element, or one of the object's own
 abbrev pub IsOwnCursor : {V : Type 0} → Object Name V → Cursor → Type 0

@@ -1,6 +1,6 @@
 //! The arguments of a call, read before it.
 ghost use Rattle.std.specs.Prelude.{◌≡◌};
-ghost use Rattle.ac_objects.specs.Arguments.{argument_of, cursor_in};
+ghost use Rattle.ac_objects.specs.Arguments.{argument_of, cursor_in, no_arguments};
 
 use ac_base::Value;
 use ac_cursor::Cursor;
@@ -21,6 +21,21 @@ pub struct Arguments {
     pub second: Argument,
     pub third: Argument,
     pub fourth: Argument,
+}
+
+impl Arguments {
+    /// All left out.
+    #[inline(always)]
+    pub fn absent() -> Arguments
+        ensures { result ≡ no_arguments }
+    {
+        Arguments {
+            first: Argument::Absent,
+            second: Argument::Absent,
+            third: Argument::Absent,
+            fourth: Argument::Absent,
+        }
+    }
 }
 
 impl Argument {
@@ -66,5 +81,13 @@ impl Argument {
             Argument::Value(value) => value,
             Argument::Absent | Argument::Place(_) => Value::Int(0),
         }
+    }
+
+    /// Takes the value out.
+    #[inline(always)]
+    pub fn take_value(&mut self) -> Value
+        ensures { result ≡ (argument_of self.old).value }
+    {
+        std::mem::replace(self, Argument::Absent).into_value()
     }
 }

@@ -4,6 +4,7 @@ ghost use Rattle.ac_meaning.specs.Commands.{source_of};
 ghost use Rattle.ac_meaning.specs.Environment.{object_at};
 ghost use Rattle.ac_meaning.specs.Holdings.{Held, reply_of, number_of};
 ghost use Rattle.ac_objects.specs.Arguments.{arguments_of};
+ghost use Rattle.ac_objects.specs.Replied.{told};
 ghost use Rattle.ac_objects.specs.Called.{AgreesWith, CalledWith, Lasts};
 ghost use Rattle.ac_objects.specs.Standing.{IsObject, counts_of};
 ghost use Rattle.ac_objects.specs.Steps.{AllKnown, CalledIn, CalledInBoth, CalledAt, CanCall, CalledBounds, CanCallIn, CallsIn};
@@ -30,13 +31,15 @@ impl Objects {
         object: usize,
         source: Option<usize>,
         operation: Operation,
-        args: Arguments,
-    ) -> Result<Reply, Fault>
+        args: &mut Arguments,
+        reply: &mut Reply,
+    ) -> Result<(), Fault>
         requires object { IsObject (state_of self.old) object }
         requires source { ForSome source (IsObject (state_of self.old)) }
-        requires known { AllKnown self.old args }
+        requires known { AllKnown self.old args.old }
         ensures called { (h : Held) → object_at (state_of self.old) object ≡ Some h →
-            CalledAt (reply_of h (source_of (state_of self.old) source) operation (arguments_of args)) object source self.old self.new result }
+            CalledAt (reply_of h (source_of (state_of self.old) source) operation (arguments_of args.old))
+            object source self.old self.new (told reply.new result) }
         ensures persists { Persists self.old self.new }
         ensures counts { counts_of (state_of self.new) ≡ counts_of (state_of self.old) }
     {
@@ -47,6 +50,7 @@ impl Objects {
             source,
             operation,
             args,
+            reply,
         )
     }
 }
@@ -58,14 +62,15 @@ fn call_in(
     object: usize,
     source: Option<usize>,
     operation: Operation,
-    args: Arguments,
-) -> Result<Reply, Fault>
-    requires { CanCallIn bounds.old.items object source args }
-    ensures { CallsIn operation args object source bounds.old.items bounds.new.items result }
+    args: &mut Arguments,
+    reply: &mut Reply,
+) -> Result<(), Fault>
+    requires { CanCallIn bounds.old.items object source args.old }
+    ensures { CallsIn operation args.old object source bounds.old.items bounds.new.items (told reply.new result) }
 {
     match source {
-        None => call_alone(bounds, alloc, object, operation, args),
-        Some(other) => call_source(bounds, alloc, object, other, operation, args),
+        None => call_alone(bounds, alloc, object, operation, args, reply),
+        Some(other) => call_source(bounds, alloc, object, other, operation, args, reply),
     }
 }
 
@@ -75,15 +80,16 @@ fn call_source(
     object: usize,
     other: usize,
     operation: Operation,
-    args: Arguments,
-) -> Result<Reply, Fault>
-    requires { CanCallIn bounds.old.items object (Some other) args }
-    ensures { CallsIn operation args object (Some other) bounds.old.items bounds.new.items result }
+    args: &mut Arguments,
+    reply: &mut Reply,
+) -> Result<(), Fault>
+    requires { CanCallIn bounds.old.items object (Some other) args.old }
+    ensures { CallsIn operation args.old object (Some other) bounds.old.items bounds.new.items (told reply.new result) }
 {
     if other == object {
-        return call_alone(bounds, alloc, object, operation, args);
+        return call_alone(bounds, alloc, object, operation, args, reply);
     }
-    call_with(bounds, alloc, object, other, operation, args)
+    call_with(bounds, alloc, object, other, operation, args, reply)
 }
 
 #[inline(always)]
@@ -92,14 +98,16 @@ fn call_alone(
     alloc: Global,
     place: usize,
     operation: Operation,
-    args: Arguments,
-) -> Result<Reply, Fault>
-    requires { (o : AnyObject) × (slice_get bounds.old.items place ≡ Some (bound.Object o)) × AgreesWith o args }
+    args: &mut Arguments,
+    reply: &mut Reply,
+) -> Result<(), Fault>
+    requires { (o : AnyObject) × (slice_get bounds.old.items place ≡ Some (bound.Object o)) × AgreesWith o args.old }
     ensures { (o : AnyObject) → slice_get bounds.old.items place ≡ Some (bound.Object o) →
-        CalledIn (reply_of (held_of o) None operation (arguments_of args)) place o bounds.old.items bounds.new.items result }
+        CalledIn (reply_of (held_of o) None operation (arguments_of args.old))
+        place o bounds.old.items bounds.new.items (told reply.new result) }
 {
     match &mut bounds[place] {
-        Bound::Object(object) => call_object(object, alloc, operation, args),
+        Bound::Object(object) => call_object(object, alloc, operation, args, reply),
         _ => unreachable!(),
     }
 }
@@ -110,20 +118,28 @@ fn call_with(
     place: usize,
     source: usize,
     operation: Operation,
-    args: Arguments,
-) -> Result<Reply, Fault>
-    requires object { (o : AnyObject) × (slice_get bounds.old.items place ≡ Some (bound.Object o)) × AgreesWith o args }
-    requires source { (o : AnyObject) × (slice_get bounds.old.items source ≡ Some (bound.Object o)) × AgreesWith o args }
+    args: &mut Arguments,
+    reply: &mut Reply,
+) -> Result<(), Fault>
+    requires object { (o : AnyObject) × (slice_get bounds.old.items place ≡ Some (bound.Object o)) × AgreesWith o args.old }
+    requires source { (o : AnyObject) × (slice_get bounds.old.items source ≡ Some (bound.Object o)) × AgreesWith o args.old }
     requires apart { (o s : AnyObject) → slice_get bounds.old.items place ≡ Some (bound.Object o) →
         slice_get bounds.old.items source ≡ Some (bound.Object s) → number_of (held_of o) ≡ number_of (held_of s) → ⊥ }
     requires places { place ≡ source → ⊥ }
     ensures { (o s : AnyObject) → slice_get bounds.old.items place ≡ Some (bound.Object o) →
         slice_get bounds.old.items source ≡ Some (bound.Object s) →
-        CalledInBoth (reply_of (held_of o) (Some (held_of s)) operation (arguments_of args)) place source o s
-        bounds.old.items bounds.new.items result }
+        CalledInBoth (reply_of (held_of o) (Some (held_of s)) operation (arguments_of args.old)) place source o s
+        bounds.old.items bounds.new.items (told reply.new result) }
 {
     let mut target = std::mem::replace(&mut bounds[place], Bound::Type);
-    let called = call_bounds(&mut target, &mut bounds[source], alloc, operation, args);
+    let called = call_bounds(
+        &mut target,
+        &mut bounds[source],
+        alloc,
+        operation,
+        args,
+        reply,
+    );
     bounds[place] = target;
     called
 }
@@ -133,14 +149,15 @@ fn call_bounds(
     source: &mut Bound,
     alloc: Global,
     operation: Operation,
-    args: Arguments,
-) -> Result<Reply, Fault>
-    requires { CanCall target.old source.old args }
-    ensures { CalledBounds operation args target.old source.old target.new source.new result }
+    args: &mut Arguments,
+    reply: &mut Reply,
+) -> Result<(), Fault>
+    requires { CanCall target.old source.old args.old }
+    ensures { CalledBounds operation args.old target.old source.old target.new source.new (told reply.new result) }
 {
     match target {
         Bound::Object(object) => match source {
-            Bound::Object(other) => call_objects(object, other, alloc, operation, args),
+            Bound::Object(other) => call_objects(object, other, alloc, operation, args, reply),
             _ => unreachable!(),
         },
         _ => unreachable!(),

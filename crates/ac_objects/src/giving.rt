@@ -89,9 +89,9 @@ impl Objects {
 
     /// Sets the cursor variable among the arguments that a call sets.
     #[inline(always)]
-    pub(crate) fn set_variable(&mut self, args: &[ResolvedArg], variable: Option<Placed>)
-        requires { PlacedKnown self.old variable }
-        ensures set { state_of self.new ≡ variable_set (state_of self.old) args.now (placed_of variable) }
+    pub(crate) fn set_variable(&mut self, args: &[ResolvedArg], variable: &Option<Placed>)
+        requires { PlacedKnown self.old variable.now }
+        ensures set { state_of self.new ≡ variable_set (state_of self.old) args.now (placed_of variable.now) }
         ensures persists { Persists self.old self.new }
         ensures counts { counts_of (state_of self.new) ≡ counts_of (state_of self.old) }
     {

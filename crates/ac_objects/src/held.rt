@@ -7,6 +7,7 @@ ghost use Rattle.ac_model.specs.Cursors.{plain_mark};
 ghost use Rattle.ac_meaning.specs.Holdings.{reply_by, reply_of, number_of, element_value, write};
 ghost use Rattle.ac_meaning.specs.Replies.{itself, another, seen_by, as_value};
 ghost use Rattle.ac_objects.specs.Arguments.{AllAgree, arguments_of};
+ghost use Rattle.ac_objects.specs.Replied.{told};
 ghost use Rattle.ac_objects.specs.Called.{AgreesWith, Called, CalledWith, Lasts, AreValid, WritesTo, WritesIn};
 ghost use Rattle.ac_objects.specs.SequenceCalls.{Answered, AnsweredWith};
 ghost use Rattle.ac_objects.specs.Sequences.{rows_of, kind_of, source_like};
@@ -29,15 +30,17 @@ pub fn call_object(
     object: &mut Object,
     alloc: Global,
     operation: Operation,
-    args: Arguments,
-) -> Result<Reply, Fault>
-    requires agree { AgreesWith object.old args }
-    ensures called { Called (reply_of (held_of object.old) None operation (arguments_of args)) object.old object.new result }
+    args: &mut Arguments,
+    reply: &mut Reply,
+) -> Result<(), Fault>
+    requires agree { AgreesWith object.old args.old }
+    ensures called { Called (reply_of (held_of object.old) None operation (arguments_of args.old))
+        object.old object.new (told reply.new result) }
     ensures lasts { Lasts object.old object.new }
 {
     match object {
-        Object::Integers(sequence) => call_own(sequence, alloc, operation, args),
-        Object::Texts(sequence) => call_own(sequence, alloc, operation, args),
+        Object::Integers(sequence) => call_own(sequence, alloc, operation, args, reply),
+        Object::Texts(sequence) => call_own(sequence, alloc, operation, args, reply),
     }
 }
 
@@ -47,24 +50,25 @@ pub fn call_objects(
     source: &mut Object,
     alloc: Global,
     operation: Operation,
-    args: Arguments,
-) -> Result<Reply, Fault>
+    args: &mut Arguments,
+    reply: &mut Reply,
+) -> Result<(), Fault>
     requires apart { number_of (held_of object.old) ≡ number_of (held_of source.old) → ⊥ }
-    requires agree { AgreesWith object.old args }
-    requires agree_with_source { AgreesWith source.old args }
-    ensures called { CalledWith (reply_of (held_of object.old) (Some (held_of source.old)) operation (arguments_of args))
-        object.old source.old object.new source.new result }
+    requires agree { AgreesWith object.old args.old }
+    requires agree_with_source { AgreesWith source.old args.old }
+    ensures called { CalledWith (reply_of (held_of object.old) (Some (held_of source.old)) operation (arguments_of args.old))
+        object.old source.old object.new source.new (told reply.new result) }
     ensures lasts { Lasts object.old object.new }
     ensures source_lasts { Lasts source.old source.new }
 {
     match object {
         Object::Integers(sequence) => match source {
-            Object::Integers(other) => call_two(sequence, other, alloc, operation, args),
-            Object::Texts(_) => call_own(sequence, alloc, operation, args),
+            Object::Integers(other) => call_two(sequence, other, alloc, operation, args, reply),
+            Object::Texts(_) => call_own(sequence, alloc, operation, args, reply),
         },
         Object::Texts(sequence) => match source {
-            Object::Integers(_) => call_own(sequence, alloc, operation, args),
-            Object::Texts(other) => call_two(sequence, other, alloc, operation, args),
+            Object::Integers(_) => call_own(sequence, alloc, operation, args, reply),
+            Object::Texts(other) => call_two(sequence, other, alloc, operation, args, reply),
         },
     }
 }
@@ -74,16 +78,18 @@ fn call_own<T: ScriptElement>(
     sequence: &mut Sequence<T>,
     alloc: Global,
     operation: Operation,
-    args: Arguments,
-) -> Result<Reply, Fault>
-    requires agree { AllAgree (rows_of sequence.old).object args }
+    args: &mut Arguments,
+    reply: &mut Reply,
+) -> Result<(), Fault>
+    requires agree { AllAgree (rows_of sequence.old).object args.old }
     ensures replied { let o = plain (rows_of sequence.old).object in
-        Answered (reply_by T.tools o itself (seen_by o (arguments_of args)) (kind_of sequence.old) operation) sequence.old sequence.new result }
+        Answered (reply_by T.tools o itself (seen_by o (arguments_of args.old)) (kind_of sequence.old) operation)
+        sequence.old sequence.new (told reply.new result) }
     ensures kind { kind_of sequence.new ≡ kind_of sequence.old }
     ensures valid { AreValid (rows_of sequence.old) (rows_of sequence.new) }
 {
     sequence.law();
-    let called = operate(sequence, alloc, operation, args);
+    let called = operate(sequence, alloc, operation, args, reply);
     sequence.law();
     called
 }
@@ -94,14 +100,15 @@ fn call_two<T: ScriptElement>(
     source: &mut Sequence<T>,
     alloc: Global,
     operation: Operation,
-    args: Arguments,
-) -> Result<Reply, Fault>
-    requires agree { AllAgree (rows_of sequence.old).object args }
-    requires agree_with_source { AllAgree (rows_of source.old).object args }
+    args: &mut Arguments,
+    reply: &mut Reply,
+) -> Result<(), Fault>
+    requires agree { AllAgree (rows_of sequence.old).object args.old }
+    requires agree_with_source { AllAgree (rows_of source.old).object args.old }
     ensures replied { let o = plain (rows_of sequence.old).object in let s = plain (rows_of source.old).object in
-        let own = source_like (kind_of sequence.old) (kind_of source.old) (another s (seen_by s (arguments_of args))) in
-        AnsweredWith (reply_by T.tools o own (seen_by o (arguments_of args)) (kind_of sequence.old) operation)
-        sequence.old source.old sequence.new source.new result }
+        let own = source_like (kind_of sequence.old) (kind_of source.old) (another s (seen_by s (arguments_of args.old))) in
+        AnsweredWith (reply_by T.tools o own (seen_by o (arguments_of args.old)) (kind_of sequence.old) operation)
+        sequence.old source.old sequence.new source.new (told reply.new result) }
     ensures kind { kind_of sequence.new ≡ kind_of sequence.old }
     ensures source_kind { kind_of source.new ≡ kind_of source.old }
     ensures valid { AreValid (rows_of sequence.old) (rows_of sequence.new) }
@@ -109,9 +116,9 @@ fn call_two<T: ScriptElement>(
 {
     source.law();
     if sequence.is_like(source) {
-        call_like(sequence, source, alloc, operation, args)
+        call_like(sequence, source, alloc, operation, args, reply)
     } else {
-        call_own(sequence, alloc, operation, args)
+        call_own(sequence, alloc, operation, args, reply)
     }
 }
 
@@ -121,15 +128,17 @@ fn call_like<T: ScriptElement>(
     source: &mut Sequence<T>,
     alloc: Global,
     operation: Operation,
-    args: Arguments,
-) -> Result<Reply, Fault>
+    args: &mut Arguments,
+    reply: &mut Reply,
+) -> Result<(), Fault>
     requires like { kind_of sequence.old ≡ kind_of source.old }
-    requires agree { AllAgree (rows_of sequence.old).object args }
-    requires agree_with_source { AllAgree (rows_of source.old).object args }
+    requires agree { AllAgree (rows_of sequence.old).object args.old }
+    requires agree_with_source { AllAgree (rows_of source.old).object args.old }
     ensures replied { let o = plain (rows_of sequence.old).object in let s = plain (rows_of source.old).object in
         AnsweredWith
-        (reply_by T.tools o (another s (seen_by s (arguments_of args))) (seen_by o (arguments_of args)) (kind_of sequence.old) operation)
-        sequence.old source.old sequence.new source.new result }
+        (reply_by T.tools o (another s (seen_by s (arguments_of args.old))) (seen_by o (arguments_of args.old))
+        (kind_of sequence.old) operation)
+        sequence.old source.old sequence.new source.new (told reply.new result) }
     ensures kind { kind_of sequence.new ≡ kind_of sequence.old }
     ensures source_kind { kind_of source.new ≡ kind_of source.old }
     ensures valid { AreValid (rows_of sequence.old) (rows_of sequence.new) }
@@ -137,7 +146,7 @@ fn call_like<T: ScriptElement>(
 {
     sequence.law();
     source.law();
-    let called = operate_with(sequence, source, alloc, operation, args);
+    let called = operate_with(sequence, source, alloc, operation, args, reply);
     sequence.law();
     source.law();
     called

@@ -4,7 +4,7 @@ ghost use Rattle.ac_model.specs.Containers.{slots_of, Grows};
 ghost use Rattle.ac_model.specs.Forms.{Does, DoesBoth, seen_by};
 ghost use Rattle.ac_model.specs.Lists as lists;
 ghost use Rattle.ac_objects.specs.SequenceCalls.{ListAloneReplied, ListAloneRepliedWith};
-ghost use Rattle.ac_objects.specs.Replied.{IsAnswer};
+ghost use Rattle.ac_objects.specs.Replied.{IsAnswer, told};
 
 use crate::argument::Arguments;
 use crate::element::ScriptElement;
@@ -18,15 +18,16 @@ use ac_list::List;
 pub fn list_call<T: ScriptElement>(
     list: &mut List<T>,
     call: ListCall,
-    args: Arguments,
-) -> Result<Reply, Fault>
-    ensures { ListAloneReplied T.tools call args list.old list.new result }
+    args: &Arguments,
+    reply: &mut Reply,
+) -> Result<(), Fault>
+    ensures { ListAloneReplied T.tools call args.now list.old list.new (told reply.new result) }
 {
     match call {
-        ListCall::SwapLinks => swap_links(list, args),
-        ListCall::Splice => splice_self(list, args),
-        ListCall::SpliceOne => splice_one_self(list, args),
-        ListCall::SpliceWithin => splice_within(list, args),
+        ListCall::SwapLinks => swap_links(list, args, reply),
+        ListCall::Splice => splice_self(list, args, reply),
+        ListCall::SpliceOne => splice_one_self(list, args, reply),
+        ListCall::SpliceWithin => splice_within(list, args, reply),
     }
 }
 
@@ -35,66 +36,91 @@ pub fn list_call_with<T: ScriptElement>(
     list: &mut List<T>,
     source: &mut List<T>,
     call: ListCall,
-    args: Arguments,
-) -> Result<Reply, Fault>
-    ensures { ListAloneRepliedWith T.tools call args list.old source.old list.new source.new result }
+    args: &Arguments,
+    reply: &mut Reply,
+) -> Result<(), Fault>
+    ensures { ListAloneRepliedWith T.tools call args.now list.old source.old list.new source.new (told reply.new result) }
 {
     match call {
-        ListCall::Splice => splice(list, source, args),
-        ListCall::SpliceOne => splice_one(list, source, args),
-        ListCall::SwapLinks | ListCall::SpliceWithin => list_call(list, call, args),
+        ListCall::Splice => splice(list, source, args, reply),
+        ListCall::SpliceOne => splice_one(list, source, args, reply),
+        ListCall::SwapLinks | ListCall::SpliceWithin => list_call(list, call, args, reply),
     }
 }
 
-fn swap_links<T: ScriptElement>(list: &mut List<T>, args: Arguments) -> Result<Reply, Fault>
-    ensures { ListAloneReplied T.tools ListCall.SwapLinks args list.old list.new result }
+fn swap_links<T: ScriptElement>(
+    list: &mut List<T>,
+    args: &Arguments,
+    reply: &mut Reply,
+) -> Result<(), Fault>
+    ensures { ListAloneReplied T.tools ListCall.SwapLinks args.now list.old list.new (told reply.new result) }
 {
     list.swap_links(args.first.cursor(), args.second.cursor())?;
-    Ok(Reply::says(Said::Done))
+    *reply = Reply::says(Said::Done);
+    Ok(())
 }
 
-fn splice_self<T: ScriptElement>(list: &mut List<T>, args: Arguments) -> Result<Reply, Fault>
-    ensures { ListAloneReplied T.tools ListCall.Splice args list.old list.new result }
+fn splice_self<T: ScriptElement>(
+    list: &mut List<T>,
+    args: &Arguments,
+    reply: &mut Reply,
+) -> Result<(), Fault>
+    ensures { ListAloneReplied T.tools ListCall.Splice args.now list.old list.new (told reply.new result) }
 {
     list.splice_self(args.first.cursor())?;
-    Ok(Reply::says(Said::Done))
+    *reply = Reply::says(Said::Done);
+    Ok(())
 }
 
-fn splice_one_self<T: ScriptElement>(list: &mut List<T>, args: Arguments) -> Result<Reply, Fault>
-    ensures { ListAloneReplied T.tools ListCall.SpliceOne args list.old list.new result }
+fn splice_one_self<T: ScriptElement>(
+    list: &mut List<T>,
+    args: &Arguments,
+    reply: &mut Reply,
+) -> Result<(), Fault>
+    ensures { ListAloneReplied T.tools ListCall.SpliceOne args.now list.old list.new (told reply.new result) }
 {
     let before = args.first.cursor();
     let moved = own_splice_one_self(list, before, args.third.cursor())?;
-    Ok(Reply::sets(2, moved))
+    *reply = Reply::sets(2, moved);
+    Ok(())
 }
 
-fn splice_within<T: ScriptElement>(list: &mut List<T>, args: Arguments) -> Result<Reply, Fault>
-    ensures { ListAloneReplied T.tools ListCall.SpliceWithin args list.old list.new result }
+fn splice_within<T: ScriptElement>(
+    list: &mut List<T>,
+    args: &Arguments,
+    reply: &mut Reply,
+) -> Result<(), Fault>
+    ensures { ListAloneReplied T.tools ListCall.SpliceWithin args.now list.old list.new (told reply.new result) }
 {
     list.splice_within(args.first.cursor(), args.second.cursor())?;
-    Ok(Reply::says(Said::Done))
+    *reply = Reply::says(Said::Done);
+    Ok(())
 }
 
 fn splice<T: ScriptElement>(
     list: &mut List<T>,
     source: &mut List<T>,
-    args: Arguments,
-) -> Result<Reply, Fault>
-    ensures { ListAloneRepliedWith T.tools ListCall.Splice args list.old source.old list.new source.new result }
+    args: &Arguments,
+    reply: &mut Reply,
+) -> Result<(), Fault>
+    ensures { ListAloneRepliedWith T.tools ListCall.Splice args.now list.old source.old list.new source.new (told reply.new result) }
 {
     list.splice(args.first.cursor(), source)?;
-    Ok(Reply::says(Said::Done))
+    *reply = Reply::says(Said::Done);
+    Ok(())
 }
 
 fn splice_one<T: ScriptElement>(
     list: &mut List<T>,
     source: &mut List<T>,
-    args: Arguments,
-) -> Result<Reply, Fault>
-    ensures { ListAloneRepliedWith T.tools ListCall.SpliceOne args list.old source.old list.new source.new result }
+    args: &Arguments,
+    reply: &mut Reply,
+) -> Result<(), Fault>
+    ensures { ListAloneRepliedWith T.tools ListCall.SpliceOne args.now list.old source.old list.new source.new (told reply.new result) }
 {
     let moved = own_splice_one(list, args.first.cursor(), source, args.third.cursor())?;
-    Ok(Reply::sets(2, moved))
+    *reply = Reply::sets(2, moved);
+    Ok(())
 }
 
 /// What the cursor becomes.

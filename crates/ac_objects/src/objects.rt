@@ -10,6 +10,7 @@ ghost use Rattle.ac_objects.specs.Steps.{PerformsAt, PlacedKnown, placed_of, rep
 ghost use Rattle.ac_objects.specs.World.{state_of, world, Persists};
 
 use crate::answer::Answer;
+use crate::argument::Arguments;
 use crate::bound::Bound;
 use crate::reading::said_of;
 use crate::reply::{Reply, Said};
@@ -87,27 +88,19 @@ impl Objects {
         ensures counts { counts_of (state_of self.new) ≡ counts_of (state_of self.old) }
     {
         let source = self.source_place(args);
-        let read = match self.read_arguments(args) {
-            Ok(read) => read,
+        let mut read = Arguments::absent();
+        match self.read_arguments(args, &mut read) {
+            Ok(()) => {}
             Err(_) => return Err(Fault::NoMemory),
-        };
-        match self.call_at(object, source, operation, read) {
-            Ok(reply) => Ok(self.finish(args, reply)),
+        }
+        let mut reply = Reply::says(Said::Done);
+        match self.call_at(object, source, operation, &mut read, &mut reply) {
+            Ok(()) => {
+                self.set_variable(args, &reply.variable);
+                Ok(reply.said)
+            }
             Err(fault) => Err(fault),
         }
-    }
-
-    /// The variable among the arguments is set.
-    #[inline(always)]
-    fn finish(&mut self, args: &[ResolvedArg], reply: Reply) -> Said
-        requires { PlacedKnown self.old reply.variable }
-        ensures set { state_of self.new ≡ variable_set (state_of self.old) args.now (placed_of reply.variable) }
-        ensures said { result ≡ reply.said }
-        ensures persists { Persists self.old self.new }
-        ensures counts { counts_of (state_of self.new) ≡ counts_of (state_of self.old) }
-    {
-        self.set_variable(args, reply.variable);
-        reply.said
     }
 
     /// Assigns a value, a cursor or what a name holds.

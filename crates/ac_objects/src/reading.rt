@@ -1,10 +1,10 @@
 //! The arguments of a call, read before it.
-ghost use Rattle.std.specs.Prelude.{◌≡◌, ◌∷◌, ℕ, List, IfOk, None, Some, slice_get};
+ghost use Rattle.std.specs.Prelude.{◌≡◌, ◌∷◌, ℕ, List, IfOk, OnOk, None, Some, slice_get};
 ghost use Rattle.std.specs.Option.{ForSome};
 ghost use Rattle.ac_meaning.specs.Commands.{source_place, argument_in, argument, argument_of as argument_at, arguments, answer_in, answer_from};
 ghost use Rattle.ac_meaning.specs.Environment.{State, bound_at, value_in, binds_element};
 ghost use Rattle.ac_model.specs.Cursors.{plain_mark};
-ghost use Rattle.ac_objects.specs.Arguments.{argument_of, arguments_of, cursor_in};
+ghost use Rattle.ac_objects.specs.Arguments.{argument_of, arguments_of, cursor_in, no_arguments};
 ghost use Rattle.ac_objects.specs.Standing.{IsObject, ElementsStand};
 ghost use Rattle.ac_objects.specs.Steps.{AllKnown, CanRead, answer_of, source_or, SaysAt, SaidKnown};
 ghost use Rattle.ac_check.specs.declared.resolved.ResolvedArg.{ResolvedArg as ArgData};
@@ -21,23 +21,22 @@ use ac_cursor::Cursor;
 use std::alloc::Global;
 
 impl Objects {
-    /// The arguments, with copies of the values that they name.
+    /// Reads the arguments, with copies of the values that they name.
     #[inline(always)]
-    pub(crate) fn read_arguments(&self, args: &[ResolvedArg]) -> Result<Arguments, NoMemory>
-        requires { ElementsStand (state_of self.now) }
-        ensures read { IfOk result (λ read. arguments_of read ≡ arguments (state_of self.now) args.now) }
-        ensures known { IfOk result (λ read. AllKnown self.now read) }
+    pub(crate) fn read_arguments(
+        &self,
+        args: &[ResolvedArg],
+        read: &mut Arguments,
+    ) -> Result<(), NoMemory>
+        requires stand { ElementsStand (state_of self.now) }
+        requires absent { read.old ≡ no_arguments }
+        ensures read { OnOk result (arguments_of read.new ≡ arguments (state_of self.now) args.now) }
+        ensures known { OnOk result (AllKnown self.now read.new) }
     {
-        let first = self.read_at(args, 0)?;
-        let second = self.read_at(args, 1)?;
-        let third = self.read_at(args, 2)?;
-        let fourth = self.read_at(args, 3)?;
-        Ok(Arguments {
-            first,
-            second,
-            third,
-            fourth,
-        })
+        self.read_at(args, 0, &mut read.first)?;
+        self.read_at(args, 1, &mut read.second)?;
+        self.read_at(args, 2, &mut read.third)?;
+        self.read_at(args, 3, &mut read.fourth)
     }
 
     /// The place of the object among the arguments.
@@ -74,14 +73,23 @@ impl Objects {
     }
 
     #[inline(always)]
-    fn read_at(&self, args: &[ResolvedArg], place: usize) -> Result<Argument, NoMemory>
-        requires { ElementsStand (state_of self.now) }
-        ensures read { IfOk result (λ read. argument_of read ≡ argument_at (state_of self.now) (slice_get args.now place)) }
-        ensures known { IfOk result (λ read. IsKnown self.now (cursor_in read)) }
+    fn read_at(
+        &self,
+        args: &[ResolvedArg],
+        place: usize,
+        read: &mut Argument,
+    ) -> Result<(), NoMemory>
+        requires stand { ElementsStand (state_of self.now) }
+        requires absent { read.old ≡ Argument.Absent }
+        ensures read { OnOk result (argument_of read.new ≡ argument_at (state_of self.now) (slice_get args.now place)) }
+        ensures known { OnOk result (IsKnown self.now (cursor_in read.new)) }
     {
         match args.get(place) {
-            None => Ok(Argument::Absent),
-            Some(arg) => self.read(arg),
+            None => Ok(()),
+            Some(arg) => {
+                *read = self.read(arg)?;
+                Ok(())
+            }
         }
     }
 

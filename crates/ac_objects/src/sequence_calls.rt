@@ -1,5 +1,6 @@
 //! The calls that lists and vectors share, but those with another one.
 ghost use Rattle.std.specs.Prelude.{◌≡◌};
+ghost use Rattle.ac_objects.specs.Replied.{told};
 ghost use Rattle.ac_objects.specs.SequenceCalls.{CommonReplied, SequenceReplied};
 ghost use Rattle.ac_objects.specs.Sequences.{kind_of};
 
@@ -24,22 +25,35 @@ pub fn common_call<T: ScriptElement>(
     sequence: &mut Sequence<T>,
     alloc: Global,
     call: CommonCall,
-    args: Arguments,
-) -> Result<Reply, Fault>
-    ensures replied { CommonReplied T.tools call args sequence.old sequence.new result }
+    args: &mut Arguments,
+    reply: &mut Reply,
+) -> Result<(), Fault>
+    ensures replied { CommonReplied T.tools call args.old sequence.old sequence.new (told reply.new result) }
     ensures kind { kind_of sequence.new ≡ kind_of sequence.old }
 {
     match call {
-        CommonCall::IsEmpty => Ok(Reply::says(Said::Truth(sequence.is_empty()))),
-        CommonCall::Clear => common::clear(sequence),
-        CommonCall::Assign => common::assign(sequence),
-        CommonCall::MoveFrom => common::move_from(sequence),
-        CommonCall::Equal => Ok(Reply::says(Said::Truth(sequence.equal_self()))),
-        CommonCall::HasElement => common::has_element(sequence, args),
-        CommonCall::Element => common::element(sequence, alloc, args),
-        CommonCall::ReplaceElement => common::replace_element(sequence, alloc, args),
-        CommonCall::Print => Ok(Reply::says(Said::Listing)),
-        CommonCall::Length => Ok(Reply::says(Said::Value(Value::Int(sequence.length())))),
+        CommonCall::IsEmpty => {
+            *reply = Reply::says(Said::Truth(sequence.is_empty()));
+            Ok(())
+        }
+        CommonCall::Clear => common::clear(sequence, reply),
+        CommonCall::Assign => common::assign(sequence, reply),
+        CommonCall::MoveFrom => common::move_from(sequence, reply),
+        CommonCall::Equal => {
+            *reply = Reply::says(Said::Truth(sequence.equal_self()));
+            Ok(())
+        }
+        CommonCall::HasElement => common::has_element(sequence, args, reply),
+        CommonCall::Element => common::element(sequence, alloc, args, reply),
+        CommonCall::ReplaceElement => common::replace_element(sequence, alloc, args, reply),
+        CommonCall::Print => {
+            *reply = Reply::says(Said::Listing);
+            Ok(())
+        }
+        CommonCall::Length => {
+            *reply = Reply::says(Said::Value(Value::Int(sequence.length())));
+            Ok(())
+        }
     }
 }
 
@@ -48,32 +62,42 @@ pub fn sequence_call<T: ScriptElement>(
     sequence: &mut Sequence<T>,
     alloc: Global,
     call: SequenceCall,
-    args: Arguments,
-) -> Result<Reply, Fault>
-    ensures replied { SequenceReplied T.tools call args sequence.old sequence.new result }
+    args: &mut Arguments,
+    reply: &mut Reply,
+) -> Result<(), Fault>
+    ensures replied { SequenceReplied T.tools call args.old sequence.old sequence.new (told reply.new result) }
     ensures kind { kind_of sequence.new ≡ kind_of sequence.old }
 {
     match call {
-        SequenceCall::Append => puts::append(sequence, alloc, args),
-        SequenceCall::Prepend => puts::prepend(sequence, alloc, args),
-        SequenceCall::Insert => puts::insert(sequence, alloc, args),
-        SequenceCall::InsertPos => puts::insert_pos(sequence, alloc, args),
-        SequenceCall::Delete => deletions::delete(sequence, args),
-        SequenceCall::DeleteFirst => deletions::delete_first(sequence, args),
-        SequenceCall::DeleteLast => deletions::delete_last(sequence, args),
-        SequenceCall::First => Ok(Reply::says(Said::Place(own_cursors::first(sequence)))),
-        SequenceCall::Last => Ok(Reply::says(Said::Place(own_cursors::last(sequence)))),
-        SequenceCall::FirstElement => looks::first_element(sequence, alloc),
-        SequenceCall::LastElement => looks::last_element(sequence, alloc),
-        SequenceCall::Next => looks::next(sequence, args),
-        SequenceCall::Previous => looks::previous(sequence, args),
-        SequenceCall::Find => looks::find(sequence, alloc, args),
-        SequenceCall::ReverseFind => looks::reverse_find(sequence, alloc, args),
-        SequenceCall::Contains => looks::contains(sequence, alloc, args),
-        SequenceCall::Swap => orders::swap(sequence, args),
-        SequenceCall::ReverseElements => orders::reverse_elements(sequence),
-        SequenceCall::Sort => orders::sort(sequence),
-        SequenceCall::IsSorted => Ok(Reply::says(Said::Truth(sequence.is_sorted()))),
-        SequenceCall::Merge => orders::merge(sequence),
+        SequenceCall::Append => puts::append(sequence, alloc, args, reply),
+        SequenceCall::Prepend => puts::prepend(sequence, alloc, args, reply),
+        SequenceCall::Insert => puts::insert(sequence, alloc, args, reply),
+        SequenceCall::InsertPos => puts::insert_pos(sequence, alloc, args, reply),
+        SequenceCall::Delete => deletions::delete(sequence, args, reply),
+        SequenceCall::DeleteFirst => deletions::delete_first(sequence, args, reply),
+        SequenceCall::DeleteLast => deletions::delete_last(sequence, args, reply),
+        SequenceCall::First => {
+            *reply = Reply::says(Said::Place(own_cursors::first(sequence)));
+            Ok(())
+        }
+        SequenceCall::Last => {
+            *reply = Reply::says(Said::Place(own_cursors::last(sequence)));
+            Ok(())
+        }
+        SequenceCall::FirstElement => looks::first_element(sequence, alloc, reply),
+        SequenceCall::LastElement => looks::last_element(sequence, alloc, reply),
+        SequenceCall::Next => looks::next(sequence, args, reply),
+        SequenceCall::Previous => looks::previous(sequence, args, reply),
+        SequenceCall::Find => looks::find(sequence, alloc, args, reply),
+        SequenceCall::ReverseFind => looks::reverse_find(sequence, alloc, args, reply),
+        SequenceCall::Contains => looks::contains(sequence, alloc, args, reply),
+        SequenceCall::Swap => orders::swap(sequence, args, reply),
+        SequenceCall::ReverseElements => orders::reverse_elements(sequence, reply),
+        SequenceCall::Sort => orders::sort(sequence, reply),
+        SequenceCall::IsSorted => {
+            *reply = Reply::says(Said::Truth(sequence.is_sorted()));
+            Ok(())
+        }
+        SequenceCall::Merge => orders::merge(sequence, reply),
     }
 }

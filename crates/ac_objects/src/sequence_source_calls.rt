@@ -4,6 +4,7 @@ ghost use Rattle.ac_model.specs.Objects.{plain};
 ghost use Rattle.ac_model.specs.Common as common;
 ghost use Rattle.ac_model.specs.Sequences as sequences;
 ghost use Rattle.ac_meaning.specs.Replies.{changes_ok, changes_both};
+ghost use Rattle.ac_objects.specs.Replied.{told};
 ghost use Rattle.ac_objects.specs.SequenceCalls.{AnsweredWith, CommonRepliedWith, SequenceRepliedWith};
 ghost use Rattle.ac_objects.specs.Sequences.{rows_of, kind_of};
 
@@ -22,18 +23,22 @@ pub fn common_call_with<T: ScriptElement>(
     source: &mut Sequence<T>,
     alloc: Global,
     call: CommonCall,
-    args: Arguments,
-) -> Result<Reply, Fault>
+    args: &mut Arguments,
+    reply: &mut Reply,
+) -> Result<(), Fault>
     requires like { kind_of sequence.old ≡ kind_of source.old }
-    ensures replied { CommonRepliedWith T.tools call args sequence.old source.old sequence.new source.new result }
+    ensures replied { CommonRepliedWith T.tools call args.old sequence.old source.old sequence.new source.new (told reply.new result) }
     ensures kind { kind_of sequence.new ≡ kind_of sequence.old }
     ensures source_kind { kind_of source.new ≡ kind_of source.old }
 {
     match call {
-        CommonCall::Assign => assign(sequence, source),
-        CommonCall::MoveFrom => move_from(sequence, source),
-        CommonCall::Equal => Ok(Reply::says(Said::Truth(sequence.equal(source)))),
-        _ => common_call(sequence, alloc, call, args),
+        CommonCall::Assign => assign(sequence, source, reply),
+        CommonCall::MoveFrom => move_from(sequence, source, reply),
+        CommonCall::Equal => {
+            *reply = Reply::says(Said::Truth(sequence.equal(source)));
+            Ok(())
+        }
+        _ => common_call(sequence, alloc, call, args, reply),
     }
 }
 
@@ -43,56 +48,64 @@ pub fn sequence_call_with<T: ScriptElement>(
     source: &mut Sequence<T>,
     alloc: Global,
     call: SequenceCall,
-    args: Arguments,
-) -> Result<Reply, Fault>
+    args: &mut Arguments,
+    reply: &mut Reply,
+) -> Result<(), Fault>
     requires like { kind_of sequence.old ≡ kind_of source.old }
-    ensures replied { SequenceRepliedWith T.tools call args sequence.old source.old sequence.new source.new result }
+    ensures replied { SequenceRepliedWith T.tools call args.old sequence.old source.old sequence.new source.new (told reply.new result) }
     ensures kind { kind_of sequence.new ≡ kind_of sequence.old }
     ensures source_kind { kind_of source.new ≡ kind_of source.old }
 {
     match call {
-        SequenceCall::Merge => merge(sequence, source),
-        _ => sequence_call(sequence, alloc, call, args),
+        SequenceCall::Merge => merge(sequence, source, reply),
+        _ => sequence_call(sequence, alloc, call, args, reply),
     }
 }
 
 fn assign<T: ScriptElement>(
     sequence: &mut Sequence<T>,
     source: &Sequence<T>,
-) -> Result<Reply, Fault>
+    reply: &mut Reply,
+) -> Result<(), Fault>
     requires like { kind_of sequence.old ≡ kind_of source.now }
     ensures replied { let o = plain (rows_of sequence.old).object in let s = plain (rows_of source.now).object in
-        AnsweredWith (changes_ok (common.assign_call o s)) sequence.old source.now sequence.new source.now result }
+        AnsweredWith (changes_ok (common.assign_call o s)) sequence.old source.now sequence.new source.now (told reply.new result) }
     ensures kind { kind_of sequence.new ≡ kind_of sequence.old }
 {
     sequence.assign(source)?;
-    Ok(Reply::says(Said::Done))
+    *reply = Reply::says(Said::Done);
+    Ok(())
 }
 
 fn move_from<T: ScriptElement>(
     sequence: &mut Sequence<T>,
     source: &mut Sequence<T>,
-) -> Result<Reply, Fault>
+    reply: &mut Reply,
+) -> Result<(), Fault>
     requires like { kind_of sequence.old ≡ kind_of source.old }
     ensures replied { let o = plain (rows_of sequence.old).object in let s = plain (rows_of source.old).object in
-        AnsweredWith (changes_both (common.move_from_call o s)) sequence.old source.old sequence.new source.new result }
+        AnsweredWith (changes_both (common.move_from_call o s)) sequence.old source.old sequence.new source.new (told reply.new result) }
     ensures kind { kind_of sequence.new ≡ kind_of sequence.old }
     ensures source_kind { kind_of source.new ≡ kind_of source.old }
 {
     sequence.move_from(source)?;
-    Ok(Reply::says(Said::Done))
+    *reply = Reply::says(Said::Done);
+    Ok(())
 }
 
 fn merge<T: ScriptElement>(
     sequence: &mut Sequence<T>,
     source: &mut Sequence<T>,
-) -> Result<Reply, Fault>
+    reply: &mut Reply,
+) -> Result<(), Fault>
     requires like { kind_of sequence.old ≡ kind_of source.old }
     ensures replied { let o = plain (rows_of sequence.old).object in let s = plain (rows_of source.old).object in
-        AnsweredWith (changes_both (sequences.merge_call T.tools.less o s)) sequence.old source.old sequence.new source.new result }
+        AnsweredWith (changes_both (sequences.merge_call T.tools.less o s))
+        sequence.old source.old sequence.new source.new (told reply.new result) }
     ensures kind { kind_of sequence.new ≡ kind_of sequence.old }
     ensures source_kind { kind_of source.new ≡ kind_of source.old }
 {
     sequence.merge(source)?;
-    Ok(Reply::says(Said::Done))
+    *reply = Reply::says(Said::Done);
+    Ok(())
 }

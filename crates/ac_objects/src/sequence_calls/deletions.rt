@@ -1,5 +1,6 @@
 //! The calls of lists and vectors that delete elements by place.
 ghost use Rattle.std.specs.Prelude.{◌≡◌};
+ghost use Rattle.ac_objects.specs.Replied.{told};
 ghost use Rattle.ac_objects.specs.SequenceCalls.{SequenceReplied};
 ghost use Rattle.ac_objects.specs.Sequences.{kind_of};
 
@@ -10,33 +11,42 @@ use crate::sequence::Sequence;
 use ac_base::Fault;
 use ac_check::SequenceCall;
 
-pub fn delete<T: ScriptElement>(sequence: &mut Sequence<T>, args: Arguments) -> Result<Reply, Fault>
-    ensures replied { SequenceReplied T.tools SequenceCall.Delete args sequence.old sequence.new result }
+pub fn delete<T: ScriptElement>(
+    sequence: &mut Sequence<T>,
+    args: &Arguments,
+    reply: &mut Reply,
+) -> Result<(), Fault>
+    ensures replied { SequenceReplied T.tools SequenceCall.Delete args.now sequence.old sequence.new (told reply.new result) }
     ensures kind { kind_of sequence.new ≡ kind_of sequence.old }
 {
     let mut position = args.first.cursor();
     sequence.delete(&mut position, args.second.count())?;
-    Ok(Reply::sets(0, position))
+    *reply = Reply::sets(0, position);
+    Ok(())
 }
 
 pub fn delete_first<T: ScriptElement>(
     sequence: &mut Sequence<T>,
-    args: Arguments,
-) -> Result<Reply, Fault>
-    ensures replied { SequenceReplied T.tools SequenceCall.DeleteFirst args sequence.old sequence.new result }
+    args: &Arguments,
+    reply: &mut Reply,
+) -> Result<(), Fault>
+    ensures replied { SequenceReplied T.tools SequenceCall.DeleteFirst args.now sequence.old sequence.new (told reply.new result) }
     ensures kind { kind_of sequence.new ≡ kind_of sequence.old }
 {
     sequence.delete_first(args.first.count())?;
-    Ok(Reply::says(Said::Done))
+    *reply = Reply::says(Said::Done);
+    Ok(())
 }
 
 pub fn delete_last<T: ScriptElement>(
     sequence: &mut Sequence<T>,
-    args: Arguments,
-) -> Result<Reply, Fault>
-    ensures replied { SequenceReplied T.tools SequenceCall.DeleteLast args sequence.old sequence.new result }
+    args: &Arguments,
+    reply: &mut Reply,
+) -> Result<(), Fault>
+    ensures replied { SequenceReplied T.tools SequenceCall.DeleteLast args.now sequence.old sequence.new (told reply.new result) }
     ensures kind { kind_of sequence.new ≡ kind_of sequence.old }
 {
     sequence.delete_last(args.first.count())?;
-    Ok(Reply::says(Said::Done))
+    *reply = Reply::says(Said::Done);
+    Ok(())
 }

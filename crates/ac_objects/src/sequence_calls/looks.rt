@@ -2,6 +2,7 @@
 ghost use Rattle.ac_model.specs.Objects.{plain};
 ghost use Rattle.ac_model.specs.Sequences as sequences;
 ghost use Rattle.ac_meaning.specs.Replies.{looks, value_answer, as_value};
+ghost use Rattle.ac_objects.specs.Replied.{told};
 ghost use Rattle.ac_objects.specs.SequenceCalls.{Answered, SequenceReplied};
 ghost use Rattle.ac_objects.specs.Sequences.{rows_of};
 
@@ -17,69 +18,94 @@ use std::alloc::Global;
 pub fn first_element<T: ScriptElement>(
     sequence: &Sequence<T>,
     alloc: Global,
-) -> Result<Reply, Fault>
+    reply: &mut Reply,
+) -> Result<(), Fault>
     ensures { let o = plain (rows_of sequence.now).object in
-        Answered (looks o value_answer (as_value T.tools (sequences.first_element_call o))) sequence.now sequence.now result }
+        Answered (looks o value_answer (as_value T.tools (sequences.first_element_call o)))
+        sequence.now sequence.now (told reply.new result) }
 {
     let element = sequence.first_element()?;
-    Ok(Reply::says(Said::Value(element.to_value(alloc)?)))
+    *reply = Reply::says(Said::Value(element.to_value(alloc)?));
+    Ok(())
 }
 
-pub fn last_element<T: ScriptElement>(sequence: &Sequence<T>, alloc: Global) -> Result<Reply, Fault>
+pub fn last_element<T: ScriptElement>(
+    sequence: &Sequence<T>,
+    alloc: Global,
+    reply: &mut Reply,
+) -> Result<(), Fault>
     ensures { let o = plain (rows_of sequence.now).object in
-        Answered (looks o value_answer (as_value T.tools (sequences.last_element_call o))) sequence.now sequence.now result }
+        Answered (looks o value_answer (as_value T.tools (sequences.last_element_call o)))
+        sequence.now sequence.now (told reply.new result) }
 {
     let element = sequence.last_element()?;
-    Ok(Reply::says(Said::Value(element.to_value(alloc)?)))
+    *reply = Reply::says(Said::Value(element.to_value(alloc)?));
+    Ok(())
 }
 
-pub fn next<T: ScriptElement>(sequence: &Sequence<T>, args: Arguments) -> Result<Reply, Fault>
-    ensures { SequenceReplied T.tools SequenceCall.Next args sequence.now sequence.now result }
+pub fn next<T: ScriptElement>(
+    sequence: &Sequence<T>,
+    args: &Arguments,
+    reply: &mut Reply,
+) -> Result<(), Fault>
+    ensures { SequenceReplied T.tools SequenceCall.Next args.now sequence.now sequence.now (told reply.new result) }
 {
     let next = own_cursors::next(sequence, args.first.cursor())?;
-    Ok(Reply::says(Said::Place(next)))
+    *reply = Reply::says(Said::Place(next));
+    Ok(())
 }
 
-pub fn previous<T: ScriptElement>(sequence: &Sequence<T>, args: Arguments) -> Result<Reply, Fault>
-    ensures { SequenceReplied T.tools SequenceCall.Previous args sequence.now sequence.now result }
+pub fn previous<T: ScriptElement>(
+    sequence: &Sequence<T>,
+    args: &Arguments,
+    reply: &mut Reply,
+) -> Result<(), Fault>
+    ensures { SequenceReplied T.tools SequenceCall.Previous args.now sequence.now sequence.now (told reply.new result) }
 {
     let previous = own_cursors::previous(sequence, args.first.cursor())?;
-    Ok(Reply::says(Said::Place(previous)))
+    *reply = Reply::says(Said::Place(previous));
+    Ok(())
 }
 
 pub fn find<T: ScriptElement>(
     sequence: &Sequence<T>,
     alloc: Global,
-    args: Arguments,
-) -> Result<Reply, Fault>
-    ensures { SequenceReplied T.tools SequenceCall.Find args sequence.now sequence.now result }
+    args: &mut Arguments,
+    reply: &mut Reply,
+) -> Result<(), Fault>
+    ensures { SequenceReplied T.tools SequenceCall.Find args.old sequence.now sequence.now (told reply.new result) }
 {
     let from = args.second.cursor();
-    let element = T::from_value(alloc, args.first.into_value())?;
+    let element = T::from_value(alloc, args.first.take_value())?;
     let found = own_cursors::find(sequence, &element, from)?;
-    Ok(Reply::says(Said::Place(found)))
+    *reply = Reply::says(Said::Place(found));
+    Ok(())
 }
 
 pub fn reverse_find<T: ScriptElement>(
     sequence: &Sequence<T>,
     alloc: Global,
-    args: Arguments,
-) -> Result<Reply, Fault>
-    ensures { SequenceReplied T.tools SequenceCall.ReverseFind args sequence.now sequence.now result }
+    args: &mut Arguments,
+    reply: &mut Reply,
+) -> Result<(), Fault>
+    ensures { SequenceReplied T.tools SequenceCall.ReverseFind args.old sequence.now sequence.now (told reply.new result) }
 {
     let from = args.second.cursor();
-    let element = T::from_value(alloc, args.first.into_value())?;
+    let element = T::from_value(alloc, args.first.take_value())?;
     let found = own_cursors::reverse_find(sequence, &element, from)?;
-    Ok(Reply::says(Said::Place(found)))
+    *reply = Reply::says(Said::Place(found));
+    Ok(())
 }
 
 pub fn contains<T: ScriptElement>(
     sequence: &Sequence<T>,
     alloc: Global,
-    args: Arguments,
-) -> Result<Reply, Fault>
-    ensures { SequenceReplied T.tools SequenceCall.Contains args sequence.now sequence.now result }
+    args: &mut Arguments,
+    reply: &mut Reply,
+) -> Result<(), Fault>
+    ensures { SequenceReplied T.tools SequenceCall.Contains args.old sequence.now sequence.now (told reply.new result) }
 {
-    let element = T::from_value(alloc, args.first.into_value())?;
-    Ok(Reply::says(Said::Truth(sequence.contains(&element))))
+    let element = T::from_value(alloc, args.first.take_value())?;
+    *reply = Reply::says(Said::Truth(sequence.contains(&element)));
+    Ok(())
 }

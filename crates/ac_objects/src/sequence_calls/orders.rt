@@ -3,6 +3,7 @@ ghost use Rattle.std.specs.Prelude.{◌≡◌};
 ghost use Rattle.ac_model.specs.Objects.{plain};
 ghost use Rattle.ac_model.specs.Sequences as sequences;
 ghost use Rattle.ac_meaning.specs.Replies.{changes_ok};
+ghost use Rattle.ac_objects.specs.Replied.{told};
 ghost use Rattle.ac_objects.specs.SequenceCalls.{Answered, SequenceReplied};
 ghost use Rattle.ac_objects.specs.Sequences.{rows_of, kind_of, reversing, sorting};
 
@@ -13,37 +14,48 @@ use crate::sequence::Sequence;
 use ac_base::Fault;
 use ac_check::SequenceCall;
 
-pub fn swap<T: ScriptElement>(sequence: &mut Sequence<T>, args: Arguments) -> Result<Reply, Fault>
-    ensures replied { SequenceReplied T.tools SequenceCall.Swap args sequence.old sequence.new result }
+pub fn swap<T: ScriptElement>(
+    sequence: &mut Sequence<T>,
+    args: &Arguments,
+    reply: &mut Reply,
+) -> Result<(), Fault>
+    ensures replied { SequenceReplied T.tools SequenceCall.Swap args.now sequence.old sequence.new (told reply.new result) }
     ensures kind { kind_of sequence.new ≡ kind_of sequence.old }
 {
     sequence.swap(args.first.cursor(), args.second.cursor())?;
-    Ok(Reply::says(Said::Done))
+    *reply = Reply::says(Said::Done);
+    Ok(())
 }
 
-pub fn reverse_elements<T: ScriptElement>(sequence: &mut Sequence<T>) -> Result<Reply, Fault>
+pub fn reverse_elements<T: ScriptElement>(
+    sequence: &mut Sequence<T>,
+    reply: &mut Reply,
+) -> Result<(), Fault>
     ensures replied { Answered (changes_ok (reversing (kind_of sequence.old) (plain (rows_of sequence.old).object)))
-        sequence.old sequence.new result }
+        sequence.old sequence.new (told reply.new result) }
     ensures kind { kind_of sequence.new ≡ kind_of sequence.old }
 {
     sequence.reverse_elements()?;
-    Ok(Reply::says(Said::Done))
+    *reply = Reply::says(Said::Done);
+    Ok(())
 }
 
-pub fn sort<T: ScriptElement>(sequence: &mut Sequence<T>) -> Result<Reply, Fault>
+pub fn sort<T: ScriptElement>(sequence: &mut Sequence<T>, reply: &mut Reply) -> Result<(), Fault>
     ensures replied { Answered (changes_ok (sorting (kind_of sequence.old) T.tools.less (plain (rows_of sequence.old).object)))
-        sequence.old sequence.new result }
+        sequence.old sequence.new (told reply.new result) }
     ensures kind { kind_of sequence.new ≡ kind_of sequence.old }
 {
     sequence.sort()?;
-    Ok(Reply::says(Said::Done))
+    *reply = Reply::says(Said::Done);
+    Ok(())
 }
 
-pub fn merge<T: ScriptElement>(sequence: &mut Sequence<T>) -> Result<Reply, Fault>
+pub fn merge<T: ScriptElement>(sequence: &mut Sequence<T>, reply: &mut Reply) -> Result<(), Fault>
     ensures replied { Answered (changes_ok (sequences.merge_self_call (plain (rows_of sequence.old).object)))
-        sequence.old sequence.new result }
+        sequence.old sequence.new (told reply.new result) }
     ensures kind { kind_of sequence.new ≡ kind_of sequence.old }
 {
     sequence.merge_self()?;
-    Ok(Reply::says(Said::Done))
+    *reply = Reply::says(Said::Done);
+    Ok(())
 }

@@ -1,5 +1,6 @@
 //! The calls of lists and vectors that put elements into them.
 ghost use Rattle.std.specs.Prelude.{◌≡◌};
+ghost use Rattle.ac_objects.specs.Replied.{told};
 ghost use Rattle.ac_objects.specs.SequenceCalls.{SequenceReplied};
 ghost use Rattle.ac_objects.specs.Sequences.{kind_of};
 
@@ -15,57 +16,65 @@ use std::alloc::Global;
 pub fn append<T: ScriptElement>(
     sequence: &mut Sequence<T>,
     alloc: Global,
-    args: Arguments,
-) -> Result<Reply, Fault>
-    ensures replied { SequenceReplied T.tools SequenceCall.Append args sequence.old sequence.new result }
+    args: &mut Arguments,
+    reply: &mut Reply,
+) -> Result<(), Fault>
+    ensures replied { SequenceReplied T.tools SequenceCall.Append args.old sequence.old sequence.new (told reply.new result) }
     ensures kind { kind_of sequence.new ≡ kind_of sequence.old }
 {
     let count = args.second.count();
-    let element = T::from_value(alloc, args.first.into_value())?;
+    let element = T::from_value(alloc, args.first.take_value())?;
     sequence.append(element, count)?;
-    Ok(Reply::says(Said::Done))
+    *reply = Reply::says(Said::Done);
+    Ok(())
 }
 
 pub fn prepend<T: ScriptElement>(
     sequence: &mut Sequence<T>,
     alloc: Global,
-    args: Arguments,
-) -> Result<Reply, Fault>
-    ensures replied { SequenceReplied T.tools SequenceCall.Prepend args sequence.old sequence.new result }
+    args: &mut Arguments,
+    reply: &mut Reply,
+) -> Result<(), Fault>
+    ensures replied { SequenceReplied T.tools SequenceCall.Prepend args.old sequence.old sequence.new (told reply.new result) }
     ensures kind { kind_of sequence.new ≡ kind_of sequence.old }
 {
     let count = args.second.count();
-    let element = T::from_value(alloc, args.first.into_value())?;
+    let element = T::from_value(alloc, args.first.take_value())?;
     sequence.prepend(element, count)?;
-    Ok(Reply::says(Said::Done))
+    *reply = Reply::says(Said::Done);
+    Ok(())
 }
 
 pub fn insert<T: ScriptElement>(
     sequence: &mut Sequence<T>,
     alloc: Global,
-    args: Arguments,
-) -> Result<Reply, Fault>
-    ensures replied { SequenceReplied T.tools SequenceCall.Insert args sequence.old sequence.new result }
+    args: &mut Arguments,
+    reply: &mut Reply,
+) -> Result<(), Fault>
+    ensures replied { SequenceReplied T.tools SequenceCall.Insert args.old sequence.old sequence.new (told reply.new result) }
     ensures kind { kind_of sequence.new ≡ kind_of sequence.old }
 {
     let before = args.first.cursor();
     let count = args.third.count();
-    let element = T::from_value(alloc, args.second.into_value())?;
+    let element = T::from_value(alloc, args.second.take_value())?;
     sequence.insert(before, element, count)?;
-    Ok(Reply::says(Said::Done))
+    *reply = Reply::says(Said::Done);
+    Ok(())
 }
 
 pub fn insert_pos<T: ScriptElement>(
     sequence: &mut Sequence<T>,
     alloc: Global,
-    args: Arguments,
-) -> Result<Reply, Fault>
-    ensures replied { SequenceReplied T.tools SequenceCall.InsertPos args sequence.old sequence.new result }
+    args: &mut Arguments,
+    reply: &mut Reply,
+) -> Result<(), Fault>
+    ensures replied { SequenceReplied T.tools SequenceCall.InsertPos args.old sequence.old sequence.new (told reply.new result) }
     ensures kind { kind_of sequence.new ≡ kind_of sequence.old }
 {
     let before = args.first.cursor();
     let count = args.fourth.count();
-    let element = T::from_value(alloc, args.second.into_value())?;
+    let element = T::from_value(alloc, args.second.take_value())?;
     let first = own_cursors::insert_pos(sequence, before, element, count)?;
-    Ok(Reply::sets(2, first))
+    *reply = Reply::sets(2, first);
+    Ok(())
 }

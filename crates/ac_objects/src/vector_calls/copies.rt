@@ -4,7 +4,7 @@ ghost use Rattle.ac_model.specs.Forms.{Does, seen_by};
 ghost use Rattle.ac_model.specs.Objects.{plain};
 ghost use Rattle.ac_model.specs.Vectors as vectors;
 ghost use Rattle.ac_meaning.specs.Replies.{changes_ok};
-ghost use Rattle.ac_objects.specs.Replied.{IsAnswer, Replied, RepliedWith};
+ghost use Rattle.ac_objects.specs.Replied.{IsAnswer, Replied, RepliedWith, told};
 ghost use Rattle.ac_objects.specs.SequenceCalls.{VectorAloneReplied, VectorAloneRepliedWith};
 
 use super::vector_call;
@@ -23,17 +23,18 @@ pub fn vector_call_with<T: ScriptElement>(
     source: &Vector<T>,
     alloc: Global,
     call: VectorCall,
-    args: Arguments,
-) -> Result<Reply, Fault>
-    ensures { VectorAloneRepliedWith T.tools call args vector.old source.now vector.new source.now result }
+    args: &mut Arguments,
+    reply: &mut Reply,
+) -> Result<(), Fault>
+    ensures { VectorAloneRepliedWith T.tools call args.old vector.old source.now vector.new source.now (told reply.new result) }
 {
     match call {
-        VectorCall::InsertVectorIndex => insert_vector_index(vector, source, args),
-        VectorCall::InsertVector => insert_vector(vector, source, args),
-        VectorCall::InsertVectorPos => insert_vector_pos(vector, source, args),
-        VectorCall::AppendVector => append_vector(vector, source),
-        VectorCall::PrependVector => prepend_vector(vector, source),
-        _ => vector_call(vector, alloc, call, args),
+        VectorCall::InsertVectorIndex => insert_vector_index(vector, source, args, reply),
+        VectorCall::InsertVector => insert_vector(vector, source, args, reply),
+        VectorCall::InsertVectorPos => insert_vector_pos(vector, source, args, reply),
+        VectorCall::AppendVector => append_vector(vector, source, reply),
+        VectorCall::PrependVector => prepend_vector(vector, source, reply),
+        _ => vector_call(vector, alloc, call, args, reply),
     }
 }
 
@@ -41,46 +42,62 @@ pub fn vector_call_with<T: ScriptElement>(
 
 pub fn insert_vector_index_self<T: ScriptElement>(
     vector: &mut Vector<T>,
-    args: Arguments,
-) -> Result<Reply, Fault>
-    ensures { VectorAloneReplied T.tools VectorCall.InsertVectorIndex args vector.old vector.new result }
+    args: &Arguments,
+    reply: &mut Reply,
+) -> Result<(), Fault>
+    ensures { VectorAloneReplied T.tools VectorCall.InsertVectorIndex args.now vector.old vector.new (told reply.new result) }
 {
     vector.insert_vector_index_self(args.first.count())?;
-    Ok(Reply::says(Said::Done))
+    *reply = Reply::says(Said::Done);
+    Ok(())
 }
 
 pub fn insert_vector_self<T: ScriptElement>(
     vector: &mut Vector<T>,
-    args: Arguments,
-) -> Result<Reply, Fault>
-    ensures { VectorAloneReplied T.tools VectorCall.InsertVector args vector.old vector.new result }
+    args: &Arguments,
+    reply: &mut Reply,
+) -> Result<(), Fault>
+    ensures { VectorAloneReplied T.tools VectorCall.InsertVector args.now vector.old vector.new (told reply.new result) }
 {
     vector.insert_vector_self(args.first.cursor())?;
-    Ok(Reply::says(Said::Done))
+    *reply = Reply::says(Said::Done);
+    Ok(())
 }
 
 pub fn insert_vector_pos_self<T: ScriptElement>(
     vector: &mut Vector<T>,
-    args: Arguments,
-) -> Result<Reply, Fault>
-    ensures { VectorAloneReplied T.tools VectorCall.InsertVectorPos args vector.old vector.new result }
+    args: &Arguments,
+    reply: &mut Reply,
+) -> Result<(), Fault>
+    ensures { VectorAloneReplied T.tools VectorCall.InsertVectorPos args.now vector.old vector.new (told reply.new result) }
 {
     let first = own_insert_self(vector, args.first.cursor())?;
-    Ok(Reply::sets(2, first))
+    *reply = Reply::sets(2, first);
+    Ok(())
 }
 
-pub fn append_vector_self<T: ScriptElement>(vector: &mut Vector<T>) -> Result<Reply, Fault>
-    ensures { let o = plain vector.old.object in Replied (changes_ok (vectors.append_vector_call o o)) vector.old vector.new result }
+pub fn append_vector_self<T: ScriptElement>(
+    vector: &mut Vector<T>,
+    reply: &mut Reply,
+) -> Result<(), Fault>
+    ensures { let o = plain vector.old.object in Replied (changes_ok (vectors.append_vector_call o o))
+        vector.old vector.new (told reply.new result) }
 {
     vector.append_vector_self()?;
-    Ok(Reply::says(Said::Done))
+    *reply = Reply::says(Said::Done);
+    Ok(())
 }
 
-pub fn prepend_vector_self<T: ScriptElement>(vector: &mut Vector<T>) -> Result<Reply, Fault>
-    ensures { let o = plain vector.old.object in Replied (changes_ok (vectors.prepend_vector_call o o)) vector.old vector.new result }
+pub fn prepend_vector_self<T: ScriptElement>(
+    vector: &mut Vector<T>,
+    reply: &mut Reply,
+) -> Result<(), Fault>
+    ensures { let o = plain vector.old.object in Replied (changes_ok (vectors.prepend_vector_call o o))
+        vector.old vector.new (told reply.new result) }
 {
     vector.prepend_vector_self()?;
-    Ok(Reply::says(Said::Done))
+    *reply = Reply::says(Said::Done);
+    Ok(())
 }
 
 /// The first copy's cursor, or the one before which none is put.
@@ -102,56 +119,69 @@ fn own_insert_self<T: ScriptElement>(
 fn insert_vector_index<T: ScriptElement>(
     vector: &mut Vector<T>,
     source: &Vector<T>,
-    args: Arguments,
-) -> Result<Reply, Fault>
-    ensures { VectorAloneRepliedWith T.tools VectorCall.InsertVectorIndex args vector.old source.now vector.new source.now result }
+    args: &Arguments,
+    reply: &mut Reply,
+) -> Result<(), Fault>
+    ensures { VectorAloneRepliedWith T.tools VectorCall.InsertVectorIndex args.now
+        vector.old source.now vector.new source.now (told reply.new result) }
 {
     vector.insert_vector_index(args.first.count(), source)?;
-    Ok(Reply::says(Said::Done))
+    *reply = Reply::says(Said::Done);
+    Ok(())
 }
 
 fn insert_vector<T: ScriptElement>(
     vector: &mut Vector<T>,
     source: &Vector<T>,
-    args: Arguments,
-) -> Result<Reply, Fault>
-    ensures { VectorAloneRepliedWith T.tools VectorCall.InsertVector args vector.old source.now vector.new source.now result }
+    args: &Arguments,
+    reply: &mut Reply,
+) -> Result<(), Fault>
+    ensures { VectorAloneRepliedWith T.tools VectorCall.InsertVector args.now
+        vector.old source.now vector.new source.now (told reply.new result) }
 {
     vector.insert_vector(args.first.cursor(), source)?;
-    Ok(Reply::says(Said::Done))
+    *reply = Reply::says(Said::Done);
+    Ok(())
 }
 
 fn insert_vector_pos<T: ScriptElement>(
     vector: &mut Vector<T>,
     source: &Vector<T>,
-    args: Arguments,
-) -> Result<Reply, Fault>
-    ensures { VectorAloneRepliedWith T.tools VectorCall.InsertVectorPos args vector.old source.now vector.new source.now result }
+    args: &Arguments,
+    reply: &mut Reply,
+) -> Result<(), Fault>
+    ensures { VectorAloneRepliedWith T.tools VectorCall.InsertVectorPos args.now
+        vector.old source.now vector.new source.now (told reply.new result) }
 {
     let first = own_insert(vector, args.first.cursor(), source)?;
-    Ok(Reply::sets(2, first))
+    *reply = Reply::sets(2, first);
+    Ok(())
 }
 
 fn append_vector<T: ScriptElement>(
     vector: &mut Vector<T>,
     source: &Vector<T>,
-) -> Result<Reply, Fault>
+    reply: &mut Reply,
+) -> Result<(), Fault>
     ensures { RepliedWith (changes_ok (vectors.append_vector_call (plain vector.old.object) (plain source.now.object)))
-        vector.old source.now vector.new source.now result }
+        vector.old source.now vector.new source.now (told reply.new result) }
 {
     vector.append_vector(source)?;
-    Ok(Reply::says(Said::Done))
+    *reply = Reply::says(Said::Done);
+    Ok(())
 }
 
 fn prepend_vector<T: ScriptElement>(
     vector: &mut Vector<T>,
     source: &Vector<T>,
-) -> Result<Reply, Fault>
+    reply: &mut Reply,
+) -> Result<(), Fault>
     ensures { RepliedWith (changes_ok (vectors.prepend_vector_call (plain vector.old.object) (plain source.now.object)))
-        vector.old source.now vector.new source.now result }
+        vector.old source.now vector.new source.now (told reply.new result) }
 {
     vector.prepend_vector(source)?;
-    Ok(Reply::says(Said::Done))
+    *reply = Reply::says(Said::Done);
+    Ok(())
 }
 
 /// The first copy's cursor, or the one before which none is put.

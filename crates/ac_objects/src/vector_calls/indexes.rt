@@ -4,7 +4,7 @@ ghost use Rattle.ac_model.specs.Forms.{Looks};
 ghost use Rattle.ac_model.specs.Objects.{plain};
 ghost use Rattle.ac_model.specs.Vectors as vectors;
 ghost use Rattle.ac_objects.specs.Arguments.{argument_of};
-ghost use Rattle.ac_objects.specs.Replied.{IsAnswer};
+ghost use Rattle.ac_objects.specs.Replied.{IsAnswer, told};
 ghost use Rattle.ac_objects.specs.SequenceCalls.{VectorAloneReplied};
 
 use crate::argument::{Argument, Arguments};
@@ -16,18 +16,28 @@ use ac_cursor::Cursor;
 use ac_vector::Vector;
 use std::alloc::Global;
 
-pub fn set_length<T: ScriptElement>(vector: &mut Vector<T>, args: Arguments) -> Result<Reply, Fault>
-    ensures { VectorAloneReplied T.tools VectorCall.SetLength args vector.old vector.new result }
+pub fn set_length<T: ScriptElement>(
+    vector: &mut Vector<T>,
+    args: &Arguments,
+    reply: &mut Reply,
+) -> Result<(), Fault>
+    ensures { VectorAloneReplied T.tools VectorCall.SetLength args.now vector.old vector.new (told reply.new result) }
 {
     vector.set_length(args.first.count())?;
-    Ok(Reply::says(Said::Done))
+    *reply = Reply::says(Said::Done);
+    Ok(())
 }
 
-pub fn to_cursor<T: ScriptElement>(vector: &Vector<T>, args: Arguments) -> Result<Reply, Fault>
-    ensures { VectorAloneReplied T.tools VectorCall.ToCursor args vector.now vector.now result }
+pub fn to_cursor<T: ScriptElement>(
+    vector: &Vector<T>,
+    args: &Arguments,
+    reply: &mut Reply,
+) -> Result<(), Fault>
+    ensures { VectorAloneReplied T.tools VectorCall.ToCursor args.now vector.now vector.now (told reply.new result) }
 {
     let c = own_cursor(vector, &args.first);
-    Ok(Reply::says(Said::Place(c)))
+    *reply = Reply::says(Said::Place(c));
+    Ok(())
 }
 
 /// The cursor of the element at the index, which is the vector's own.
@@ -37,90 +47,112 @@ fn own_cursor<T>(vector: &Vector<T>, index: &Argument) -> Cursor
     vector.to_cursor(index.count())
 }
 
-pub fn to_index<T: ScriptElement>(vector: &Vector<T>, args: Arguments) -> Result<Reply, Fault>
-    ensures { VectorAloneReplied T.tools VectorCall.ToIndex args vector.now vector.now result }
+pub fn to_index<T: ScriptElement>(
+    vector: &Vector<T>,
+    args: &Arguments,
+    reply: &mut Reply,
+) -> Result<(), Fault>
+    ensures { VectorAloneReplied T.tools VectorCall.ToIndex args.now vector.now vector.now (told reply.new result) }
 {
     let index = vector.to_index(args.first.cursor())?;
-    Ok(Reply::says(Said::Value(Value::Int(index))))
+    *reply = Reply::says(Said::Value(Value::Int(index)));
+    Ok(())
 }
 
 pub fn element_index<T: ScriptElement>(
     vector: &Vector<T>,
     alloc: Global,
-    args: Arguments,
-) -> Result<Reply, Fault>
-    ensures { VectorAloneReplied T.tools VectorCall.ElementIndex args vector.now vector.now result }
+    args: &Arguments,
+    reply: &mut Reply,
+) -> Result<(), Fault>
+    ensures { VectorAloneReplied T.tools VectorCall.ElementIndex args.now vector.now vector.now (told reply.new result) }
 {
     let element = vector.element_index(args.first.count())?;
-    Ok(Reply::says(Said::Value(element.to_value(alloc)?)))
+    *reply = Reply::says(Said::Value(element.to_value(alloc)?));
+    Ok(())
 }
 
 pub fn replace_index<T: ScriptElement>(
     vector: &mut Vector<T>,
     alloc: Global,
-    args: Arguments,
-) -> Result<Reply, Fault>
-    ensures { VectorAloneReplied T.tools VectorCall.ReplaceIndex args vector.old vector.new result }
+    args: &mut Arguments,
+    reply: &mut Reply,
+) -> Result<(), Fault>
+    ensures { VectorAloneReplied T.tools VectorCall.ReplaceIndex args.old vector.old vector.new (told reply.new result) }
 {
     let index = args.first.count();
-    let element = T::from_value(alloc, args.second.into_value())?;
+    let element = T::from_value(alloc, args.second.take_value())?;
     vector.replace_index(index, element)?;
-    Ok(Reply::says(Said::Done))
+    *reply = Reply::says(Said::Done);
+    Ok(())
 }
 
-pub fn swap_index<T: ScriptElement>(vector: &mut Vector<T>, args: Arguments) -> Result<Reply, Fault>
-    ensures { VectorAloneReplied T.tools VectorCall.SwapIndex args vector.old vector.new result }
+pub fn swap_index<T: ScriptElement>(
+    vector: &mut Vector<T>,
+    args: &Arguments,
+    reply: &mut Reply,
+) -> Result<(), Fault>
+    ensures { VectorAloneReplied T.tools VectorCall.SwapIndex args.now vector.old vector.new (told reply.new result) }
 {
     vector.swap_index(args.first.count(), args.second.count())?;
-    Ok(Reply::says(Said::Done))
+    *reply = Reply::says(Said::Done);
+    Ok(())
 }
 
 pub fn insert_index<T: ScriptElement>(
     vector: &mut Vector<T>,
     alloc: Global,
-    args: Arguments,
-) -> Result<Reply, Fault>
-    ensures { VectorAloneReplied T.tools VectorCall.InsertIndex args vector.old vector.new result }
+    args: &mut Arguments,
+    reply: &mut Reply,
+) -> Result<(), Fault>
+    ensures { VectorAloneReplied T.tools VectorCall.InsertIndex args.old vector.old vector.new (told reply.new result) }
 {
     let index = args.first.count();
     let count = args.third.count();
-    let element = T::from_value(alloc, args.second.into_value())?;
+    let element = T::from_value(alloc, args.second.take_value())?;
     vector.insert_index(index, element, count)?;
-    Ok(Reply::says(Said::Done))
+    *reply = Reply::says(Said::Done);
+    Ok(())
 }
 
 pub fn delete_index<T: ScriptElement>(
     vector: &mut Vector<T>,
-    args: Arguments,
-) -> Result<Reply, Fault>
-    ensures { VectorAloneReplied T.tools VectorCall.DeleteIndex args vector.old vector.new result }
+    args: &Arguments,
+    reply: &mut Reply,
+) -> Result<(), Fault>
+    ensures { VectorAloneReplied T.tools VectorCall.DeleteIndex args.now vector.old vector.new (told reply.new result) }
 {
     vector.delete_index(args.first.count(), args.second.count())?;
-    Ok(Reply::says(Said::Done))
+    *reply = Reply::says(Said::Done);
+    Ok(())
 }
 
 pub fn find_index<T: ScriptElement>(
     vector: &Vector<T>,
     alloc: Global,
-    args: Arguments,
-) -> Result<Reply, Fault>
-    ensures { VectorAloneReplied T.tools VectorCall.FindIndex args vector.now vector.now result }
+    args: &mut Arguments,
+    reply: &mut Reply,
+) -> Result<(), Fault>
+    ensures { VectorAloneReplied T.tools VectorCall.FindIndex args.old vector.now vector.now (told reply.new result) }
 {
-    let element = T::from_value(alloc, args.first.into_value())?;
+    let element = T::from_value(alloc, args.first.take_value())?;
     let found = index_of(vector, &element, &args.second)?;
-    Ok(Reply::says(Said::Value(Value::Int(found))))
+    *reply = Reply::says(Said::Value(Value::Int(found)));
+    Ok(())
 }
 
 pub fn reverse_find_index<T: ScriptElement>(
     vector: &Vector<T>,
     alloc: Global,
-    args: Arguments,
-) -> Result<Reply, Fault>
-    ensures { VectorAloneReplied T.tools VectorCall.ReverseFindIndex args vector.now vector.now result }
+    args: &mut Arguments,
+    reply: &mut Reply,
+) -> Result<(), Fault>
+    ensures { VectorAloneReplied T.tools VectorCall.ReverseFindIndex args.old vector.now vector.now (told reply.new result) }
 {
-    let element = T::from_value(alloc, args.first.into_value())?;
+    let element = T::from_value(alloc, args.first.take_value())?;
     let found = last_index_of(vector, &element, &args.second)?;
-    Ok(Reply::says(Said::Value(Value::Int(found))))
+    *reply = Reply::says(Said::Value(Value::Int(found)));
+    Ok(())
 }
 
 /// Find_Index by the equality of scripts.

@@ -13,11 +13,10 @@ returns-in-Ok-call_at-clause-performed c h there =
     let args = c.args.args.now in
     let source = c.source_place-source.result in
     let mid = c.call_at.new.self in
-    let reply = c.in-Ok-call_at.reply in
+    let reply = c.call_at.new.reply in
     let read = subst (λ a. IsCalledAt (reply_of h (source_of e source) c.args.operation a) c.args.object source old mid reply) c.in-Ok.ensures.read
     (c.in-Ok-call_at.ensures.called h there) in
     let placed = subst (λ s. IsCalledAt (reply_of h (source_of e s) c.args.operation (arguments e args)) c.args.object source old mid reply)
     c.source_place-source.ensures.place read in
-    subst (λ s. IsPerformed (reply_in e h c.args.operation args) c.args.object args old c.finish.new.self s) (sym c.finish.ensures.said)
-    (is_performed (reply_in e h c.args.operation args) c.args.object source args old mid c.finish.new.self reply c.source_place-source.ensures.place placed
-    c.finish.ensures.set c.finish.ensures.persists)
+    is_performed (reply_in e h c.args.operation args) c.args.object source args old mid c.set_variable.new.self reply c.source_place-source.ensures.place placed
+    c.set_variable.ensures.set c.set_variable.ensures.persists
