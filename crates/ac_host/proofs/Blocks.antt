@@ -19,12 +19,12 @@ use Rattle.ac_check.specs.Resolved.{ResolvedCode, loops_at, views_at, stables_at
 use Rattle.ac_check.specs.declared.resolved.ResolvedDecl.{ResolvedDecl}
 use Rattle.ac_check.specs.declared.resolved.ResolvedDecl.TheVariants as decl
 use Rattle.ac_meaning.specs.Answers.{line, lines_text, answers_raised}
-use Rattle.ac_meaning.specs.Holdings.{Held, a_sequence, Guards, number_of, names_of, new_held, held_under, guard_on, is_a_set}
+use Rattle.ac_meaning.specs.Holdings.{Held, Guards, number_of, names_of, new_held, held_under, guard_on, is_a_set}
 use Rattle.ac_meaning.specs.Environment.{Bound, binds_type, binds_object, binds_cursor, binds_value, binds_element, bound_by, bound_in, object_in, mark_in, State, objects_by, under, bound_at, object_at, mark_at, with_name, leaving, number_taken, Declared, declared, unless_spent, after_decl, after_decls}
 use Rattle.ac_meaning.specs.Execution.{Outcome, outcome, one_line, exec_resolved, guards_of_loop, guards_of_stable, guards_of_view, head_reason, in_order, turn_bound, turns, view_on, viewed, on_object, after_declared, scoped}
 use Rattle.ac_meaning.specs.GuardedNames.{Frame, of_element, frame, kept}
 use Rattle.ac_meaning.specs.Numbers.{GuardsBelow}
-use Rattle.ac_meaning.specs.UnderGuards.{held_with}
+use Rattle.ac_meaning.specs.UnderGuards.{held_with, held_without}
 use Rattle.ac_meaning.proofs.BoundsStay.{object_there}
 use Rattle.ac_meaning.proofs.CountsStay.{parts_under, counts_are_the_guards, bound_under}
 use Rattle.ac_meaning.proofs.ExecKeeps.{resolved_keeps}
@@ -39,7 +39,7 @@ use Rattle.ac_host.specs.declared.end.HostEnd.{HostEnd}
 use Rattle.ac_host.specs.Ready.{ElementsKept, Ready, IsUnder}
 use Rattle.ac_host.specs.Running.{inside, Turning}
 use Rattle.ac_host.specs.Writing.{Broke, Writes, Ran, WroteSoFar}
-use Rattle.ac_host.proofs.Holding.{releasing_under, released_again, held_now, held_beside, object_by_there, number_stays}
+use Rattle.ac_host.proofs.Holding.{releasing_under, released_again, held_now, object_by_there, number_stays}
 use Rattle.ac_host.proofs.Standing.{elements_longer, kept_named, bound_found, no_type_object, longer}
 use Rattle.ac_host.proofs.Telling.{so_far_all}
 use Rattle.ac_host.proofs.Turns.{many_kept}
@@ -184,25 +184,18 @@ loop_cursors_held s place true h g others there is =
 no_more : (g : HeldGuard) (guards : Guards) → g ∷ guards ≡ [] → ⊥
 no_more g guards e = cc
 
+-- the element guard, when the cursor guard is released
 pub loop_elements_held : (s : State) (place : ℕ) (elements : Bool) (h : Held) (g x : HeldGuard) → object_at s place ≡ Some h →
-    g ∷ x ∷ [] ≡ guards_of_loop elements h → IsHeldAt (holding (guards_of_loop elements h) s) place x
+    g ∷ x ∷ [] ≡ guards_of_loop elements h → IsHeldAt (objects_by (held_without g) (holding (guards_of_loop elements h) s)) place x
 unfolding first_of rest_of
 loop_elements_held s place false h g x there is = absurd (no_more x [] (ap rest_of is))
 loop_elements_held s place true h g x there is =
-    let el = guard_on h guard.Elements in
-    subst (IsHeldAt (holding (guards_of_loop true h) s) place) (sym (ap (λ l. first_of x (rest_of l)) is))
-    (held_beside el (guard_on h guard.Cursors) (objects_by (held_with el) s) place (held_now el s place h there refl))
-
-kinds_apart : (h : Held) → (guard_on h guard.Cursors).kind ≡ (guard_on h guard.Elements).kind → ⊥
-kinds_apart (a_sequence which l) e = cc
-
-pub loop_kinds_apart : (elements : Bool) (h : Held) (g x : HeldGuard) → g ∷ x ∷ [] ≡ guards_of_loop elements h → g.kind ≡ x.kind → ⊥
-unfolding first_of rest_of
-loop_kinds_apart false h g x is e = no_more x [] (ap rest_of is)
-loop_kinds_apart true h g x is e =
-    let first : g ≡ guard_on h guard.Cursors = ap (first_of g) is in
-    let second : x ≡ guard_on h guard.Elements = ap (λ l. first_of x (rest_of l)) is in
-    kinds_apart h (ap (λ (y : HeldGuard). y.kind) (sym first) ∙ (e ∙ ap (λ (y : HeldGuard). y.kind) second))
+    let cursors = guard_on h guard.Cursors in
+    let elements = guard_on h guard.Elements in
+    let held = objects_by (held_without cursors) (holding (guards_of_loop true h) s) in
+    subst (λ y. IsHeldAt (objects_by (held_without y) (holding (guards_of_loop true h) s)) place x) (sym (ap (first_of g) is))
+    (subst (IsHeldAt held place) (sym (ap (λ l. first_of x (rest_of l)) is))
+    (subst (λ e. IsHeldAt e place elements) (sym (released_again (cursors ∷ []) (objects_by (held_with elements) s))) (held_now elements s place h there refl)))
 
 -- What each comes to
 
@@ -239,7 +232,7 @@ viewed_comes : (body : Guards → State → Outcome) (guards : Guards) (e : Stat
 viewed_comes body guards e line object Query at h none = refl
 viewed_comes body guards e line object Update at h none = refl
 viewed_comes body guards e line object Reference at h none = refl
-viewed_comes body guards e line object UpdateKey at (a_sequence which l) none = absurd (none-some NoElement (sym none))
+viewed_comes body guards e line object UpdateKey at h none = absurd (none-some NoElement (sym none))
 
 view_on_comes : (body : Guards → State → Outcome) (guards : Guards) (e : State) (line object : ℕ) (kind : ViewKind) (at : Mark) (h : Held) → head_reason kind h at ≡ None →
     view_on body guards line kind object at h e ≡ inside (length e.bounds) (body (guards_of_view kind h ++ guards) (with_name e (binds_element object at)))

@@ -8,8 +8,7 @@ use Rattle.ac_base.specs.declared.guard.GuardKind.TheVariants as guard
 use Rattle.ac_base.specs.Guards.{HeldGuard, GuardCounts, count_of, one_more, one_less}
 use Rattle.ac_model.specs.Objects.{Object}
 use Rattle.ac_model.specs.Common.{hold_call, release_call, guards_on}
-use Rattle.ac_meaning.specs.Elements.{of_integers, of_texts}
-use Rattle.ac_meaning.specs.Holdings.{Held, a_sequence, Guards, number_of}
+use Rattle.ac_meaning.specs.Holdings.{Held, of_rows, Guards, number_of}
 use Rattle.ac_meaning.specs.Environment.{Bound, binds_type, binds_object, binds_cursor, binds_value, binds_element, bound_by, bound_in, object_in, State, objects_by, under, bound_at, object_at, with_name, leaving}
 use Rattle.ac_meaning.specs.UnderGuards.{hold_on, release_on, held_with, held_without}
 use Rattle.ac_meaning.proofs.CountsStay.{guards_come_and_go, release_hold, objects_twice, objects_alike, bound_under}
@@ -28,8 +27,7 @@ releasing_under (g ∷ more) guards e =
 
 -- whatever was held before
 held_back : (g : HeldGuard) (h : Held) → held_without g (held_with g h) ≡ h
-held_back g (a_sequence which (of_integers o)) = λ i. a_sequence which (of_integers (release_hold g o i))
-held_back g (a_sequence which (of_texts o)) = λ i. a_sequence which (of_texts (release_hold g o i))
+held_back g (of_rows kind o) = ap (of_rows kind) (release_hold g o)
 
 bound_self : (b : Bound) → bound_by (λ h. h) b ≡ b
 bound_self binds_type = refl
@@ -74,13 +72,11 @@ object_without k false o = refl
 
 held_with_counts : (g : HeldGuard) (h : Held) → counts_in_held (held_with g h) ≡ counts_with g (counts_in_held h)
 unfolding counts_with
-held_with_counts g (a_sequence which (of_integers o)) = object_with g.kind (g.object == o.number) o
-held_with_counts g (a_sequence which (of_texts o)) = object_with g.kind (g.object == o.number) o
+held_with_counts g (of_rows kind o) = object_with g.kind (g.object == o.number) o
 
 held_without_counts : (g : HeldGuard) (h : Held) → counts_in_held (held_without g h) ≡ counts_without g (counts_in_held h)
 unfolding counts_without
-held_without_counts g (a_sequence which (of_integers o)) = object_without g.kind (g.object == o.number) o
-held_without_counts g (a_sequence which (of_texts o)) = object_without g.kind (g.object == o.number) o
+held_without_counts g (of_rows kind o) = object_without g.kind (g.object == o.number) o
 
 bound_counts : (f : Held → Held) (count : GuardCounts → GuardCounts) → ((h : Held) → counts_in_held (f h) ≡ count (counts_in_held h)) →
     (b : Bound) → counts_in (bound_by f b) ≡ option_map count (counts_in b)
@@ -151,8 +147,7 @@ within_take (x ∷ xs) zero (suc count) h = refl
 within_take (x ∷ xs) (suc place) (suc count) h = within_take xs place count (omega (arith, h))
 
 number_counted : (h : Held) → (counts_in_held h).number ≡ number_of h
-number_counted (a_sequence which (of_integers o)) = refl
-number_counted (a_sequence which (of_texts o)) = refl
+number_counted (of_rows kind o) = refl
 
 -- it is, where the counts of so many names are as they were
 pub held_still : (e now : State) (place count : ℕ) (g : HeldGuard) → place < count → take count (counts_of now) ≡ take count (counts_of e) →
@@ -171,6 +166,16 @@ held_still e now place count g within same is =
       counted = subst (λ x. 0 < count_of g.kind x) (sym r.is) is.counted;
     }
 
+-- so too behind a guard that is released first
+pub held_behind : (e now : State) (place count : ℕ) (first g : HeldGuard) → place < count → take count (counts_of now) ≡ take count (counts_of e) →
+    IsHeldAt (objects_by (held_without first) e) place g → IsHeldAt (objects_by (held_without first) now) place g
+held_behind e now place count first g within same is =
+    let f = held_without first in
+    let without = option_map (counts_without first) in
+    let each : (s : State) → take count (counts_of (objects_by f s)) ≡ map without (take count (counts_of s)) =
+    λ s. ap (take count) (bounds_counts f (counts_without first) (held_without_counts first) s.bounds) ∙ take-map without count (counts_of s) in
+    held_still (objects_by f e) (objects_by f now) place count g within (each now ∙ (ap (map without) same ∙ sym (each e))) is
+
 own_number : (n : ℕ) → (n == n) ≡ true
 own_number n = grind (arith, nat_tests)
 
@@ -183,12 +188,7 @@ counted_once g c true e = more_counted g.kind c
 counted_once g c false e = absurd (cc)
 
 pub number_stays : (g : HeldGuard) (h : Held) → number_of (held_with g h) ≡ number_of h
-number_stays g (a_sequence which (of_integers o)) = go (g.object == o.number)
-  where
-    go : (b : Bool) → (if b then hold_call false g.kind o else o).number ≡ o.number
-    go true = refl
-    go false = refl
-number_stays g (a_sequence which (of_texts o)) = go (g.object == o.number)
+number_stays g (of_rows kind o) = go (g.object == o.number)
   where
     go : (b : Bool) → (if b then hold_call false g.kind o else o).number ≡ o.number
     go true = refl
@@ -217,23 +217,4 @@ held_now g e place h there own = record {
       subst (λ x. 0 < count_of g.kind x) (sym (held_with_counts g h))
       (counted_once g (counts_in_held h) (g.object == (counts_in_held h).number)
       (ap (λ n. n == (counts_in_held h).number) (own ∙ sym (number_counted h)) ∙ own_number (counts_in_held h).number));
-}
-
-more_or_same : (k other : GuardKind) (b : Bool) (c : GuardCounts) → 0 < count_of k c → 0 < count_of k (if b then one_more other c else c)
-more_or_same guard.Cursors guard.Cursors true c h = omega (arith, h)
-more_or_same guard.Cursors guard.Elements true c h = h
-more_or_same guard.Elements guard.Cursors true c h = h
-more_or_same guard.Elements guard.Elements true c h = omega (arith, h)
-more_or_same k other false c h = h
-
--- and while another is held too
-pub held_beside : (g other : HeldGuard) (e : State) (place : ℕ) → IsHeldAt e place g → IsHeldAt (objects_by (held_with other) e) place g
-unfolding counts_with
-held_beside g other e place is = record {
-  held = held_with other is.held;
-  there = object_by_there (held_with other) e place is.held is.there;
-  own = is.own ∙ sym (number_stays other is.held);
-  counted =
-      subst (λ x. 0 < count_of g.kind x) (sym (held_with_counts other is.held))
-      (more_or_same g.kind other.kind (other.object == (counts_in_held is.held).number) (counts_in_held is.held) is.counted);
 }

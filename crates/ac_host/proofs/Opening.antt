@@ -20,8 +20,7 @@ use Rattle.ac_syntax.specs.declared.view_kind.ViewKind.TheVariants.{Query, Updat
 use Rattle.ac_check.specs.Resolved.{loops_at, views_at, stables_at, declares_at}
 use Rattle.ac_check.specs.declared.resolved.ResolvedDecl.{ResolvedDecl}
 use Rattle.ac_check.specs.declared.resolved.ResolvedDecl.TheVariants as decl
-use Rattle.ac_meaning.specs.Elements.{of_integers, of_texts}
-use Rattle.ac_meaning.specs.Holdings.{Held, a_sequence, Guards, number_of, names_of, held_under, guard_on, element_value}
+use Rattle.ac_meaning.specs.Holdings.{Held, of_rows, Guards, number_of, names_of, held_under, guard_on, element_value}
 use Rattle.ac_meaning.specs.Environment.{Bound, binds_type, binds_object, binds_cursor, binds_value, binds_element, bound_by, bound_in, object_in, mark_in, State, under, bound_at, object_at, mark_at, with_name, leaving, number_taken, Declared, unless_spent, after_decl, after_decls}
 use Rattle.ac_meaning.specs.Answers.{answers_raised}
 use Rattle.ac_meaning.specs.Execution.{Outcome, outcome, one_line, guards_of_loop, guards_of_stable, guards_of_view, head_reason, in_order, turns, view_on, viewed, on_object, block_on}
@@ -29,6 +28,7 @@ use Rattle.ac_meaning.specs.GuardedNames.{is_guarded, Frame, of_object, of_eleme
 use Rattle.ac_meaning.specs.Walks.{first_mark}
 use Rattle.ac_meaning.specs.Numbers.{NumbersDiffer, GuardsBelow}
 use Rattle.ac_meaning.proofs.CountsStay.{parts_under}
+use Rattle.ac_meaning.proofs.RowKinds.{element_needs}
 use Rattle.ac_meaning.proofs.GuardedGoesOn.{blocks_guard}
 use Rattle.ac_objects.specs.Blocks.{holding}
 use Rattle.ac_objects.specs.World.{World, state_of}
@@ -81,14 +81,14 @@ designated_in o (mark_of_name number name) none =
     (name, named_among o.rows name r.1, ap (λ n. mark_of_name n name) r.0)
 
 designated : (h : Held) (at : Mark) → (element_value h at).reason ≡ None → Designates h at
-designated (a_sequence which (of_integers o)) at none = let r = designated_in o at none in record { name = r.0; among = r.1; is = r.2 }
-designated (a_sequence which (of_texts o)) at none = let r = designated_in o at none in record { name = r.0; among = r.1; is = r.2 }
+designated (of_rows kind o) at none =
+    let r = designated_in o at (sym (element_needs kind o (seen o at)) ∙ none) in record { name = r.0; among = r.1; is = r.2 }
 
 viewed_designates : (kind : ViewKind) (h : Held) (at : Mark) → head_reason kind h at ≡ None → Designates h at
 viewed_designates Query h at none = designated h at none
 viewed_designates Update h at none = designated h at none
 viewed_designates Reference h at none = designated h at none
-viewed_designates UpdateKey (a_sequence which l) at none = absurd (none-some NoElement (sym none))
+viewed_designates UpdateKey h at none = absurd (none-some NoElement (sym none))
 
 -- Objects that are found while guards are held
 

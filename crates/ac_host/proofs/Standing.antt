@@ -15,8 +15,7 @@ use Rattle.ac_model.specs.Rows.{is_named}
 use Rattle.ac_model.specs.Letters.{Mark, no_mark, mark_at, stale_mark, needs, judged_in, reason_if}
 use Rattle.ac_model.specs.Cursors.{seen}
 use Rattle.ac_check.specs.Resolved.{ResolvedCode}
-use Rattle.ac_meaning.specs.Elements.{of_integers, of_texts}
-use Rattle.ac_meaning.specs.Holdings.{Held, a_sequence, Guards, number_of, names_of, held_under, held_on, element_value, guard_on}
+use Rattle.ac_meaning.specs.Holdings.{Held, of_rows, Guards, number_of, names_of, held_under, held_on, element_value, guard_on}
 use Rattle.ac_meaning.specs.Environment.{Bound, binds_type, binds_object, binds_cursor, binds_value, binds_element, bound_by, bound_in, object_in, State, under, bound_at, object_at, with_name, leaving}
 use Rattle.ac_meaning.specs.Execution.{exec_resolved, in_order}
 use Rattle.ac_meaning.specs.GuardedNames.{is_guarded, Frame, of_type, of_object, of_cursor, of_value, of_element, names_if, frame, kept}
@@ -29,6 +28,7 @@ use Rattle.ac_meaning.proofs.Guarded.{held_some}
 use Rattle.ac_meaning.proofs.NewObjects.{new_objects_are_unguarded}
 use Rattle.ac_meaning.proofs.NextRises.{next_rises}
 use Rattle.ac_meaning.proofs.NumbersApart.{numbers_go_on}
+use Rattle.ac_meaning.proofs.RowKinds.{element_needs}
 use Rattle.ac_meaning.proofs.Walks.{named_there, turned}
 use Rattle.ac_objects.specs.Standing.{ElementStands, ElementsStand, counts_in_held}
 use Rattle.ac_objects.specs.World.{World, state_of}
@@ -57,21 +57,18 @@ needed o name there =
 
 pub element_there : (h : Held) (before : List ℕ) (name : ℕ) (after : List ℕ) → names_of h ≡ before ++ name ∷ after →
     (element_value h (mark_at (number_of h) name)).reason ≡ None
-element_there (a_sequence which (of_integers o)) before name after e = needed o name (named_there o.rows before name after e)
-element_there (a_sequence which (of_texts o)) before name after e = needed o name (named_there o.rows before name after e)
+element_there (of_rows kind o) before name after e =
+    element_needs kind o (seen o (mark_at o.number name)) ∙ needed o name (named_there o.rows before name after e)
 
 pub number_under : (guards : Guards) (h : Held) → number_of (held_under guards h) ≡ number_of h
-number_under guards (a_sequence which (of_integers o)) = refl
-number_under guards (a_sequence which (of_texts o)) = refl
+number_under guards (of_rows kind o) = refl
 
 pub names_under : (guards : Guards) (h : Held) → names_of (held_under guards h) ≡ names_of h
-names_under guards (a_sequence which (of_integers o)) = refl
-names_under guards (a_sequence which (of_texts o)) = refl
+names_under guards (of_rows kind o) = refl
 
 guarded_counts : (guards : Guards) (h : Held) → is_guarded guards (number_of h) ≡ true →
     0 < (counts_in_held (held_under guards h)).cursor_guards + (counts_in_held (held_under guards h)).element_guards
-guarded_counts guards (a_sequence which (of_integers o)) g = held_some guards o.number g
-guarded_counts guards (a_sequence which (of_texts o)) g = held_some guards o.number g
+guarded_counts guards (of_rows kind o) g = held_some guards o.number g
 
 -- What stays of a name, and what it holds
 

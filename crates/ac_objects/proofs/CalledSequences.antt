@@ -18,13 +18,15 @@ use Rattle.ac_model.specs.Cursors.{Agrees, IsNamed}
 use Rattle.ac_model.proofs.Unslotted.{agreement_kept}
 use Rattle.ac_check.specs.declared.operation.Operation.{Operation}
 use Rattle.ac_meaning.specs.Answers.{answers_list}
-use Rattle.ac_meaning.specs.Elements.{Text, Tools, integers, texts, of_integers, of_texts}
-use Rattle.ac_meaning.specs.Holdings.{SequenceKind, of_list, of_vector, Held, a_sequence, listing_of, reply_by, reply_of}
+use Rattle.ac_syntax.specs.declared.kind.ElemKind.TheVariants.{Integer, Str}
+use Rattle.ac_meaning.specs.Elements.{Text, Tools, integers, texts}
+use Rattle.ac_meaning.specs.Holdings.{SequenceKind, of_list, of_vector, RowKind, a_sequence, RowOf, Held, of_rows, listing_of, reply_by, rows_reply, reply_of}
 use Rattle.ac_meaning.specs.Replies.{itself, another, seen_by, source_in, carried}
 use Rattle.ac_meaning.specs.Replies as replies
 use Rattle.ac_meaning.specs.SequenceReplies.{sequence_own}
 use Rattle.ac_meaning.specs.Stays.{Stays}
 use Rattle.ac_meaning.proofs.CallsStay.{renamed, names-with_value}
+use Rattle.ac_meaning.proofs.RowKinds.{rows_own}
 use Rattle.ac_meaning.proofs.VectorsStay.{replies_stay}
 use Rattle.ac_objects.specs.declared.object.Object.{Object as AnyObject}
 use Rattle.ac_objects.specs.declared.object.Object.TheVariants.{Integers, Texts}
@@ -112,82 +114,82 @@ same_sequence (a_list l) (a_vector w) kind rows = absurd (vector_is_none kind)
 same_sequence (a_vector v) (a_list m) kind rows = absurd (list_is_none kind)
 same_sequence (a_vector v) (a_vector w) kind rows = ap a_vector rows
 
--- a sequence that is held as an object
-
-module _ {T : Type 0} (tools : Tools T) (hold : SequenceKind → Object ℕ T → Held) (wrap : Sequence T → AnyObject)
-    (held : (s : Sequence T) → held_of (wrap s) ≡ hold (kind_of s) (plain (rows_of s).object))
-    (listing : (s : Sequence T) → listing_of (held_of (wrap s)) ≡ (sequence_own tools (plain (rows_of s).object)).listing)
-    (found : (s : Sequence T) (c : Cursor) → IsValid (plain (rows_of s).object) → IsOwnCursor (rows_of s).object c → IsFound (wrap s) c) where
+-- an object of a kind with rows, as an object of a script. `hold` makes one of rows, and `text` is their listing
+module _ {S V K : Type 0} (rows : S → Container V) (kind : S → K) (same : (old new : S) → kind new ≡ kind old → rows new ≡ rows old → new ≡ old)
+    (hold : K → Object ℕ V → Held) (text : K → Object ℕ V → List ℕ) (wrap : S → AnyObject)
+    (held : (s : S) → held_of (wrap s) ≡ hold (kind s) (plain (rows s).object))
+    (listing : (s : S) → listing_of (held_of (wrap s)) ≡ text (kind s) (plain (rows s).object))
+    (found : (s : S) (c : Cursor) → IsValid (plain (rows s).object) → IsOwnCursor (rows s).object c → IsFound (wrap s) c) where
   -- a text that is answered is the listing
-  abbrev IsListing : replies.Reply (Object ℕ T) → Type 0
-  IsListing r = (text : List ℕ) → r.answer ≡ answers_list text → text ≡ (sequence_own tools r.after).listing
+  abbrev IsListing : K → replies.Reply (Object ℕ V) → Type 0
+  IsListing k r = (answered : List ℕ) → r.answer ≡ answers_list answered → answered ≡ text k r.after
 
-  held_after : (kind : SequenceKind) (s : Sequence T) (after : Object ℕ T) → kind_of s ≡ kind → plain (rows_of s).object ≡ after → held_of (wrap s) ≡ hold kind after
-  held_after kind s after same is = held s ∙ (ap (λ k. hold k (plain (rows_of s).object)) same ∙ ap (hold kind) is)
+  held_after : (k : K) (s : S) (after : Object ℕ V) → kind s ≡ k → plain (rows s).object ≡ after → held_of (wrap s) ≡ hold k after
+  held_after k s after like is = held s ∙ (ap (λ x. hold x (plain (rows s).object)) like ∙ ap (hold k) is)
 
-  tells : (new : Sequence T) (r : replies.Reply (Object ℕ T)) → IsValid (plain (rows_of new).object) → plain (rows_of new).object ≡ r.after → IsListing r →
-      (s : Said) → Says (rows_of new).object s r.answer → Tells (wrap new) s r.answer
-  tells new r valid is lists said.Done h = h
-  tells new r valid is lists (said.Value v) h = h
-  tells new r valid is lists (said.Truth is_true) h = h
-  tells new r valid is lists (said.Place c) h = (h.0, found new c valid h.1)
-  tells new r valid is lists said.Listing h =
-      h.1 ∙ ap answers_list (lists h.0 h.1 ∙ (ap (λ o. (sequence_own tools o).listing) (sym is) ∙ sym (listing new)))
+  tells : (k : K) (new : S) (r : replies.Reply (Object ℕ V)) → kind new ≡ k → IsValid (plain (rows new).object) →
+      plain (rows new).object ≡ r.after → IsListing k r → (s : Said) → Says (rows new).object s r.answer → Tells (wrap new) s r.answer
+  tells k new r like valid is lists said.Done h = h
+  tells k new r like valid is lists (said.Value v) h = h
+  tells k new r like valid is lists (said.Truth is_true) h = h
+  tells k new r like valid is lists (said.Place c) h = (h.0, found new c valid h.1)
+  tells k new r like valid is lists said.Listing h =
+      h.1 ∙ ap answers_list (lists h.0 h.1 ∙ (λ i. text (sym like i) (sym is i)) ∙ sym (listing new))
 
-  places : (new : Sequence T) (variable : Option replies.Placed) → IsValid (plain (rows_of new).object) → (p : Option Placed) →
-      SetsVariable (rows_of new).object p variable → Places (wrap new) p variable
+  places : (new : S) (variable : Option replies.Placed) → IsValid (plain (rows new).object) → (p : Option Placed) →
+      SetsVariable (rows new).object p variable → Places (wrap new) p variable
   places new variable valid None h = h
   places new variable valid (Some p) h = (h.0, found new p.cursor valid h.1)
 
-  same_object : (old new : Sequence T) → kind_of new ≡ kind_of old → rows_of new ≡ rows_of old → wrap new ≡ wrap old
-  same_object old new kind rows = ap wrap (same_sequence old new kind rows)
+  same_object : (old new : S) → kind new ≡ kind old → rows new ≡ rows old → wrap new ≡ wrap old
+  same_object old new like is = ap wrap (same old new like is)
 
-  called : (old new : Sequence T) (r : replies.Reply (Object ℕ T)) (result : Result Reply Fault) → kind_of new ≡ kind_of old →
-      IsValid (plain (rows_of new).object) → IsListing r → Replied r (rows_of old) (rows_of new) result →
-      Called (carried (hold (kind_of old)) r) (wrap old) (wrap new) result
-  called old new r (Ok made) kind valid lists h = (
+  pub called : (old new : S) (r : replies.Reply (Object ℕ V)) (result : Result Reply Fault) → kind new ≡ kind old →
+      IsValid (plain (rows new).object) → IsListing (kind old) r → Replied r (rows old) (rows new) result →
+      Called (carried (hold (kind old)) r) (wrap old) (wrap new) result
+  called old new r (Ok made) like valid lists h = (
     record {
       goes = h.goes;
       reason = h.reason;
-      after = held_after (kind_of old) new r.after kind h.after.plainly;
-      tells = tells new r valid h.after.plainly lists made.said h.says;
+      after = held_after (kind old) new r.after like h.after.plainly;
+      tells = tells (kind old) new r like valid h.after.plainly lists made.said h.says;
       variable = places new r.variable valid made.variable h.variable;
     },
-    ap (option_map (hold (kind_of old))) h.source,
+    ap (option_map (hold (kind old))) h.source,
   )
-  called old new r (Err (fault.Raised reason)) kind valid lists h = (h.0, same_object old new kind h.1)
-  called old new r (Err fault.NoMemory) kind valid lists h = same_object old new kind h
+  called old new r (Err (fault.Raised reason)) like valid lists h = (h.0, same_object old new like h.1)
+  called old new r (Err fault.NoMemory) like valid lists h = same_object old new like h
 
-  source_after : (kind : SequenceKind) (source now : Sequence T) (after : Option (Object ℕ T)) → kind_of source ≡ kind → kind_of now ≡ kind_of source →
-      SourceAfter (rows_of source) (rows_of now) after → HeldAfter (wrap source) (wrap now) (option_map (hold kind) after)
-  source_after kind source now None like same h = same_object source now same h
-  source_after kind source now (Some after) like same h = held_after kind now after (same ∙ like) h.plainly
+  source_after : (k : K) (source now : S) (after : Option (Object ℕ V)) → kind source ≡ k → kind now ≡ kind source →
+      SourceAfter (rows source) (rows now) after → HeldAfter (wrap source) (wrap now) (option_map (hold k) after)
+  source_after k source now None like stays h = same_object source now stays h
+  source_after k source now (Some after) like stays h = held_after k now after (stays ∙ like) h.plainly
 
-  called_with : (old source new now : Sequence T) (r : replies.Reply (Object ℕ T)) (result : Result Reply Fault) → kind_of new ≡ kind_of old →
-      kind_of now ≡ kind_of source → IsValid (plain (rows_of new).object) → IsListing r → (r.source ≡ None ⊎ (kind_of source ≡ kind_of old)) →
-      RepliedWith r (rows_of old) (rows_of source) (rows_of new) (rows_of now) result →
-      CalledWith (carried (hold (kind_of old)) r) (wrap old) (wrap source) (wrap new) (wrap now) result
-  called_with old source new now r (Ok made) kind source_kind valid lists like h = (
+  pub called_with : (old source new now : S) (r : replies.Reply (Object ℕ V)) (result : Result Reply Fault) → kind new ≡ kind old →
+      kind now ≡ kind source → IsValid (plain (rows new).object) → IsListing (kind old) r → (r.source ≡ None ⊎ (kind source ≡ kind old)) →
+      RepliedWith r (rows old) (rows source) (rows new) (rows now) result →
+      CalledWith (carried (hold (kind old)) r) (wrap old) (wrap source) (wrap new) (wrap now) result
+  called_with old source new now r (Ok made) new_like source_like valid lists like h = (
     record {
       goes = h.goes;
       reason = h.reason;
-      after = held_after (kind_of old) new r.after kind h.after.plainly;
-      tells = tells new r valid h.after.plainly lists made.said h.says;
+      after = held_after (kind old) new r.after new_like h.after.plainly;
+      tells = tells (kind old) new r new_like valid h.after.plainly lists made.said h.says;
       variable = places new r.variable valid made.variable h.variable;
     },
     either_source like h.source_after,
   )
     where
-      either_source : (r.source ≡ None ⊎ (kind_of source ≡ kind_of old)) → SourceAfter (rows_of source) (rows_of now) r.source →
-          HeldAfter (wrap source) (wrap now) (option_map (hold (kind_of old)) r.source)
+      either_source : (r.source ≡ None ⊎ (kind source ≡ kind old)) → SourceAfter (rows source) (rows now) r.source →
+          HeldAfter (wrap source) (wrap now) (option_map (hold (kind old)) r.source)
       either_source (inl none) h =
-          subst (λ x. HeldAfter (wrap source) (wrap now) (option_map (hold (kind_of old)) x)) (sym none)
-          (same_object source now source_kind (subst (λ x. SourceAfter (rows_of source) (rows_of now) x) none h))
-      either_source (inr like) h = source_after (kind_of old) source now r.source like source_kind h
-  called_with old source new now r (Err (fault.Raised reason)) kind source_kind valid lists like h =
-      (h.0, same_object old new kind h.1, same_object source now source_kind h.2)
-  called_with old source new now r (Err fault.NoMemory) kind source_kind valid lists like h =
-      (same_object old new kind h.0, same_object source now source_kind h.1)
+          subst (λ x. HeldAfter (wrap source) (wrap now) (option_map (hold (kind old)) x)) (sym none)
+          (same_object source now source_like (subst (λ x. SourceAfter (rows source) (rows now) x) none h))
+      either_source (inr like) h = source_after (kind old) source now r.source like source_like h
+  called_with old source new now r (Err (fault.Raised reason)) new_like source_like valid lists like h =
+      (h.0, same_object old new new_like h.1, same_object source now source_like h.2)
+  called_with old source new now r (Err fault.NoMemory) new_like source_like valid lists like h =
+      (same_object old new new_like h.0, same_object source now source_like h.1)
 
 is_listing : {T : Type 0} (tools : Tools T) (which : SequenceKind) (o : Object ℕ T) (source : replies.Source (Object ℕ T)) (args : replies.Arguments)
     (op : Operation) (text : List ℕ) → (reply_by tools o source args which op).answer ≡ answers_list text →
@@ -196,10 +198,10 @@ is_listing tools which o source args op text e =
     let l = listed tools o source args which op text e in l.0 ∙ ap (λ x. (sequence_own tools x).listing) (sym l.1)
 
 abbrev hold_integers : SequenceKind → Object ℕ ℤ → Held
-hold_integers which o = a_sequence which (of_integers o)
+hold_integers which o = of_rows (a_sequence which Integer) o
 
 abbrev hold_texts : SequenceKind → Object ℕ Text → Held
-hold_texts which o = a_sequence which (of_texts o)
+hold_texts which o = of_rows (a_sequence which Str) o
 
 -- without a source, or with itself
 
@@ -208,13 +210,11 @@ OwnReply tools old op a = let o = plain (rows_of old).object in reply_by tools o
 
 own_integers : (which : SequenceKind) (o : Object ℕ ℤ) (op : Operation) (a : replies.Arguments) →
     reply_of (hold_integers which o) None op a ≡ carried (hold_integers which) (reply_by integers o itself (seen_by o a) which op)
-own_integers of_list o op a = ap (carried (hold_integers of_list)) (reply_alone integers o (seen_by o a) of_list op)
-own_integers of_vector o op a = ap (carried (hold_integers of_vector)) (reply_alone integers o (seen_by o a) of_vector op)
+own_integers which o op a = ap (carried (hold_integers which)) (reply_alone integers o (seen_by o a) which op)
 
 own_texts : (which : SequenceKind) (o : Object ℕ Text) (op : Operation) (a : replies.Arguments) →
     reply_of (hold_texts which o) None op a ≡ carried (hold_texts which) (reply_by texts o itself (seen_by o a) which op)
-own_texts of_list o op a = ap (carried (hold_texts of_list)) (reply_alone texts o (seen_by o a) of_list op)
-own_texts of_vector o op a = ap (carried (hold_texts of_vector)) (reply_alone texts o (seen_by o a) of_vector op)
+own_texts which o op a = ap (carried (hold_texts which)) (reply_alone texts o (seen_by o a) which op)
 
 pub called_integers : (old new : Sequence ℤ) (op : Operation) (a : replies.Arguments) (result : Result Reply Fault) → kind_of new ≡ kind_of old →
     AreValid (rows_of old) (rows_of new) → Replied (OwnReply integers old op a) (rows_of old) (rows_of new) result →
@@ -222,7 +222,7 @@ pub called_integers : (old new : Sequence ℤ) (op : Operation) (a : replies.Arg
 called_integers old new op a result kind valid h =
     let o = plain (rows_of old).object in
     subst (λ r. Called r (Integers old) (Integers new) result) (sym (own_integers (kind_of old) o op a))
-    (called integers hold_integers Integers (λ s. refl) (λ s. refl) found_integers old new
+    (called rows_of kind_of same_sequence hold_integers (λ which o. (sequence_own integers o).listing) Integers (λ s. refl) (λ s. refl) found_integers old new
     (OwnReply integers old op a) result kind valid.1 (is_listing integers (kind_of old) o itself (seen_by o a) op) h)
 
 pub called_texts : (old new : Sequence Text) (op : Operation) (a : replies.Arguments) (result : Result Reply Fault) → kind_of new ≡ kind_of old →
@@ -231,7 +231,7 @@ pub called_texts : (old new : Sequence Text) (op : Operation) (a : replies.Argum
 called_texts old new op a result kind valid h =
     let o = plain (rows_of old).object in
     subst (λ r. Called r (Texts old) (Texts new) result) (sym (own_texts (kind_of old) o op a))
-    (called texts hold_texts Texts (λ s. refl) (λ s. refl) found_texts old new
+    (called rows_of kind_of same_sequence hold_texts (λ which o. (sequence_own texts o).listing) Texts (λ s. refl) (λ s. refl) found_texts old new
     (OwnReply texts old op a) result kind valid.1 (is_listing texts (kind_of old) o itself (seen_by o a) op) h)
 
 own_lasts : {T : Type 0} (tools : Tools T) (old new : Sequence T) (op : Operation) (a : replies.Arguments) (result : Result Reply Fault) →
@@ -263,25 +263,29 @@ Reply2 tools old source op a = let o = plain (rows_of old).object in reply_by to
 apart : {T : Type 0} (o s : Object ℕ T) (a : replies.Arguments) → (o.number ≡ s.number → ⊥) → source_in o (Some s) a ≡ another s (seen_by s a)
 apart o s a differ = if_false itself (another s (seen_by s a)) (o.number == s.number) (ne_eqb o.number s.number differ)
 
+-- of one kind and element type
+two_alike : (kind : RowKind) (o s : Object ℕ (RowOf kind)) (op : Operation) (a : replies.Arguments) → (o.number ≡ s.number → ⊥) →
+    reply_of (of_rows kind o) (Some (of_rows kind s)) op a
+    ≡ carried (of_rows kind) (rows_reply kind o (another s (seen_by s a)) (seen_by o a) op)
+two_alike kind o s op a differ =
+    ap (λ x. carried (of_rows kind) (rows_reply kind o x (seen_by o a) op))
+    (ap (λ x. source_in o x a) (rows_own kind s) ∙ apart o s a differ)
+
 two_integers : (which other : SequenceKind) (o s : Object ℕ ℤ) (op : Operation) (a : replies.Arguments) → (o.number ≡ s.number → ⊥) →
     reply_of (hold_integers which o) (Some (hold_integers other s)) op a
     ≡ carried (hold_integers which) (reply_by integers o (source_like which other (another s (seen_by s a))) (seen_by o a) which op)
-two_integers of_list of_list o s op a differ =
-    ap (λ x. carried (hold_integers of_list) (reply_by integers o x (seen_by o a) of_list op)) (apart o s a differ)
+two_integers of_list of_list o s op a differ = two_alike (a_sequence of_list Integer) o s op a differ
 two_integers of_list of_vector o s op a differ = own_integers of_list o op a
 two_integers of_vector of_list o s op a differ = own_integers of_vector o op a
-two_integers of_vector of_vector o s op a differ =
-    ap (λ x. carried (hold_integers of_vector) (reply_by integers o x (seen_by o a) of_vector op)) (apart o s a differ)
+two_integers of_vector of_vector o s op a differ = two_alike (a_sequence of_vector Integer) o s op a differ
 
 two_texts : (which other : SequenceKind) (o s : Object ℕ Text) (op : Operation) (a : replies.Arguments) → (o.number ≡ s.number → ⊥) →
     reply_of (hold_texts which o) (Some (hold_texts other s)) op a
     ≡ carried (hold_texts which) (reply_by texts o (source_like which other (another s (seen_by s a))) (seen_by o a) which op)
-two_texts of_list of_list o s op a differ =
-    ap (λ x. carried (hold_texts of_list) (reply_by texts o x (seen_by o a) of_list op)) (apart o s a differ)
+two_texts of_list of_list o s op a differ = two_alike (a_sequence of_list Str) o s op a differ
 two_texts of_list of_vector o s op a differ = own_texts of_list o op a
 two_texts of_vector of_list o s op a differ = own_texts of_vector o op a
-two_texts of_vector of_vector o s op a differ =
-    ap (λ x. carried (hold_texts of_vector) (reply_by texts o x (seen_by o a) of_vector op)) (apart o s a differ)
+two_texts of_vector of_vector o s op a differ = two_alike (a_sequence of_vector Str) o s op a differ
 
 -- a source is changed only where it is of the same kind
 changed_alike : {T : Type 0} (tools : Tools T) (which other : SequenceKind) (o s : Object ℕ T) (op : Operation) (a : replies.Arguments) →
@@ -301,7 +305,8 @@ with_integers old source new now op a result kind source_kind valid differ h =
     let s = plain (rows_of source).object in
     subst (λ r. CalledWith r (Integers old) (Integers source) (Integers new) (Integers now) result)
     (sym (two_integers (kind_of old) (kind_of source) o s op a differ))
-    (called_with integers hold_integers Integers (λ s. refl) (λ s. refl) found_integers old source new now (Reply2 integers old source op a) result
+    (called_with rows_of kind_of same_sequence hold_integers (λ which o. (sequence_own integers o).listing) Integers (λ s. refl) (λ s. refl)
+    found_integers old source new now (Reply2 integers old source op a) result
     kind source_kind valid.1 (is_listing integers (kind_of old) o (own_source old source a) (seen_by o a) op)
     (changed_alike integers (kind_of old) (kind_of source) o s op a) h)
 
@@ -315,7 +320,8 @@ with_texts old source new now op a result kind source_kind valid differ h =
     let s = plain (rows_of source).object in
     subst (λ r. CalledWith r (Texts old) (Texts source) (Texts new) (Texts now) result)
     (sym (two_texts (kind_of old) (kind_of source) o s op a differ))
-    (called_with texts hold_texts Texts (λ s. refl) (λ s. refl) found_texts old source new now (Reply2 texts old source op a) result
+    (called_with rows_of kind_of same_sequence hold_texts (λ which o. (sequence_own texts o).listing) Texts (λ s. refl) (λ s. refl)
+    found_texts old source new now (Reply2 texts old source op a) result
     kind source_kind valid.1 (is_listing texts (kind_of old) o (own_source old source a) (seen_by o a) op)
     (changed_alike texts (kind_of old) (kind_of source) o s op a) h)
 
@@ -387,22 +393,6 @@ unlike r q old source new (Ok made) e h =
     (h.0, subst (λ x. HeldAfter source source x) (sym h.1) refl)
 unlike r q old source new (Err (fault.Raised reason)) e h = subst (λ x. CalledWith x old source new source (Err (fault.Raised reason))) (sym e) (h.0, h.1, refl)
 unlike r q old source new (Err fault.NoMemory) e h = (h, refl)
-
--- and so is one of other elements
-
-pub unlike_integers : (which other : SequenceKind) (o : Object ℕ ℤ) (s : Object ℕ Text) (op : Operation) (a : replies.Arguments) →
-    reply_of (a_sequence which (of_integers o)) (Some (a_sequence other (of_texts s))) op a ≡ reply_of (a_sequence which (of_integers o)) None op a
-unlike_integers of_list of_list o s op a = refl
-unlike_integers of_list of_vector o s op a = refl
-unlike_integers of_vector of_list o s op a = refl
-unlike_integers of_vector of_vector o s op a = refl
-
-pub unlike_texts : (which other : SequenceKind) (o : Object ℕ Text) (s : Object ℕ ℤ) (op : Operation) (a : replies.Arguments) →
-    reply_of (a_sequence which (of_texts o)) (Some (a_sequence other (of_integers s))) op a ≡ reply_of (a_sequence which (of_texts o)) None op a
-unlike_texts of_list of_list o s op a = refl
-unlike_texts of_list of_vector o s op a = refl
-unlike_texts of_vector of_list o s op a = refl
-unlike_texts of_vector of_vector o s op a = refl
 
 -- a write
 

@@ -1,6 +1,7 @@
 -- A guard more and a guard less on an object of a script.
 use Rattle.std.proofs.Common.{◌≡◌, ◌<◌, ℕ, List, length, get_or, set, slice_get, refl, sym, ap, subst, ◌∙◌, Option, Some}
 use Rattle.std.specs.Option.{ForSome}
+use Rattle.std.proofs.lemmas.List.{take-map}
 use Rattle.std.proofs.lemmas.Option.{same_Some, slice_get_read}
 use Rattle.ac_base.specs.declared.cursor.Cursor.{Cursor}
 use Rattle.ac_base.specs.declared.cursor.Cursor.TheVariants as cursor
@@ -11,7 +12,7 @@ use Rattle.ac_model.specs.Common.{hold_call, release_call}
 use Rattle.ac_model.specs.Containers.{Container, with_guards}
 use Rattle.ac_model.specs.Cursors.{Agrees}
 use Rattle.ac_meaning.specs.Holdings.{Held, number_of, is_a_set, guard_on, with_rows_by}
-use Rattle.ac_meaning.specs.Environment.{State, binds_object, with_bound, object_at, objects_by, leaving}
+use Rattle.ac_meaning.specs.Environment.{State, binds_object, bound_by, with_bound, object_at, objects_by, leaving}
 use Rattle.ac_meaning.specs.UnderGuards.{held_with, held_without}
 use Rattle.ac_meaning.proofs.OnePlace.{guards_are_on_one_object}
 use Rattle.ac_objects.specs.declared.object.Object.{Object}
@@ -93,12 +94,6 @@ own_guard : (o : Object) (g : HeldGuard) → g.object ≡ number_of (held_of o) 
 own_guard (Integers l) g e = λ i. record { object = e i; kind = g.kind }
 own_guard (Texts l) g e = λ i. record { object = e i; kind = g.kind }
 
-other_count : (kind other : GuardKind) (counts : GuardCounts) → (kind ≡ other → ⊥) → count_of other (one_less kind counts) ≡ count_of other counts
-other_count guard.Cursors guard.Cursors counts differ = absurd (differ refl)
-other_count guard.Cursors guard.Elements counts differ = refl
-other_count guard.Elements guard.Cursors counts differ = refl
-other_count guard.Elements guard.Elements counts differ = absurd (differ refl)
-
 module _ (bounds : List Bound) (next place : ℕ) (o : Object) (there : slice_get bounds place ≡ Some (bound.Object o)) where
   -- what stands at the place is the object
   pub is_held : (h : Held) → object_at (state_of (world bounds next)) place ≡ Some h → held_of o ≡ h
@@ -136,17 +131,6 @@ module _ (bounds : List Bound) (next place : ℕ) (o : Object) (there : slice_ge
         ∙ (ap (λ h. with_bound e place (binds_object h)) (less_held o g.kind)
         ∙ (sym (guards_are_on_one_object.released e place (held_of o) (held_of o) g.kind sound.numbers_differ (object_there bounds next place o there) refl)
         ∙ ap (λ k. objects_by (held_without k) e) (sym (own_guard o g is_own))))
-
-  pub held_still : (g other : HeldGuard) → (g.kind ≡ other.kind → ⊥) → IsHeldAt (state_of (world bounds next)) place other →
-      IsHeldAt (state_of (world (set bounds place (bound.Object (with_one_less o g.kind))) next)) place other
-  held_still g other differ held = record {
-    held = held_of (with_one_less o g.kind);
-    there = set_object bounds next place o (with_one_less o g.kind) there (less_goes_on o g.kind);
-    own = is_own other held ∙ sym (less_goes_on o g.kind).number;
-    counted = subst (λ n. 0 < n)
-        (sym (ap (count_of other.kind) (counts_given o (one_less g.kind (counts_in o))) ∙ other_count g.kind other.kind (counts_in o) differ))
-        (is_counted other held);
-  }
 
 -- What the code does to the object that it reads at a place of the world
 
@@ -213,11 +197,6 @@ module _ (w : World) (bounds : List Bound) (next place : ℕ) (x : Bound) (o : O
         ∙ (released_state bounds next place o object_read key (still key held) sound
         ∙ ap (λ v. objects_by (held_without key) (state_of v)) view)
 
-    pub release_others : (g : HeldGuard) → (key.kind ≡ g.kind → ⊥) → IsHeldAt (state_of w) place g →
-        IsHeldAt (state_of (world (set bounds place (bound.Object now)) next)) place g
-    release_others g differ other = subst (λ n. IsHeldAt (state_of (world (set bounds place (bound.Object n)) next)) place g) (sym now_is)
-        (held_still bounds next place o object_read key g differ (still g other))
-
 -- a guard on an object below the names that go
 pub held_left : (e now : State) (count place : ℕ) (g : HeldGuard) → now ≡ leaving count e → place < count → IsHeldAt e place g → IsHeldAt now place g
 held_left e now count place g is below held = subst (λ s. IsHeldAt s place g) (sym is) (record {
@@ -231,7 +210,6 @@ pub any_held_left : (e now : State) (count place : ℕ) (guard : Option HeldGuar
     ForSome guard (λ g. IsHeldAt e place g) → ForSome guard (λ g. IsHeldAt now place g)
 any_held_left e now count place guard is below held g at = held_left e now count place g is below (held g at)
 
-pub any_held_still : (e now : State) (place : ℕ) (key : HeldGuard) (guard : Option HeldGuard) →
-    ((g : HeldGuard) → (key.kind ≡ g.kind → ⊥) → IsHeldAt e place g → IsHeldAt now place g) → ForSome guard (λ g. (key.kind ≡ g.kind) → ⊥) →
-    ForSome guard (λ g. IsHeldAt e place g) → ForSome guard (λ g. IsHeldAt now place g)
-any_held_still e now place key guard stays apart held g at = stays g (apart g at) (held g at)
+-- what is done to each object is done to those that stay
+pub objects_leaving : (f : Held → Held) (count : ℕ) (e : State) → objects_by f (leaving count e) ≡ leaving count (objects_by f e)
+objects_leaving f count e = λ i. record e { bounds = sym (take-map (bound_by f) count e.bounds) i }

@@ -12,11 +12,11 @@ use Rattle.ac_model.specs.Objects.{Object}
 use Rattle.ac_model.specs.Rows.{is_named}
 use Rattle.ac_model.specs.Letters.{Mark, no_mark, mark_at, stale_mark, needs, judged_in}
 use Rattle.ac_model.specs.Cursors.{seen}
-use Rattle.ac_meaning.specs.Elements.{of_integers, of_texts}
 use Rattle.ac_meaning.specs.Environment.{Bound, binds_type, binds_object, binds_cursor, binds_value, binds_element, State, bound_at, object_in}
-use Rattle.ac_meaning.specs.Holdings.{Held, a_sequence, element_value}
+use Rattle.ac_meaning.specs.Holdings.{Held, of_rows, element_value}
 use Rattle.ac_meaning.specs.Stays.{Stays, HeldStays, BoundStays, StateStays}
 use Rattle.ac_meaning.proofs.BoundsStay.{each_at, object_there}
+use Rattle.ac_meaning.proofs.RowKinds.{element_needs}
 use Rattle.ac_objects.specs.Standing.{ElementStands, ElementsStand, counts_in_held}
 
 -- the same names stand for the same
@@ -73,12 +73,12 @@ pub record LastsAt (h k : Held) (m : Mark) : Type 0 where
 
 held_lasts : (h k : Held) (m : Mark) → HeldStays h k → 0 < (counts_in_held h).cursor_guards + (counts_in_held h).element_guards →
     (element_value h m).reason ≡ None → LastsAt h k m
-held_lasts (a_sequence which (of_integers o)) (a_sequence other (of_integers now)) m s held h =
-    record { stands = list_lasts o now m s.1 held h; guarded = omega (arith, held, s.1.cursor_guards, s.1.element_guards) }
-held_lasts (a_sequence which (of_texts o)) (a_sequence other (of_texts now)) m s held h =
-    record { stands = list_lasts o now m s.1 held h; guarded = omega (arith, held, s.1.cursor_guards, s.1.element_guards) }
-held_lasts (a_sequence which (of_integers o)) (a_sequence other (of_texts now)) m s held h = absurd s.1
-held_lasts (a_sequence which (of_texts o)) (a_sequence other (of_integers now)) m s held h = absurd s.1
+held_lasts (of_rows kind o) k m s held h =
+    subst (λ x. LastsAt (of_rows kind o) x m) (sym s.1)
+    (record {
+      stands = element_needs kind s.0 (seen s.0 m) ∙ list_lasts o s.0 m s.2 held (sym (element_needs kind o (seen o m)) ∙ h);
+      guarded = omega (arith, held, s.2.cursor_guards, s.2.element_guards);
+    })
 
 element_before : (b : Bound) (object : ℕ) (m : Mark) → BoundStays b (binds_element object m) → b ≡ binds_element object m
 element_before binds_type object m s = absurd s

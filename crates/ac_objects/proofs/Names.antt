@@ -6,11 +6,10 @@ use Rattle.ac_base.specs.declared.value.Value.{Value}
 use Rattle.ac_model.specs.Calls.{Done}
 use Rattle.ac_model.specs.Cursors.{plain_mark}
 use Rattle.ac_model.specs.Letters.{Mark}
-use Rattle.ac_meaning.specs.Elements.{of_integers, of_texts}
 use Rattle.ac_meaning.specs.Commands.{argument_in, answer_in, assigned_to, element_written, mark_set, value_set}
 use Rattle.ac_meaning.specs.Environment as meant
 use Rattle.ac_meaning.specs.Environment.{State, value_in, bound_at, object_at, binds_object, with_bound}
-use Rattle.ac_meaning.specs.Holdings.{Held, a_sequence, element_value, write}
+use Rattle.ac_meaning.specs.Holdings.{a_sequence, a_map, a_set, Held, of_rows, element_value, write}
 use Rattle.ac_objects.specs.declared.bound.Bound.{Bound}
 use Rattle.ac_objects.specs.declared.bound.Bound.TheVariants as bound
 use Rattle.ac_objects.specs.declared.object.Object.{Object}
@@ -121,8 +120,9 @@ sets_variable bs now i v old there is =
     })
 
 pub write_reason : (h : Held) (m : Mark) (v : Value) → (element_value h m).reason ≡ None → (write h m v).reason ≡ None
-write_reason (a_sequence which (of_integers o)) m v e = e
-write_reason (a_sequence which (of_texts o)) m v e = e
+write_reason (of_rows (a_sequence which e) o) m v none = none
+write_reason (of_rows (a_map which k e) o) m v none = none
+write_reason (of_rows (a_set which e) o) m v none = refl
 
 assigns_element : (bs now : List Bound) (n i object : ℕ) (at : Cursor) (v : Value) (o : Object) (result : Result Done NoMemory) →
     slice_get bs object ≡ Some (bound.Object o) → (element_value (held_of o) (plain_mark at)).reason ≡ None → WritesAt object at v o bs now result →

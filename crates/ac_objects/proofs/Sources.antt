@@ -18,18 +18,23 @@ use Rattle.ac_check.specs.declared.operation.VectorCall.{VectorCall}
 use Rattle.ac_check.specs.declared.operation.VectorCall.TheVariants as vector_call
 use Rattle.ac_check.specs.declared.operation.ListCall.{ListCall}
 use Rattle.ac_check.specs.declared.operation.ListCall.TheVariants as list_call
-use Rattle.ac_meaning.specs.Elements.{Text, Tools, integers, texts, of_integers, of_texts}
+use Rattle.ac_model.specs.Rows.{Entry}
+use Rattle.ac_meaning.specs.Elements.{Tools, tools_of}
 use Rattle.ac_meaning.specs.Answers.{Answer, answers_ok, answers_value, answers_truth, answers_place, answers_list, answers_raised, answers_stalled}
 use Rattle.ac_meaning.specs.Replies.{Arguments, Source, without, itself, another, by_source, seen_by, source_in, Reply, value_answer, carried}
 use Rattle.ac_meaning.specs.SequenceReplies.{OwnCalls, sequence_own, common_reply, sequence_reply, capacity_reply}
 use Rattle.ac_meaning.specs.ListReplies.{list_alone_reply, list_reply}
 use Rattle.ac_meaning.specs.VectorReplies.{vector_alone_reply, vector_reply}
-use Rattle.ac_meaning.specs.Holdings.{SequenceKind, of_list, of_vector, Held, a_sequence, reply_by, reply_of}
+use Rattle.ac_meaning.specs.KeyedReplies.{KeyedKind, of_hashed, of_ordered}
+use Rattle.ac_meaning.specs.MapReplies.{map_own, map_reply}
+use Rattle.ac_meaning.specs.SetReplies.{set_own, set_reply}
+use Rattle.ac_meaning.specs.Holdings.{SequenceKind, of_list, of_vector, RowKind, a_sequence, a_map, a_set, RowOf, Held, of_rows, reply_by, rows_reply, reply_of}
+use Rattle.ac_meaning.proofs.RowKinds.{rows_own}
 
 -- None and itself
 
-module _ {T : Type 0} (tools : Tools T) (o : Object ℕ T) (args : Arguments) where
-  common_own : (own : OwnCalls T) (c : CommonCall) → common_reply o without args own c ≡ common_reply o itself args own c
+module _ {V : Type 0} (o : Object ℕ V) (args : Arguments) where
+  common_own : (own : OwnCalls V) (c : CommonCall) → common_reply o without args own c ≡ common_reply o itself args own c
   common_own own common_call.IsEmpty = refl
   common_own own common_call.Clear = refl
   common_own own common_call.Assign = refl
@@ -41,6 +46,7 @@ module _ {T : Type 0} (tools : Tools T) (o : Object ℕ T) (args : Arguments) wh
   common_own own common_call.Print = refl
   common_own own common_call.Length = refl
 
+module _ {T : Type 0} (tools : Tools T) (o : Object ℕ T) (args : Arguments) where
   sequence_alone : (reverses sorts : Call (Object ℕ T) Done) (c : SequenceCall) →
       sequence_reply tools o without args reverses sorts c ≡ sequence_reply tools o itself args reverses sorts c
   sequence_alone reverses sorts sequence_call.Append = refl
@@ -72,7 +78,7 @@ module _ {T : Type 0} (tools : Tools T) (o : Object ℕ T) (args : Arguments) wh
   links_alone list_call.SpliceWithin = refl
 
   list_alone : (op : Operation) → list_reply tools o without args op ≡ list_reply tools o itself args op
-  list_alone (operation.Common c) = common_own (sequence_own tools o) c
+  list_alone (operation.Common c) = common_own o args (sequence_own tools o) c
   list_alone (operation.Sequence c) = sequence_alone (list.reverse_elements_call o) (list.sort_call tools.less o) c
   list_alone (operation.List c) = links_alone c
   list_alone _ = refl
@@ -97,7 +103,7 @@ module _ {T : Type 0} (tools : Tools T) (o : Object ℕ T) (args : Arguments) wh
   indexed_alone vector_call.ReverseFindIndex = refl
 
   vector_alone : (op : Operation) → vector_reply tools o without args op ≡ vector_reply tools o itself args op
-  vector_alone (operation.Common c) = common_own (sequence_own tools o) c
+  vector_alone (operation.Common c) = common_own o args (sequence_own tools o) c
   vector_alone (operation.Sequence c) = sequence_alone (vector.reverse_elements_call o) (vector.sort_call tools.less o) c
   vector_alone (operation.Vector c) = indexed_alone c
   vector_alone _ = refl
@@ -118,25 +124,29 @@ if_false x y false e = refl
 own_source : {T : Type 0} (o : Object ℕ T) (args : Arguments) → (if o.number == o.number then itself else another o (seen_by o args)) ≡ itself
 own_source o args = if_true itself (another o (seen_by o args)) (o.number == o.number) (eq-eqb o.number o.number refl)
 
-alone_integers : (which : SequenceKind) (o : Object ℕ ℤ) (op : Operation) (args : Arguments) →
-    carried (λ s. a_sequence which (of_integers s)) (reply_by integers o (source_in o (Some o) args) (seen_by o args) which op)
-    ≡ carried (λ s. a_sequence which (of_integers s)) (reply_by integers o (source_in o None args) (seen_by o args) which op)
-alone_integers which o op args =
-    ap (λ s. carried (λ s. a_sequence which (of_integers s)) (reply_by integers o s (seen_by o args) which op)) (own_source o args)
-    ∙ ap (carried (λ s. a_sequence which (of_integers s))) (sym (reply_alone integers o (seen_by o args) which op))
+module _ {K T : Type 0} (keys : Tools K) (tools : Tools T) (o : Object ℕ (Entry K T)) (args : Arguments) where
+  map_alone : (which : KeyedKind) (op : Operation) → map_reply keys tools o without args which op ≡ map_reply keys tools o itself args which op
+  map_alone which (operation.Common c) = common_own o args (map_own keys tools which o) c
+  map_alone of_hashed _ = refl
+  map_alone of_ordered _ = refl
 
-alone_texts : (which : SequenceKind) (o : Object ℕ Text) (op : Operation) (args : Arguments) →
-    carried (λ s. a_sequence which (of_texts s)) (reply_by texts o (source_in o (Some o) args) (seen_by o args) which op)
-    ≡ carried (λ s. a_sequence which (of_texts s)) (reply_by texts o (source_in o None args) (seen_by o args) which op)
-alone_texts which o op args =
-    ap (λ s. carried (λ s. a_sequence which (of_texts s)) (reply_by texts o s (seen_by o args) which op)) (own_source o args)
-    ∙ ap (carried (λ s. a_sequence which (of_texts s))) (sym (reply_alone texts o (seen_by o args) which op))
+module _ {T : Type 0} (tools : Tools T) (o : Object ℕ T) (args : Arguments) where
+  set_alone : (which : KeyedKind) (op : Operation) → set_reply tools o without args which op ≡ set_reply tools o itself args which op
+  set_alone which (operation.Common c) = common_own o args (set_own tools which o) c
+  set_alone of_hashed _ = refl
+  set_alone of_ordered _ = refl
+
+rows_alone : (kind : RowKind) (o : Object ℕ (RowOf kind)) (op : Operation) (args : Arguments) →
+    rows_reply kind o without args op ≡ rows_reply kind o itself args op
+rows_alone (a_sequence which e) o op args = reply_alone (tools_of e) o args which op
+rows_alone (a_map which k e) o op args = map_alone (tools_of k) (tools_of e) o args which op
+rows_alone (a_set which e) o op args = set_alone (tools_of e) o args which op
 
 pub itself_alone : (h : Held) (op : Operation) (args : Arguments) → reply_of h (Some h) op args ≡ reply_of h None op args
-itself_alone (a_sequence of_list (of_integers o)) op args = alone_integers of_list o op args
-itself_alone (a_sequence of_list (of_texts o)) op args = alone_texts of_list o op args
-itself_alone (a_sequence of_vector (of_integers o)) op args = alone_integers of_vector o op args
-itself_alone (a_sequence of_vector (of_texts o)) op args = alone_texts of_vector o op args
+itself_alone (of_rows kind o) op args =
+    ap (λ s. carried (of_rows kind) (rows_reply kind o (source_in o s args) (seen_by o args) op)) (rows_own kind o)
+    ∙ (ap (λ s. carried (of_rows kind) (rows_reply kind o s (seen_by o args) op)) (own_source o args)
+    ∙ ap (carried (of_rows kind)) (sym (rows_alone kind o op (seen_by o args))))
 
 -- Listings
 

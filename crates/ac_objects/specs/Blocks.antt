@@ -43,7 +43,3 @@ pub record HasRoom (e : State) (place : ℕ) (kind : GuardKind) : Type 0 where
   pub held : Held
   pub there : object_at e place ≡ Some held
   pub counted : count_of (raised_kind (is_a_set held) kind) (counts_in_held held) < 2 ^ 64 - 1
-
--- a guard of another kind that was held at the place is held there still
-abbrev pub OthersHeld : HeldGuard → ℕ → (old new : State) → Type 0
-OthersHeld key place old new = (g : HeldGuard) → (key.kind ≡ g.kind → ⊥) → IsHeldAt old place g → IsHeldAt new place g

@@ -4,8 +4,8 @@ use Rattle.ac_base.specs.declared.cursor.Cursor.{Cursor}
 use Rattle.ac_base.specs.declared.cursor.Cursor.TheVariants as cursor
 use Rattle.ac_model.specs.Objects.{plain}
 use Rattle.ac_model.specs.Cursors.{plain_mark, Agrees}
-use Rattle.ac_meaning.specs.Elements.{of_integers, of_texts}
-use Rattle.ac_meaning.specs.Holdings.{Held, a_sequence}
+use Rattle.ac_syntax.specs.declared.kind.ElemKind.TheVariants.{Integer, Str}
+use Rattle.ac_meaning.specs.Holdings.{Held, of_rows, a_sequence}
 use Rattle.ac_meaning.specs.Environment as meant
 use Rattle.ac_meaning.specs.Numbers.{NumbersDiffer}
 use Rattle.ac_objects.specs.declared.object.Object.{Object}
@@ -25,8 +25,8 @@ world bounds next = record { bounds = bounds; next = next }
 -- without the slots of names: as the meaning of scripts has them
 
 abbrev pub held_of : Object → Held
-held_of (Integers s) = a_sequence (kind_of s) (of_integers (plain (rows_of s).object))
-held_of (Texts s) = a_sequence (kind_of s) (of_texts (plain (rows_of s).object))
+held_of (Integers s) = of_rows (a_sequence (kind_of s) Integer) (plain (rows_of s).object)
+held_of (Texts s) = of_rows (a_sequence (kind_of s) Str) (plain (rows_of s).object)
 
 abbrev pub bound_of : Bound → meant.Bound
 bound_of bound.Type = meant.binds_type

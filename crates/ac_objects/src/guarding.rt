@@ -5,7 +5,7 @@ ghost use Rattle.ac_model.specs.Containers.{guards_of};
 ghost use Rattle.ac_meaning.specs.Holdings.{Held, with_rows_by, is_a_set, guard_on};
 ghost use Rattle.ac_meaning.specs.Environment.{object_at, objects_by};
 ghost use Rattle.ac_meaning.specs.UnderGuards.{held_with, held_without};
-ghost use Rattle.ac_objects.specs.Blocks.{HasRoom, IsHeldAt, OthersHeld};
+ghost use Rattle.ac_objects.specs.Blocks.{HasRoom, IsHeldAt};
 ghost use Rattle.ac_objects.specs.Counts as counts;
 ghost use Rattle.ac_objects.specs.Sequences.{rows_of};
 ghost use Rattle.ac_objects.specs.Standing.{IsObject, counts_in_held};
@@ -121,7 +121,6 @@ impl Objects {
     pub(crate) fn release(&mut self, place: usize, key: GuardKey)
         requires { IsHeldAt (state_of self.old) place key }
         ensures released { state_of self.new ≡ objects_by (held_without key) (state_of self.old) }
-        ensures others { OthersHeld key place (state_of self.old) (state_of self.new) }
         ensures persists { Persists self.old self.new }
     {
         match &mut self.bounds[place] {

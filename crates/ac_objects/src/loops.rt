@@ -4,8 +4,9 @@ ghost use Rattle.std.specs.Option.{ForSome};
 ghost use Rattle.ac_model.specs.Letters.{no_mark};
 ghost use Rattle.ac_model.specs.Cursors.{plain_mark};
 ghost use Rattle.ac_meaning.specs.Holdings.{Held, names_of, number_of, guard_on};
-ghost use Rattle.ac_meaning.specs.Environment.{object_at, object_in, with_name, leaving};
+ghost use Rattle.ac_meaning.specs.Environment.{object_at, object_in, objects_by, with_name, leaving};
 ghost use Rattle.ac_meaning.specs.Execution.{in_order, turn_bound, guards_of_loop};
+ghost use Rattle.ac_meaning.specs.UnderGuards.{held_without};
 ghost use Rattle.ac_meaning.specs.Walks.{first_mark};
 ghost use Rattle.ac_objects.specs.Blocks.{holding, releasing, guard_if, guards_of_loop_key, HasRoom, IsHeldAt};
 ghost use Rattle.ac_objects.specs.Given.{StepsOn};
@@ -88,8 +89,7 @@ impl Objects {
     pub fn leave_loop(&mut self, key: LoopKey)
         requires inner { key.object < key.names }
         requires cursors { IsHeldAt (state_of self.old) key.object key.cursors }
-        requires elements { ForSome key.elements (λ g. IsHeldAt (state_of self.old) key.object g) }
-        requires apart { ForSome key.elements (λ g. (key.cursors.kind ≡ g.kind) → ⊥) }
+        requires elements { ForSome key.elements (λ g. IsHeldAt (objects_by (held_without key.cursors) (state_of self.old)) key.object g) }
         ensures left { state_of self.new ≡ releasing (guards_of_loop_key key) (leaving key.names (state_of self.old)) }
         ensures persists { Persists self.old self.new }
     {

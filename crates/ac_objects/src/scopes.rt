@@ -1,10 +1,11 @@
 //! The names in scope: those that declarations make, and those that go at a block's end.
-ghost use Rattle.std.specs.Prelude.{◌≡◌, ◌++◌, ◌∷◌, ℕ, true, false, length, take, None, Some, IfOk, OnErr, Err};
+ghost use Rattle.std.specs.Prelude.{◌≡◌, ◌++◌, ◌∷◌, ℕ, true, false, length, take, Option, None, Some, IfOk, OnErr, Err};
 ghost use Rattle.ac_meaning.specs.Environment.{object_at, object_in, with_name, leaving, after_decl, after_decls, nodes, nodes_in};
 ghost use Rattle.ac_base.specs.Limits.{IsLimit};
-ghost use Rattle.ac_meaning.specs.Holdings.{limit_by, new_held, sequence_kind, is_vector};
+ghost use Rattle.ac_meaning.specs.Holdings.{a_sequence, kind_by, limit_by, new_held, is_vector};
 ghost use Rattle.ac_model.specs.Objects.{plain, empty_object};
 ghost use Rattle.ac_meaning.specs.Environment.{declared};
+ghost use Rattle.ac_syntax.specs.declared.kind.ElemKind.{ElemKind as Elements};
 ghost use Rattle.ac_objects.specs.Declarations.{object_declared, spent_at};
 ghost use Rattle.ac_objects.specs.Given.{Finds};
 ghost use Rattle.ac_objects.specs.Sequences.{rows_of, kind_of};
@@ -230,8 +231,8 @@ fn new_sequence<T: Drop>(
     limit: Limit,
 ) -> Result<Sequence<T>, NoMemory>
     requires { IsLimit limit }
-    ensures kind { IfOk result (λ made. kind_of made ≡ sequence_kind kind) }
-    ensures empty { IfOk result (λ made. plain (rows_of made).object ≡ empty_object (is_vector (sequence_kind kind)) tag limit) }
+    ensures kind { (first : Elements) (second : Option Elements) → IfOk result (λ made. kind_by kind first second ≡ a_sequence (kind_of made) first) }
+    ensures empty { IfOk result (λ made. plain (rows_of made).object ≡ empty_object (is_vector (kind_of made)) tag limit) }
 {
     match kind {
         Kind::List => match List::new(alloc, tag, limit) {

@@ -4,9 +4,8 @@ use Rattle.ac_objects.specs.declared.object.Object.TheVariants.{Integers, Texts}
 use Rattle.ac_objects.specs.Arguments.{arguments_of}
 use Rattle.ac_objects.specs.Replied.{told}
 use Rattle.ac_objects.specs.Called.{CalledWith, Lasts}
-use Rattle.ac_objects.specs.Sequences.{kind_of}
 use Rattle.ac_objects.specs.World.{held_of}
-use Rattle.ac_objects.proofs.CalledSequences.{called_integers, called_texts, lasts_integers, lasts_texts, with_integers, with_texts, with_lasts_integers, with_lasts_texts, unlike, unlike_integers, unlike_texts}
+use Rattle.ac_objects.proofs.CalledSequences.{called_integers, called_texts, lasts_integers, lasts_texts, with_integers, with_texts, with_lasts_integers, with_lasts_texts, unlike}
 use Rattle.ac_objects.proofs.held.call_objects.Goals as goal
 
 pub returns-in-Integers-source-clause-called : goal.returns-in-Integers-source-clause-called
@@ -42,8 +41,7 @@ returns-in-Texts-source-clause-called c =
     subst (λ o. CalledWith (reply_of (held_of o) (Some (held_of c.args.source.now)) c.args.operation args) o c.args.source.now (Integers call.new.sequence) c.args.source.now (told call.new.reply call.result))
     (sym c.in-Integers.is)
     (unlike _ _ (Integers c.in-Integers.sequence) c.args.source.now (Integers call.new.sequence) (told call.new.reply call.result)
-    (ap (λ s. reply_of (held_of (Integers c.in-Integers.sequence)) (Some (held_of s)) c.args.operation args) c.in-Texts-source.is
-    ∙ unlike_integers (kind_of c.in-Integers.sequence) (kind_of c.in-Texts-source.field-0) _ _ c.args.operation args)
+    (ap (λ s. reply_of (held_of (Integers c.in-Integers.sequence)) (Some (held_of s)) c.args.operation args) c.in-Texts-source.is)
     (called_integers c.in-Integers.sequence call.new.sequence c.args.operation args (told call.new.reply call.result) call.ensures.kind call.ensures.valid call.ensures.replied))
 
 pub returns-in-Texts-source-clause-lasts : goal.returns-in-Texts-source-clause-lasts
@@ -59,8 +57,7 @@ returns-in-Integers-source-2-clause-called c =
     subst (λ o. CalledWith (reply_of (held_of o) (Some (held_of c.args.source.now)) c.args.operation args) o c.args.source.now (Texts call.new.sequence) c.args.source.now (told call.new.reply call.result))
     (sym c.in-Texts.is)
     (unlike _ _ (Texts c.in-Texts.sequence) c.args.source.now (Texts call.new.sequence) (told call.new.reply call.result)
-    (ap (λ s. reply_of (held_of (Texts c.in-Texts.sequence)) (Some (held_of s)) c.args.operation args) c.in-Integers-source-2.is
-    ∙ unlike_texts (kind_of c.in-Texts.sequence) (kind_of c.in-Integers-source-2.field-0) _ _ c.args.operation args)
+    (ap (λ s. reply_of (held_of (Texts c.in-Texts.sequence)) (Some (held_of s)) c.args.operation args) c.in-Integers-source-2.is)
     (called_texts c.in-Texts.sequence call.new.sequence c.args.operation args (told call.new.reply call.result) call.ensures.kind call.ensures.valid call.ensures.replied))
 
 pub returns-in-Integers-source-2-clause-lasts : goal.returns-in-Integers-source-2-clause-lasts

@@ -3,7 +3,7 @@ use Rattle.ac_check.specs.Resolved.{resolved_size, no_statement}
 use Rattle.ac_check.specs.ResolvedStatements.{resolved_before, resolved_of}
 use Rattle.ac_check.specs.declared.resolved.ResolvedStmt.{ResolvedStmt}
 use Rattle.ac_meaning.specs.Holdings.{number_of, names_of}
-use Rattle.ac_meaning.specs.Environment.{State, leaving, object_at, mark_at, with_name, binds_element, after_decls}
+use Rattle.ac_meaning.specs.Environment.{State, objects_by, leaving, object_at, mark_at, with_name, binds_element, after_decls}
 use Rattle.ac_meaning.specs.Execution.{exec_resolved, guards_of_loop, guards_of_view, guards_of_stable, in_order, turns, turn_bound, scoped}
 use Rattle.ac_base.specs.declared.reason.Reason.TheVariants.{NamesSpent}
 use Rattle.ac_host.specs.declared.end.HostEnd.TheVariants.{NoMemory}
@@ -13,10 +13,11 @@ use Rattle.ac_objects.specs.Standing.{counts_of}
 use Rattle.ac_objects.specs.World.{state_of}
 use Rattle.ac_model.specs.Cursors.{plain_mark}
 use Rattle.ac_model.specs.Letters.{mark_at as mark_of_name}
-use Rattle.ac_host.proofs.Blocks.{ran_inside, ran_as, ran_broke, ran_all, ran_line, there_within, many_names, many_under, leaving_held, leaving_named, counts_before, stable_held, view_held, loop_cursors_held, loop_elements_held, loop_kinds_apart, stable_comes, view_comes, view_refused, mark_under, loop_comes, decls_begin, declare_comes, declare_spent, declare_back, inner_by, loop_left}
+use Rattle.ac_host.proofs.Blocks.{ran_inside, ran_as, ran_broke, ran_all, ran_line, there_within, many_names, many_under, leaving_held, leaving_named, counts_before, stable_held, view_held, loop_cursors_held, loop_elements_held, stable_comes, view_comes, view_refused, mark_under, loop_comes, decls_begin, declare_comes, declare_spent, declare_back, inner_by, loop_left}
 use Rattle.ac_host.specs.Running.{statement_outcome, inside, Turning}
 use Rattle.ac_host.specs.Writing.{WroteSoFar}
-use Rattle.ac_host.proofs.Holding.{counts_back, leaving_counts, held_still}
+use Rattle.ac_meaning.specs.UnderGuards.{held_without}
+use Rattle.ac_host.proofs.Holding.{counts_back, leaving_counts, held_still, held_behind}
 use Rattle.ac_host.proofs.Opening.{stable_begins, view_begins, loop_begins}
 use Rattle.ac_host.proofs.Steps.{size_among, statements_next, statements_none, ready_statement}
 use Rattle.ac_host.proofs.Telling.{so_far_none, so_far_more, so_far_broke, so_far_stopped}
@@ -381,19 +382,12 @@ run_loop-leave_loop-requires-clause-elements g t c x some =
     let ended = c.run_turns-ended.ensures.key in
     let k = c.run_turns-ended.new.key in
     let within = inner_by refl (key.1 ∙ sym (many_names old)) (there_within (state_of old) c.args.object o.held o.there) in
-    subst (λ p. IsHeldAt (state_of c.run_turns-ended.new.self.objects) p x) (sym (ended.0 ∙ key.0))
-    (held_still mid (state_of c.run_turns-ended.new.self.objects) c.args.object c.in_ok-key.key.names x within c.run_turns-ended.ensures.counts
-    (subst (λ s. IsHeldAt s c.args.object x) (sym is.2)
+    let now = state_of c.run_turns-ended.new.self.objects in
+    subst (λ p. IsHeldAt (objects_by (held_without k.cursors) now) p x) (sym (ended.0 ∙ key.0))
+    (held_behind mid now c.args.object c.in_ok-key.key.names k.cursors x within c.run_turns-ended.ensures.counts
+    (subst (λ s. IsHeldAt (objects_by (held_without k.cursors) s) c.args.object x) (sym is.2)
     (loop_elements_held (state_of old) c.args.object c.args.elements o.held k.cursors x o.there
     (sym (ap (λ l. k.cursors ∷ guard_if l) some) ∙ (ended.2 ∙ is.1)))))
-
-pub run_loop-leave_loop-requires-clause-apart : goal.run_loop-leave_loop-requires-clause-apart
-run_loop-leave_loop-requires-clause-apart g t c x some =
-    let o = c.is_object.ensures.yes c.if-not-is_object.false in
-    let is = c.in_ok-key.ensures.opened o.held o.there in
-    let ended = c.run_turns-ended.ensures.key in
-    let k = c.run_turns-ended.new.key in
-    loop_kinds_apart c.args.elements o.held k.cursors x (sym (ap (λ l. k.cursors ∷ guard_if l) some) ∙ (ended.2 ∙ is.1))
 
 pub run_loop-returns-clause-runs : goal.run_loop-returns-clause-runs
 run_loop-returns-clause-runs g t c guards e u =

@@ -3,7 +3,7 @@ use Rattle.ac_meaning.specs.Environment.{objects_by}
 use Rattle.ac_meaning.specs.UnderGuards.{held_without}
 use Rattle.ac_objects.specs.Blocks.{releasing, guard_if}
 use Rattle.ac_objects.specs.World.{state_of}
-use Rattle.ac_objects.proofs.Counted.{held_left, any_held_left, any_held_still}
+use Rattle.ac_objects.proofs.Counted.{held_left, any_held_left, objects_leaving}
 use Rattle.ac_objects.proofs.objects.Objects.leave_loop.Goals as goal
 
 pub release-requires : goal.release-requires
@@ -13,10 +13,11 @@ release-requires c =
 
 pub release_any-requires : goal.release_any-requires
 release_any-requires c =
-    any_held_still (state_of c.leave_scope.new.self) (state_of c.release.new.self) c.args.key.object c.args.key.cursors c.args.key.elements
-    c.release.ensures.others c.requires.apart
-    (any_held_left (state_of c.args.self.now) (state_of c.leave_scope.new.self) c.args.key.names c.args.key.object c.args.key.elements
-    c.leave_scope.ensures.left c.requires.inner c.requires.elements)
+    let without = held_without c.args.key.cursors in
+    any_held_left (objects_by without (state_of c.args.self.now)) (state_of c.release.new.self) c.args.key.names c.args.key.object c.args.key.elements
+    (c.release.ensures.released
+    ∙ (ap (objects_by without) c.leave_scope.ensures.left ∙ objects_leaving without c.args.key.names (state_of c.args.self.now)))
+    c.requires.inner c.requires.elements
 
 pub returns-clause-left : goal.returns-clause-left
 returns-clause-left c =
