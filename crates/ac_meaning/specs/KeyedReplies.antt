@@ -1,5 +1,5 @@
 -- The calls that maps and sets have in common, on objects of a script.
-use Rattle.std.specs.Prelude.{ℕ}
+use Rattle.std.specs.Prelude.{ℕ, Bool}
 use Rattle.ac_model.specs.Objects.{Object}
 use Rattle.ac_model.specs.Calls.{Call}
 use Rattle.ac_model.specs.Keyed as keyed
@@ -19,10 +19,13 @@ pub data KeyedKind : Type 0 where
   of_hashed : KeyedKind
   of_ordered : KeyedKind
 
--- and how its keys are told apart
+-- and how its keys are told apart, by these tests
+abbrev pub keyed_order : {K : Type 0} → (alike less : K → K → Bool) → KeyedKind → Order K
+keyed_order alike less of_hashed = by_arrival alike
+keyed_order alike less of_ordered = ascending less
+
 abbrev pub order_by : {K : Type 0} → Tools K → KeyedKind → Order K
-order_by tools of_hashed = by_arrival tools.alike
-order_by tools of_ordered = ascending tools.less
+order_by tools which = keyed_order tools.alike tools.less which
 
 -- an insertion answers whether it inserted, and sets the variable at this place
 abbrev pub changes_inserting : {S : Type 0} → ℕ → Call S Inserted → Reply S

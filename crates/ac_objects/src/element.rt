@@ -6,13 +6,13 @@ ghost use Rattle.ac_syntax.specs.Canonical.{literal_text};
 ghost use Rattle.ac_meaning.specs.Elements as elements;
 
 use crate::literal::add_quoted;
-use ac_base::{Elem, NoMemory, Rank, Text, Value};
+use ac_base::{Elem, Hashed, NoMemory, Rank, Text, Value};
 use ac_io::{Sink, WriteFault, add};
 use itoa::Buffer;
 use std::alloc::Global;
 
 /// Elements that a script's values become.
-pub trait ScriptElement: Rank {
+pub trait ScriptElement: Rank + Hashed {
     ghost use Rattle.ac_meaning.specs.Elements.{Tools};
 
     ghost tools: { Tools Self };
@@ -33,6 +33,8 @@ pub trait ScriptElement: Rank {
 
     ghost same_is: { tools.same ≡ Self.is_same };
 
+    ghost alike_is: { tools.alike ≡ Self.is_alike };
+
     ghost less_is: { tools.less ≡ Self.is_less };
 
     ghost blank_is: { tools.blank ≡ Self.blank_element };
@@ -42,6 +44,8 @@ impl ScriptElement for i64 {
     ghost tools = { elements.integers };
 
     ghost same_is = { refl };
+
+    ghost alike_is = { refl };
 
     ghost less_is = { refl };
 
@@ -67,6 +71,8 @@ impl ScriptElement for Text {
     ghost tools = { elements.texts };
 
     ghost same_is = { refl };
+
+    ghost alike_is = { refl };
 
     ghost less_is = { refl };
 
