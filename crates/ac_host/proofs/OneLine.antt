@@ -1,11 +1,18 @@
 -- What is written of a line that is added in pieces.
-use Rattle.std.proofs.Common.{◌≡◌, ◌≢◌, ◌-◌, ◌≤◌, ℕ, Bool, List, [], ◌∷◌, ◌++◌, length, refl, sym, ap, subst, ◌∙◌, Option, Some, None, IfSome, Result, Ok, Err, IsOk, IsErrAnd, codes, decimal, append_assoc, append-nil}
+use Rattle.std.proofs.Common.{◌≡◌, ◌≢◌, ◌-◌, ◌≤◌, ℕ, Bool, true, false, not, true≢false, if◌then◌else◌, List, [], ◌∷◌, ◌++◌, length, refl, sym, ap, subst, ◌∙◌, Option, Some, None, IfSome, Result, Ok, Err, IsOk, IsErrAnd, codes, decimal, append_assoc, append-nil}
 use Rattle.std.proofs.lemmas.Result.{err_from_is_err_and}
 use Rattle.ac_io.specs.Pieces.{Adds}
 use Rattle.ac_io.proofs.Telling.{adds_broken, written_whole, written_room}
-use Rattle.ac_meaning.specs.Answers.{Line, line, line_text, lines_text, answers_list}
+use Rattle.ac_model.specs.Letters.{is_no_mark}
+use Rattle.ac_meaning.specs.Answers.{Line, line, line_text, lines_text, answer_text, answers_list}
+use Rattle.ac_meaning.specs.Answers as meant
+use Rattle.ac_meaning.specs.Environment.{State}
+use Rattle.ac_objects.specs.declared.answer.Answer.{Answer}
+use Rattle.ac_objects.specs.declared.answer.Answer.TheVariants.{Done, Value, Truth, Place, Listing, Stalled}
+use Rattle.ac_objects.specs.Shown.{Shows}
 use Rattle.ac_host.specs.declared.end.HostEnd.{HostEnd}
 use Rattle.ac_host.specs.declared.end.HostEnd.TheVariants.{WriteFault, NoMemory}
+use Rattle.ac_host.specs.Lines.{is_listing, shown_text}
 use Rattle.ac_host.specs.Writing.{Wrote, Broke, Writes}
 use Rattle.ac_host.proofs.Telling.{broke_nothing}
 
@@ -73,3 +80,24 @@ pub listed_line : (number : ℕ) (text begun : List ℕ) → begun ≡ decimal n
 listed_line number text begun is =
     ap (λ t. t ++ (text ++ 10 ∷ [])) is
     ∙ (append_assoc (decimal number) (codes ": ") (text ++ 10 ∷ []) ∙ sym (one_line (line number (answers_list text))))
+
+-- the line of any other answer
+
+place_shown : (somewhere nowhere : Bool) → somewhere ≡ not nowhere →
+    (if somewhere then codes "cursor" else codes "no_element") ≡ (if nowhere then codes "no_element" else codes "cursor")
+place_shown somewhere true is = rw is refl
+place_shown somewhere false is = rw is refl
+
+shown_is : (e : State) (answer : Answer) (answered : meant.Answer) → is_listing answer ≡ false → Shows e answer answered →
+    shown_text answer ≡ answer_text answered
+shown_is e Done answered short s = rw s refl
+shown_is e (Value v) answered short s = rw s refl
+shown_is e (Truth is_true) answered short s = rw s refl
+shown_is e (Place is_somewhere) answered short s = place_shown is_somewhere (is_no_mark s.0) s.2 ∙ sym (ap answer_text s.1)
+shown_is e (Listing place) answered short s = absurd (true≢false short)
+shown_is e Stalled answered short s = rw s refl
+
+pub shown_line : (number : ℕ) (e : State) (answer : Answer) (answered : meant.Answer) → is_listing answer ≡ false → Shows e answer answered →
+    decimal number ++ (codes ": " ++ (shown_text answer ++ 10 ∷ [])) ≡ lines_text (line number answered ∷ [])
+shown_line number e answer answered short s =
+    ap (λ t. decimal number ++ (codes ": " ++ (t ++ 10 ∷ []))) (shown_is e answer answered short s) ∙ sym (one_line (line number answered))

@@ -5,6 +5,7 @@ mod end;
 mod host;
 mod line;
 mod serial;
+mod short;
 mod written;
 
 pub use end::HostEnd;

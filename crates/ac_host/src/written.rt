@@ -1,5 +1,5 @@
 //! The line of a command.
-ghost use Rattle.std.specs.Prelude.{◌≡◌, ◌≢◌, ◌∷◌, [], false, Some, Err, OnOk};
+ghost use Rattle.std.specs.Prelude.{◌≡◌, ◌≢◌, ◌∷◌, ◌++◌, [], false, codes, decimal, Some, Err, OnOk};
 ghost use Rattle.ac_base.specs.declared.fault.Fault.TheVariants as fault;
 ghost use Rattle.ac_meaning.specs.Answers.{line, lines_text, answers_list, answers_raised};
 ghost use Rattle.ac_meaning.specs.Answers as meant;
@@ -9,12 +9,14 @@ ghost use Rattle.ac_meaning.specs.Holdings.{Held, listing_of};
 ghost use Rattle.ac_objects.specs.Performs.{Performs};
 ghost use Rattle.ac_objects.specs.Shown.{Shows};
 ghost use Rattle.ac_objects.specs.World.{World, state_of};
-ghost use Rattle.ac_host.specs.Lines.{is_listing};
+ghost use Rattle.ac_syntax.specs.Canonical.{literal_text};
+ghost use Rattle.ac_host.specs.Lines.{is_listing, shown_text};
 ghost use Rattle.ac_host.specs.Writing.{Writes};
 
 use crate::end::HostEnd;
-use crate::line::{answer_line, begin_line, reason_line};
-use ac_base::{Fault, Reason};
+use crate::line::{begin_line, reason_line, value_line};
+use crate::short::{write_integer, write_words};
+use ac_base::{Fault, Reason, Value};
 use ac_io::{Sink, add_last, pass};
 use ac_objects::{Answer, Objects};
 
@@ -85,7 +87,61 @@ fn write_short<K: Sink>(
     ensures { (e : State) (answered : meant.Answer) → Shows e answer.now answered →
         Writes K.held K.faults K.room K.counts_failures sink.old sink.new (lines_text (line number answered ∷ [])) result }
 {
-    answer_line(text, number, answer)?;
+    write_shown(number, answer, text, sink)
+}
+
+/// Writes the line of a command, as its answer is shown.
+#[inline(always)]
+fn write_shown<K: Sink>(
+    number: u64,
+    answer: &Answer,
+    text: &mut Vec<u8>,
+    sink: &mut K,
+) -> Result<(), HostEnd>
+    requires { is_listing answer.now ≡ false }
+    ensures { Writes K.held K.faults K.room K.counts_failures sink.old sink.new
+        (decimal number ++ (codes ": " ++ (shown_text answer.now ++ 10 ∷ []))) result }
+{
+    match answer {
+        Answer::Done => write_words(*b"                    : ok\n", number, sink),
+        Answer::Value(value) => write_value(number, value, text, sink),
+        Answer::Truth(true) => write_words(*b"                    : true\n", number, sink),
+        Answer::Truth(false) => write_words(*b"                    : false\n", number, sink),
+        Answer::Place(true) => write_words(*b"                    : cursor\n", number, sink),
+        Answer::Place(false) => write_words(*b"                    : no_element\n", number, sink),
+        Answer::Listing(_) => unreachable!(),
+        Answer::Stalled => write_words(*b"                    : stalled\n", number, sink),
+    }
+}
+
+/// Writes the line of a command that was answered with a value.
+#[inline(always)]
+fn write_value<K: Sink>(
+    number: u64,
+    value: &Value,
+    text: &mut Vec<u8>,
+    sink: &mut K,
+) -> Result<(), HostEnd>
+    ensures { Writes K.held K.faults K.room K.counts_failures sink.old sink.new
+        (decimal number ++ (codes ": " ++ (literal_text value.now ++ 10 ∷ []))) result }
+{
+    match value {
+        Value::Int(integer) => write_integer(number, *integer, sink),
+        Value::Text(_) => write_text(number, value, text, sink),
+    }
+}
+
+/// Writes the line of a command that was answered with a string.
+fn write_text<K: Sink>(
+    number: u64,
+    value: &Value,
+    text: &mut Vec<u8>,
+    sink: &mut K,
+) -> Result<(), HostEnd>
+    ensures { Writes K.held K.faults K.room K.counts_failures sink.old sink.new
+        (decimal number ++ (codes ": " ++ (literal_text value.now ++ 10 ∷ []))) result }
+{
+    value_line(text, number, value)?;
     pass(text, sink)?;
     Ok(())
 }

@@ -1,0 +1,79 @@
+//! Lines whose length is bounded: each is made in an array, from its end to its beginning, and written at once.
+ghost use Rattle.std.specs.Prelude.{◌≡◌, ◌≤◌, ◌<◌, ◌+◌, ◌∷◌, ◌++◌, [], codes, decimal, drop, length};
+ghost use Rattle.std.specs.Fmt.{signed_decimal};
+ghost use Rattle.ac_host.specs.Writing.{Writes};
+
+use crate::end::HostEnd;
+use ac_io::{Sink, write_all};
+use itoa::write_digits;
+
+/// The most digits of a line's number.
+const NUMBER: usize = 20;
+
+/// Writes a line of which all but its number stands in the array, behind this place.
+#[inline(always)]
+fn write_numbered<K: Sink>(
+    line: &mut [u8],
+    end: usize,
+    number: u64,
+    sink: &mut K,
+) -> Result<(), HostEnd>
+    requires { (20 ≤ end) × (end ≤ length line.old) }
+    ensures { Writes K.held K.faults K.room K.counts_failures sink.old sink.new (decimal number ++ drop end line.old) result }
+{
+    let start = write_digits(number, line, end);
+    write_all(sink, &line[start..])?;
+    Ok(())
+}
+
+#[inline(always)]
+fn put_byte(line: &mut [u8], at: usize, byte: u8)
+    requires { at < length line.old }
+    ensures written { drop at line.new ≡ byte ∷ drop (at + 1) line.old }
+    ensures length { length line.new ≡ length line.old }
+{
+    line[at] = byte;
+}
+
+/// Puts an integer so that it ends at this place, and says where it starts.
+#[inline(always)]
+fn put_integer(line: &mut [u8], end: usize, value: i64) -> usize
+    requires { (20 ≤ end) × (end ≤ length line.old) }
+    ensures start { end ≤ result + 20 }
+    ensures written { drop result line.new ≡ signed_decimal value ++ drop end line.old }
+    ensures length { length line.new ≡ length line.old }
+    ensures within { result ≤ end }
+{
+    let start = write_digits(value.unsigned_abs(), line, end);
+    if value >= 0 {
+        return start;
+    }
+    put_byte(line, start - 1, b'-');
+    start - 1
+}
+
+/// Writes the line of a command that was answered with an integer.
+pub fn write_integer<K: Sink>(number: u64, value: i64, sink: &mut K) -> Result<(), HostEnd>
+    ensures { Writes K.held K.faults K.room K.counts_failures sink.old sink.new
+        (decimal number ++ (codes ": " ++ (signed_decimal value ++ 10 ∷ []))) result }
+{
+    let mut line = [b'\n'; 43];
+    let start = put_integer(&mut line, 42, value);
+    put_byte(&mut line, start - 1, b' ');
+    put_byte(&mut line, start - 2, b':');
+    write_numbered(&mut line, start - 2, number, sink)
+}
+
+/// Writes a line of words, which stand behind room for its number.
+#[inline(always)]
+pub fn write_words<K: Sink, const N: usize>(
+    line: [u8; N],
+    number: u64,
+    sink: &mut K,
+) -> Result<(), HostEnd>
+    requires { 20 ≤ N }
+    ensures { Writes K.held K.faults K.room K.counts_failures sink.old sink.new (decimal number ++ drop 20 line.entry) result }
+{
+    let mut line = line;
+    write_numbered(&mut line, NUMBER, number, sink)
+}
