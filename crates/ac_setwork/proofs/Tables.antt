@@ -4,6 +4,7 @@ use Rattle.std.specs.Prelude.{is_some, All, if◌then◌else◌}
 use Rattle.std.proofs.lemmas.List.{length-map}
 use Rattle.std.proofs.lemmas.Option.{none-some}
 use Rattle.ac_base.specs.declared.limit.Limit.{Limit}
+use Rattle.ac_base.specs.declared.limit.Limit.TheVariants.{Unbounded, Bounded}
 use Rattle.ac_base.specs.declared.name.Name.{Name}
 use Rattle.ac_base.specs.declared.reason.Reason.{Reason}
 use Rattle.ac_base.specs.declared.reason.Reason.TheVariants.{KeyPresent, KeyAbsent}
@@ -11,8 +12,9 @@ use Rattle.ac_base.specs.FirstReason.{first_reason, earlier}
 use Rattle.ac_base.specs.Guards.{GuardCounts}
 use Rattle.ac_base.specs.Rows.{Row, row, names}
 use Rattle.ac_model.specs.Rows.{cut, place_of, named, with_value, row_by}
-use Rattle.ac_model.specs.Objects.{Object, plain, plains, plain_row, with_rows, capacity_after, times}
-use Rattle.ac_base.specs.Limits.{IsLimit, is_past}
+use Rattle.ac_model.specs.Containers.{Container, container, object_with, first_spare}
+use Rattle.ac_model.specs.Objects.{Object, plain, plain_row, with_rows, capacity_after, first_capacity, empty_object}
+use Rattle.ac_base.specs.Limits.{IsLimit}
 use Rattle.ac_model.specs.Letters.{mark_at, mark_of, has_room, is_among, is_same_name, name_of, tampers_cursors, room_for_one, room_in, reason_if}
 use Rattle.ac_model.specs.Calls.{IsAfter, KeepsSlots, Changing, Same, Marks, call}
 use Rattle.ac_base.specs.declared.fault.Fault.{Fault}
@@ -28,8 +30,8 @@ use Rattle.ac_model.proofs.Moves.{found, length-cut_one}
 use Rattle.ac_model.proofs.KeyedKept.{length-added}
 use Rattle.ac_model.proofs.FirstValid.{empty_is_valid}
 use Rattle.ac_model.proofs.Reasons.{none_first, none_others, not_if}
-use Rattle.ac_setwork.specs.Indexed.{Indexed, Becomes, MakesRoom, HasSlots, plain_rows, slots, found_in}
-use Rattle.ac_setwork.specs.TableFields.{object_of, FirstCapacity, IsTable, named_like, add_call, Inserts, Places, done}
+use Rattle.ac_setwork.specs.Indexed.{Indexed, Becomes, IsEmpty, MakesRoom, HasSlots, plain_rows, slots, found_in}
+use Rattle.ac_setwork.specs.TableFields.{object_of, IsTable, named_like, add_call, Inserts, Places, done}
 use Rattle.ac_setwork.proofs.Found.{among_found, marked, none_found, some_found, row_named, named_among, is_same, or_true, Stands, stands}
 
 all_from : (P : Name → Type 0) (rest : List Name) → ((a : Name) → is_among rest a ≡ true → P a) → All P rest
@@ -282,25 +284,29 @@ module _ {V : Type 0} (order : Order V) (o new : Object Name V) (v : V) where
       subst (λ q. Changing (Places new p) (call (insertion_takes_memory (plain o) q) (first_reason (tampers_cursors (plain o) ∷ room_where_absent (plain o) q)) (with_added_if_absent order (plain o) q v) (inserted_or_found (plain o) q)) o new (Err fault.NoMemory)) (sym (like_none order o v h))
       (c.0, none, c.2)
 
+abbrev pub first_guards : ℕ → GuardCounts
+first_guards number = record { number = number; cursor_guards = 0; element_guards = 0 }
+
+first_slots : (has_capacity : Bool) (limit : Limit) → HasSlots limit (first_capacity has_capacity limit) (0 + first_spare limit)
+first_slots false Unbounded = tt
+first_slots false (Bounded most) = omega arith
+first_slots true Unbounded = omega arith
+first_slots true (Bounded most) = omega arith
+
 -- an index without rows
-pub empty_table : {V : Type 0} (order : Order V) (g : GuardCounts) (limit : Limit) (s : Indexed V) → Closed order → IsLimit limit → s.rows ≡ [] → s.next ≡ 1 → FirstCapacity limit s.capacity → HasSlots limit s.capacity (slots s) → IsTable order g limit s
-empty_table {V} order g limit s closed is_limit empty next capacity has_slots =
-    let none : plains s.rows ≡ [] = ap plains empty in
-    record {
-      valid = record {
-        as_object = record {
-          names_differ = λ name. rw none (omega arith);
-          names_below_next = λ name _. ap (times name) none;
-          names_from_one = ap (times 0) none;
-          next_from_one = omega arith;
-          next_in_range = omega arith;
-          within_limit = ap (λ (rows : List (Row ℕ V)). is_past limit (length rows)) none ∙ (empty_is_valid {V = V} false 0 limit).within_limit;
-          within_greatest = rw none (omega arith);
-          capacity_fits = rw none capacity;
-        };
-        keys_differ = λ v. rw none (omega arith);
-        in_order = rw none closed.in_none;
-      };
-      is_limit = is_limit;
-      has_slots = has_slots;
-    }
+module _ {V : Type 0} (has_capacity : Bool) (number : ℕ) (limit : Limit) (s : Indexed V) where
+  pub empty_is : IsEmpty has_capacity limit s → container (object_of (first_guards number) limit s) s.spare ≡ container (empty_object has_capacity number limit) (first_spare limit)
+  empty_is e = λ i. container (object_with number limit (e.capacity i) (e.next i) (e.rows i) 0 0) (e.spare i)
+
+  pub empty_table : (order : Order V) → Closed order → IsLimit limit → IsEmpty has_capacity limit s → IsTable order (first_guards number) limit s
+  empty_table order closed is_limit e =
+      let is : object_of (first_guards number) limit s ≡ empty_object has_capacity number limit = ap (λ (c : Container V). c.object) (empty_is e) in
+      record {
+        valid = subst (λ (o : Object Name V). IsValidKeyed order (plain o)) (sym is) (record {
+          as_object = empty_is_valid has_capacity number limit;
+          keys_differ = λ v. omega arith;
+          in_order = closed.in_none;
+        });
+        is_limit = is_limit;
+        has_slots = subst (λ (p : Option ℕ × ℕ). HasSlots limit p.0 p.1) (λ i. (sym e.capacity i, sym (λ j. length (e.rows j) + e.spare j) i)) (first_slots has_capacity limit);
+      }

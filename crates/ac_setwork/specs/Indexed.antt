@@ -1,12 +1,13 @@
 -- What is seen of an index: rows with names, the serial of the next name, the Capacity where there is one, and the spare slots; and what its calls leave.
-use Rattle.std.specs.Prelude.{◌≡◌, ◌<◌, ◌+◌, ◌≤◌, ⊤, ℕ, Bool, true, max, List, find, length, All, IsTrue, Option, Some, None, option_map, slice_get}
+use Rattle.std.specs.Prelude.{◌≡◌, ◌<◌, ◌+◌, ◌≤◌, ⊤, ℕ, Bool, true, max, List, [], find, length, All, IsTrue, Option, Some, None, option_map, slice_get}
 use Rattle.ac_base.specs.declared.limit.Limit.{Limit}
 use Rattle.ac_base.specs.declared.limit.Limit.TheVariants.{Unbounded, Bounded}
 use Rattle.ac_base.specs.declared.name.Name.{Name}
 use Rattle.ac_base.specs.Growth.{pow8}
 use Rattle.ac_base.specs.Rows.{Row, names}
 use Rattle.ac_model.specs.Rows.{value_at, place_of}
-use Rattle.ac_model.specs.Objects.{plains, capacity_after}
+use Rattle.ac_model.specs.Containers.{first_spare}
+use Rattle.ac_model.specs.Objects.{plains, capacity_after, first_capacity}
 use Rattle.ac_model.specs.Letters.{is_among, is_below}
 
 pub record Indexed (V : Type 0) : Type 0 where
@@ -52,6 +53,13 @@ module _ {V : Type 0} where
   -- the value under a name
   abbrev pub value_of : Indexed V → Name → Option V
   value_of s name = value_at (plain_rows s) name.serial
+
+  -- no rows yet
+  pub record IsEmpty (has_capacity : Bool) (limit : Limit) (s : Indexed V) : Type 0 where
+    pub rows : s.rows ≡ []
+    pub next : s.next ≡ 1
+    pub capacity : s.capacity ≡ first_capacity has_capacity limit
+    pub spare : s.spare ≡ first_spare limit
 
   -- the rows are these now, each name that stays keeps its slot, and the next serial and the spare slots are these
   pub record Becomes (old new : Indexed V) (rows_after : List (Row ℕ V)) (serial room : ℕ) : Type 0 where

@@ -1,5 +1,5 @@
 -- What the fields of a map or a set are seen as, and what holds of them.
-use Rattle.std.specs.Prelude.{◌≡◌, ◌==◌, ℕ, Bool, false, not, Option, Some, None, IfSome, Result, Ok, Err}
+use Rattle.std.specs.Prelude.{◌≡◌, ◌==◌, ℕ, Bool, false, not, Option, Some, None, Result, Ok, Err}
 use Rattle.ac_base.specs.declared.cursor.Cursor.{Cursor}
 use Rattle.ac_base.specs.declared.cursor.Cursor.TheVariants.{At}
 use Rattle.ac_base.specs.declared.fault.Fault.{Fault}
@@ -12,15 +12,11 @@ use Rattle.ac_base.specs.Limits.{IsLimit}
 use Rattle.ac_base.specs.Rows.{names}
 use Rattle.ac_model.specs.Calls.{Call, call, Marks, Done}
 use Rattle.ac_model.specs.Containers.{object_with}
-use Rattle.ac_model.specs.Objects.{Object, plain, CapacityFits}
+use Rattle.ac_model.specs.Objects.{Object, plain}
 use Rattle.ac_model.specs.Letters.{Mark, mark_at, mark_of, has_room}
 use Rattle.ac_model.specs.Keyed as keyed
 use Rattle.ac_model.specs.Keyed.{Order, IsValidKeyed, Inserted, with_added}
 use Rattle.ac_setwork.specs.Indexed.{Indexed, slots, HasSlots, found_in}
-
--- the Capacity of an empty object: none, or 0 or the limit
-abbrev pub FirstCapacity : Limit → Option ℕ → Type 0
-FirstCapacity limit capacity = IfSome capacity (CapacityFits limit 0)
 
 module _ {V : Type 0} where
   abbrev pub object_of : GuardCounts → Limit → Indexed V → Object Name V
@@ -30,10 +26,6 @@ module _ {V : Type 0} where
     pub valid : IsValidKeyed order (plain (object_of guards limit s))
     pub is_limit : IsLimit limit
     pub has_slots : HasSlots limit s.capacity (slots s)
-
-  -- what a new object is
-  abbrev pub new_object : ℕ → Limit → Indexed V → Object Name V
-  new_object number limit s = object_of (record { number = number; cursor_guards = 0; element_guards = 0 }) limit s
 
   -- Replace (A.18.4, A.18.7), as a call of this class
   abbrev pub replace_in_class : Class → Order V → Object ℕ V → V → Call (Object ℕ V) Done

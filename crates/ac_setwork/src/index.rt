@@ -1,13 +1,14 @@
 //! What a map or a set needs of its rows.
-ghost use Rattle.std.specs.Prelude.{◌≡◌, ◌∷◌, [], ◌+◌, ◌-◌, ◌^◌, ◌<◌, ◌≤◌, Bool, false, Option, Some, None, IsOk, IsTrue, OnOk, OnErr, length};
-ghost use Rattle.ac_base.specs.Limits.{is_past};
+ghost use Rattle.std.specs.Prelude.{◌≡◌, ◌∷◌, [], ◌+◌, ◌-◌, ◌^◌, ◌<◌, ◌≤◌, Bool, false, Option, Some, None, is_some, IsOk, IsTrue, IfOk, IfSome, OnOk, OnErr, length};
+ghost use Rattle.ac_base.specs.Limits.{IsLimit, is_past};
 ghost use Rattle.ac_base.specs.declared.limit.TheConstants.{GREATEST_LENGTH};
 ghost use Rattle.ac_model.specs.Rows.{cut, place_of, with_value};
 ghost use Rattle.ac_model.specs.Keyed.{Order, added, with_reordered, another_is_like};
 ghost use Rattle.ac_model.proofs.KeyedLaws.{Closed};
-ghost use Rattle.ac_setwork.specs.Indexed.{Indexed, Becomes, MakesRoom, HasSlots, slots, takes_one, plain_rows, is_there, name_at, name_after, found, value_of};
+ghost use Rattle.ac_setwork.specs.Indexed.{Indexed, Becomes, IsEmpty, MakesRoom, HasSlots, slots, takes_one, plain_rows, is_there, name_at, name_after, found, value_of};
 
 use ac_base::{Limit, Name, NoMemory};
+use std::alloc::Global;
 
 /// Rows under names, of which no two have equivalent keys.
 pub trait Index: Drop {
@@ -23,7 +24,25 @@ pub trait Index: Drop {
     /// The row has the key.
     ghost matches: { Self.Key → Self.Row → Bool };
 
+    /// Rows with equivalent keys are equal.
+    ghost is_equal: { Self.Row → Self.Row → Bool };
+
+    /// There is a Capacity.
+    ghost has_capacity: { Bool };
+
     ghost seen: { Self → Indexed Self.Row };
+
+    /// No rows. A bounded one takes all its memory here, and an unbounded one takes none.
+    fn new(alloc: Global, limit: Limit) -> Result<Self, NoMemory>
+        requires { IsLimit limit }
+        ensures empty { IfOk result (λ made. IsEmpty has_capacity limit (seen made)) }
+        ensures unbounded { limit ≡ Limit.Unbounded → IsOk result };
+
+    fn copied(row: &Self::Row, alloc: Global) -> Result<Self::Row, NoMemory>
+        ensures { IfOk result (λ made. made ≡ row.now) };
+
+    fn equal(left: &Self::Row, right: &Self::Row) -> bool
+        ensures { result ≡ is_equal left.now right.now };
 
     fn len(&self) -> u64
         ensures { result ≡ length (seen self.now).rows };
@@ -32,6 +51,11 @@ pub trait Index: Drop {
     fn spare(&self) -> u64
         ensures count { result ≡ (seen self.now).spare }
         ensures few { slots (seen self.now) ≤ 2 ^ 30 };
+
+    fn capacity(&self) -> Option<u64>
+        ensures capacity { result ≡ (seen self.now).capacity }
+        ensures has { is_some result ≡ has_capacity }
+        ensures few { IfSome result (λ n. n ≤ 2 ^ 30) };
 
     /// The serial that the next row gets.
     fn next_serial(&self) -> u64

@@ -1,8 +1,14 @@
 //! What hashed and ordered maps and sets have in common: their calls, over any index that keeps the rows.
 #![tactic(auto)]
 
+mod entry;
 mod index;
+mod keys;
+mod mapped;
 mod table;
 
+pub use entry::Entry;
 pub use index::Index;
+pub use keys::{Keys, OfEntries, OfItems, OfKeyed};
+pub use mapped::Mapped;
 pub use table::Table;

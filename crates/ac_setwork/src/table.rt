@@ -1,14 +1,13 @@
 //! A map or a set, over any index.
-ghost use Rattle.std.specs.Prelude.{◌≡◌, [], false, refl};
+ghost use Rattle.std.specs.Prelude.{◌≡◌, false, refl, IfOk, IfErr, IsOk};
 ghost use Rattle.ac_base.specs.Limits.{IsLimit};
 ghost use Rattle.ac_base.specs.declared.cursor.Cursor.TheVariants.{At};
-ghost use Rattle.ac_model.specs.Objects.{plain, length_of};
+ghost use Rattle.ac_model.specs.Objects.{plain, length_of, empty_object};
 ghost use Rattle.ac_model.specs.Cursors.{needs_cursor, cursor_at};
-ghost use Rattle.ac_model.specs.Containers.{container, guards_of, slots_of, with_guards};
+ghost use Rattle.ac_model.specs.Containers.{container, first_spare, guards_of, slots_of, with_guards};
 ghost use Rattle.ac_model.specs.Common as common;
 ghost use Rattle.ac_model.specs.Keyed.{IsValidKeyed};
-ghost use Rattle.ac_setwork.specs.TableFields.{named_like, new_object, FirstCapacity};
-ghost use Rattle.ac_setwork.specs.Indexed.{HasSlots, slots};
+ghost use Rattle.ac_setwork.specs.TableFields.{named_like};
 
 mod insertions;
 mod looks;
@@ -16,14 +15,16 @@ mod removals;
 mod replacements;
 
 use crate::index::Index;
-use ac_base::{Limit, Name, Reason};
+use ac_base::{Fault, Limit, Name, Reason};
 use ac_cursor::{Cursor, GuardKey, GuardKind, Guarded, Guards, Tag};
 use ac_model::{cursor_at, judge};
+use std::alloc::Global;
 use std::marker::Model;
 
 /// A map (A.18.4) or a set (A.18.7), by what its index keeps.
 #[derive(Drop)]
 pub struct Table<I: Index> {
+    alloc: Global,
     index: I,
     guards: Guards,
     limit: Limit,
@@ -43,19 +44,21 @@ impl<I: Index> Model for Table<I> {
 }
 
 impl<I: Index> Table<I> {
-    /// An object of this number, over an index without rows.
-    pub fn new(index: I, tag: Tag, limit: Limit) -> Table<I>
-        requires limit { IsLimit limit }
-        requires empty { (I.seen index).rows ≡ [] }
-        requires next { (I.seen index).next ≡ 1 }
-        requires capacity { FirstCapacity limit (I.seen index).capacity }
-        requires slots { HasSlots limit (I.seen index).capacity (slots (I.seen index)) }
-        ensures { result ≡ container (new_object tag limit (I.seen index)) (I.seen index).spare }
+    /// An object without elements, of this number. A bounded one takes all its memory here, and an unbounded one takes none.
+    pub fn new(alloc: Global, tag: Tag, limit: Limit) -> Result<Table<I>, Fault>
+        requires { IsLimit limit }
+        ensures empty { IfOk result (λ made. made ≡ container (empty_object I.has_capacity tag limit) (first_spare limit)) }
+        ensures memory { IfErr result (λ e. e ≡ Fault.NoMemory) }
+        ensures unbounded { limit ≡ Limit.Unbounded → IsOk result }
     {
-        Table {
-            index,
-            guards: Guards::new(tag),
-            limit,
+        match I::new(alloc, limit) {
+            Err(_) => Err(Fault::NoMemory),
+            Ok(index) => Ok(Table {
+                alloc,
+                index,
+                guards: Guards::new(tag),
+                limit,
+            }),
         }
     }
 
