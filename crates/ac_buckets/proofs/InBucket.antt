@@ -42,13 +42,13 @@ left_out : (t : Bool) (r : Row Name ℕ) (rows : List (Row Name ℕ)) → t ≡ 
 left_out false r rows e = refl
 left_out true r rows e = cc
 
-in_more : (size b : ℕ) (nodes : List Node) (n : ℕ) → (node_at nodes n).hash % size ≡ b → in_bucket size b nodes (suc n) ≡ (node_at nodes n).name ∷ in_bucket size b nodes n
+pub in_more : (size b : ℕ) (nodes : List Node) (n : ℕ) → (node_at nodes n).hash % size ≡ b → in_bucket size b nodes (suc n) ≡ (node_at nodes n).name ∷ in_bucket size b nodes n
 in_more size b nodes n is = filtered ((node_at nodes n).hash % size == b) _ _ (eq-eqb _ b is)
 
 in_same : (size b : ℕ) (nodes : List Node) (n : ℕ) → (node_at nodes n).hash % size ≢ b → in_bucket size b nodes (suc n) ≡ in_bucket size b nodes n
 in_same size b nodes n off = left_out ((node_at nodes n).hash % size == b) _ _ (elim (eqb_tells ((node_at nodes n).hash % size) b) [ inl same ↦ absurd (off same.1) | inr apart ↦ apart.0 ])
 
-skipped : (size b : ℕ) (nodes : List Node) (link n : ℕ) → link ≤ n → ((k : ℕ) → link ≤ k → k < n → (node_at nodes k).hash % size ≢ b) → in_bucket size b nodes n ≡ in_bucket size b nodes link
+pub skipped : (size b : ℕ) (nodes : List Node) (link n : ℕ) → link ≤ n → ((k : ℕ) → link ≤ k → k < n → (node_at nodes k).hash % size ≢ b) → in_bucket size b nodes n ≡ in_bucket size b nodes link
 skipped size b nodes link zero low none = let e : link ≡ 0 = omega arith in ap (in_bucket size b nodes) (sym e)
 skipped size b nodes link (suc n) low none = elim (cases_eq link (suc n)) [
   | inl at ↦ ap (in_bucket size b nodes) (sym at)

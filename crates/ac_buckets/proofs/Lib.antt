@@ -2,5 +2,6 @@ pub mod Bucketing
 pub mod InBucket
 pub mod Linking
 pub mod Links
+pub mod PlaceSteps
 pub mod Removing
 pub mod Walks

@@ -1,3 +1,4 @@
 pub mod BucketFields
 pub mod Linked
 pub mod Pairs
+pub mod Places

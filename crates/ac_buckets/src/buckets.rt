@@ -6,11 +6,12 @@ ghost use Rattle.std.specs.List.Sorted.{IsPermutation};
 ghost use Rattle.ac_base.specs.declared.name.Name.{Name};
 ghost use Rattle.ac_base.specs.Rows.{row, names};
 ghost use Rattle.ac_buckets.specs.Pairs.{bucketed, names_in, no_pairs, grown, added, cleared, IsSound};
+ghost use Rattle.ac_buckets.specs.Places.{Begins, IsPlace, Steps};
 
 use crate::linked::{Node, bucket_of};
 use crate::placing::{link_all, relink, take_out};
 use crate::size::size_for;
-use crate::walk::{find, find_pair, name_behind};
+use crate::walk::{Place, find, find_pair, name_behind};
 use ac_base::{Name, NoMemory};
 use std::alloc::Global;
 use std::marker::Model;
@@ -151,6 +152,30 @@ impl Buckets {
         }
         let index = find(self.heads.as_slice(), self.nodes.as_slice(), hash, name)?;
         name_behind(self.nodes.as_slice(), self.nodes[index].next)
+    }
+
+    /// Where a walk of the bucket of the hash begins. A walk by `step` reads each pair of the bucket once.
+    pub fn walk(&self, hash: u32) -> Place
+        ensures { Begins self.now hash result }
+    {
+        if self.heads.is_empty() {
+            return Place { left: 0 };
+        }
+        Place {
+            left: self.heads[bucket_of(hash, self.heads.len())],
+        }
+    }
+
+    /// The name at the place, and the next place of the walk.
+    pub fn step(&self, place: Place) -> Option<(Name, Place)>
+        requires { place.left ≤ length self.now.pairs }
+        ensures { (hash : ℕ) → IsPlace self.now hash place.left → Steps self.now hash place result }
+    {
+        if place.left == 0 {
+            return None;
+        }
+        let node = &self.nodes[place.left as usize - 1];
+        Some((node.name, Place { left: node.next }))
     }
 
     /// Drops all pairs, and keeps the buckets.

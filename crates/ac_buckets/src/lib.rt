@@ -8,6 +8,7 @@ mod size;
 mod walk;
 
 pub use buckets::Buckets;
+pub use walk::Place;
 
 #[cfg(test)]
 mod tests;

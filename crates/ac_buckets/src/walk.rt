@@ -7,6 +7,12 @@ ghost use Rattle.ac_buckets.specs.Linked.{AreLinked, marks_of, rows_of, blank_no
 use crate::linked::{Node, bucket_of};
 use ac_base::Name;
 
+/// A place in a bucket, good until the buckets change: at the newest of so many pairs, counted from the oldest one, or at 0 behind all.
+#[derive(Clone, Copy)]
+pub struct Place {
+    pub(crate) left: u32,
+}
+
 /// The name of the node to which the link leads.
 pub(crate) fn name_behind(nodes: &[Node], link: u32) -> Option<Name>
     requires { link ≤ length nodes.now }
