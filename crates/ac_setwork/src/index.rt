@@ -106,7 +106,8 @@ pub trait Index: Drop {
     /// Takes the row out. Its name is never there again.
     fn remove(&mut self, name: Name) -> Self::Row
         requires { IsTrue (is_there (seen self.old) name) }
-        ensures { let rows = plain_rows (seen self.old) in Becomes (seen self.old) (seen self.new)
+        ensures value { value_of (seen self.old) name ≡ Some result }
+        ensures removed { let rows = plain_rows (seen self.old) in Becomes (seen self.old) (seen self.new)
             (cut rows (place_of rows name.serial) 1) (seen self.old).next ((seen self.old).spare + 1) };
 
     /// An equivalent row in a row's place.

@@ -23,14 +23,14 @@ invariant_of-self g c =
     let i = c.self.inside in let s = g.I.Index.seen i.index in let s2 = g.I.Index.seen c.remove-row.new.self in let q = c.args.q.now in let order = g.I.Index.order in
     let none = subst (λ (x : Container _). (keyed.delete_call (plain x.object) (mark x.object q)).reason ≡ None) (sym c.self.view_is) (sym (passed _ _ c.in_ok-allowed.ensures c.refuses_deletion.ensures)) in
     taken_table order i.guards i.limit g.met.I.Index.closed s s2 (name_in q) c.self.invariant (delete_stands order i.guards i.limit s q none).there
-    (subst (λ (n : Name). IsTaken order i.guards i.limit s s2 n) c.name_in.ensures c.remove-row.ensures)
+    (subst (λ (n : Name). IsTaken order i.guards i.limit s s2 n) c.name_in.ensures c.remove-row.ensures.removed)
 
 pub returns-clause-changed : goal.returns-clause-changed
 returns-clause-changed g c =
     let i = c.self.inside in let s = g.I.Index.seen i.index in let s2 = g.I.Index.seen c.remove-row.new.self in let q = c.args.q.now in let order = g.I.Index.order in
     let none = subst (λ (x : Container _). (keyed.delete_call (plain x.object) (mark x.object q)).reason ≡ None) (sym c.self.view_is) (sym (passed _ _ c.in_ok-allowed.ensures c.refuses_deletion.ensures)) in (
       subst (λ (x : Container _). Changing (λ (_ : Unit {0}) m. Marks (object_of i.guards i.limit s2) NoElement m) (keyed.delete_call (plain x.object) (mark x.object q)) x.object (object_of i.guards i.limit s2) (Ok tt)) c.self.view_is
-          (delete_changed order i.guards i.limit s s2 q none (subst (λ (n : Name). IsTaken order i.guards i.limit s s2 n) c.name_in.ensures c.remove-row.ensures)),
+          (delete_changed order i.guards i.limit s s2 q none (subst (λ (n : Name). IsTaken order i.guards i.limit s s2 n) c.name_in.ensures c.remove-row.ensures.removed)),
       tt,
     )
 
@@ -38,5 +38,5 @@ pub returns-clause-slots : goal.returns-clause-slots
 returns-clause-slots g c =
     let i = c.self.inside in let s = g.I.Index.seen i.index in let s2 = g.I.Index.seen c.remove-row.new.self in let q = c.args.q.now in let order = g.I.Index.order in
     let none = subst (λ (x : Container _). (keyed.delete_call (plain x.object) (mark x.object q)).reason ≡ None) (sym c.self.view_is) (sym (passed _ _ c.in_ok-allowed.ensures c.refuses_deletion.ensures)) in
-    taken_slots order i.guards i.limit s s2 (name_in q) (delete_stands order i.guards i.limit s q none).there (subst (λ (n : Name). IsTaken order i.guards i.limit s s2 n) c.name_in.ensures c.remove-row.ensures)
+    taken_slots order i.guards i.limit s s2 (name_in q) (delete_stands order i.guards i.limit s q none).there (subst (λ (n : Name). IsTaken order i.guards i.limit s s2 n) c.name_in.ensures c.remove-row.ensures.removed)
     ∙ ap (λ (x : Container _). slots_of x) c.self.view_is

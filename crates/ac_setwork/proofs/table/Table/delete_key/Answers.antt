@@ -17,7 +17,7 @@ pub invariant_of-self : goal.invariant_of-self
 invariant_of-self g c =
     let i = c.self.inside in let s = g.I.Index.seen i.index in
     taken_table g.I.Index.order i.guards i.limit g.met.I.Index.closed s (g.I.Index.seen c.remove-row.new.self) c.in-Some.name c.self.invariant
-    (among_found (g.I.Index.matches c.args.key.now) s.rows c.in-Some.name (sym c.look.ensures ∙ c.in-Some.is)) c.remove-row.ensures
+    (among_found (g.I.Index.matches c.args.key.now) s.rows c.in-Some.name (sym c.look.ensures ∙ c.in-Some.is)) c.remove-row.ensures.removed
 
 pub returns-in-None-clause-changed : goal.returns-in-None-clause-changed
 returns-in-None-clause-changed g c =
@@ -29,10 +29,10 @@ pub returns-in-Some-clause-changed : goal.returns-in-Some-clause-changed
 returns-in-Some-clause-changed g c =
     let i = c.self.inside in let m = g.I.Index.matches c.args.key.now in let s2 = g.I.Index.seen c.remove-row.new.self in
     subst (λ (x : Container _). Changing Same (keyed.delete_match_call m (plain x.object)) x.object (object_of i.guards i.limit s2) (Ok tt)) c.self.view_is
-    (delete_found g.I.Index.order i.guards i.limit m (g.I.Index.seen i.index) s2 c.in-Some.name (sym c.look.ensures ∙ c.in-Some.is) (sym (passed _ _ c.in_ok-allowed.ensures c.forbids.ensures)) c.remove-row.ensures)
+    (delete_found g.I.Index.order i.guards i.limit m (g.I.Index.seen i.index) s2 c.in-Some.name (sym c.look.ensures ∙ c.in-Some.is) (sym (passed _ _ c.in_ok-allowed.ensures c.forbids.ensures)) c.remove-row.ensures.removed)
 
 pub returns-in-Some-clause-slots : goal.returns-in-Some-clause-slots
 returns-in-Some-clause-slots g c =
     let i = c.self.inside in let s = g.I.Index.seen i.index in
-    taken_slots g.I.Index.order i.guards i.limit s (g.I.Index.seen c.remove-row.new.self) c.in-Some.name (among_found (g.I.Index.matches c.args.key.now) s.rows c.in-Some.name (sym c.look.ensures ∙ c.in-Some.is)) c.remove-row.ensures
+    taken_slots g.I.Index.order i.guards i.limit s (g.I.Index.seen c.remove-row.new.self) c.in-Some.name (among_found (g.I.Index.matches c.args.key.now) s.rows c.in-Some.name (sym c.look.ensures ∙ c.in-Some.is)) c.remove-row.ensures.removed
     ∙ ap (λ (x : Container _). slots_of x) c.self.view_is
