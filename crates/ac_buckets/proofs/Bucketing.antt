@@ -46,6 +46,7 @@ sound nodes heads capacity h =
     record {
       once = IsOnce-reverse (rows_of nodes) h.once;
       room = omega (arith, h.fits, le-max_left (length heads) 64);
+      whole = λ some. let wide : max (length heads) 64 ≡ length heads = max-eq_left (elim h.size [ inl none ↦ absurd (omega (arith, ap length none)) | inr many ↦ many ]) in omega (arith, wide, long, h.fits, some);
       power = sym (pow8-unique size size (record { power = h.power; enough = omega arith; least = λ k enough. enough }));
       few = (le-max_right (length heads) 64, max_within (length heads) 64 (2 ^ 30) h.few (omega arith));
     }

@@ -48,5 +48,7 @@ IsOnce names = (i j : ℕ) (d : Name) → i < length names → j < length names 
 pub record IsSound (b : Bucketed) : Type 0 where
   pub once : IsOnce (names b.pairs)
   pub room : length b.pairs + b.spare ≤ b.size
+  -- there is room for a pair for each bucket, or none was taken yet
+  pub whole : 0 < b.spare → length b.pairs + b.spare ≡ b.size
   pub power : pow8 b.size ≡ b.size
   pub few : (64 ≤ b.size) × (b.size ≤ 2 ^ 30)

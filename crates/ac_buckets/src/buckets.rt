@@ -69,6 +69,7 @@ impl Buckets {
         requires { length self.old.pairs + n ≤ 2 ^ 30 }
         ensures ok { OnOk result (self.new ≡ grown self.old n) }
         ensures room { OnOk result ((self.new.pairs ≡ self.old.pairs) × (n ≤ self.new.spare)) }
+        ensures wider { OnOk result (self.old.spare ≤ self.new.spare) }
         ensures err { OnErr result (self.new ≡ self.old) }
         ensures had_room { n ≤ self.old.spare → IsOk result }
         ensures sound { IsSound self.new }

@@ -1,0 +1,6 @@
+pub mod Kept
+pub mod Rooms
+pub mod Seeking
+pub mod Shifts
+pub mod Standing
+pub mod Sums
