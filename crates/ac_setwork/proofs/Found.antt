@@ -124,7 +124,7 @@ module _ {V : Type 0} where
         is_mark = ap (λ n. mark_of o.number (names o.rows) (At n a)) both.0 ∙ marked o.number o.rows a both.1;
       }
 
-  at_place : (rows : List (Row Name V)) (i : ℕ) (r : Row Name V) → slice_get rows i ≡ Some r → is_among (names rows) r.name ≡ true
+  pub at_place : (rows : List (Row Name V)) (i : ℕ) (r : Row Name V) → slice_get rows i ≡ Some r → is_among (names rows) r.name ≡ true
   at_place [] i r h = absurd (none-some r h)
   at_place (x ∷ rows) zero r h = let e : r ≡ x = cc in ap (λ b. b || is_among (names rows) r.name) (is_same r.name x.name (ap (λ (y : Row Name V). y.name) e))
   at_place (x ∷ rows) (suc i) r h = ap (λ b. is_same_name r.name x.name || b) (at_place rows i r h) ∙ or_true (is_same_name r.name x.name)

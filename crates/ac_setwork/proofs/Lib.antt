@@ -1,3 +1,6 @@
+pub mod Elements
 pub mod Found
 pub mod Replacing
 pub mod Tables
+pub mod Walking
+pub mod Widening

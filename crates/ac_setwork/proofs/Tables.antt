@@ -25,13 +25,14 @@ use Rattle.ac_model.specs.Cursors.{mark, needs_cursor, name_in, cursor_at}
 use Rattle.ac_model.specs.Keyed as keyed
 use Rattle.ac_model.specs.Keyed.{Order, IsValidKeyed, added, with_added, row_like, without, replaced_rows, room_where_absent, insertion_takes_memory, with_added_or_replaced, with_added_if_absent, inserted_or_found}
 use Rattle.ac_model.specs.Lists.{one_row}
+use Rattle.ac_model.specs.Putting.{done}
 use Rattle.ac_model.proofs.KeyedLaws.{Closed, insert_keeps, cut_valid, replace_keeps}
 use Rattle.ac_model.proofs.Moves.{found, length-cut_one}
 use Rattle.ac_model.proofs.KeyedKept.{length-added}
 use Rattle.ac_model.proofs.FirstValid.{empty_is_valid}
 use Rattle.ac_model.proofs.Reasons.{none_first, none_others, not_if}
 use Rattle.ac_setwork.specs.Indexed.{Indexed, Becomes, IsEmpty, MakesRoom, HasSlots, plain_rows, slots, found_in}
-use Rattle.ac_setwork.specs.TableFields.{object_of, IsTable, named_like, add_call, Inserts, Places, done}
+use Rattle.ac_setwork.specs.TableFields.{object_of, IsTable, named_like, add_call, Inserts, Places}
 use Rattle.ac_setwork.proofs.Found.{among_found, marked, none_found, some_found, row_named, named_among, is_same, or_true, Stands, stands}
 
 all_from : (P : Name → Type 0) (rest : List Name) → ((a : Name) → is_among rest a ≡ true → P a) → All P rest

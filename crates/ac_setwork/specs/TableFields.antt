@@ -1,8 +1,7 @@
 -- What the fields of a map or a set are seen as, and what holds of them.
-use Rattle.std.specs.Prelude.{◌≡◌, ◌==◌, ℕ, Bool, false, not, Option, Some, None, Result, Ok, Err}
+use Rattle.std.specs.Prelude.{◌≡◌, ◌==◌, ℕ, Bool, false, not, Option, Some, None}
 use Rattle.ac_base.specs.declared.cursor.Cursor.{Cursor}
 use Rattle.ac_base.specs.declared.cursor.Cursor.TheVariants.{At}
-use Rattle.ac_base.specs.declared.fault.Fault.{Fault}
 use Rattle.ac_base.specs.declared.limit.Limit.{Limit}
 use Rattle.ac_base.specs.declared.name.Name.{Name}
 use Rattle.ac_base.specs.Guards.{GuardCounts}
@@ -46,11 +45,6 @@ module _ {V : Type 0} where
   -- whether the value was inserted, and the variable
   abbrev pub Places : Object Name V → Cursor → Bool → Inserted → Type 0
   Places o p b a = (b ≡ a.inserted) × Marks o p a.position
-
--- the name let go
-abbrev pub done : {A : Type 0} → Result A Fault → Result Done Fault
-done (Ok x) = Ok tt
-done (Err e) = Err e
 
 -- there is a name, with another serial than this one
 abbrev pub is_another : Option Name → ℕ → Bool

@@ -2,6 +2,7 @@
 #![tactic(auto)]
 
 mod entry;
+mod filling;
 mod index;
 mod keys;
 mod mapped;

@@ -9,6 +9,9 @@ ghost use Rattle.ac_model.specs.Common as common;
 ghost use Rattle.ac_model.specs.Keyed.{IsValidKeyed};
 ghost use Rattle.ac_setwork.specs.TableFields.{named_like};
 
+mod capacities;
+mod elements;
+mod equality;
 mod insertions;
 mod looks;
 mod removals;

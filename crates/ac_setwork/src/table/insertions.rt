@@ -7,7 +7,8 @@ ghost use Rattle.ac_model.specs.Calls.{Same};
 ghost use Rattle.ac_model.specs.Containers.{Grows};
 ghost use Rattle.ac_model.specs.Forms.{Does, Refuses};
 ghost use Rattle.ac_model.specs.Keyed as keyed;
-ghost use Rattle.ac_setwork.specs.TableFields.{named_like, add_call, Inserts, Places, done};
+ghost use Rattle.ac_model.specs.Putting.{done};
+ghost use Rattle.ac_setwork.specs.TableFields.{named_like, add_call, Inserts, Places};
 
 use super::Table;
 use crate::index::Index;
@@ -40,6 +41,7 @@ impl<I: Index> Table<I> {
     pub fn insert_pos(&mut self, row: I::Row, p: &mut Cursor) -> Result<bool, Fault>
         ensures changed { Does (Places self.new.object p.new) (λ o. keyed.insert_pos_call I.order o row) self.old self.new result }
         ensures kept { OnErr result (p.new ≡ p.old) }
+        ensures slots { Grows result self.old self.new }
     {
         match self.name_like(&row) {
             Some(name) => match self.guards.forbids(Class::Cursors) {
@@ -65,6 +67,7 @@ impl<I: Index> Table<I> {
     /// Include (A.18.4, A.18.7).
     pub fn include(&mut self, row: I::Row) -> Result<(), Fault>
         ensures changed { Does Same (λ o. keyed.include_call I.order o row) self.old self.new result }
+        ensures slots { Grows result self.old self.new }
     {
         match self.name_like(&row) {
             Some(name) => match self.guards.forbids(Class::Cursors) {

@@ -6,10 +6,11 @@ ghost use Rattle.ac_model.specs.Forms.{Looks, seen_by};
 ghost use Rattle.ac_model.specs.Common as common;
 ghost use Rattle.ac_model.specs.Keyed as keyed;
 ghost use Rattle.ac_model.specs.Sequences as sequences;
+ghost use Rattle.ac_setwork.specs.TableCalls.{key_row_call};
 
 use super::Table;
 use crate::index::Index;
-use ac_base::Fault;
+use ac_base::{Fault, Reason};
 use ac_cursor::Cursor;
 use ac_model::{allowed, name_in};
 
@@ -41,6 +42,16 @@ impl<I: Index> Table<I> {
     {
         allowed(self.needs(c))?;
         Ok(self.index.at(name_in(c)))
+    }
+
+    /// The row with the key.
+    pub fn row_by(&self, key: &I::Key) -> Result<&I::Row, Fault>
+        ensures { Looks Lends (key_row_call (I.matches key.now)) self.now result }
+    {
+        match self.index.look(key) {
+            None => Err(Fault::Raised(Reason::KeyAbsent)),
+            Some(name) => Ok(self.index.at(name)),
+        }
     }
 
     /// First (A.18.4, A.18.7).

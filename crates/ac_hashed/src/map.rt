@@ -1,0 +1,302 @@
+//! Hashed maps.
+ghost use Rattle.std.specs.Prelude.{◌≡◌, ◌≤◌, true, false, refl, max, IfOk, IfErr, IsOk, OnErr};
+ghost use Rattle.ac_base.specs.Growth.{pow8};
+ghost use Rattle.ac_base.specs.Limits.{IsLimit};
+ghost use Rattle.ac_model.specs.Calls.{Same, Lends, Marks};
+ghost use Rattle.ac_model.specs.Containers.{container, first_spare, guards_of, slots_of, with_guards, Grows};
+ghost use Rattle.ac_model.specs.Forms.{Does, Looks, Sets, seen_by};
+ghost use Rattle.ac_model.specs.Keyed.{IsValidKeyed, by_arrival};
+ghost use Rattle.ac_model.specs.Letters.{count_of};
+ghost use Rattle.ac_model.specs.Objects.{empty_object, length_of, plain};
+ghost use Rattle.ac_model.specs.Common as common;
+ghost use Rattle.ac_model.specs.Keyed as keyed;
+ghost use Rattle.ac_model.specs.Maps as maps;
+ghost use Rattle.ac_model.specs.Sequences as sequences;
+ghost use Rattle.ac_setwork.specs.TableFields.{Places};
+
+use crate::arrivals::Arrivals;
+use ac_base::{Elem, Fault, Hashed, Limit};
+use ac_cursor::{Class, Cursor, GuardKey, GuardKind, Guarded, Tag};
+use ac_setwork::{Entry, OfEntries, Table};
+use std::alloc::Global;
+use std::marker::Model;
+
+/// A hashed map (A.18.4, A.18.5), which is told its number by a tag.
+#[derive(Drop)]
+pub struct HashedMap<K: Hashed, V: Elem> {
+    table: Table<Arrivals<OfEntries<K, V>>>,
+}
+
+impl<K: Hashed, V: Elem> Model for HashedMap<K, V> {
+    ghost use Rattle.ac_model.specs.Containers.{Container, container_code};
+    ghost use Rattle.ac_model.specs.Rows.{Entry};
+    ghost use Rattle.ac_setwork.specs.Entries.{entry_code};
+
+    ghost Value = { Container (Entry K V) };
+
+    ghost coded = { container_code (entry_code K.code V.code) };
+
+    ghost view = { λ m. m.table };
+}
+
+impl<K: Hashed, V: Elem> HashedMap<K, V> {
+    /// An empty map. A bounded one takes all its memory here, and an unbounded one takes none.
+    pub fn new(alloc: Global, tag: Tag, limit: Limit) -> Result<HashedMap<K, V>, Fault>
+        requires { IsLimit limit }
+        ensures empty { IfOk result (λ made. made ≡ container (empty_object true tag limit) (first_spare limit)) }
+        ensures memory { IfErr result (λ e. e ≡ Fault.NoMemory) }
+        ensures unbounded { limit ≡ Limit.Unbounded → IsOk result }
+    {
+        let table = Table::new(alloc, tag, limit)?;
+        Ok(HashedMap { table })
+    }
+
+    /// What holds of every map, for proofs alone.
+    pub fn law(&self)
+        ensures valid { IsValidKeyed (maps.order_of (by_arrival K.is_alike)) (plain self.now.object) }
+        ensures limit { IsLimit self.now.object.limit }
+    {
+        self.table.law();
+    }
+
+    pub fn number(&self) -> u64
+        ensures { result ≡ self.now.object.number }
+    {
+        self.table.number()
+    }
+
+    pub fn limit(&self) -> Limit
+        ensures { result ≡ self.now.object.limit }
+    {
+        self.table.limit()
+    }
+
+    /// Length (A.18.4).
+    pub fn length(&self) -> i64
+        ensures { result ≡ common.length_call (plain self.now.object) }
+    {
+        self.table.length()
+    }
+
+    /// Is_Empty (A.18.4).
+    pub fn is_empty(&self) -> bool
+        ensures { result ≡ common.is_empty_call (plain self.now.object) }
+    {
+        self.table.is_empty()
+    }
+
+    /// How many elements have a slot.
+    pub fn live_nodes(&self) -> u64
+        ensures { result ≡ length_of self.now.object }
+    {
+        self.table.live_nodes()
+    }
+
+    /// How many slots there are, with and without an element.
+    pub fn slots(&self) -> u64
+        ensures { result ≡ slots_of self.now }
+    {
+        self.table.slots()
+    }
+
+    /// Capacity (A.18.5).
+    pub fn capacity(&self) -> i64
+        ensures { result ≡ common.capacity_call (plain self.now.object) }
+    {
+        self.table.capacity()
+    }
+
+    /// Reserve_Capacity (A.18.5).
+    pub fn reserve_capacity(&mut self, n: i64) -> Result<(), Fault>
+        ensures changed { Does Same (λ o. common.reserve_capacity_call o n) self.old self.new result }
+        ensures slots { slots_of self.new ≤ max (slots_of self.old) (pow8 (count_of n)) }
+    {
+        self.table.reserve_capacity(n)
+    }
+
+    /// Clear (A.18.4).
+    pub fn clear(&mut self) -> Result<(), Fault>
+        ensures changed { Does Same common.clear_call self.old self.new result }
+        ensures slots { slots_of self.new ≡ slots_of self.old }
+    {
+        self.table.clear()
+    }
+
+    /// "=" (A.18.4).
+    pub fn equal(&self, other: &HashedMap<K, V>) -> bool
+        ensures { result ≡ maps.equal_call (by_arrival K.is_alike) V.is_same (plain self.now.object) (plain other.now.object) }
+    {
+        self.table.equal(&other.table)
+    }
+}
+
+impl<K: Hashed, V: Elem> HashedMap<K, V> {
+    /// Has_Element (A.18.4): false for a cursor of another map, and for one whose element is gone.
+    pub fn has_element(&self, c: Cursor) -> bool
+        ensures { result ≡ common.has_element_call (plain self.now.object) (seen_by self.now c) }
+    {
+        self.table.has_element(c)
+    }
+
+    /// Key (A.18.4).
+    pub fn key(&self, c: Cursor) -> Result<&K, Fault>
+        ensures { Looks Lends (λ o. maps.key_call o (seen_by self.now c)) self.now result }
+    {
+        match self.table.row(c) {
+            Ok(row) => Ok(row.key()),
+            Err(fault) => Err(fault),
+        }
+    }
+
+    /// Element (A.18.4).
+    pub fn element(&self, c: Cursor) -> Result<&V, Fault>
+        ensures { Looks Lends (λ o. maps.element_call o (seen_by self.now c)) self.now result }
+    {
+        match self.table.row(c) {
+            Ok(row) => Ok(row.element()),
+            Err(fault) => Err(fault),
+        }
+    }
+
+    /// Element by a key (A.18.4).
+    pub fn element_key(&self, key: &K) -> Result<&V, Fault>
+        ensures { Looks Lends (λ o. maps.element_key_call (by_arrival K.is_alike) o key.now) self.now result }
+    {
+        match self.table.row_by(key) {
+            Ok(row) => Ok(row.element()),
+            Err(fault) => Err(fault),
+        }
+    }
+
+    /// Find (A.18.4).
+    pub fn find(&self, key: &K) -> Cursor
+        ensures { Marks self.now.object result (maps.find_call (by_arrival K.is_alike) (plain self.now.object) key.now) }
+    {
+        self.table.find(key)
+    }
+
+    /// Contains (A.18.4).
+    pub fn contains(&self, key: &K) -> bool
+        ensures { result ≡ maps.contains_call (by_arrival K.is_alike) (plain self.now.object) key.now }
+    {
+        self.table.contains(key)
+    }
+
+    /// First (A.18.4).
+    pub fn first(&self) -> Cursor
+        ensures { Marks self.now.object result (sequences.first_call (plain self.now.object)) }
+    {
+        self.table.first()
+    }
+
+    /// Next (A.18.4).
+    pub fn next(&self, b: Cursor) -> Result<Cursor, Fault>
+        ensures { Looks (Marks self.now.object) (λ o. sequences.next_call o (seen_by self.now b)) self.now result }
+    {
+        self.table.next(b)
+    }
+}
+
+impl<K: Hashed, V: Elem> HashedMap<K, V> {
+    /// Replace_Element (A.18.4).
+    pub fn replace_element(&mut self, c: Cursor, element: V) -> Result<(), Fault>
+        ensures changed { Does Same (λ o. maps.replace_element_call o (seen_by self.old c) element) self.old self.new result }
+        ensures slots { slots_of self.new ≡ slots_of self.old }
+    {
+        self.table.set_element(c, element)
+    }
+
+    /// Sets the element through a name that a view or a loop gives for it.
+    pub fn write(&mut self, c: Cursor, element: V) -> Result<(), Fault>
+        ensures changed { Does Same (λ o. maps.write_call o (seen_by self.old c) element) self.old self.new result }
+        ensures slots { slots_of self.new ≡ slots_of self.old }
+    {
+        self.table.write(c, element)
+    }
+
+    /// Insert (A.18.4).
+    pub fn insert(&mut self, key: K, element: V) -> Result<(), Fault>
+        ensures changed { Does Same (λ o. maps.insert_call (by_arrival K.is_alike) o key element) self.old self.new result }
+        ensures slots { Grows result self.old self.new }
+    {
+        self.table.insert(Entry::new(key, element))
+    }
+
+    /// Insert with a position (A.18.4): where an equivalent key is there, the position is that one, and nothing else changes.
+    pub fn insert_pos(&mut self, key: K, element: V, p: &mut Cursor) -> Result<bool, Fault>
+        ensures changed { Does (Places self.new.object p.new) (λ o. maps.insert_pos_call (by_arrival K.is_alike) o key element)
+            self.old self.new result }
+        ensures kept { OnErr result (p.new ≡ p.old) }
+        ensures slots { Grows result self.old self.new }
+    {
+        self.table.insert_pos(Entry::new(key, element), p)
+    }
+
+    /// Include (A.18.4).
+    pub fn include(&mut self, key: K, element: V) -> Result<(), Fault>
+        ensures changed { Does Same (λ o. maps.include_call (by_arrival K.is_alike) o key element) self.old self.new result }
+        ensures slots { Grows result self.old self.new }
+    {
+        self.table.include(Entry::new(key, element))
+    }
+
+    /// Replace (A.18.4).
+    pub fn replace(&mut self, key: K, element: V) -> Result<(), Fault>
+        ensures changed { Does Same (λ o. maps.replace_call (by_arrival K.is_alike) o key element) self.old self.new result }
+        ensures slots { slots_of self.new ≡ slots_of self.old }
+    {
+        self.table.replace(Class::Elements, Entry::new(key, element))
+    }
+
+    /// Exclude (A.18.4).
+    pub fn exclude(&mut self, key: &K) -> Result<(), Fault>
+        ensures changed { Does Same (λ o. maps.exclude_call (by_arrival K.is_alike) o key.now) self.old self.new result }
+        ensures slots { slots_of self.new ≡ slots_of self.old }
+    {
+        self.table.exclude(key)
+    }
+
+    /// Delete by a key (A.18.4).
+    pub fn delete_key(&mut self, key: &K) -> Result<(), Fault>
+        ensures changed { Does Same (λ o. maps.delete_key_call (by_arrival K.is_alike) o key.now) self.old self.new result }
+        ensures slots { slots_of self.new ≡ slots_of self.old }
+    {
+        self.table.delete_key(key)
+    }
+
+    /// Delete (A.18.4): the element at the cursor, which becomes No_Element.
+    pub fn delete(&mut self, q: &mut Cursor) -> Result<(), Fault>
+        ensures changed { Sets (λ o. keyed.delete_call o (seen_by self.old q.old)) self.old q.old self.new q.new result }
+        ensures slots { slots_of self.new ≡ slots_of self.old }
+    {
+        self.table.delete(q)
+    }
+}
+
+impl<K: Hashed, V: Elem> Guarded for HashedMap<K, V> {
+    ghost is_set = { λ _. false };
+
+    ghost guards = { guards_of };
+
+    ghost with_guards = { with_guards };
+
+    ghost guards_given = { λ _ _. refl };
+
+    ghost guards_own = { λ _. refl };
+
+    ghost rest_kept = { λ _ _ _. refl };
+
+    ghost set_kept = { λ _ _. refl };
+
+    fn hold(&mut self, kind: GuardKind) -> GuardKey {
+        self.table.hold(kind)
+    }
+
+    fn release(&mut self, key: GuardKey) {
+        self.table.release(key);
+    }
+
+    fn held(&self, kind: GuardKind) -> u64 {
+        self.table.held(kind)
+    }
+}
