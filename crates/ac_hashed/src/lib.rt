@@ -3,5 +3,8 @@
 
 mod arrivals;
 mod find;
+mod map;
+mod set;
 
-pub use arrivals::Arrivals;
+pub use map::HashedMap;
+pub use set::HashedSet;
