@@ -123,6 +123,7 @@ impl<T: Hashed> HashedSet<T> {
     pub fn equal(&self, other: &HashedSet<T>) -> bool
         ensures { result ≡ sets.equal_call T.is_same (plain self.now.object) (plain other.now.object) }
     {
+        other.table.law();
         self.table.equal(&other.table)
     }
 }
