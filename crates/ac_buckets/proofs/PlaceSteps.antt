@@ -1,5 +1,5 @@
 -- A walk by places, over the nodes.
-use Rattle.std.proofs.Common.{◌≡◌, ℕ, zero, suc, ◌+◌, ◌-◌, ◌%◌, ◌<◌, ◌≤◌, ◌==◌, max, List, [], ◌∷◌, length, drop, filter, get_or, refl, sym, ap, ◌∙◌, subst, inl, inr, arith}
+use Rattle.std.proofs.Common.{◌≡◌, ℕ, zero, suc, ◌-◌, ◌%◌, ◌<◌, ◌≤◌, ◌==◌, max, List, ◌∷◌, length, drop, filter, get_or, refl, sym, ap, ◌∙◌, subst, inl, inr, arith}
 use Rattle.std.proofs.Math.Nat.{max-eq_left}
 use Rattle.std.proofs.lemmas.Bool.{cases_eq}
 use Rattle.std.proofs.lemmas.List.{length-reverse}
@@ -9,7 +9,6 @@ use Rattle.ac_buckets.specs.declared.linked.Node.{Node}
 use Rattle.ac_buckets.specs.declared.walk.Place.{Place}
 use Rattle.ac_buckets.specs.BucketFields.{seen_in, IsBuckets}
 use Rattle.ac_buckets.specs.Linked.{rows_of}
-use Rattle.ac_buckets.specs.Pairs.{names_in}
 use Rattle.ac_buckets.specs.Places.{oldest, names_left, StartsIn, IsPlace, Begins, IsNext}
 use Rattle.ac_buckets.proofs.InBucket.{below, reversed, in_bucket, in_more, skipped}
 use Rattle.ac_buckets.proofs.Walks.{node_at, length-rows, IsLastNode, IsLastNode-first, IsLastNode-next}

@@ -7,6 +7,8 @@ mod chains;
 #[cfg(test)]
 mod checks;
 #[cfg(test)]
+mod hashed;
+#[cfg(test)]
 mod lists;
 #[cfg(test)]
 mod parses;

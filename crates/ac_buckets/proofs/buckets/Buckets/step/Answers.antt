@@ -1,4 +1,4 @@
-use Rattle.std.proofs.Common.{◌≡◌, ℕ, suc, ◌-◌, ◌<◌, length, refl, sym, ap, ◌∙◌, subst, arith}
+use Rattle.std.proofs.Common.{◌≡◌, suc, ◌-◌, ◌<◌, length, refl, ◌∙◌, subst, arith}
 use Rattle.std.proofs.lemmas.List.{get_or_default, length-reverse}
 use Rattle.ac_buckets.specs.declared.walk.Place.{Place}
 use Rattle.ac_buckets.specs.Linked.{blank_node, rows_of}
