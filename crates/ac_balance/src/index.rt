@@ -10,12 +10,13 @@ ghost use Rattle.ac_balance.specs.Present.{IsPresent};
 
 use crate::detaching::detach;
 use crate::entry::Entry;
+use crate::keyed::Keyed;
 use crate::keyed_search::seek_key;
 use crate::links::{Links, alone, renew};
 use crate::places::{Place, mend};
 use crate::search::{place_for, seek};
 use crate::walk::{leftmost, predecessor, rightmost, successor};
-use ac_base::{KeyOf, Name, NoMemory, Rank, Steps};
+use ac_base::{Name, NoMemory, Rank, Steps};
 use ac_pool::Pool;
 use std::alloc::Global;
 use std::marker::Model;
@@ -247,7 +248,7 @@ impl<K: Rank, V> OrderIndex<K, V> {
     }
 }
 
-impl<K: KeyOf, V> OrderIndex<K, V> {
+impl<K: Keyed, V> OrderIndex<K, V> {
     /// The name of the row whose key has an equivalent key.
     pub fn find_key<L: Ledger>(&self, k: &K::Key, steps: &mut Steps<L>) -> Option<Name>
         ensures name { result ≡ first_where (λ x. are_level K.Key.is_less (K.key_of x) k.now) self.now }

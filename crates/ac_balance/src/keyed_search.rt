@@ -6,13 +6,14 @@ ghost use Rattle.ac_balance.specs.Trees.{Tree, height};
 ghost use Rattle.ac_balance.specs.Seeking.{IsTree, Stood, Leads, OfKey};
 
 use crate::entry::Entry;
+use crate::keyed::Keyed;
 use crate::links::Node;
 use crate::search::{Spot, lower, start};
-use ac_base::{KeyOf, Name, Rank, Steps};
+use ac_base::{Name, Rank, Steps};
 use ac_pool::Pool;
 use std::sync::ledger::Ledger;
 
-fn is_before<K: KeyOf, V, L: Ledger>(
+fn is_before<K: Keyed, V, L: Ledger>(
     k: &K::Key,
     nodes: &Pool<Node<Entry<K, V>>>,
     name: Name,
@@ -25,7 +26,7 @@ fn is_before<K: KeyOf, V, L: Ledger>(
     k.less(nodes.get(name).unwrap().value.key.key(), steps)
 }
 
-fn is_after<K: KeyOf, V, L: Ledger>(
+fn is_after<K: Keyed, V, L: Ledger>(
     k: &K::Key,
     nodes: &Pool<Node<Entry<K, V>>>,
     name: Name,
@@ -39,7 +40,7 @@ fn is_after<K: KeyOf, V, L: Ledger>(
 }
 
 /// As `seek`, by the key of each row's key.
-pub(crate) fn seek_key<K: KeyOf, V, L: Ledger>(
+pub(crate) fn seek_key<K: Keyed, V, L: Ledger>(
     nodes: &Pool<Node<Entry<K, V>>>,
     root: Option<Name>,
     k: &K::Key,

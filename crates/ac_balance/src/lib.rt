@@ -4,6 +4,7 @@
 mod detaching;
 mod entry;
 mod index;
+mod keyed;
 mod keyed_search;
 mod links;
 mod places;
@@ -12,6 +13,7 @@ mod search;
 mod walk;
 
 pub use entry::Entry;
+pub use keyed::Keyed;
 pub use index::{OrderIndex, Present};
 #[doc(hidden)]
 pub use links::{Links, Node};
