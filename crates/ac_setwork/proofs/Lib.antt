@@ -1,4 +1,5 @@
 pub mod Elements
+pub mod Ends
 pub mod Equality
 pub mod Found
 pub mod Replacing

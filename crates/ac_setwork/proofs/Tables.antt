@@ -35,7 +35,7 @@ use Rattle.ac_setwork.specs.Indexed.{Indexed, Becomes, IsEmpty, MakesRoom, HasSl
 use Rattle.ac_setwork.specs.TableFields.{object_of, IsTable, named_like, add_call, Inserts, Places}
 use Rattle.ac_setwork.proofs.Found.{among_found, marked, none_found, some_found, row_named, named_among, is_same, or_true, Stands, stands}
 
-all_from : (P : Name → Type 0) (rest : List Name) → ((a : Name) → is_among rest a ≡ true → P a) → All P rest
+pub all_from : (P : Name → Type 0) (rest : List Name) → ((a : Name) → is_among rest a ≡ true → P a) → All P rest
 all_from P [] h i d lt = absurd (omega arith)
 all_from P (a ∷ rest) h zero d lt = h a (ap (λ b. b || is_among rest a) (is_same a a refl))
 all_from P (a ∷ rest) h (suc i) d lt = all_from P rest (λ b t. h b (ap (λ c. is_same_name b a || c) t ∙ or_true (is_same_name b a))) i d (omega arith)

@@ -1,4 +1,6 @@
+pub mod Ends
 pub mod Entries
+pub mod EntryLaws
 pub mod Filling
 pub mod Indexed
 pub mod TableCalls

@@ -3,13 +3,18 @@
 
 mod entry;
 mod filling;
+mod entry_element;
 mod index;
 mod keys;
 mod mapped;
+mod ordered;
+mod searched;
 mod table;
 
 pub use entry::Entry;
 pub use index::Index;
 pub use keys::{Keys, OfEntries, OfItems, OfKeyed};
 pub use mapped::Mapped;
+pub use ordered::Ordered;
+pub use searched::Searched;
 pub use table::Table;

@@ -12,6 +12,8 @@ ghost use Rattle.ac_setwork.specs.TableFields.{named_like};
 mod capacities;
 mod elements;
 mod equality;
+mod counted;
+mod ends;
 mod insertions;
 mod looks;
 mod removals;
