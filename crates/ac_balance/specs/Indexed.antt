@@ -105,6 +105,14 @@ module _ {K V : Type 0} where
   abbrev pub with_value : Indexed K V → Name → V → Indexed K V
   with_value c a w = value_put c a w (value_at c.rows a)
 
+  abbrev pub key_put : Indexed K V → Name → (K → K) → Option (Entry K V) → Indexed K V
+  key_put c a change None = c
+  key_put c a change (Some e) = with_rows c (slice_set c.rows (index_of a c.rows) (row a (entry (change e.key) e.value)))
+
+  -- the name's row has its key changed, and its value and its place
+  abbrev pub with_changed : Indexed K V → Name → (K → K) → Indexed K V
+  with_changed c a change = key_put c a change (value_at c.rows a)
+
   -- n slots are spare: there are as many slots as before where that is so already
   abbrev pub reserved : Indexed K V → ℕ → Indexed K V
   reserved c n = if nat_le n c.spare then c else indexed c.rows c.next_serial (pow8 (length c.rows + n) - length c.rows)

@@ -1,13 +1,14 @@
 //! The ordered index. A contract sees its rows, each a name with a key and a value, in the ascending order of their keys.
-ghost use Rattle.std.specs.Prelude.{◌≡◌, ◌↔◌, not, ◌+◌, ◌-◌, ◌^◌, ◌<◌, ◌≤◌, IsTrue, IsOk, IfOk, IfErr, OnOk, OnErr, None, option_copied, length};
+ghost use Rattle.std.specs.Prelude.{◌≡◌, ◌↔◌, not, ◌+◌, ◌-◌, ◌^◌, ◌<◌, ◌≤◌, IsTrue, IsOk, IfOk, IfErr, OnOk, OnErr, Some, None, option_copied, length};
 ghost use Rattle.std.specs.Option.{option_copied_mut};
 ghost use Rattle.std.specs.Borrow.{sem};
-ghost use Rattle.ac_base.specs.Order.{are_level};
+ghost use Rattle.ac_base.specs.Order.{are_level, IsTied};
 ghost use Rattle.ac_balance.specs.Walking.{first_name, last_name, or_else};
 ghost use Rattle.ac_balance.specs.Indexed.{IsThere, IsFresh, IsSound, FewSteps, first_where, last_where, next_name, prev_name};
-ghost use Rattle.ac_balance.specs.Indexed.{key_of, value_of, row_of, without_row, no_rows, reserved, cleared, added, taken, with_new_row};
+ghost use Rattle.ac_balance.specs.Indexed.{key_of, value_of, row_of, without_row, no_rows, reserved, cleared, added, taken, with_changed, with_new_row};
 ghost use Rattle.ac_balance.specs.Present.{IsPresent};
 
+use crate::change::Change;
 use crate::detaching::detach;
 use crate::entry::Entry;
 use crate::keyed::Keyed;
@@ -218,6 +219,16 @@ impl<K: Rank, V> OrderIndex<K, V> {
             Some(node) => Some(&mut node.value.value),
             None => None,
         }
+    }
+
+    /// Changes the key of the name's row, in constant time. It must stay equivalent.
+    pub fn change_key<C: Change<K>>(&mut self, name: Name, change: C)
+        requires there { IsThere self.old name }
+        requires level { (k : K) → key_of self.old name ≡ Some k → IsTied K.is_less k (C.changed change k) }
+        ensures key { self.new ≡ with_changed self.old name (C.changed change) }
+        ensures sound { IsSound K.is_less self.new }
+    {
+        change.make(&mut self.links.nodes.get_mut(name).unwrap().value.key);
     }
 
     /// The name of the row whose key is equivalent, or `None` where there is none.

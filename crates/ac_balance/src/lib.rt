@@ -1,6 +1,7 @@
 //! An ordered index: rows in the ascending order of their keys, each under a name, as a balanced tree in the slots of a pool.
 #![tactic(auto)]
 
+mod change;
 mod detaching;
 mod entry;
 mod index;
@@ -12,6 +13,7 @@ mod rotation;
 mod search;
 mod walk;
 
+pub use change::Change;
 pub use entry::Entry;
 pub use keyed::Keyed;
 pub use index::{OrderIndex, Present};

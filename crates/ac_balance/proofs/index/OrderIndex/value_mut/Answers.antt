@@ -4,7 +4,7 @@ use Rattle.ac_pool.specs.Contents as pool
 use Rattle.ac_balance.specs.declared.entry.Entry.{Entry}
 use Rattle.ac_balance.specs.declared.links.Node.{Node}
 use Rattle.ac_balance.specs.TreeFields.{links}
-use Rattle.ac_balance.specs.Indexed.{value_of, with_value}
+use Rattle.ac_balance.specs.Indexed.{entry, value_of, with_value}
 use Rattle.ac_balance.specs.IndexFields.{rows_in}
 use Rattle.ac_balance.proofs.Indexes.{view_of, values_are}
 use Rattle.ac_balance.proofs.Writing.{revalued, written, lent_same}
@@ -19,8 +19,8 @@ pub returns-in-Some : goal.returns-in-Some
 returns-in-Some g c =
     let l = c.self.inside.links in let a = c.args.name in let i = c.self.invariant in let n = c.in-Some.node.now in
     let is : pool.value_of l.nodes a ≡ Some n = sym c.get_mut.ensures.value ∙ ap option_copied_mut c.in-Some.is in
-    let view : (w : g.row.V.Denot) → view_of (links (pool.with_value l.nodes a (revalued g.K.Rank.is_less l i n w)) l.root) ≡ with_value c.args.self.now a w = λ w.
-    subst (λ x. view_of (links (pool.with_value l.nodes a (revalued g.K.Rank.is_less l i n w)) l.root) ≡ with_value x a w) c.self.view_is (written g.K.Rank.is_less l i a n w is).1 in (
+    let view : (w : g.row.V.Denot) → view_of (links (pool.with_value l.nodes a (revalued g.K.Rank.is_less l i n (entry n.value.key w))) l.root) ≡ with_value c.args.self.now a w = λ w.
+    subst (λ x. view_of (links (pool.with_value l.nodes a (revalued g.K.Rank.is_less l i n (entry n.value.key w))) l.root) ≡ with_value x a w) c.self.view_is (written g.K.Rank.is_less l i a n w is).1 in (
       lent_same _ _ _ view,
       record {
         writes_back = tt;
