@@ -18,7 +18,7 @@ pub invariant_of-self : goal.invariant_of-self
 invariant_of-self g c =
     let i = c.self.inside in let s = g.I.Index.seen i.index in
     taken_table g.I.Index.order i.guards i.limit g.met.I.Index.closed s (g.I.Index.seen c.remove-row.new.self) c.in-Some.name c.self.invariant
-    (is_at s.rows (length (plain_rows s) - 1) c.in-Some.name c.self.invariant.valid.as_object.names_differ (sym (last_at s) ∙ sym c.last.ensures ∙ c.in-Some.is)).there c.remove-row.ensures
+    (is_at s.rows (length (plain_rows s) - 1) c.in-Some.name c.self.invariant.valid.as_object.names_differ (sym (last_at s) ∙ sym c.last.ensures ∙ c.in-Some.is)).there c.remove-row.ensures.removed
 
 pub returns-in-None-clause-changed : goal.returns-in-None-clause-changed
 returns-in-None-clause-changed g c =
@@ -31,11 +31,11 @@ returns-in-Some-clause-changed g c =
     let i = c.self.inside in let s = g.I.Index.seen i.index in let s2 = g.I.Index.seen c.remove-row.new.self in
     subst (λ (x : Container _). Changing Same (ordered.delete_last_call (plain x.object)) x.object (object_of i.guards i.limit s2) (Ok tt)) c.self.view_is
     (end_cut g.I.Index.order i.guards i.limit s s2 (length (plain_rows s) - 1) c.in-Some.name (is_at s.rows (length (plain_rows s) - 1) c.in-Some.name c.self.invariant.valid.as_object.names_differ (sym (last_at s) ∙ sym c.last.ensures ∙ c.in-Some.is))
-      (sym (passed _ _ c.in_ok-allowed.ensures c.forbids.ensures)) c.remove-row.ensures)
+      (sym (passed _ _ c.in_ok-allowed.ensures c.forbids.ensures)) c.remove-row.ensures.removed)
 
 pub returns-in-Some-clause-slots : goal.returns-in-Some-clause-slots
 returns-in-Some-clause-slots g c =
     let i = c.self.inside in let s = g.I.Index.seen i.index in
     taken_slots g.I.Index.order i.guards i.limit s (g.I.Index.seen c.remove-row.new.self) c.in-Some.name
-    (is_at s.rows (length (plain_rows s) - 1) c.in-Some.name c.self.invariant.valid.as_object.names_differ (sym (last_at s) ∙ sym c.last.ensures ∙ c.in-Some.is)).there c.remove-row.ensures
+    (is_at s.rows (length (plain_rows s) - 1) c.in-Some.name c.self.invariant.valid.as_object.names_differ (sym (last_at s) ∙ sym c.last.ensures ∙ c.in-Some.is)).there c.remove-row.ensures.removed
     ∙ ap (λ (x : Container _). slots_of x) c.self.view_is

@@ -1,0 +1,84 @@
+//! A row in the order of its key.
+ghost use Rattle.std.specs.Prelude.{◌≡◌, refl};
+ghost use Rattle.ac_ordered.specs.Orders.{weak_by_key};
+
+use ac_balance::Keyed;
+use ac_base::{Elem, NoMemory, Rank, Steps};
+use ac_setwork::Keys;
+use std::alloc::Global;
+use std::marker::Model;
+use std::sync::ledger::Ledger;
+
+#[derive(Drop)]
+pub struct Sorted<S: Keys> {
+    pub(crate) row: S::Row,
+}
+
+impl<S: Keys> Model for Sorted<S> {
+    ghost Value = { S.Row };
+
+    ghost coded = { S.Row.code };
+
+    ghost view = { λ s. s.row };
+}
+
+impl<S: Keys> Elem for Sorted<S>
+where
+    S::Row: Elem,
+{
+    ghost is_same = { S.Row.is_same };
+
+    ghost size_of = { S.Row.size_of };
+
+    ghost blank_element = { S.Row.blank_element };
+
+    ghost same_is_equality = { S.Row.same_is_equality };
+
+    fn same(&self, other: &Sorted<S>) -> bool {
+        self.row.same(&other.row)
+    }
+
+    fn copy(&self, alloc: Global) -> Result<Sorted<S>, NoMemory> {
+        let row = self.row.copy(alloc)?;
+        Ok(Sorted { row })
+    }
+
+    fn size(&self) -> u64 {
+        self.row.size()
+    }
+
+    fn blank(alloc: Global) -> Result<Sorted<S>, NoMemory> {
+        let row = S::Row::blank(alloc)?;
+        Ok(Sorted { row })
+    }
+}
+
+impl<S: Keys> Rank for Sorted<S>
+where
+    S::Row: Elem,
+    S::Key: Rank,
+{
+    ghost is_less = { λ v w. S.Key.is_less (S.key_of v) (S.key_of w) };
+
+    ghost ordered = { weak_by_key S.key_of S.Key.is_less S.Key.ordered };
+
+    fn less<L: Ledger>(&self, other: &Sorted<S>, steps: &mut Steps<L>) -> bool {
+        S::key(&self.row).less(S::key(&other.row), steps)
+    }
+}
+
+impl<S: Keys> Keyed for Sorted<S>
+where
+    S::Row: Elem,
+    S::Key: Rank,
+{
+    type Key = S::Key;
+
+    ghost key_of = { S.key_of };
+
+    ghost less_by_key = { λ x y. refl };
+
+    fn key(&self) -> &S::Key {
+        S::key(&self.row)
+    }
+}
