@@ -118,7 +118,7 @@ where
     }
 
     fn look_like(&self, row: &S::Row) -> Option<Name> {
-        sought::<S, Brand>(&self.tree, S::key(row), Blank::new(1))
+        self.look(S::key(row))
     }
 
     fn at(&self, name: Name) -> &S::Row {

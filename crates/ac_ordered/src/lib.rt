@@ -3,6 +3,10 @@
 
 mod ascending;
 mod changes;
+mod map;
+mod set;
 mod sorted;
 
 pub use ascending::Ascending;
+pub use map::OrderedMap;
+pub use set::OrderedSet;

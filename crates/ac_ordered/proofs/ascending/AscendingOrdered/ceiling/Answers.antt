@@ -1,0 +1,10 @@
+use Rattle.std.proofs.Common.{Bool, not, ap, ◌∙◌}
+use Rattle.ac_setwork.specs.Indexed.{found}
+use Rattle.ac_ordered.specs.Ascents.{ascent}
+use Rattle.ac_ordered.proofs.Ascents.{found_is}
+use Rattle.ac_ordered.proofs.ascending.AscendingOrdered.ceiling.Goals as goal
+
+pub returns-clause-name : goal.returns-clause-name
+returns-clause-name g c =
+    let test : g.row.S-Row.Denot → Bool = λ v. not (g.S.Key.Rank.is_less (g.S.Keys.key_of v) c.args.key.now) in
+    c.ceiling_key.ensures.name ∙ found_is test c.self.inside.tree.rows ∙ ap (λ x. found test (ascent x)) c.self.view_is
