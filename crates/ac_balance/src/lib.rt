@@ -15,8 +15,8 @@ mod walk;
 
 pub use change::Change;
 pub use entry::Entry;
-pub use keyed::Keyed;
 pub use index::{OrderIndex, Present};
+pub use keyed::Keyed;
 #[doc(hidden)]
 pub use links::{Links, Node};
 #[doc(hidden)]

@@ -1,6 +1,6 @@
 -- Rows of a tree, as an index of them is seen.
 use Rattle.std.proofs.Common.{◌≡◌, ◌≢◌, ◌==◌, ◌&&◌, ◌||◌, ◌+◌, ◌-◌, ◌<◌, ◌≤◌, ◌⊎◌, ℕ, zero, suc, Bool, true, false, not, true≢false, List, [], ◌∷◌, ◌++◌, length, map, take, drop, Option, Some, None, IsTrue, refl, sym, ap, ◌∙◌, subst, inl, inr, arith, eq-eqb, ne_eqb}
-use Rattle.std.specs.Prelude.{All, find, reverse, is_some, option_map, slice_get, if◌then◌else◌}
+use Rattle.std.specs.Prelude.{All, find, reverse, option_map, slice_get, if◌then◌else◌}
 use Rattle.std.specs.List.{insert, remove, slice_set, prefix_len, list_any}
 use Rattle.std.proofs.lemmas.Bool.{cases_Bool, cases_eq, cond-true, cond-false}
 use Rattle.std.proofs.lemmas.List.{length-map, reverse-append}
@@ -14,12 +14,11 @@ use Rattle.ac_balance.specs.Indexed as tree
 use Rattle.ac_balance.specs.Indexed.{IsSound, IsThere, IsFresh, entry, index_of, key_of}
 use Rattle.ac_balance.proofs.Cuts.{has_live, live_has, index_here, index_past}
 use Rattle.ac_balance.proofs.Names.{IsOnce}
-use Rattle.ac_model.specs.Keyed.{Order, ascending, added, with_reordered, another_is_like}
 use Rattle.ac_model.specs.Letters.{is_among, is_same_name}
 use Rattle.ac_model.specs.Objects.{plain_row, plains}
-use Rattle.ac_model.specs.Rows.{cut, put, place_of, with_value, value_at}
+use Rattle.ac_model.specs.Rows.{cut, put, place_of, with_value}
 use Rattle.ac_model.proofs.RowLaws.{at_its_place}
-use Rattle.ac_setwork.specs.Indexed.{Indexed, Becomes, found_in, is_there, name_after, plain_rows, value_of}
+use Rattle.ac_setwork.specs.Indexed.{found_in, is_there, name_after, value_of}
 use Rattle.ac_setwork.specs.Ends.{last_name, name_before, name_up_to}
 use Rattle.ac_setwork.proofs.Found.{same_is, is_same, or_true}
 use Rattle.ac_setwork.proofs.Tables.{all_from}
@@ -242,13 +241,13 @@ module _ {V : Type 0} where
   set_is a [] e h once t = absurd t
   set_is a (r ∷ rows) e h once t = elim (cases_name a r.name) [
     | inl same ↦
-      let hit = eq-eqb r.name.serial a.serial (ap (λ (n : Name). n.serial) (sym same)) in
-      ap (λ i. plains (rows_of (slice_set (r ∷ rows) i (row a e)))) (index_here a r rows same)
-      ∙ sym (λ i. cond-true _ (row a.serial e.key) (plain_row (row_in r)) hit i ∷ untouched a.serial rows e.key (others a r rows h once same) i)
+        let hit = eq-eqb r.name.serial a.serial (ap (λ (n : Name). n.serial) (sym same)) in
+        ap (λ i. plains (rows_of (slice_set (r ∷ rows) i (row a e)))) (index_here a r rows same)
+        ∙ sym (λ i. cond-true _ (row a.serial e.key) (plain_row (row_in r)) hit i ∷ untouched a.serial rows e.key (others a r rows h once same) i)
     | inr n ↦
-      let miss = ne_eqb r.name.serial a.serial (λ k. n (sym (h r.name (inl refl) k))) in
-      ap (λ i. plains (rows_of (slice_set (r ∷ rows) i (row a e)))) (index_past a r rows n)
-      ∙ (λ i. sym (cond-false _ (row a.serial e.key) (plain_row (row_in r)) miss) i ∷ set_is a rows e (λ b u. h b (inr u)) once.1 (elim t [ inl p ↦ absurd (n p) | inr u ↦ u ]) i)
+        let miss = ne_eqb r.name.serial a.serial (λ k. n (sym (h r.name (inl refl) k))) in
+        ap (λ i. plains (rows_of (slice_set (r ∷ rows) i (row a e)))) (index_past a r rows n)
+        ∙ (λ i. sym (cond-false _ (row a.serial e.key) (plain_row (row_in r)) miss) i ∷ set_is a rows e (λ b u. h b (inr u)) once.1 (elim t [ inl p ↦ absurd (n p) | inr u ↦ u ]) i)
   ]
 
   -- the row that is found passes the test
@@ -264,13 +263,13 @@ module _ {V : Type 0} where
   found_passes test [] a once h k e = absurd (none-some a h)
   found_passes test (r ∷ rows) a once h k e = elim (cases_Bool (test r.value.key)) [
     | inl t ↦
-      let q : Some r.name ≡ Some a = simp t at h in let same : a ≡ r.name = cc in
-      let here : Some r.value.key ≡ Some k = sym (ap (λ i. option_map (λ (e : Entry V Nothing). e.key) (option_map (λ (y : Kept V). y.value) (slice_get (r ∷ rows) i))) (index_here a r rows same)) ∙ e in
-      let is : r.value.key ≡ k = cc in ap test (sym is) ∙ t
+        let q : Some r.name ≡ Some a = simp t at h in let same : a ≡ r.name = cc in
+        let here : Some r.value.key ≡ Some k = sym (ap (λ i. option_map (λ (e : Entry V Nothing). e.key) (option_map (λ (y : Kept V). y.value) (slice_get (r ∷ rows) i))) (index_here a r rows same)) ∙ e in
+        let is : r.value.key ≡ k = cc in ap test (sym is) ∙ t
     | inr f ↦
-      let q : option_map (λ (r : Kept V). r.name) (find (λ (r : Kept V). test r.value.key) rows) ≡ Some a = simp f at h in
-      let other : a ≢ r.name = λ same. once.0 (subst (λ n. HasName n rows) same (find_has test rows a q)) in
-      found_passes test rows a once.1 q k (sym (ap (λ i. option_map (λ (e : Entry V Nothing). e.key) (option_map (λ (y : Kept V). y.value) (slice_get (r ∷ rows) i))) (index_past a r rows other)) ∙ e)
+        let q : option_map (λ (r : Kept V). r.name) (find (λ (r : Kept V). test r.value.key) rows) ≡ Some a = simp f at h in
+        let other : a ≢ r.name = λ same. once.0 (subst (λ n. HasName n rows) same (find_has test rows a q)) in
+        found_passes test rows a once.1 q k (sym (ap (λ i. option_map (λ (e : Entry V Nothing). e.key) (option_map (λ (y : Kept V). y.value) (slice_get (r ∷ rows) i))) (index_past a r rows other)) ∙ e)
   ]
 
   pub found_there : (test : V → Bool) (x : tree.Indexed V Nothing) (a : Name) → found_in test (rows_of x.rows) ≡ Some a → IsThere x a
@@ -293,10 +292,10 @@ module _ {V : Type 0} where
       elim (cases_name a r.name) [
         | inl same ↦ ap (λ i. option_map (λ (r : Kept V). r.name) (find (λ (r : Kept V). test r.value.key) (remove (r ∷ rows) i))) (index_here a r rows same) ∙ none_in a.serial test rows (others a r rows h once same) both.1
         | inr n ↦
-          let fails = second_false (not (r.name.serial == a.serial)) (test r.value.key) (ap not (ne_eqb r.name.serial a.serial (λ k. n (sym (h r.name (inl refl) k))))) both.0 in
-          let rest = none_left a test rows (λ b u. h b (inr u)) once.1 (elim t [ inl p ↦ absurd (n p) | inr u ↦ u ]) both.1 in
-          ap (λ i. option_map (λ (r : Kept V). r.name) (find (λ (r : Kept V). test r.value.key) (remove (r ∷ rows) i))) (index_past a r rows n)
-          ∙ ap (λ b. option_map (λ (r : Kept V). r.name) (if b then Some r else find (λ (r : Kept V). test r.value.key) (remove rows (index_of a rows)))) fails ∙ rest
+            let fails = second_false (not (r.name.serial == a.serial)) (test r.value.key) (ap not (ne_eqb r.name.serial a.serial (λ k. n (sym (h r.name (inl refl) k))))) both.0 in
+            let rest = none_left a test rows (λ b u. h b (inr u)) once.1 (elim t [ inl p ↦ absurd (n p) | inr u ↦ u ]) both.1 in
+            ap (λ i. option_map (λ (r : Kept V). r.name) (find (λ (r : Kept V). test r.value.key) (remove (r ∷ rows) i))) (index_past a r rows n)
+            ∙ ap (λ b. option_map (λ (r : Kept V). r.name) (if b then Some r else find (λ (r : Kept V). test r.value.key) (remove rows (index_of a rows)))) fails ∙ rest
       ]
 
   pub kept : (old new : List (Kept V)) (next : ℕ) → ((b : Name) → HasName b new → b.serial < next → HasName b old) → All (λ name. name.serial < next → IsTrue (is_among (names (rows_of old)) name)) (names (rows_of new))

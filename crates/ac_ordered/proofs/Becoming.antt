@@ -1,5 +1,5 @@
 -- What each change of a tree leaves, as an index of its rows is seen.
-use Rattle.std.proofs.Common.{◌≡◌, ◌+◌, ◌-◌, ◌<◌, ◌≤◌, ◌++◌, ◌⊎◌, ℕ, Bool, true, false, true≢false, nat_lt, List, [], ◌∷◌, length, Option, Some, None, IsTrue, refl, sym, ap, ◌∙◌, subst, inl, inr, arith}
+use Rattle.std.proofs.Common.{◌≡◌, ◌+◌, ◌-◌, ◌<◌, ◌≤◌, ℕ, Bool, true, false, true≢false, nat_lt, List, [], ◌∷◌, length, Option, Some, None, refl, sym, ap, ◌∙◌, subst, inl, inr, arith}
 use Rattle.std.specs.Prelude.{is_some, max, option_map}
 use Rattle.std.specs.List.{insert, remove, slice_set, prefix_len}
 use Rattle.std.proofs.Math.Nat.{le-max_left, le-max_right}
@@ -12,20 +12,19 @@ use Rattle.ac_base.specs.declared.limit.Limit.TheVariants.{Unbounded, Bounded}
 use Rattle.ac_base.specs.declared.name.Name.{Name}
 use Rattle.ac_base.specs.Growth.{pow8}
 use Rattle.ac_base.specs.Limits.{is_past}
-use Rattle.ac_base.specs.Order.{are_level}
 use Rattle.ac_base.specs.Rows.{Row, row, values}
 use Rattle.ac_balance.specs.declared.entry.Entry.{Entry}
 use Rattle.ac_balance.specs.Climbing.{HasName}
 use Rattle.ac_balance.specs.Indexed as tree
 use Rattle.ac_balance.specs.Indexed.{IsSound, IsThere, IsFresh, entry, index_of, key_of}
 use Rattle.ac_balance.proofs.Cuts.{live_has}
-use Rattle.ac_model.specs.Keyed.{ascending, added, with_reordered, another_is_like}
+use Rattle.ac_model.specs.Keyed.{ascending, added, with_reordered}
 use Rattle.ac_base.proofs.Powers.{pow8-enough}
 use Rattle.ac_model.specs.Objects.{plains, capacity_after}
 use Rattle.ac_model.specs.Rows.{cut, put, place_of, with_value, with_some_value, value_at}
-use Rattle.ac_setwork.specs.Indexed.{Indexed, Becomes, MakesRoom, HasSlots, is_there, plain_rows, slots, value_of}
+use Rattle.ac_setwork.specs.Indexed.{Becomes, MakesRoom, HasSlots, is_there, plain_rows, slots}
 use Rattle.ac_ordered.specs.Ascents.{Nothing, ascent, row_in}
-use Rattle.ac_ordered.proofs.Ascents.{Kept, alone, once_in, entry_there, has_among, has_insert, has_remove, has_set, insert_has, insert_is, kept, length_remove, place_is, prefix_is, remove_is, rows_of, set_is, value_is}
+use Rattle.ac_ordered.proofs.Ascents.{Kept, alone, once_in, entry_there, has_among, has_insert, has_remove, has_set, insert_has, insert_is, kept, place_is, prefix_is, remove_is, rows_of, set_is, value_is}
 
 kept_none : (limit : Limit) (need : ℕ) → None ≡ capacity_after limit None need
 kept_none Unbounded need = refl
@@ -35,7 +34,6 @@ not_past : (most length : ℕ) → nat_lt most length ≡ false → length ≤ m
 not_past most length h = elim (cases_lt most length) [ inl lt ↦ absurd (true≢false (sym (lt-ltb most length lt) ∙ h)) | inr le ↦ le ]
 
 module _ {V : Type 0} (less : V → V → Bool) (x : tree.Indexed V Nothing) where
-
   -- a row more
   pub added_becomes : (x2 : tree.Indexed V Nothing) (a : Name) (v : V) → x2 ≡ tree.added less x a v tt → IsFresh x a
       → Becomes (ascent x) (ascent x2) (added (ascending less) (plain_rows (ascent x)) x.next_serial (v ∷ [])) (x.next_serial + 1) (x.spare - 1)

@@ -262,7 +262,8 @@ impl<K: Rank, V: Elem> OrderedMap<K, V> {
         ensures changed { Does Same (λ o. maps.replace_call (ascending K.is_less) o key element) self.old self.new result }
         ensures slots { slots_of self.new ≡ slots_of self.old }
     {
-        self.table.replace(Class::Elements, Entry::new(key, element))
+        self.table
+            .replace(Class::Elements, Entry::new(key, element))
     }
 
     /// Exclude (A.18.4).

@@ -11,6 +11,6 @@ pub entries_same : {K V : Type 0} (same_key : K → K → Bool) (same : V → V 
     → (e f : Entry K V) → IsTrue (same_key e.key f.key && same e.element f.element) ↔ (e ≡ f)
 entries_same {K} {V} same_key same keys elements e f = (
   λ h. let both = both_true (same_key e.key f.key) (same e.element f.element) h in
-    λ i. entry ((keys e.key f.key).0 both.0 i) ((elements e.element f.element).0 both.1 i),
+      λ i. entry ((keys e.key f.key).0 both.0 i) ((elements e.element f.element).0 both.1 i),
   λ h. λ i. (keys e.key f.key).1 (ap (λ (x : Entry K V). x.key) h) i && (elements e.element f.element).1 (ap (λ (x : Entry K V). x.element) h) i,
 )

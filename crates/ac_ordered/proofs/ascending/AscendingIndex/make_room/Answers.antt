@@ -10,5 +10,5 @@ pub returns-clause-ok : goal.returns-clause-ok
 returns-clause-ok g c =
     let x = c.self.inside.tree in let limit = c.args._limit in let n = c.args.n in
     on_ok c.reserve.result _ _ (λ e. subst (λ y. MakesRoom limit n (ascent y) (ascent c.reserve.new.self)) c.self.view_is
-      (room_made limit n x c.reserve.new.self (subst (λ y. is_past limit (length (ascent y).rows + n) ≡ false) (sym c.self.view_is) c.requires.within)
-        (subst (λ y. HasSlots limit None (slots (ascent y))) (sym c.self.view_is) c.requires.slots) e)) c.reserve.ensures.ok
+    (room_made limit n x c.reserve.new.self (subst (λ y. is_past limit (length (ascent y).rows + n) ≡ false) (sym c.self.view_is) c.requires.within)
+    (subst (λ y. HasSlots limit None (slots (ascent y))) (sym c.self.view_is) c.requires.slots) e)) c.reserve.ensures.ok

@@ -1,6 +1,5 @@
-use Rattle.std.proofs.Common.{◌≡◌, Bool, Some, sym, ap, ◌∙◌, subst}
+use Rattle.std.proofs.Common.{◌≡◌, Bool, Some, sym, ◌∙◌, subst}
 use Rattle.ac_base.specs.Order.{are_level}
-use Rattle.ac_balance.specs.Indexed.{IsThere}
 use Rattle.ac_model.specs.Rows.{with_value}
 use Rattle.ac_setwork.specs.Indexed.{Becomes, found, plain_rows}
 use Rattle.ac_ordered.specs.Ascents.{ascent}

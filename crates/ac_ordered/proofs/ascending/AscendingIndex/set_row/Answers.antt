@@ -1,4 +1,4 @@
-use Rattle.std.proofs.Common.{◌≡◌, Bool, true, false, sym, ap, ◌∙◌, subst}
+use Rattle.std.proofs.Common.{◌≡◌, Bool, true, false, sym, subst}
 use Rattle.ac_base.specs.Order.{are_level}
 use Rattle.ac_model.specs.Keyed.{ascending, with_reordered, another_is_like}
 use Rattle.ac_setwork.specs.Indexed.{Becomes, is_there, plain_rows}

@@ -1,4 +1,4 @@
-use Rattle.std.proofs.Common.{◌≡◌, true, sym, ap, ◌∙◌, subst}
+use Rattle.std.proofs.Common.{◌≡◌, true, sym, subst}
 use Rattle.std.specs.Prelude.{option_map}
 use Rattle.ac_model.specs.Rows.{Entry, entry, with_some_value, value_at}
 use Rattle.ac_setwork.specs.Indexed.{Becomes, is_there, plain_rows}

@@ -31,7 +31,7 @@ returns-in-Some-clause-changed g c =
     let i = c.self.inside in let s = g.I.Index.seen i.index in let s2 = g.I.Index.seen c.remove-row.new.self in
     subst (λ (x : Container _). Changing Same (ordered.delete_last_call (plain x.object)) x.object (object_of i.guards i.limit s2) (Ok tt)) c.self.view_is
     (end_cut g.I.Index.order i.guards i.limit s s2 (length (plain_rows s) - 1) c.in-Some.name (is_at s.rows (length (plain_rows s) - 1) c.in-Some.name c.self.invariant.valid.as_object.names_differ (sym (last_at s) ∙ sym c.last.ensures ∙ c.in-Some.is))
-      (sym (passed _ _ c.in_ok-allowed.ensures c.forbids.ensures)) c.remove-row.ensures.removed)
+    (sym (passed _ _ c.in_ok-allowed.ensures c.forbids.ensures)) c.remove-row.ensures.removed)
 
 pub returns-in-Some-clause-slots : goal.returns-in-Some-clause-slots
 returns-in-Some-clause-slots g c =

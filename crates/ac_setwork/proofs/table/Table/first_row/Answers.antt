@@ -18,6 +18,6 @@ returns-in-Some g c =
     (end_looks (object_of i.guards i.limit s) 0 c.in-Some.name c.at.result c.self.invariant.valid.as_object.names_differ (sym c.first.ensures ∙ c.in-Some.is) c.at.ensures)
 
 pub returns-in-None : goal.returns-in-None
-returns-in-None g c = 
+returns-in-None g c =
     let i = c.self.inside in let s = g.I.Index.seen i.index in
     ap (λ (x : Container _). (sequences.first_element_call (plain x.object)).reason) (sym c.self.view_is) ∙ end_empty (object_of i.guards i.limit s) (none_first s.rows (sym c.first.ensures ∙ c.in-None.is))

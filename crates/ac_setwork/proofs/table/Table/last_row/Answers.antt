@@ -19,6 +19,6 @@ returns-in-Some g c =
     (end_looks (object_of i.guards i.limit s) (length (plain_rows s) - 1) c.in-Some.name c.at.result c.self.invariant.valid.as_object.names_differ (sym (last_at s) ∙ sym c.last.ensures ∙ c.in-Some.is) c.at.ensures)
 
 pub returns-in-None : goal.returns-in-None
-returns-in-None g c = 
+returns-in-None g c =
     let i = c.self.inside in let s = g.I.Index.seen i.index in
     ap (λ (x : Container _). (sequences.last_element_call (plain x.object)).reason) (sym c.self.view_is) ∙ end_empty (object_of i.guards i.limit s) (none_last s.rows (sym c.last.ensures ∙ c.in-None.is))
