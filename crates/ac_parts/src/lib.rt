@@ -3,6 +3,8 @@
 #![tactic(auto)]
 
 #[cfg(test)]
+mod balance;
+#[cfg(test)]
 mod chains;
 #[cfg(test)]
 mod checks;
@@ -10,6 +12,8 @@ mod checks;
 mod hashed;
 #[cfg(test)]
 mod lists;
+#[cfg(test)]
+mod ordered;
 #[cfg(test)]
 mod parses;
 #[cfg(test)]
