@@ -17,6 +17,7 @@ pub mod Searches
 pub mod Sides
 pub mod SlotNames
 pub mod Standing
+pub mod StepBounds
 pub mod Taking
 pub mod Turning
 pub mod Turns

@@ -1,3 +1,4 @@
+pub mod Bounds
 pub mod Climbing
 pub mod Detaching
 pub mod IndexFields

@@ -7,6 +7,7 @@ mod entry;
 mod index;
 mod keyed;
 mod keyed_search;
+mod law;
 mod links;
 mod places;
 mod rotation;
@@ -17,6 +18,7 @@ pub use change::Change;
 pub use entry::Entry;
 pub use index::{OrderIndex, Present};
 pub use keyed::Keyed;
+pub use law::steps_of_searches;
 #[doc(hidden)]
 pub use links::{Links, Node};
 #[doc(hidden)]

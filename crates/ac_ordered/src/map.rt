@@ -132,6 +132,23 @@ impl<K: Rank, V: Elem> OrderedMap<K, V> {
         }
     }
 
+    /// Element by a key (A.18.4).
+    pub fn element_key(&self, key: &K) -> Result<&V, Fault>
+        ensures { Looks Lends (λ o. maps.element_key_call (ascending K.is_less) o key.now) self.now result }
+    {
+        match self.table.row_by(key) {
+            Ok(row) => Ok(row.element()),
+            Err(fault) => Err(fault),
+        }
+    }
+
+    /// "=" (A.18.4): as many, and each key has an equivalent one there with an equal element.
+    pub fn equal(&self, other: &OrderedMap<K, V>) -> bool
+        ensures { result ≡ maps.equal_call (ascending K.is_less) V.is_same (plain self.now.object) (plain other.now.object) }
+    {
+        self.table.equal(&other.table)
+    }
+
     /// First (A.18.4).
     pub fn first(&self) -> Cursor
         ensures { Marks self.now.object result (sequences.first_call (plain self.now.object)) }
@@ -246,6 +263,7 @@ impl<K: Rank, V: Elem> OrderedMap<K, V> {
     pub fn insert_pos(&mut self, key: K, element: V, p: &mut Cursor) -> Result<bool, Fault>
         ensures changed { Does (Places self.new.object p.new) (λ o. maps.insert_pos_call (ascending K.is_less) o key element) self.old self.new result }
         ensures kept { OnErr result (p.new ≡ p.old) }
+        ensures slots { Grows result self.old self.new }
     {
         self.table.insert_pos(Entry::new(key, element), p)
     }
@@ -253,6 +271,7 @@ impl<K: Rank, V: Elem> OrderedMap<K, V> {
     /// Include (A.18.4).
     pub fn include(&mut self, key: K, element: V) -> Result<(), Fault>
         ensures changed { Does Same (λ o. maps.include_call (ascending K.is_less) o key element) self.old self.new result }
+        ensures slots { Grows result self.old self.new }
     {
         self.table.include(Entry::new(key, element))
     }
@@ -264,6 +283,22 @@ impl<K: Rank, V: Elem> OrderedMap<K, V> {
     {
         self.table
             .replace(Class::Elements, Entry::new(key, element))
+    }
+
+    /// Replace_Element (A.18.4).
+    pub fn replace_element(&mut self, c: Cursor, element: V) -> Result<(), Fault>
+        ensures changed { Does Same (λ o. maps.replace_element_call o (seen_by self.old c) element) self.old self.new result }
+        ensures slots { slots_of self.new ≡ slots_of self.old }
+    {
+        self.table.set_element(c, element)
+    }
+
+    /// Sets the element through a name that a view or a loop gives for it, without a tampering check.
+    pub fn write(&mut self, c: Cursor, element: V) -> Result<(), Fault>
+        ensures changed { Does Same (λ o. maps.write_call o (seen_by self.old c) element) self.old self.new result }
+        ensures slots { slots_of self.new ≡ slots_of self.old }
+    {
+        self.table.write(c, element)
     }
 
     /// Exclude (A.18.4).

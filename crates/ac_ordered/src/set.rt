@@ -204,6 +204,7 @@ impl<T: Rank> OrderedSet<T> {
     pub fn insert_pos(&mut self, element: T, p: &mut Cursor) -> Result<bool, Fault>
         ensures changed { Does (Places self.new.object p.new) (λ o. keyed.insert_pos_call (ascending T.is_less) o element) self.old self.new result }
         ensures kept { OnErr result (p.new ≡ p.old) }
+        ensures slots { Grows result self.old self.new }
     {
         self.table.insert_pos(element, p)
     }
@@ -211,6 +212,7 @@ impl<T: Rank> OrderedSet<T> {
     /// Include (A.18.7).
     pub fn include(&mut self, element: T) -> Result<(), Fault>
         ensures changed { Does Same (λ o. keyed.include_call (ascending T.is_less) o element) self.old self.new result }
+        ensures slots { Grows result self.old self.new }
     {
         self.table.include(element)
     }

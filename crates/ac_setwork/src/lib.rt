@@ -2,8 +2,8 @@
 #![tactic(auto)]
 
 mod entry;
-mod filling;
 mod entry_element;
+mod filling;
 mod index;
 mod keys;
 mod mapped;
