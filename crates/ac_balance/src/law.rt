@@ -6,5 +6,4 @@ ghost use Rattle.ac_balance.specs.Bounds.{TakesAtMost};
 pub fn steps_of_searches()
     ensures thousand { TakesAtMost 1000 40 }
     ensures many { TakesAtMost 200000 72 }
-{
-}
+{}

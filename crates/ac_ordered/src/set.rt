@@ -116,6 +116,14 @@ impl<T: Rank> OrderedSet<T> {
         self.table.row(c)
     }
 
+    /// "=" (A.18.7): as many, and each equals one of the other.
+    pub fn equal(&self, other: &OrderedSet<T>) -> bool
+        ensures { result ≡ sets.equal_call T.is_same (plain self.now.object) (plain other.now.object) }
+    {
+        other.table.law();
+        self.table.equal(&other.table)
+    }
+
     /// First (A.18.7).
     pub fn first(&self) -> Cursor
         ensures { Marks self.now.object result (sequences.first_call (plain self.now.object)) }

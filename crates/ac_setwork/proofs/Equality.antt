@@ -67,4 +67,4 @@ pub maps_equal : {K T : Type 0} (keys : Order K) (same : T → T → Bool) (left
 maps_equal {K} {T} keys same left right =
     ap (λ b. (length_of left == length_of right) && b)
     (all_same (λ (e : Entry K T). is_equal_row (λ (e f : Entry K T). same e.element f.element) e (row_by (λ (f : Entry K T). keys.alike f.key e.key) right.rows)) (λ (e : Entry K T). is_equal_element same e.element (row_by (maps.has_key keys e.key) right.rows))
-        (λ e. element_row same e (row_by (λ (f : Entry K T). keys.alike f.key e.key) right.rows)) (contents left))
+    (λ e. element_row same e (row_by (λ (f : Entry K T). keys.alike f.key e.key) right.rows)) (contents left))

@@ -10,10 +10,10 @@ ghost use Rattle.ac_model.specs.Keyed.{IsValidKeyed};
 ghost use Rattle.ac_setwork.specs.TableFields.{named_like};
 
 mod capacities;
-mod elements;
-mod equality;
 mod counted;
+mod elements;
 mod ends;
+mod equality;
 mod insertions;
 mod looks;
 mod removals;

@@ -17,7 +17,7 @@ pub set_element-requires : goal.set_element-requires
 set_element-requires g c =
     let i = c.self.inside in let s = g.I.Index.seen i.index in
     subst (λ (n : Name). IsTrue (is_there s n)) (sym c.name_in.ensures) (element_stands g.I.Index.order i.guards i.limit g.I.Mapped.with_element s s c.args.c c.args.element
-        (subst (λ (x : Container _). needs_cursor x.object c.args.c ≡ None) (sym c.self.view_is) (sym c.needs.ensures ∙ c.in-None.is)))
+    (subst (λ (x : Container _). needs_cursor x.object c.args.c ≡ None) (sym c.self.view_is) (sym c.needs.ensures ∙ c.in-None.is)))
 
 pub invariant_of-self : goal.invariant_of-self
 invariant_of-self g c =
