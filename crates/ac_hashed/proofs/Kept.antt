@@ -1,5 +1,5 @@
 -- What ties the buckets to the chain is kept by each change of both.
-use Rattle.std.proofs.Common.{◌≡◌, ◌==◌, ◌↔◌, ◌||◌, ◌+◌, ◌-◌, ◌≤◌, ◌<◌, ℕ, zero, suc, Bool, true, false, true≢false, List, [], ◌∷◌, ◌++◌, length, filter, Contains, Option, Some, None, IsTrue, refl, sym, ap, ◌∙◌, subst, inl, inr, arith, eqb-true, slice_index_or}
+use Rattle.std.proofs.Common.{◌≡◌, ◌==◌, ◌↔◌, ◌||◌, ◌+◌, ◌-◌, ◌<◌, ℕ, zero, suc, Bool, true, false, true≢false, List, [], ◌∷◌, ◌++◌, Contains, Some, None, IsTrue, refl, sym, ap, ◌∙◌, subst, inl, inr, arith, eqb-true}
 use Rattle.std.specs.Prelude.{◌&&◌, option_map}
 use Rattle.std.proofs.Math.Nat.{add_comm}
 use Rattle.std.specs.Bool.{OnTrue}
@@ -19,18 +19,18 @@ use Rattle.ac_chain.specs.ChainFields.{IsOnce}
 use Rattle.ac_chain.proofs.Cuts.{Cut, has_live, remove-cut, once_gone}
 use Rattle.ac_chain.proofs.Moves.{once_from}
 use Rattle.ac_chain.proofs.Marks.{value_live}
-use Rattle.ac_model.specs.Keyed.{by_arrival, added, another_is_like}
+use Rattle.ac_model.specs.Keyed.{by_arrival, another_is_like}
 use Rattle.ac_model.specs.Letters.{is_same_name}
 use Rattle.ac_model.specs.Objects.{plains}
 use Rattle.ac_model.specs.Rows.{place_of}
 use Rattle.ac_model.proofs.KeysDiffer.{Differ, insert_apart, differ_all_added, differ_cut, differ_replaced, differ_reordered}
 use Rattle.ac_model.proofs.Moves.{found}
-use Rattle.ac_setwork.specs.Indexed.{Becomes, found_in}
+use Rattle.ac_setwork.specs.Indexed.{found_in}
 use Rattle.ac_setwork.proofs.Found.{same_is, is_same, none_found, named_among}
-use Rattle.ac_hashed.specs.Ties.{AsOften, AreTied, seen_in, hashed}
+use Rattle.ac_hashed.specs.Ties.{AsOften, AreTied, hashed}
 use Rattle.ac_hashed.proofs.Standing.{live_there, once, row_cut}
 use Rattle.ac_hashed.proofs.Shifts.{added_is, at_end, removed_is, written_is, reordered_is}
-use Rattle.ac_hashed.proofs.Sums.{any_as_often, as_many, often_more, often_less, hashed_at, pair_of, is_pair, pair_there, name_there}
+use Rattle.ac_hashed.proofs.Sums.{any_as_often, often_more, often_less, hashed_at, pair_of, is_pair, pair_there, name_there}
 
 pub alike_keys : {K V : Type 0} {alike : K → K → Bool} → IsEquivalence alike → (key : V → K) → IsEquivalence {K = V} (λ v w. alike (key v) (key w))
 alike_keys equal key = record {

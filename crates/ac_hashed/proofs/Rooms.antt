@@ -1,6 +1,6 @@
 -- Room for more rows: the buckets' grows first, and then the chain's, whose slots are the Capacity.
-use Rattle.std.proofs.Common.{◌≡◌, ◌⊎◌, ◌+◌, ◌-◌, ◌≤◌, ◌<◌, ℕ, Bool, false, [], length, Option, Some, Result, Ok, Err, refl, sym, ap, ◌∙◌, subst, inl, inr, arith, le-leb, lt-ltb}
-use Rattle.std.specs.Prelude.{OnOk, OnErr, max}
+use Rattle.std.proofs.Common.{◌≡◌, ◌+◌, ◌-◌, ◌≤◌, ◌<◌, ℕ, Bool, false, length, Some, Result, Ok, Err, sym, ap, ◌∙◌, subst, inl, inr, arith, le-leb, lt-ltb}
+use Rattle.std.specs.Prelude.{OnOk, OnErr}
 use Rattle.std.specs.List.{sum_by}
 use Rattle.std.proofs.Common.{true≢false}
 use Rattle.std.proofs.lemmas.Bool.{cases_lt, cond-true, cond-false, lt-leb}

@@ -1,16 +1,16 @@
 -- A search along a bucket.
-use Rattle.std.proofs.Common.{◌≡◌, ◌==◌, ◌&&◌, ◌||◌, ◌%◌, ◌≤◌, ◌<◌, ◌-◌, ℕ, Bool, true, false, true≢false, List, [], ◌∷◌, ◌++◌, length, drop, Option, Some, None, IsTrue, refl, sym, ap, ◌∙◌, subst, inl, inr, arith}
+use Rattle.std.proofs.Common.{◌≡◌, ◌==◌, ◌||◌, ◌%◌, ◌≤◌, ◌-◌, ℕ, Bool, true, false, true≢false, [], ◌∷◌, ◌++◌, length, drop, Option, Some, None, IsTrue, refl, sym, ap, ◌∙◌, subst, inl, inr, arith}
 use Rattle.std.specs.List.{list_any}
 use Rattle.std.proofs.lemmas.Bool.{cases_Bool}
 use Rattle.std.specs.Cmp.{IsEquivalence}
 use Rattle.ac_base.proofs.Equivalences.{turned, chained}
 use Rattle.ac_base.specs.declared.name.Name.{Name}
-use Rattle.ac_base.specs.Rows.{Row, row, names}
+use Rattle.ac_base.specs.Rows.{Row, row}
 use Rattle.ac_buckets.specs.declared.walk.Place.{Place}
 use Rattle.ac_buckets.specs.Pairs.{Bucketed}
 use Rattle.ac_buckets.specs.Places.{names_left, IsPlace, Begins, IsNext}
 use Rattle.ac_chain.specs.Rows.{Chained, IsLive, value_of}
-use Rattle.ac_chain.proofs.Cuts.{Cut, has_live, live_has}
+use Rattle.ac_chain.proofs.Cuts.{has_live}
 use Rattle.ac_model.specs.Letters.{is_among, is_same_name}
 use Rattle.ac_model.specs.Objects.{plains}
 use Rattle.ac_model.proofs.Counts.{count, count_implied}

@@ -1,14 +1,10 @@
 -- What a change of the chain is to the index, and that the buckets follow.
-use Rattle.std.proofs.Common.{◌≡◌, ◌==◌, ◌+◌, ◌-◌, ◌≤◌, ◌<◌, ℕ, zero, suc, Bool, true, false, not, ◌||◌, true≢false, List, [], ◌∷◌, ◌++◌, length, map, take, drop, Option, Some, None, IsTrue, refl, sym, ap, ◌∙◌, subst, inl, inr, arith, if◌then◌else◌}
+use Rattle.std.proofs.Common.{◌≡◌, ◌==◌, ◌+◌, ◌-◌, ◌≤◌, ◌<◌, ℕ, suc, Bool, true, false, not, ◌||◌, true≢false, List, [], ◌∷◌, ◌++◌, length, take, drop, Some, None, refl, sym, ap, ◌∙◌, subst, arith, if◌then◌else◌}
 use Rattle.std.specs.List.{insert}
-use Rattle.std.specs.List.Sorted.{IsPermutation}
-use Rattle.std.specs.Cmp.{IsEquivalence}
-use Rattle.std.proofs.lemmas.Bool.{cases_Bool}
 use Rattle.std.proofs.lemmas.List.{length_push, length-set}
 use Rattle.std.proofs.lemmas.Option.{none-some}
 use Rattle.ac_base.specs.declared.cursor.Cursor.TheVariants.{At}
-use Rattle.ac_base.specs.declared.limit.Limit.{Limit}
-use Rattle.ac_base.specs.declared.limit.Limit.TheVariants.{Unbounded, Bounded}
+use Rattle.ac_base.specs.declared.limit.Limit.TheVariants.{Unbounded}
 use Rattle.ac_base.specs.declared.name.Name.{Name}
 use Rattle.ac_base.specs.declared.reason.Reason.TheVariants.{DeadCursor}
 use Rattle.ac_base.specs.Guards.{GuardCounts}
@@ -17,7 +13,7 @@ use Rattle.ac_chain.specs.Rows as chain
 use Rattle.ac_chain.specs.Rows.{Chained, IsLive, IsSound, index_of, inserted, removed, IsFresh}
 use Rattle.ac_chain.specs.Sequence.{object_of}
 use Rattle.ac_chain.proofs.Marks.{judged_by_name, marked_live, place_live}
-use Rattle.ac_chain.proofs.Cuts.{Cut, cut, live_has, remove-cut, insert-cut}
+use Rattle.ac_chain.proofs.Cuts.{live_has}
 use Rattle.ac_chain.proofs.Moved.{removed_cut, removed_slots}
 use Rattle.ac_chain.proofs.Puts.{put_none, put_one}
 use Rattle.ac_chain.proofs.SequenceDeletes.{cut_after}
@@ -26,11 +22,11 @@ use Rattle.ac_chain.proofs.SequenceSwaps.{set_after}
 use Rattle.ac_model.specs.Calls.{IsAfter}
 use Rattle.ac_model.specs.Cursors.{needs_cursor}
 use Rattle.ac_model.specs.Keyed.{by_arrival, added, with_reordered}
-use Rattle.ac_model.specs.Letters.{is_among, mark_of, reason_if, name_of}
+use Rattle.ac_model.specs.Letters.{mark_of, reason_if, name_of}
 use Rattle.ac_model.specs.Objects.{Object, plain, plains, times, with_rows}
 use Rattle.ac_model.specs.Rows.{cut as without, put, place_of, is_named, with_value}
 use Rattle.ac_model.proofs.Counts.{unnamed}
-use Rattle.ac_setwork.specs.Indexed.{Indexed, Becomes, plain_rows}
+use Rattle.ac_setwork.specs.Indexed.{Becomes}
 use Rattle.ac_setwork.proofs.Found.{named_among}
 use Rattle.ac_hashed.specs.Ties.{seen_in}
 use Rattle.ac_hashed.proofs.Standing.{live_there, once}

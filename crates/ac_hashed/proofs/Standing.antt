@@ -1,20 +1,15 @@
 -- A chain's rows as an index has them: names that stand there, what is under them, and the one that a test finds.
-use Rattle.std.proofs.Common.{◌≡◌, ◌+◌, ◌≤◌, ◌<◌, ℕ, suc, Bool, true, false, true≢false, List, [], ◌∷◌, ◌++◌, length, Option, Some, None, IsTrue, refl, sym, ap, ◌∙◌, subst, inl, inr, arith}
+use Rattle.std.proofs.Common.{◌≡◌, ◌+◌, ◌≤◌, ℕ, suc, Bool, true, false, true≢false, List, [], ◌∷◌, ◌++◌, Some, IsTrue, refl, sym, ap, ◌∙◌, arith}
 use Rattle.std.specs.Prelude.{slice_get, option_map, if◌then◌else◌}
-use Rattle.std.proofs.lemmas.Bool.{cases_Bool, cond-true, cond-false}
-use Rattle.std.proofs.lemmas.Option.{none-some}
 use Rattle.ac_base.specs.declared.name.Name.{Name}
-use Rattle.ac_base.specs.Rows.{Row, row, names}
-use Rattle.ac_chain.specs.Rows.{Chained, IsLive, IsSound, index_of, next_name, value_of}
-use Rattle.ac_chain.specs.ChainFields.{HasName}
+use Rattle.ac_base.specs.Rows.{Row, row}
+use Rattle.ac_chain.specs.Rows.{Chained, IsLive, IsSound, next_name, value_of}
 use Rattle.ac_chain.proofs.Cuts.{Cut, cut, cut-row, live_has, has_live}
 use Rattle.ac_chain.proofs.Moves.{once_from}
 use Rattle.ac_chain.proofs.Marks.{among_has, has_among, place_live, value_live}
 use Rattle.ac_chain.proofs.Valid.{times_once}
-use Rattle.ac_model.specs.Rows.{row_by}
 use Rattle.ac_model.specs.Objects.{plains, plain_row, times}
-use Rattle.ac_model.specs.Letters.{is_among}
-use Rattle.ac_model.proofs.Counts.{count, count-append, count-cons, count_implied, found_is_named}
+use Rattle.ac_model.proofs.Counts.{count, count-append, count-cons, found_is_named}
 use Rattle.ac_model.proofs.Plains.{plains-append}
 use Rattle.ac_model.proofs.RowLaws.{found_matches}
 use Rattle.ac_setwork.specs.Indexed as index
@@ -67,10 +62,10 @@ module _ {V : Type 0} (matches : V → Bool) where
   alone_found (x ∷ xs) r ys t few =
       let all = count-cons matches (plain_row x) (plains (xs ++ r ∷ ys)) in
       let rest : count matches (plains (xs ++ r ∷ ys)) ≡ suc (count matches (plains xs) + count matches (plains ys)) =
-          let split = ap (count matches) (plains-append xs (r ∷ ys)) ∙ count-append matches (plains xs) (plains (r ∷ ys)) in
-          let own = count-cons matches (plain_row r) (plains ys) in
-          let one : ◌≡◌ {A = ℕ} (if matches r.value then 1 else 0) 1 = ap (λ b. if b then 1 else 0) t in
-          omega (arith, split, own, one) in
+      let split = ap (count matches) (plains-append xs (r ∷ ys)) ∙ count-append matches (plains xs) (plains (r ∷ ys)) in
+      let own = count-cons matches (plain_row r) (plains ys) in
+      let one : ◌≡◌ {A = ℕ} (if matches r.value then 1 else 0) 1 = ap (λ b. if b then 1 else 0) t in
+      omega (arith, split, own, one) in
       let off : matches x.value ≡ false = one_there (matches x.value) (count matches (plains xs) + count matches (plains ys)) (omega (arith, few, all, rest)) in
       let fewer : count matches (plains (xs ++ r ∷ ys)) ≤ 1 = omega (arith, few, all) in
       let again = alone_found xs r ys t fewer in

@@ -1,5 +1,5 @@
 -- Pairs that stand as often in the buckets as among the rows.
-use Rattle.std.proofs.Common.{◌≡◌, ◌==◌, ◌&&◌, ◌||◌, ◌+◌, ◌≤◌, ◌<◌, ◌%◌, ℕ, zero, suc, Bool, true, false, true≢false, List, [], ◌∷◌, ◌++◌, length, map, drop, filter, Contains, refl, sym, ap, ◌∙◌, subst, inl, inr, arith, eq-eqb, eqb-true, if◌then◌else◌}
+use Rattle.std.proofs.Common.{◌≡◌, ◌==◌, ◌&&◌, ◌||◌, ◌+◌, ◌<◌, ◌%◌, ℕ, zero, suc, Bool, true, false, true≢false, List, [], ◌∷◌, ◌++◌, length, drop, filter, refl, sym, ap, ◌∙◌, subst, inl, inr, arith, eq-eqb, eqb-true, if◌then◌else◌}
 use Rattle.std.specs.List.{list_any, sum_by}
 use Rattle.std.specs.List.Sorted.{IsPermutation}
 use Rattle.std.proofs.lemmas.Bool.{cases_Bool}
@@ -11,7 +11,7 @@ use Rattle.ac_base.specs.Rows.{Row, row, names}
 use Rattle.ac_chain.specs.ChainFields.{HasName}
 use Rattle.ac_chain.proofs.Marks.{among_has}
 use Rattle.ac_model.specs.Letters.{is_among, is_same_name}
-use Rattle.ac_setwork.proofs.Found.{same_is, is_same, or_true}
+use Rattle.ac_setwork.proofs.Found.{is_same, or_true}
 use Rattle.ac_hashed.specs.Ties.{AsOften, hashed}
 
 abbrev weight_of : {X : Type 0} → (X → Bool) → X → ℕ

@@ -69,9 +69,9 @@ where
     ghost seen = { seen_in };
 
     ghost closed = { closed_arrival (λ v w. S.Key.is_alike (S.key_of v) (S.key_of w)) (record {
-        refl = λ v. S.Key.equivalence.refl (S.key_of v);
-        symm = λ v w. S.Key.equivalence.symm (S.key_of v) (S.key_of w);
-        congr = λ v w x. S.Key.equivalence.congr (S.key_of v) (S.key_of w) (S.key_of x);
+      refl = λ v. S.Key.equivalence.refl (S.key_of v);
+      symm = λ v w. S.Key.equivalence.symm (S.key_of v) (S.key_of w);
+      congr = λ v w x. S.Key.equivalence.congr (S.key_of v) (S.key_of w) (S.key_of x);
     }) };
 
     fn new(alloc: Global, limit: Limit) -> Result<Arrivals<S>, NoMemory> {

@@ -9,11 +9,7 @@ use ac_chain::Chain;
 use ac_setwork::Keys;
 
 /// The name of the row that has the key.
-pub(crate) fn find<S: Keys>(
-    chain: &Chain<S::Row>,
-    buckets: &Buckets,
-    key: &S::Key,
-) -> Option<Name>
+pub(crate) fn find<S: Keys>(chain: &Chain<S::Row>, buckets: &Buckets, key: &S::Key) -> Option<Name>
 where
     S::Key: Hashed,
     requires tied { AreTied (λ v. S.Key.hash_of (S.key_of v)) (λ v w. S.Key.is_alike (S.key_of v) (S.key_of w)) chain.now buckets.now }

@@ -245,7 +245,8 @@ impl<K: Hashed, V: Elem> HashedMap<K, V> {
         ensures changed { Does Same (λ o. maps.replace_call (by_arrival K.is_alike) o key element) self.old self.new result }
         ensures slots { slots_of self.new ≡ slots_of self.old }
     {
-        self.table.replace(Class::Elements, Entry::new(key, element))
+        self.table
+            .replace(Class::Elements, Entry::new(key, element))
     }
 
     /// Exclude (A.18.4).

@@ -29,6 +29,7 @@ pub struct HashedSet<T: Hashed> {
 
 impl<T: Hashed> Model for HashedSet<T> {
     ghost use Rattle.ac_model.specs.Containers.{Container, container_code};
+
     ghost Value = { Container T };
 
     ghost coded = { container_code T.code };

@@ -1,21 +1,21 @@
 -- A row with another element, a row by its key, and a comparison of all rows, in the words of the definitions.
-use Rattle.std.proofs.Common.{◌≡◌, ◌==◌, ◌+◌, ◌&&◌, ℕ, true, [], ◌∷◌, length, List, Option, Some, None, Ok, IsTrue, refl, sym, ap, ◌∙◌, subst, arith, eq-eqb}
+use Rattle.std.proofs.Common.{◌≡◌, ◌+◌, ◌&&◌, ℕ, true, [], ◌∷◌, length, List, Option, Some, None, Ok, IsTrue, sym, ap, ◌∙◌, subst, arith, eq-eqb}
 use Rattle.std.specs.Prelude.{Bool, not, is_some, option_map}
 use Rattle.std.specs.Borrow.{Bor}
 use Rattle.std.proofs.lemmas.List.{length-map}
 use Rattle.ac_base.specs.FirstReason.{first_reason}
 use Rattle.ac_base.specs.Guards.{GuardCounts}
-use Rattle.ac_base.specs.Rows.{Row, row, names, values}
+use Rattle.ac_base.specs.Rows.{Row, names, values}
 use Rattle.ac_base.specs.declared.cursor.Cursor.{Cursor}
 use Rattle.ac_base.specs.declared.limit.Limit.{Limit}
 use Rattle.ac_base.specs.declared.name.Name.{Name}
 use Rattle.ac_base.specs.declared.reason.Reason.TheVariants.{KeyAbsent}
 use Rattle.ac_model.specs.Calls.{IsAfter, Looking, Lends}
 use Rattle.ac_model.specs.Cursors.{mark, needs_cursor, name_in}
-use Rattle.ac_model.specs.Keyed.{Order, IsValidKeyed}
+use Rattle.ac_model.specs.Keyed.{Order}
 use Rattle.ac_model.specs.Letters.{is_among, name_of, reason_if}
-use Rattle.ac_model.specs.Objects.{Object, plain, plains, plain_row, with_rows}
-use Rattle.ac_model.specs.Rows.{row_by, value_at, with_some_value}
+use Rattle.ac_model.specs.Objects.{plain, plain_row, with_rows}
+use Rattle.ac_model.specs.Rows.{value_at, with_some_value}
 use Rattle.ac_model.proofs.KeyedLaws.{Closed, same_key_valid}
 use Rattle.ac_model.proofs.Lengths.{length-with_some_value}
 use Rattle.ac_model.proofs.Plains.{values-plains}
@@ -23,7 +23,7 @@ use Rattle.ac_setwork.specs.Filling.{NamesDiffer, are_matched}
 use Rattle.ac_setwork.specs.Indexed.{Indexed, Becomes, found_in, plain_rows, slots, value_of}
 use Rattle.ac_setwork.specs.TableCalls.{equal_call, element_set, key_row_call}
 use Rattle.ac_setwork.specs.TableFields.{IsTable, object_of}
-use Rattle.ac_setwork.proofs.Found.{Stands, named_among, none_found, stands}
+use Rattle.ac_setwork.proofs.Found.{named_among, none_found, stands}
 use Rattle.ac_setwork.proofs.Tables.{becomes_after, becomes_slots, becomes_table}
 use Rattle.ac_setwork.proofs.Walking.{row_under}
 

@@ -1,11 +1,10 @@
 -- A walk over the rows of an index, from name to name.
-use Rattle.std.proofs.Common.{◌≡◌, ◌==◌, ◌+◌, ◌-◌, ◌≤◌, ◌<◌, ◌&&◌, ℕ, zero, suc, Bool, true, false, true≢false, List, [], ◌∷◌, ◌++◌, length, Option, Some, None, IsTrue, refl, sym, ap, ◌∙◌, subst, inl, inr, arith, eq-eqb, if◌then◌else◌}
+use Rattle.std.proofs.Common.{◌≡◌, ◌==◌, ◌+◌, ◌-◌, ◌≤◌, ◌<◌, ◌&&◌, ℕ, suc, Bool, true, false, List, [], ◌∷◌, ◌++◌, length, Option, Some, None, IsTrue, refl, sym, ap, ◌∙◌, subst, arith, eq-eqb, if◌then◌else◌}
 use Rattle.std.specs.Prelude.{option_map, slice_get}
-use Rattle.std.proofs.lemmas.Bool.{cases_Bool}
 use Rattle.std.proofs.lemmas.List.{append_assoc, append-nil, map-append, length-append, length_push}
 use Rattle.std.proofs.lemmas.Option.{none-some}
 use Rattle.ac_base.specs.declared.name.Name.{Name}
-use Rattle.ac_base.specs.Rows.{Row, row, names, values}
+use Rattle.ac_base.specs.Rows.{Row, row, values}
 use Rattle.ac_model.specs.Rows.{place_of, row_by}
 use Rattle.ac_model.specs.Objects.{plains, plain_row, times}
 use Rattle.ac_model.specs.Keyed.{Order}

@@ -1,15 +1,12 @@
 -- A table whose index has room for more rows.
-use Rattle.std.proofs.Common.{◌≡◌, ◌≤◌, ℕ, List, length, map, Option, Result, Ok, Err, refl, sym, ap, ◌∙◌, subst}
-use Rattle.std.specs.Prelude.{IfSome, OnOk, OnErr}
-use Rattle.std.proofs.lemmas.List.{length-map}
+use Rattle.std.proofs.Common.{◌≡◌, ◌≤◌, ℕ, length, map, Result, Ok, Err, sym, subst}
+use Rattle.std.specs.Prelude.{OnOk, OnErr}
 use Rattle.ac_base.specs.Guards.{GuardCounts}
-use Rattle.ac_base.specs.Rows.{Row}
 use Rattle.ac_base.specs.declared.fault.NoMemory.{NoMemory}
 use Rattle.ac_base.specs.declared.limit.Limit.{Limit}
 use Rattle.ac_base.specs.declared.limit.TheConstants.{GREATEST_LENGTH}
-use Rattle.ac_base.specs.declared.name.Name.{Name}
 use Rattle.ac_model.specs.Keyed.{Order, IsValidKeyed}
-use Rattle.ac_model.specs.Objects.{Object, CapacityFits, IsValid, capacity_after, plain, plain_row}
+use Rattle.ac_model.specs.Objects.{capacity_after, plain, plain_row}
 use Rattle.ac_model.proofs.Kept.{capacity-asked}
 use Rattle.ac_setwork.specs.Filling.{Widens}
 use Rattle.ac_setwork.specs.Indexed.{Indexed}

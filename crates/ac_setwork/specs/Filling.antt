@@ -1,14 +1,14 @@
 -- What many rows at once leave of an index.
-use Rattle.std.specs.Prelude.{◌≡◌, ◌<◌, ◌+◌, ◌≤◌, ℕ, Bool, false, max, nat_le, List, [], ◌∷◌, ◌++◌, length, All, IsTrue, Option, Some, None}
+use Rattle.std.specs.Prelude.{◌≡◌, ◌≤◌, ℕ, Bool, false, max, nat_le, List, IfSome, IsTrue, Option, Some, None}
 use Rattle.std.specs.List.{list_all}
 use Rattle.ac_base.specs.declared.limit.Limit.{Limit}
-use Rattle.ac_base.specs.declared.name.Name.{Name}
 use Rattle.ac_base.specs.Growth.{pow8}
-use Rattle.ac_base.specs.Rows.{Row, names, values}
-use Rattle.ac_model.specs.Rows.{fresh, row_by}
+use Rattle.ac_base.specs.Rows.{Row}
+use Rattle.ac_model.specs.Common.{asks_for_memory}
+use Rattle.ac_model.specs.Rows.{row_by}
 use Rattle.ac_model.specs.Objects.{capacity_after, times}
-use Rattle.ac_model.specs.Keyed.{Order, has, place_in}
-use Rattle.ac_setwork.specs.Indexed.{Indexed, HasSlots, plain_rows, slots, is_there}
+use Rattle.ac_model.specs.Keyed.{Order}
+use Rattle.ac_setwork.specs.Indexed.{Indexed, HasSlots, plain_rows, slots}
 
 -- so many rows are within the Capacity, or where there is none, no more than there are
 abbrev pub holds : Option ℕ → ℕ → ℕ → Bool
@@ -29,18 +29,9 @@ module _ {V : Type 0} where
     pub has_slots : HasSlots limit new.capacity (slots new)
     pub most : slots new ≤ max (slots old) (pow8 need)
 
-  -- values that can be added one behind the other: none is equivalent to one before it, and each belongs behind those
-  abbrev pub Appends : Order V → List V → Type 0
-  Appends order vs = (before rest : List V) (v : V) → vs ≡ before ++ (v ∷ rest) → (has order before v ≡ false) × (place_in order (length before) before v ≡ length before)
-
-  -- the values under new names in place of all rows
-  pub record Refills (limit : Limit) (vs : List V) (old new : Indexed V) : Type 0 where
-    pub rows : plain_rows new ≡ fresh old.next vs
-    pub same_slots : All (λ name. name.serial < old.next → IsTrue (is_there old name)) (names new.rows)
-    pub next : new.next ≡ old.next + length vs
-    pub capacity : new.capacity ≡ capacity_after limit old.capacity (length vs)
-    pub has_slots : HasSlots limit new.capacity (slots new)
-    pub most : slots new ≤ max (slots old) (pow8 (length vs))
+  -- where there is a Capacity, so many rows are more than it has room for
+  abbrev pub AsksForMemory : Limit → ℕ → Indexed V → Type 0
+  AsksForMemory limit need s = IfSome s.capacity (λ _. IsTrue (asks_for_memory limit s.capacity need))
 
   -- the row is there, and equal
   abbrev pub is_equal_row : (V → V → Bool) → V → Option (Row ℕ V) → Bool

@@ -1,12 +1,11 @@
 //! Room for many rows, and a comparison of all rows.
-ghost use Rattle.std.specs.Prelude.{◌≡◌, ◌≤◌, false, length, IfSome, IsTrue, OnOk, OnErr};
+ghost use Rattle.std.specs.Prelude.{◌≡◌, ◌≤◌, false, length, IfSome, OnOk, OnErr};
 ghost use Rattle.ac_base.specs.Limits.{is_past};
 ghost use Rattle.ac_base.specs.Rows.{values};
 ghost use Rattle.ac_base.specs.declared.limit.TheConstants.{GREATEST_LENGTH};
-ghost use Rattle.ac_model.specs.Common.{asks_for_memory};
 ghost use Rattle.ac_model.specs.Objects.{CapacityFits};
 ghost use Rattle.ac_model.specs.Rows.{row_by};
-ghost use Rattle.ac_setwork.specs.Filling.{holds, NamesDiffer, Widens, are_matched, is_equal_row};
+ghost use Rattle.ac_setwork.specs.Filling.{holds, AsksForMemory, NamesDiffer, Widens, are_matched, is_equal_row};
 ghost use Rattle.ac_setwork.specs.Indexed.{HasSlots, plain_rows, slots};
 
 use crate::index::Index;
@@ -30,7 +29,7 @@ pub(crate) fn widen<I: Index>(index: &mut I, limit: Limit, need: u64) -> Result<
     requires slots { HasSlots limit (I.seen index.old).capacity (slots (I.seen index.old)) }
     ensures ok { OnOk result (Widens limit need (I.seen index.old) (I.seen index.new)) }
     ensures err { OnErr result (I.seen index.new ≡ I.seen index.old) }
-    ensures wants { OnErr result (IfSome (I.seen index.old).capacity (λ _. IsTrue (asks_for_memory limit (I.seen index.old).capacity need))) }
+    ensures wants { OnErr result (AsksForMemory limit need (I.seen index.old)) }
 {
     let length = index.len();
     if holds(index.capacity(), length, need) {

@@ -19,7 +19,7 @@ at-requires g c =
 pub returns-then-alike : goal.returns-then-alike
 returns-then-alike g c =
     let live = met_live (λ v. g.S.Key.Hashed.hash_of (g.S.Keys.key_of v)) (λ v w. g.S.Key.Hashed.is_alike (g.S.Keys.key_of v) (g.S.Keys.key_of w)) (λ v. g.S.Key.Hashed.is_alike (g.S.Keys.key_of v) c.args.key.now) (g.S.Key.Hashed.hash_of c.args.key.now) c.args.chain.now c.args.buckets.now c.requires.tied
-            c.loop-name.place c.in-Some.next c.in-Some.name (c.in-Some.ensures (g.S.Key.Hashed.hash_of c.args.key.now) c.loop-name.invariant.stands) in
+    c.loop-name.place c.in-Some.next c.in-Some.name (c.in-Some.ensures (g.S.Key.Hashed.hash_of c.args.key.now) c.loop-name.invariant.stands) in
     hit (λ v. g.S.Key.Hashed.hash_of (g.S.Keys.key_of v)) (λ v w. g.S.Key.Hashed.is_alike (g.S.Keys.key_of v) (g.S.Keys.key_of w)) (λ v. g.S.Key.Hashed.is_alike (g.S.Keys.key_of v) c.args.key.now) (g.S.Key.Hashed.hash_of c.args.key.now) c.args.chain.now c.args.buckets.now c.requires.tied
     (by_key g.met.S.Key.Hashed.equivalence g.met.S.Key.Hashed.alike_hashes g.S.Keys.key_of c.args.key.now) c.in-Some.name c.at.result.now live c.at.ensures.value
     (ap (λ k. g.S.Key.Hashed.is_alike k c.args.key.now) (sym c.key.ensures) ∙ sym c.alike.ensures ∙ c.if-alike.true)

@@ -1,5 +1,5 @@
-use Rattle.std.proofs.Common.{◌≡◌, ◌<◌, ◌+◌, ◌-◌, ◌∷◌, [], IsTrue, Some, None, ap, sym, ◌∙◌, subst, refl}
-use Rattle.ac_chain.specs.Rows.{Chained, inserted, removed}
+use Rattle.std.proofs.Common.{◌≡◌, ◌<◌, ◌+◌, ◌-◌, ◌∷◌, [], ap, sym, ◌∙◌, subst}
+use Rattle.ac_chain.specs.Rows.{Chained}
 use Rattle.ac_base.specs.Rows.{row}
 use Rattle.ac_buckets.specs.Pairs.{added}
 use Rattle.ac_model.specs.Keyed as keyed

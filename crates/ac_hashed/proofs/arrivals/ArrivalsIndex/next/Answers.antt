@@ -1,8 +1,8 @@
-use Rattle.std.proofs.Common.{◌≡◌, IsTrue, Some, ap, sym, ◌∙◌, subst}
+use Rattle.std.proofs.Common.{IsTrue, ap, sym, ◌∙◌, subst}
 use Rattle.ac_chain.specs.Rows.{Chained}
-use Rattle.ac_setwork.specs.Indexed.{is_there, name_after, value_of}
+use Rattle.ac_setwork.specs.Indexed.{is_there, name_after}
 use Rattle.ac_hashed.specs.Ties.{seen_in}
-use Rattle.ac_hashed.proofs.Standing.{there_live, after_is, value_is}
+use Rattle.ac_hashed.proofs.Standing.{there_live, after_is}
 use Rattle.ac_hashed.proofs.arrivals.ArrivalsIndex.next.Goals as goal
 
 pub next-requires : goal.next-requires

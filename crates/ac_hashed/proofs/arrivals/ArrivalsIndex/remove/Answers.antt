@@ -1,6 +1,6 @@
-use Rattle.std.proofs.Common.{◌≡◌, ◌+◌, Contains, IsTrue, Some, None, ap, sym, ◌∙◌, subst, refl}
+use Rattle.std.proofs.Common.{◌≡◌, ◌+◌, Contains, IsTrue, Some, ap, sym, ◌∙◌, subst}
 use Rattle.ac_base.specs.Rows.{row}
-use Rattle.ac_chain.specs.Rows.{Chained, inserted, removed}
+use Rattle.ac_chain.specs.Rows.{Chained}
 use Rattle.ac_setwork.specs.Indexed.{is_there, value_of, Becomes, plain_rows}
 use Rattle.ac_hashed.specs.Ties.{seen_in}
 use Rattle.ac_model.specs.Rows.{cut, place_of}
@@ -21,7 +21,7 @@ invariant_of-self g c =
     tied_removed (λ v. g.S.Key.Hashed.hash_of (g.S.Keys.key_of v)) (λ v w. g.S.Key.Hashed.is_alike (g.S.Keys.key_of v) (g.S.Keys.key_of w)) c.self.inside.chain c.self.inside.buckets
     c.self.invariant c.remove-row.new.self d.new.self c.args.name c.remove-row.result live c.remove-row.ensures.value c.remove-row.ensures.removed c.remove-row.ensures.sound
     (subst (λ h. IsDropped c.args.name h c.self.inside.buckets d.new.self) hash
-        (dropped c.args.name c.hash.result c.self.inside.buckets d.new.self d.result d.ensures.there d.ensures.gone d.ensures.room (subst (λ h. Contains c.self.inside.buckets.pairs (row c.args.name h)) (sym hash) there)))
+    (dropped c.args.name c.hash.result c.self.inside.buckets d.new.self d.result d.ensures.there d.ensures.gone d.ensures.room (subst (λ h. Contains c.self.inside.buckets.pairs (row c.args.name h)) (sym hash) there)))
 
 pub returns-clause-value : goal.returns-clause-value
 returns-clause-value g c =

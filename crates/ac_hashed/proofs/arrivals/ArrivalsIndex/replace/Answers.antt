@@ -1,7 +1,6 @@
-use Rattle.std.proofs.Common.{◌≡◌, ◌+◌, ◌<◌, Contains, false, IsTrue, Some, None, ap, sym, ◌∙◌, subst, refl, arith}
-use Rattle.ac_base.specs.Rows.{row, names}
-use Rattle.ac_chain.specs.Rows.{Chained, with_value}
-use Rattle.ac_setwork.specs.Indexed.{is_there, found_in, value_of, Becomes, plain_rows}
+use Rattle.std.proofs.Common.{ap, sym, ◌∙◌, subst}
+use Rattle.ac_chain.specs.Rows.{Chained}
+use Rattle.ac_setwork.specs.Indexed.{found_in, Becomes, plain_rows}
 use Rattle.ac_hashed.specs.Ties.{seen_in}
 use Rattle.ac_chain.specs.Rows.{IsSound}
 use Rattle.ac_model.specs.Rows as rows

@@ -1,7 +1,7 @@
-use Rattle.std.proofs.Common.{◌≡◌, ◌+◌, ◌<◌, Contains, false, IsTrue, Some, None, ap, sym, ◌∙◌, subst, refl, arith}
-use Rattle.ac_base.specs.Rows.{row, names}
-use Rattle.ac_chain.specs.Rows.{Chained, with_value}
-use Rattle.ac_setwork.specs.Indexed.{is_there, found_in, value_of, Becomes, plain_rows}
+use Rattle.std.proofs.Common.{◌≡◌, Contains, false, IsTrue, ap, sym, ◌∙◌, subst, arith}
+use Rattle.ac_base.specs.Rows.{row}
+use Rattle.ac_chain.specs.Rows.{Chained}
+use Rattle.ac_setwork.specs.Indexed.{is_there, Becomes, plain_rows}
 use Rattle.ac_hashed.specs.Ties.{seen_in}
 use Rattle.ac_buckets.specs.Pairs.{added}
 use Rattle.ac_chain.specs.Rows.{IsSound}
@@ -22,7 +22,7 @@ add-requires-clause-spare g c =
     let d = c.drop_one-dropped in
     let there = pair_in (λ v. g.S.Key.Hashed.hash_of (g.S.Keys.key_of v)) (λ v w. g.S.Key.Hashed.is_alike (g.S.Keys.key_of v) (g.S.Keys.key_of w)) c.self.inside.chain c.self.inside.buckets c.self.invariant c.args.name c.at.result.now live c.at.ensures.value in
     let gone = subst (λ h. IsDropped c.args.name h c.self.inside.buckets d.new.self) old
-            (dropped c.args.name c.hash.result c.self.inside.buckets d.new.self d.result d.ensures.there d.ensures.gone d.ensures.room (subst (λ h. Contains c.self.inside.buckets.pairs (row c.args.name h)) (sym old) there)) in
+    (dropped c.args.name c.hash.result c.self.inside.buckets d.new.self d.result d.ensures.there d.ensures.gone d.ensures.room (subst (λ h. Contains c.self.inside.buckets.pairs (row c.args.name h)) (sym old) there)) in
     omega (arith, gone.spare)
 
 pub add-requires-clause-absent : goal.add-requires-clause-absent
@@ -32,7 +32,7 @@ add-requires-clause-absent g c =
     let d = c.drop_one-dropped in
     let there = pair_in (λ v. g.S.Key.Hashed.hash_of (g.S.Keys.key_of v)) (λ v w. g.S.Key.Hashed.is_alike (g.S.Keys.key_of v) (g.S.Keys.key_of w)) c.self.inside.chain c.self.inside.buckets c.self.invariant c.args.name c.at.result.now live c.at.ensures.value in
     let gone = subst (λ h. IsDropped c.args.name h c.self.inside.buckets d.new.self) old
-            (dropped c.args.name c.hash.result c.self.inside.buckets d.new.self d.result d.ensures.there d.ensures.gone d.ensures.room (subst (λ h. Contains c.self.inside.buckets.pairs (row c.args.name h)) (sym old) there)) in
+    (dropped c.args.name c.hash.result c.self.inside.buckets d.new.self d.result d.ensures.there d.ensures.gone d.ensures.room (subst (λ h. Contains c.self.inside.buckets.pairs (row c.args.name h)) (sym old) there)) in
     gone_absent (λ v. g.S.Key.Hashed.hash_of (g.S.Keys.key_of v)) (λ v w. g.S.Key.Hashed.is_alike (g.S.Keys.key_of v) (g.S.Keys.key_of w)) c.self.inside.chain c.self.inside.buckets c.self.invariant d.new.self c.args.name c.at.result.now live c.at.ensures.value gone
 
 pub write-requires : goal.write-requires
@@ -45,7 +45,7 @@ invariant_of-self g c =
     let d = c.drop_one-dropped in
     let there = pair_in (λ v. g.S.Key.Hashed.hash_of (g.S.Keys.key_of v)) (λ v w. g.S.Key.Hashed.is_alike (g.S.Keys.key_of v) (g.S.Keys.key_of w)) c.self.inside.chain c.self.inside.buckets c.self.invariant c.args.name c.at.result.now live c.at.ensures.value in
     let gone = subst (λ h. IsDropped c.args.name h c.self.inside.buckets d.new.self) old
-            (dropped c.args.name c.hash.result c.self.inside.buckets d.new.self d.result d.ensures.there d.ensures.gone d.ensures.room (subst (λ h. Contains c.self.inside.buckets.pairs (row c.args.name h)) (sym old) there)) in
+    (dropped c.args.name c.hash.result c.self.inside.buckets d.new.self d.result d.ensures.there d.ensures.gone d.ensures.room (subst (λ h. Contains c.self.inside.buckets.pairs (row c.args.name h)) (sym old) there)) in
     let new : c.hash-hash.result ≡ g.S.Key.Hashed.hash_of (g.S.Keys.key_of c.args.row) = c.hash-hash.ensures ∙ ap g.S.Key.Hashed.hash_of c.key.ensures in
     subst (λ (k : Chained _). AreTied (λ v. g.S.Key.Hashed.hash_of (g.S.Keys.key_of v)) (λ v w. g.S.Key.Hashed.is_alike (g.S.Keys.key_of v) (g.S.Keys.key_of w)) k c.add.new.self) (sym c.write.ensures.written)
     (tied_anew (λ v. g.S.Key.Hashed.hash_of (g.S.Keys.key_of v)) (λ v w. g.S.Key.Hashed.is_alike (g.S.Keys.key_of v) (g.S.Keys.key_of w)) c.self.inside.chain c.self.inside.buckets c.self.invariant d.new.self c.add.new.self c.args.name c.at.result.now c.args.row live c.at.ensures.value gone

@@ -1,4 +1,4 @@
-use Rattle.std.proofs.Common.{◌≡◌, true, IsTrue, Option, Some, refl, ap, sym, ◌∙◌, subst}
+use Rattle.std.proofs.Common.{◌≡◌, true, IsTrue, Option, refl, ap, sym, ◌∙◌, subst}
 use Rattle.std.specs.Prelude.{option_map}
 use Rattle.ac_chain.specs.Rows.{Chained, with_value}
 use Rattle.ac_chain.proofs.Marks.{value_live}
@@ -23,7 +23,7 @@ invariant_of-self g c =
     tied_written (λ (e : Entry g.row.K.Denot g.row.V.Denot). g.K.Hashed.hash_of e.key) (λ (e f : Entry g.row.K.Denot g.row.V.Denot). g.K.Hashed.is_alike e.key f.key) i.chain i.buckets c.self.invariant a v w live c.at_mut.ensures.value
     (ap g.K.Hashed.hash_of (sym key)) c.len-sound.ensures.sound
     (replaced_differ (λ (e : Entry g.row.K.Denot g.row.V.Denot). g.K.Hashed.hash_of e.key) (λ (e f : Entry g.row.K.Denot g.row.V.Denot). g.K.Hashed.is_alike e.key f.key) i.chain i.buckets
-        (alike_keys g.met.K.Hashed.equivalence (λ (e : Entry g.row.K.Denot g.row.V.Denot). e.key)) c.self.invariant a v w live c.at_mut.ensures.value like)
+    (alike_keys g.met.K.Hashed.equivalence (λ (e : Entry g.row.K.Denot g.row.V.Denot). e.key)) c.self.invariant a v w live c.at_mut.ensures.value like)
 
 pub returns : goal.returns
 returns g c =
@@ -33,7 +33,7 @@ returns g c =
     let becomes = written_is i.chain now a w c.self.invariant.sound live refl in
     let stood = value_live i.chain a c.self.invariant.sound live ∙ sym c.at_mut.ensures.value in
     let is = ap (λ (f : Option (Entry g.row.K.Denot g.row.V.Denot)). with_some_value (plain_rows (seen_in i.chain)) a.serial (option_map (λ (e : Entry g.row.K.Denot g.row.V.Denot). entry e.key c.args.element) f)) stood
-            ∙ ap (rows.with_value (plain_rows (seen_in i.chain)) a.serial) (sym c.set_element.ensures) in
+    ∙ ap (rows.with_value (plain_rows (seen_in i.chain)) a.serial) (sym c.set_element.ensures) in
     subst (λ (d : Chained (Entry g.row.K.Denot g.row.V.Denot)). Becomes (seen_in d) (seen_in now)
-        (with_some_value (plain_rows (seen_in d)) a.serial (option_map (λ (e : Entry g.row.K.Denot g.row.V.Denot). entry e.key c.args.element) (rows.value_at (plain_rows (seen_in d)) a.serial))) d.next_serial d.spare) c.self.view_is
+    (with_some_value (plain_rows (seen_in d)) a.serial (option_map (λ (e : Entry g.row.K.Denot g.row.V.Denot). entry e.key c.args.element) (rows.value_at (plain_rows (seen_in d)) a.serial))) d.next_serial d.spare) c.self.view_is
     (subst (λ rs. Becomes (seen_in i.chain) (seen_in now) rs i.chain.next_serial i.chain.spare) (sym is) becomes)

@@ -12,4 +12,4 @@ returns g c =
     let keys = by_arrival g.K.Hashed.is_alike in let same = g.V.Elem.is_same in let left = c.self.inside.table in let right = c.other.inside.table in
     subst (λ (x : Container (Entry g.row.K.Denot g.row.V.Denot)). c.equal.result ≡ equal_call keys same (plain x.object) (plain c.args.other.now.object)) c.self.view_is
     (subst (λ (x : Container (Entry g.row.K.Denot g.row.V.Denot)). c.equal.result ≡ equal_call keys same (plain left.object) (plain x.object)) c.other.view_is
-        (c.equal.ensures ∙ maps_equal keys same (plain left.object) (plain right.object)))
+    (c.equal.ensures ∙ maps_equal keys same (plain left.object) (plain right.object)))

@@ -6,7 +6,6 @@ use Rattle.ac_model.specs.Keyed.{by_arrival}
 use Rattle.ac_model.specs.Maps.{order_of}
 use Rattle.ac_model.specs.Objects.{plain}
 use Rattle.ac_model.specs.Rows.{Entry, entry}
-use Rattle.ac_setwork.specs.TableFields.{Places}
 use Rattle.ac_hashed.proofs.map.HashedMap.include.Goals as goal
 
 pub returns-clause-changed : goal.returns-clause-changed

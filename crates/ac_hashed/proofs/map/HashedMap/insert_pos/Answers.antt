@@ -1,5 +1,5 @@
 use Rattle.std.proofs.Common.{subst}
-use Rattle.ac_model.specs.Calls.{Changing, Same}
+use Rattle.ac_model.specs.Calls.{Changing}
 use Rattle.ac_model.specs.Containers.{Container}
 use Rattle.ac_model.specs.Keyed as keyed
 use Rattle.ac_model.specs.Keyed.{by_arrival}

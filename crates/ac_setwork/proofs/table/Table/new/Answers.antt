@@ -1,7 +1,7 @@
 use Rattle.std.proofs.Common.{◌≡◌, refl, sym, subst}
 use Rattle.ac_base.specs.Guards.{GuardCounts}
 use Rattle.ac_setwork.specs.TableFields.{IsTable, object_of}
-use Rattle.ac_model.specs.Containers.{Container, container, first_spare}
+use Rattle.ac_model.specs.Containers.{container, first_spare}
 use Rattle.ac_model.specs.Objects.{empty_object}
 use Rattle.ac_setwork.proofs.Tables.{empty_is, empty_table}
 use Rattle.ac_setwork.proofs.table.Table.new.Goals as goal

@@ -1,4 +1,4 @@
-use Rattle.std.proofs.Common.{◌≡◌, Ok, Some, sym, ap, ◌∙◌, subst}
+use Rattle.std.proofs.Common.{◌≡◌, Ok, Some, sym, ◌∙◌, subst}
 use Rattle.ac_base.specs.declared.reason.Reason.TheVariants.{KeyAbsent}
 use Rattle.ac_model.specs.Calls.{Lends, Looking}
 use Rattle.ac_model.specs.Containers.{Container}

@@ -1,9 +1,8 @@
 use Rattle.std.proofs.Common.{◌≡◌, ◌∷◌, [], None, IsTrue, refl, sym, ap, ◌∙◌, subst}
-use Rattle.ac_base.specs.FirstReason.{first_reason}
 use Rattle.ac_base.specs.declared.name.Name.{Name}
 use Rattle.ac_model.specs.Calls.{IsAfter}
 use Rattle.ac_model.specs.Containers.{Container, slots_of}
-use Rattle.ac_model.specs.Cursors.{mark, name_in, needs_cursor}
+use Rattle.ac_model.specs.Cursors.{mark, needs_cursor}
 use Rattle.ac_model.specs.Letters.{tampers_elements}
 use Rattle.ac_model.specs.Objects.{plain}
 use Rattle.ac_model.proofs.Reasons.{none_first, none_others}

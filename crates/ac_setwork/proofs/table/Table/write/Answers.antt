@@ -3,10 +3,8 @@ use Rattle.ac_base.specs.FirstReason.{first_reason}
 use Rattle.ac_base.specs.declared.name.Name.{Name}
 use Rattle.ac_model.specs.Calls.{IsAfter}
 use Rattle.ac_model.specs.Containers.{Container, slots_of}
-use Rattle.ac_model.specs.Cursors.{mark, name_in, needs_cursor}
-use Rattle.ac_model.specs.Letters.{tampers_elements}
+use Rattle.ac_model.specs.Cursors.{mark, needs_cursor}
 use Rattle.ac_model.specs.Objects.{plain}
-use Rattle.ac_model.proofs.Reasons.{none_first, none_others}
 use Rattle.ac_setwork.specs.Indexed.{is_there}
 use Rattle.ac_setwork.specs.TableCalls.{element_set}
 use Rattle.ac_setwork.specs.TableFields.{object_of}
