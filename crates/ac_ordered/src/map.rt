@@ -261,7 +261,8 @@ impl<K: Rank, V: Elem> OrderedMap<K, V> {
 
     /// Insert with a position (A.18.4): where an equivalent key is there, the position is that one, and nothing else changes.
     pub fn insert_pos(&mut self, key: K, element: V, p: &mut Cursor) -> Result<bool, Fault>
-        ensures changed { Does (Places self.new.object p.new) (λ o. maps.insert_pos_call (ascending K.is_less) o key element) self.old self.new result }
+        ensures changed { Does (Places self.new.object p.new) (λ o. maps.insert_pos_call (ascending K.is_less) o key element)
+            self.old self.new result }
         ensures kept { OnErr result (p.new ≡ p.old) }
         ensures slots { Grows result self.old self.new }
     {

@@ -210,7 +210,8 @@ impl<T: Rank> OrderedSet<T> {
 
     /// Insert with a position (A.18.7): where an equivalent element is there, the position is that one, and nothing else changes.
     pub fn insert_pos(&mut self, element: T, p: &mut Cursor) -> Result<bool, Fault>
-        ensures changed { Does (Places self.new.object p.new) (λ o. keyed.insert_pos_call (ascending T.is_less) o element) self.old self.new result }
+        ensures changed { Does (Places self.new.object p.new) (λ o. keyed.insert_pos_call (ascending T.is_less) o element)
+            self.old self.new result }
         ensures kept { OnErr result (p.new ≡ p.old) }
         ensures slots { Grows result self.old self.new }
     {
@@ -235,7 +236,8 @@ impl<T: Rank> OrderedSet<T> {
 
     /// Replace_Element (A.18.7): the element keeps its name and goes to its place.
     pub fn replace_element(&mut self, c: Cursor, element: T) -> Result<(), Fault>
-        ensures changed { Does Same (λ o. keyed.replace_element_call (ascending T.is_less) o (seen_by self.old c) element) self.old self.new result }
+        ensures changed { Does Same (λ o. keyed.replace_element_call (ascending T.is_less) o (seen_by self.old c) element)
+            self.old self.new result }
         ensures slots { slots_of self.new ≡ slots_of self.old }
     {
         self.table.replace_element(c, element)
