@@ -9,6 +9,7 @@ mod chains;
 #[cfg(test)]
 mod checks;
 #[cfg(test)]
+mod forms;
 mod hashed;
 #[cfg(test)]
 mod lists;

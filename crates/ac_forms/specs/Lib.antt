@@ -1,0 +1,3 @@
+pub mod HolderFields
+pub mod HolderForms
+pub mod StableLends
