@@ -1,23 +1,10 @@
+use crate::lists::{tag, text};
 use ac_base::{Fault, Limit, Reason, Text};
-use ac_cursor::{GuardKind, Guarded, Tag, TagMint};
+use ac_cursor::{GuardKind, Guarded};
 use ac_forms::{Holder, Stable};
 use ac_list::List;
 use std::alloc::Global;
 use std::process::Abort;
-
-fn tag(rt: &impl Abort, number: u64) -> Tag {
-    match TagMint::starting_at(number).next() {
-        Some(tag) => tag,
-        None => panic!(rt; "no tag"),
-    }
-}
-
-fn text(rt: &impl Abort, alloc: Global, bytes: &[u8]) -> Text {
-    match Text::new(alloc, bytes) {
-        Ok(text) => text,
-        Err(_) => panic!(rt; "no memory"),
-    }
-}
 
 fn texts(rt: &impl Abort, alloc: Global, number: u64, limit: Limit) -> Holder<Text> {
     assert!(rt; limit == Limit::Unbounded || limit == Limit::Bounded(3));
@@ -50,7 +37,11 @@ fn a_bounded_holder_counts_bytes(rt: HostRuntime) {
 fn an_assigned_copy_stays(rt: HostRuntime) {
     let mut source = texts(&rt, rt.alloc(), 1, Limit::Unbounded);
     let mut target = texts(&rt, rt.alloc(), 2, Limit::Bounded(3));
-    assert!(rt; source.replace_element(text(&rt, rt.alloc(), b"abc")).is_ok());
+    assert!(rt;
+        source
+            .replace_element(text(&rt, rt.alloc(), b"abc"))
+            .is_ok()
+    );
     assert!(rt; target.assign(&source).is_ok());
     assert!(rt; target.equal(&source));
     assert!(rt; source.clear().is_ok());
@@ -62,7 +53,11 @@ fn an_assigned_copy_stays(rt: HostRuntime) {
 fn a_refused_move_leaves_the_source(rt: HostRuntime) {
     let mut source = texts(&rt, rt.alloc(), 1, Limit::Unbounded);
     let mut target = texts(&rt, rt.alloc(), 2, Limit::Bounded(3));
-    assert!(rt; source.replace_element(text(&rt, rt.alloc(), b"abcd")).is_ok());
+    assert!(rt;
+        source
+            .replace_element(text(&rt, rt.alloc(), b"abcd"))
+            .is_ok()
+    );
     assert!(rt; target.move_from(&mut source) == Err(Fault::Raised(Reason::TooLarge)));
     assert!(rt; holds(&source, b"abcd"));
     assert!(rt; source.write(text(&rt, rt.alloc(), b"ab")).is_ok());

@@ -4,7 +4,7 @@ use ac_list::List;
 use std::alloc::Global;
 use std::process::Abort;
 
-fn tag(rt: &impl Abort, number: u64) -> Tag {
+pub(crate) fn tag(rt: &impl Abort, number: u64) -> Tag {
     match TagMint::starting_at(number).next() {
         Some(tag) => tag,
         None => panic!(rt; "no tag"),
@@ -261,7 +261,7 @@ fn a_merge_takes_a_tie_from_the_target(rt: HostRuntime) {
     assert!(rt; target.length() == 5);
 }
 
-fn text(rt: &impl Abort, alloc: Global, bytes: &[u8]) -> Text {
+pub(crate) fn text(rt: &impl Abort, alloc: Global, bytes: &[u8]) -> Text {
     match Text::new(alloc, bytes) {
         Ok(text) => text,
         Err(_) => panic!(rt; "no memory"),
