@@ -1,7 +1,7 @@
-use Rattle.std.proofs.Common.{sym, subst}
+use Rattle.std.proofs.Common.{subst}
 use Rattle.ac_meaning.specs.Commands.{arguments, source_of}
 use Rattle.ac_meaning.specs.Holdings.{reply_of}
-use Rattle.ac_objects.specs.Steps.{IsCalledAt, IsPerformed, reply_in}
+use Rattle.ac_objects.specs.Steps.{IsCalledAt, reply_in}
 use Rattle.ac_objects.specs.World.{state_of}
 use Rattle.ac_objects.proofs.Performing.{is_performed}
 use Rattle.ac_objects.proofs.objects.Objects.perform.Goals as goal
