@@ -43,3 +43,9 @@ pub record HasRoom (e : State) (place : ℕ) (kind : GuardKind) : Type 0 where
   pub held : Held
   pub there : object_at e place ≡ Some held
   pub counted : count_of (raised_kind (is_a_set held) kind) (counts_in_held held) < 2 ^ 64 - 1
+
+-- 64 bits count two cursor guards more
+pub record HasRoomForTwo (e : State) (place : ℕ) : Type 0 where
+  pub held : Held
+  pub there : object_at e place ≡ Some held
+  pub counted : (counts_in_held held).cursor_guards < 2 ^ 64 - 2

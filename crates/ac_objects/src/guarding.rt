@@ -5,7 +5,7 @@ ghost use Rattle.ac_model.specs.Containers.{guards_of};
 ghost use Rattle.ac_meaning.specs.Holdings.{Held, with_rows_by, is_a_set, guard_on};
 ghost use Rattle.ac_meaning.specs.Environment.{object_at, objects_by};
 ghost use Rattle.ac_meaning.specs.UnderGuards.{held_with, held_without};
-ghost use Rattle.ac_objects.specs.Blocks.{HasRoom, IsHeldAt};
+ghost use Rattle.ac_objects.specs.Blocks.{HasRoom, HasRoomForTwo, IsHeldAt};
 ghost use Rattle.ac_objects.specs.Counts as counts;
 ghost use Rattle.ac_objects.specs.Sequences.{rows_of};
 ghost use Rattle.ac_objects.specs.Standing.{IsObject, counts_in_held};
@@ -98,6 +98,16 @@ impl Objects {
     {
         match self.bounds.get(place) {
             Some(Bound::Object(object)) => object.held(kind) < u64::MAX,
+            _ => false,
+        }
+    }
+
+    /// Whether 64 bits count two cursor guards more, which a loop over the elements of a set holds.
+    pub(crate) fn has_room_for_two(&self, place: usize) -> bool
+        ensures { result ≡ true → HasRoomForTwo (state_of self.now) place }
+    {
+        match self.bounds.get(place) {
+            Some(Bound::Object(object)) => object.held(GuardKind::Cursors) < u64::MAX - 1,
             _ => false,
         }
     }

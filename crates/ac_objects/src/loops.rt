@@ -8,7 +8,7 @@ ghost use Rattle.ac_meaning.specs.Environment.{object_at, object_in, objects_by,
 ghost use Rattle.ac_meaning.specs.Execution.{in_order, turn_bound, guards_of_loop};
 ghost use Rattle.ac_meaning.specs.UnderGuards.{held_without};
 ghost use Rattle.ac_meaning.specs.Walks.{first_mark};
-ghost use Rattle.ac_objects.specs.Blocks.{holding, releasing, guard_if, guards_of_loop_key, HasRoom, IsHeldAt};
+ghost use Rattle.ac_objects.specs.Blocks.{holding, releasing, guard_if, guards_of_loop_key, HasRoom, HasRoomForTwo, IsHeldAt};
 ghost use Rattle.ac_objects.specs.Given.{StepsOn};
 ghost use Rattle.ac_objects.specs.Standing.{IsObject, ComingStands, counts_of};
 ghost use Rattle.ac_objects.specs.World.{bound_of, cursor_in, state_of, IsKnown, Persists};
@@ -187,10 +187,13 @@ impl Objects {
     fn has_room_for_loop(&self, place: usize, elements: bool) -> bool
         ensures cursors { result ≡ true → HasRoom (state_of self.now) place GuardKind.Cursors }
         ensures elements { result ≡ true → elements ≡ true → HasRoom (state_of self.now) place GuardKind.Elements }
+        ensures both { result ≡ true → elements ≡ true → HasRoomForTwo (state_of self.now) place }
     {
         let cursors = self.has_room(place, GuardKind::Cursors);
         if elements {
-            return cursors && self.has_room(place, GuardKind::Elements);
+            return cursors
+                && self.has_room(place, GuardKind::Elements)
+                && self.has_room_for_two(place);
         }
         cursors
     }
@@ -198,6 +201,7 @@ impl Objects {
     /// Holds the element guard of a loop, if it has one.
     fn hold_elements(&mut self, place: usize, elements: bool) -> Option<GuardKey>
         requires room { elements ≡ true → HasRoom (state_of self.old) place GuardKind.Elements }
+        requires both { elements ≡ true → HasRoomForTwo (state_of self.old) place }
         ensures held { (h : Held) → object_at (state_of self.old) place ≡ Some h →
             (guard_on h GuardKind.Cursors ∷ guard_if result ≡ guards_of_loop elements h)
             × (state_of self.new ≡ holding (guard_if result) (state_of self.old)) }

@@ -231,7 +231,8 @@ fn new_sequence<T: Drop>(
     limit: Limit,
 ) -> Result<Sequence<T>, NoMemory>
     requires { IsLimit limit }
-    ensures kind { (first : Elements) (second : Option Elements) → IfOk result (λ made. kind_by kind first second ≡ a_sequence (kind_of made) first) }
+    ensures kind { (first : Elements) (second : Option Elements) →
+        IfOk result (λ made. kind_by kind first second ≡ a_sequence (kind_of made) first) }
     ensures empty { IfOk result (λ made. plain (rows_of made).object ≡ empty_object (is_vector (kind_of made)) tag limit) }
 {
     match kind {
