@@ -3,18 +3,13 @@
 #![tactic(auto)]
 
 #[cfg(test)]
-mod balance;
-#[cfg(test)]
 mod chains;
 #[cfg(test)]
 mod checks;
 #[cfg(test)]
 mod forms;
-mod hashed;
 #[cfg(test)]
 mod lists;
-#[cfg(test)]
-mod ordered;
 #[cfg(test)]
 mod parses;
 #[cfg(test)]

@@ -1,0 +1,9 @@
+//! Tests over the public calls of maps and sets and of the ordered index below them, each call that takes memory where there is enough of it.
+#![tactic(auto)]
+
+#[cfg(test)]
+mod balance;
+#[cfg(test)]
+mod hashed;
+#[cfg(test)]
+mod ordered;
