@@ -7,7 +7,7 @@ use Rattle.ac_forms.specs.contracts.stable.Stable.{the_row}
 
 -- the view over the container as it is now
 abbrev pub with_base : {C : Type 0} → Stable C → C → Stable C
-with_base s now = record s { of = record s.of { now = now } }
+with_base s now = record s { base = record s.base { now = now } }
 
 module _ (C : RattleType) where
   -- the view ends with the last value behind r as its container. Its lifetime is the second of the signature
