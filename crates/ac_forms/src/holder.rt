@@ -143,10 +143,7 @@ impl<T: Elem> Holder<T> {
         allowed(first_reason(&[self.tampers(), self.refuses_element_of(source)]))?;
         self.element = match &source.element {
             None => None,
-            Some(element) => match element.copy(self.alloc) {
-                Ok(copy) => Some(copy),
-                Err(_) => return Err(Fault::NoMemory),
-            },
+            Some(element) => Some(element.copy(self.alloc)?),
         };
         Ok(())
     }
