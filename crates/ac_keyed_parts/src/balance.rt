@@ -1,4 +1,4 @@
-ghost use Rattle.std.specs.Prelude.{◌≡◌, ◌<◌};
+ghost use Rattle.std.specs.Prelude.{◌≡◌, ◌<◌, ◌-◌, ◌^◌, true};
 
 use ac_balance::OrderIndex;
 use ac_base::{Name, Steps};
@@ -6,15 +6,34 @@ use std::marker::Brand;
 use std::sync::ledger::{Blank, Ledger};
 use std::test::Fail;
 
+/// Whether one row more can be added, for which there is memory.
+fn has_room(index: &mut OrderIndex<i64, i64>) -> bool
+    ensures spare { result ≡ true → 0 < index.new.spare }
+    ensures serial { result ≡ true → index.new.next_serial < 2 ^ 64 - 1 }
+{
+    if index.len() >= 1 << 29 || index.reserve(1).is_err() {
+        return false;
+    }
+    index.spare() > 0 && index.next_serial() < u64::MAX
+}
+
 /// Adds the key, where there is room for it or memory.
 fn added(index: &mut OrderIndex<i64, i64>, k: i64) -> Option<Name> {
-    if index.len() >= 1 << 29 || index.next_serial() == u64::MAX {
+    if !has_room(index) {
         return None;
     }
-    if index.reserve(1).is_err() {
-        return None;
+    index.add(k, k.checked_neg()?).ok()
+}
+
+/// Another row with the key is refused, and handed back with the name of the one that is there.
+fn is_present(index: &mut OrderIndex<i64, i64>, k: i64, v: i64, name: Option<Name>) -> bool {
+    if !has_room(index) {
+        return false;
     }
-    index.add(k, -k).ok()
+    match index.add(k, v) {
+        Ok(_) => false,
+        Err(present) => Some(present.at) == name && present.k == k && present.v == v,
+    }
 }
 
 fn found_with<L: Ledger>(index: &OrderIndex<i64, i64>, k: i64, blank: Blank) -> Option<Name>
@@ -83,11 +102,7 @@ fn an_equivalent_key_is_there_already(rt: HostRuntime) {
     let mut index = OrderIndex::new(rt.alloc());
     let name = added(&mut index, 5);
     assert!(rt; name.is_some());
-    assert!(rt; index.reserve(1).is_ok());
-    match index.add(5, 7) {
-        Ok(_) => panic!(rt; "a second row"),
-        Err(present) => assert!(rt; Some(present.at) == name && present.k == 5 && present.v == 7),
-    }
+    assert!(rt; is_present(&mut index, 5, 7, name));
     assert!(rt; index.len() == 1 && index.spare() == 7);
 }
 
