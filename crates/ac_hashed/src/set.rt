@@ -243,7 +243,7 @@ impl<T: Hashed> HashedSet<T> {
 }
 
 impl<T: Hashed> Guarded for HashedSet<T> {
-    ghost is_set = { λ _. false };
+    ghost is_set = { λ _. true };
 
     ghost guards = { guards_of };
 
@@ -257,8 +257,8 @@ impl<T: Hashed> Guarded for HashedSet<T> {
 
     ghost set_kept = { λ _ _. refl };
 
-    fn hold(&mut self, kind: GuardKind) -> GuardKey {
-        self.table.hold(kind)
+    fn hold(&mut self, _kind: GuardKind) -> GuardKey {
+        self.table.hold(GuardKind::Cursors)
     }
 
     fn release(&mut self, key: GuardKey) {

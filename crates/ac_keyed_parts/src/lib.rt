@@ -7,3 +7,5 @@ mod balance;
 mod hashed;
 #[cfg(test)]
 mod ordered;
+#[cfg(test)]
+mod views;
