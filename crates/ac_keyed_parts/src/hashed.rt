@@ -80,3 +80,52 @@ fn a_capacity_is_reserved(rt: HostRuntime) {
     assert!(rt; map.capacity() == 128);
     assert!(rt; map.slots() == 128);
 }
+
+#[test]
+fn a_row_is_read_and_written_by_its_cursor(rt: HostRuntime) {
+    let mut map = map(&rt, rt.alloc(), Limit::Unbounded);
+    let mut p = Cursor::NoElement;
+    assert!(rt; map.insert_pos(1, 10, &mut p) == Ok(true));
+    assert!(rt; map.find(&1) == p && map.contains(&1) && map.has_element(p));
+    assert!(rt; map.key(p).ok().copied() == Some(1));
+    assert!(rt; map.replace_element(p, 11).is_ok());
+    assert!(rt; map.element(p).ok().copied() == Some(11));
+    assert!(rt; map.write(p, 12).is_ok());
+    assert!(rt; map.element(p).ok().copied() == Some(12));
+    assert!(rt; map.replace(1, 13).is_ok() && map.exclude(&2).is_ok());
+    assert!(rt; map.delete(&mut p).is_ok() && p == Cursor::NoElement);
+    assert!(rt; map.is_empty() && map.replace(1, 14) == Err(Fault::Raised(Reason::KeyAbsent)));
+}
+
+#[test]
+fn equal_maps_have_the_same_pairs(rt: HostRuntime) {
+    let mut left = map(&rt, rt.alloc(), Limit::Unbounded);
+    let mut right = map(&rt, rt.alloc(), Limit::Bounded(2));
+    assert!(rt; left.insert(1, 10).is_ok() && left.insert(2, 20).is_ok());
+    assert!(rt; right.insert(2, 20).is_ok() && right.insert(1, 11).is_ok());
+    assert!(rt; !left.equal(&right));
+    assert!(rt; right.replace(1, 10).is_ok());
+    assert!(rt; left.equal(&right) && right.equal(&left));
+    assert!(rt; right.clear().is_ok() && !left.equal(&right));
+}
+
+#[test]
+fn an_element_of_a_set_is_replaced(rt: HostRuntime) {
+    let mut set = set(&rt, rt.alloc());
+    let mut p = Cursor::NoElement;
+    assert!(rt; set.insert(text(&rt, rt.alloc(), b"AaAa")).is_ok());
+    assert!(rt; set.insert_pos(text(&rt, rt.alloc(), b"BBBB"), &mut p) == Ok(true));
+    assert!(rt;
+        set.replace_element(p, text(&rt, rt.alloc(), b"AaAa"))
+            == Err(Fault::Raised(Reason::Duplicate))
+    );
+    assert!(rt;
+        set.replace_element(p, text(&rt, rt.alloc(), b"AaBB"))
+            .is_ok()
+    );
+    assert!(rt; set.find(&text(&rt, rt.alloc(), b"AaBB")) == p);
+    assert!(rt; !set.contains(&text(&rt, rt.alloc(), b"BBBB")));
+    assert!(rt; set.next(set.first()) == Ok(p) && set.next(p) == Ok(Cursor::NoElement));
+    assert!(rt; set.delete_item(&text(&rt, rt.alloc(), b"AaAa")).is_ok());
+    assert!(rt; set.first() == p && set.length() == 1);
+}

@@ -168,3 +168,29 @@ fn two_hundred_thousand_elements_that_fall(rt: HostRuntime) {
     }
     assert!(rt; set.first_element().ok().copied() == Some(1));
 }
+
+#[test]
+fn a_row_is_read_and_written_by_its_cursor(rt: HostRuntime) {
+    let mut map = map::<i64, i64>(&rt, rt.alloc(), 1);
+    let mut p = Cursor::NoElement;
+    assert!(rt; map.insert_pos(1, 10, &mut p) == Ok(true));
+    assert!(rt; map.key(p).ok().copied() == Some(1));
+    assert!(rt; map.replace_element(p, 11).is_ok());
+    assert!(rt; map.element(p).ok().copied() == Some(11));
+    assert!(rt; map.write(p, 12).is_ok());
+    assert!(rt; map.element_key(&1).ok().copied() == Some(12));
+    assert!(rt; map.delete(&mut p).is_ok() && p == Cursor::NoElement);
+    assert!(rt; map.element_key(&1).is_err());
+}
+
+#[test]
+fn equal_maps_have_the_same_pairs(rt: HostRuntime) {
+    let mut left = map::<i64, i64>(&rt, rt.alloc(), 1);
+    let mut right = map::<i64, i64>(&rt, rt.alloc(), 2);
+    assert!(rt; left.insert(1, 10).is_ok() && left.insert(2, 20).is_ok());
+    assert!(rt; right.insert(2, 20).is_ok() && right.insert(1, 11).is_ok());
+    assert!(rt; !left.equal(&right));
+    assert!(rt; right.replace(1, 10).is_ok());
+    assert!(rt; left.equal(&right) && right.equal(&left));
+    assert!(rt; right.clear().is_ok() && !left.equal(&right));
+}
