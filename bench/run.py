@@ -1,7 +1,7 @@
 #!/usr/bin/env python3
 """Times the built programs beside plain Rust programs on the same machine in the same run.
 
-Prints the program's time for each generated script, the ratio to the baseline's, and the growth from half the script to the whole: 2 is linear. Then the time and the memory of long runs, and what `A.Length` costs. Then the time of `--check` on inputs of 1 MiB that are the worst of their sorts, and the growth. Then the time of a put and a take of the pool, and the ratio; and of an insertion and a removal in the middle of a chain, which stays flat where the chain grows. Then the times of a list's calls, and their growth from 10,000 elements to 1,000,000, and the memory of a slot. Needs rustc; isn't part of the gate.
+Prints the program's time for each generated script, the ratio to the baseline's, and the growth from half the script to the whole: 2 is linear. Then the time and the memory of long runs, and what `A.Length` costs. Then the time of `--check` on inputs of 1 MiB that are the worst of their sorts, and the growth. Then the time of a put and a take of the pool, and the ratio; and of an insertion and a removal in the middle of a chain, which stays flat where the chain grows. Then the times of calls of lists and sets, and their growth from 10,000 elements to 1,000,000, and the memory of a slot. Needs rustc; isn't part of the gate.
 
 With `--peer COMMAND` it prints instead the times of some scripts beside those of another interpreter of the same language, and the ratio: below 1 is faster.
 
@@ -284,10 +284,21 @@ def lists(program):
         print(f"{name:<40}" + "".join(f"{each * 1e9:>12.1f}" for each in took) + f"{took[-1] / took[0]:>8.2f}")
 
 
+def sets(program):
+    """An inclusion, and an exclusion for each second one."""
+    print(f"{'set, ns for each element':<40}{'10,000':>12}{'100,000':>12}{'1,000,000':>12}{'growth':>8}")
+    for name in ("hashed", "ordered"):
+        took = [workload(program, name, str(rows), rounds=3_000_000 // rows) / rows for rows in SIZES]
+        print(f"{name:<40}" + "".join(f"{each * 1e9:>12.1f}" for each in took) + f"{took[-1] / took[0]:>8.2f}")
+
+
 def memory(program):
-    """What a slot takes: a list of 1,000,000 integers has twice as many as one of 500,000. Two lists are compared, since the peak of a short one is this script's own."""
-    more = peak([program, "append", "1000000", "1"]) - peak([program, "append", "500000", "1"])
-    print(f"{'bytes for each slot of a list':<40}{more / (1 << 19):>12.1f}")
+    """What a slot takes: 1,000,000 integers have twice as many as 500,000. Two lengths are compared, since the peak of a short one is this script's own. And the most that 1,000,000 integers take."""
+    print(f"{'memory':<40}{'bytes a slot':>12}{'MB':>12}")
+    for name, words in (("a list", "append"), ("a hashed set", "hashed"), ("an ordered set", "ordered")):
+        whole = peak([program, words, "1000000", "1"])
+        more = whole - peak([program, words, "500000", "1"])
+        print(f"{name:<40}{more / (1 << 19):>12.1f}{whole / 1e6:>12.1f}")
 
 
 def workloads():
@@ -349,6 +360,7 @@ def main():
         churn(os.path.join(folder, "out/ac_bench"), place)
     middle(os.path.join(folder, "out/ac_bench"))
     lists(os.path.join(folder, "out/ac_bench"))
+    sets(os.path.join(folder, "out/ac_bench"))
     memory(os.path.join(folder, "out/ac_bench"))
     return 0
 

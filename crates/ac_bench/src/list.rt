@@ -12,7 +12,7 @@ fn made(alloc: Global, mint: &mut TagMint) -> Result<List<i64>, Fault> {
 }
 
 /// A value that goes up and down with its place.
-fn scrambled(place: u64) -> i64 {
+pub fn scrambled(place: u64) -> i64 {
     (place.wrapping_mul(7919) % 1_000_003) as i64
 }
 
