@@ -1,15 +1,9 @@
+use crate::ordered::tag;
 use ac_base::{Fault, Limit, Reason, Text};
-use ac_cursor::{Cursor, Tag, TagMint};
+use ac_cursor::Cursor;
 use ac_hashed::{HashedMap, HashedSet};
 use std::alloc::Global;
 use std::process::Abort;
-
-fn tag(rt: &impl Abort, number: u64) -> Tag {
-    match TagMint::starting_at(number).next() {
-        Some(tag) => tag,
-        None => panic!(rt; "no tag"),
-    }
-}
 
 fn map(rt: &impl Abort, alloc: Global, limit: Limit) -> HashedMap<i64, i64> {
     assert!(rt; limit == Limit::Unbounded || limit == Limit::Bounded(2));

@@ -10,7 +10,7 @@ use std::process::Abort;
 use std::sync::ledger::{Blank, Ledger};
 use std::test::Fail;
 
-fn tag(rt: &impl Abort, number: u64) -> Tag {
+pub fn tag(rt: &impl Abort, number: u64) -> Tag {
     match TagMint::starting_at(number).next() {
         Some(tag) => tag,
         None => panic!(rt; "no tag"),

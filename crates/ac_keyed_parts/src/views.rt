@@ -1,20 +1,13 @@
+use crate::ordered::tag;
 use ac_base::{Fault, Limit, Reason};
-use ac_cursor::{GuardKind, Guarded, Tag, TagMint};
+use ac_cursor::{GuardKind, Guarded};
 use ac_forms::Stable;
 use ac_hashed::HashedSet;
 use ac_ordered::OrderedSet;
-use std::process::Abort;
-
-fn tag(rt: &impl Abort) -> Tag {
-    match TagMint::starting_at(1).next() {
-        Some(tag) => tag,
-        None => panic!(rt; "no tag"),
-    }
-}
 
 #[test]
 fn a_hashed_set_under_a_view_takes_no_element(rt: HostRuntime) {
-    let mut set = match HashedSet::new(rt.alloc(), tag(&rt), Limit::Unbounded) {
+    let mut set = match HashedSet::new(rt.alloc(), tag(&rt, 1), Limit::Unbounded) {
         Ok(set) => set,
         Err(_) => panic!(rt; "no memory"),
     };
@@ -27,7 +20,7 @@ fn a_hashed_set_under_a_view_takes_no_element(rt: HostRuntime) {
 
 #[test]
 fn an_ordered_set_under_a_view_takes_no_element(rt: HostRuntime) {
-    let mut set = match OrderedSet::new(rt.alloc(), tag(&rt), Limit::Unbounded) {
+    let mut set = match OrderedSet::new(rt.alloc(), tag(&rt, 1), Limit::Unbounded) {
         Ok(set) => set,
         Err(_) => panic!(rt; "no memory"),
     };
