@@ -1,7 +1,9 @@
+pub mod Assigning
 pub mod Elements
 pub mod Ends
 pub mod Equality
 pub mod Found
+pub mod Refills
 pub mod Replacing
 pub mod Tables
 pub mod Walking

@@ -40,7 +40,7 @@ all_from P [] h i d lt = absurd (omega arith)
 all_from P (a ∷ rest) h zero d lt = h a (ap (λ b. b || is_among rest a) (is_same a a refl))
 all_from P (a ∷ rest) h (suc i) d lt = all_from P rest (λ b t. h b (ap (λ c. is_same_name b a || c) t ∙ or_true (is_same_name b a))) i d (omega arith)
 
-none_some : {X : Type 0} (x : Option X) → is_some x ≡ false → x ≡ None
+pub none_some : {X : Type 0} (x : Option X) → is_some x ≡ false → x ≡ None
 none_some None h = refl
 none_some (Some y) h = absurd (true≢false h)
 

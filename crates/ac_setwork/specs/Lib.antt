@@ -3,5 +3,6 @@ pub mod Entries
 pub mod EntryLaws
 pub mod Filling
 pub mod Indexed
+pub mod Refilling
 pub mod TableCalls
 pub mod TableFields

@@ -8,6 +8,7 @@ mod index;
 mod keys;
 mod mapped;
 mod ordered;
+mod refilling;
 mod searched;
 mod table;
 

@@ -10,6 +10,7 @@ ghost use Rattle.ac_model.specs.Keyed.{IsValidKeyed};
 ghost use Rattle.ac_setwork.specs.TableFields.{named_like};
 
 mod capacities;
+mod copies;
 mod counted;
 mod elements;
 mod ends;
@@ -18,6 +19,7 @@ mod insertions;
 mod looks;
 mod removals;
 mod replacements;
+mod transfers;
 
 use crate::index::Index;
 use ac_base::{Fault, Limit, Name, Reason};
