@@ -1,9 +1,9 @@
 -- A chain's rows as an index has them: names that stand there, what is under them, and the one that a test finds.
-use Rattle.std.proofs.Common.{◌≡◌, ◌+◌, ◌≤◌, ℕ, suc, Bool, true, false, true≢false, List, [], ◌∷◌, ◌++◌, Some, IsTrue, refl, sym, ap, ◌∙◌, arith}
+use Rattle.std.proofs.Common.{◌≡◌, ◌+◌, ◌-◌, ◌≤◌, ℕ, zero, suc, Bool, true, false, true≢false, List, [], ◌∷◌, ◌++◌, length, Some, IsTrue, refl, sym, ap, ◌∙◌, arith}
 use Rattle.std.specs.Prelude.{slice_get, option_map, if◌then◌else◌}
 use Rattle.ac_base.specs.declared.name.Name.{Name}
 use Rattle.ac_base.specs.Rows.{Row, row}
-use Rattle.ac_chain.specs.Rows.{Chained, IsLive, IsSound, next_name, value_of}
+use Rattle.ac_chain.specs.Rows.{Chained, IsLive, IsSound, index_of, name_before, next_name, prev_name, value_of}
 use Rattle.ac_chain.proofs.Cuts.{Cut, cut, cut-row, live_has, has_live}
 use Rattle.ac_chain.proofs.Moves.{once_from}
 use Rattle.ac_chain.proofs.Marks.{among_has, has_among, place_live, value_live}
@@ -12,6 +12,7 @@ use Rattle.ac_model.specs.Objects.{plains, plain_row, times}
 use Rattle.ac_model.proofs.Counts.{count, count-append, count-cons, found_is_named}
 use Rattle.ac_model.proofs.Plains.{plains-append}
 use Rattle.ac_model.proofs.RowLaws.{found_matches}
+use Rattle.ac_setwork.specs.Ends as ends
 use Rattle.ac_setwork.specs.Indexed as index
 use Rattle.ac_setwork.specs.Indexed.{found_in}
 use Rattle.ac_setwork.proofs.Found.{among_found, row_named}
@@ -39,6 +40,21 @@ module _ {V : Type 0} (c : Chained V) where
   -- the name after a row's
   pub after_is : (a : Name) → IsSound c → IsLive c a → next_name c a ≡ index.name_after (seen_in c) a
   after_is a s live = ap (λ i. option_map (λ (r : Row Name V). r.name) (slice_get c.rows (i + 1))) (sym (place_live c a s live))
+
+  -- the name before a row's, and the last one
+  up_to_is : (i : ℕ) → name_before c.rows i ≡ ends.name_up_to (seen_in c) i
+  up_to_is zero = refl
+  up_to_is (suc i) = refl
+
+  pub before_is : (a : Name) → IsSound c → IsLive c a → prev_name c a ≡ ends.name_before (seen_in c) a
+  before_is a s live = up_to_is (index_of a c.rows) ∙ ap (ends.name_up_to (seen_in c)) (sym (place_live c a s live))
+
+  last_in : (rows : List (Row Name V)) → name_before rows (length rows) ≡ option_map (λ (r : Row Name V). r.name) (slice_get rows (length rows - 1))
+  last_in [] = refl
+  last_in (r ∷ rows) = let e : length rows ≡ length (r ∷ rows) - 1 = omega arith in ap (λ i. option_map (λ (q : Row Name V). q.name) (slice_get (r ∷ rows) i)) e
+
+  pub last_is : name_before c.rows (length c.rows) ≡ ends.last_name (seen_in c)
+  last_is = last_in c.rows
 
   pub value_is : (a : Name) (v : V) → IsSound c → IsLive c a → Some v ≡ value_of c a → index.value_of (seen_in c) a ≡ Some v
   value_is a v s live e = value_live c a s live ∙ sym e

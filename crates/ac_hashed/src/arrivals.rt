@@ -122,6 +122,14 @@ where
         self.chain.next(name)
     }
 
+    fn last(&self) -> Option<Name> {
+        self.chain.last()
+    }
+
+    fn previous(&self, name: Name) -> Option<Name> {
+        self.chain.prev(name)
+    }
+
     fn look(&self, key: &S::Key) -> Option<Name> {
         find::<S>(&self.chain, &self.buckets, key)
     }

@@ -189,11 +189,25 @@ impl<K: Hashed, V: Elem> HashedMap<K, V> {
         self.table.first()
     }
 
+    /// Last, which the standard has of ordered maps alone: here the key that arrived last.
+    pub fn last(&self) -> Cursor
+        ensures { Marks self.now.object result (sequences.last_call (plain self.now.object)) }
+    {
+        self.table.last()
+    }
+
     /// Next (A.18.4).
     pub fn next(&self, b: Cursor) -> Result<Cursor, Fault>
         ensures { Looks (Marks self.now.object) (λ o. sequences.next_call o (seen_by self.now b)) self.now result }
     {
         self.table.next(b)
+    }
+
+    /// Previous, which the standard has of ordered maps alone: here the key that arrived before.
+    pub fn previous(&self, b: Cursor) -> Result<Cursor, Fault>
+        ensures { Looks (Marks self.now.object) (λ o. sequences.previous_call o (seen_by self.now b)) self.now result }
+    {
+        self.table.previous(b)
     }
 }
 

@@ -113,6 +113,14 @@ where
         self.tree.after(name)
     }
 
+    fn last(&self) -> Option<Name> {
+        self.tree.last()
+    }
+
+    fn previous(&self, name: Name) -> Option<Name> {
+        self.tree.before(name)
+    }
+
     fn look(&self, key: &S::Key) -> Option<Name> {
         sought::<S, Brand>(&self.tree, key, Blank::new(1))
     }
@@ -174,14 +182,6 @@ where
     ghost is_below = { λ k v. S.Key.is_less (S.key_of v) k };
 
     ghost is_above = { λ k v. S.Key.is_less k (S.key_of v) };
-
-    fn last(&self) -> Option<Name> {
-        self.tree.last()
-    }
-
-    fn previous(&self, name: Name) -> Option<Name> {
-        self.tree.before(name)
-    }
 
     fn floor<L: Ledger>(&self, key: &S::Key, steps: &mut Steps<L>) -> Option<Name> {
         self.tree.floor_key(key, steps)

@@ -5,6 +5,7 @@ ghost use Rattle.ac_base.specs.declared.limit.TheConstants.{GREATEST_LENGTH};
 ghost use Rattle.ac_model.specs.Rows.{cut, place_of, with_value};
 ghost use Rattle.ac_model.specs.Keyed.{Order, added, with_reordered, another_is_like};
 ghost use Rattle.ac_model.proofs.KeyedLaws.{Closed};
+ghost use Rattle.ac_setwork.specs.Ends.{last_name, name_before};
 ghost use Rattle.ac_setwork.specs.Indexed.{Indexed, Becomes, IsEmpty, MakesRoom, HasSlots, slots, takes_one, plain_rows, is_there, name_at, name_after, found, value_of};
 
 use ac_base::{Limit, Name, NoMemory};
@@ -71,6 +72,14 @@ pub trait Index: Drop {
     fn next(&self, name: Name) -> Option<Name>
         requires { IsTrue (is_there (seen self.now) name) }
         ensures { result ≡ name_after (seen self.now) name };
+
+    /// The last row's name. A walk from it by `previous` meets each row once, backwards.
+    fn last(&self) -> Option<Name>
+        ensures { result ≡ last_name (seen self.now) };
+
+    fn previous(&self, name: Name) -> Option<Name>
+        requires { IsTrue (is_there (seen self.now) name) }
+        ensures { result ≡ name_before (seen self.now) name };
 
     /// The name of the row with the key.
     fn look(&self, key: &Self::Key) -> Option<Name>

@@ -1,7 +1,7 @@
 //! What ordered maps and sets need of their rows.
-ghost use Rattle.std.specs.Prelude.{◌≡◌, Bool, IsTrue, not, length};
-ghost use Rattle.ac_setwork.specs.Indexed.{is_there, found};
-ghost use Rattle.ac_setwork.specs.Ends.{last_name, name_before, last_found};
+ghost use Rattle.std.specs.Prelude.{◌≡◌, Bool, not, length};
+ghost use Rattle.ac_setwork.specs.Indexed.{found};
+ghost use Rattle.ac_setwork.specs.Ends.{last_found};
 
 use crate::searched::Searched;
 use ac_base::{Name, Steps};
@@ -14,14 +14,6 @@ pub trait Ordered: Searched {
 
     /// The row's key is greater than the key.
     ghost is_above: { Self.Key → Self.Row → Bool };
-
-    /// The last row's name. A walk from it by `previous` meets each row once, backwards.
-    fn last(&self) -> Option<Name>
-        ensures { result ≡ last_name (Self.seen self.now) };
-
-    fn previous(&self, name: Name) -> Option<Name>
-        requires { IsTrue (is_there (Self.seen self.now) name) }
-        ensures { result ≡ name_before (Self.seen self.now) name };
 
     /// The name of the last row whose key isn't greater.
     fn floor<L: Ledger>(&self, key: &Self::Key, steps: &mut Steps<L>) -> Option<Name>

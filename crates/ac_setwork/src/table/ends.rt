@@ -1,37 +1,18 @@
-//! The ends of an ordered map or set, and the walk backwards.
+//! The elements at the ends of an ordered map or set.
 ghost use Rattle.std.specs.Prelude.{◌≡◌};
-ghost use Rattle.ac_model.specs.Objects.{plain};
-ghost use Rattle.ac_model.specs.Calls.{Same, Lends, Marks};
+ghost use Rattle.ac_model.specs.Calls.{Same, Lends};
 ghost use Rattle.ac_model.specs.Containers.{slots_of};
-ghost use Rattle.ac_model.specs.Forms.{Does, Looks, seen_by};
+ghost use Rattle.ac_model.specs.Forms.{Does, Looks};
 ghost use Rattle.ac_model.specs.Ordered as ordered;
 ghost use Rattle.ac_model.specs.Sequences as sequences;
 
 use super::Table;
 use crate::ordered::Ordered;
 use ac_base::{Fault, Reason};
-use ac_cursor::{Class, Cursor};
-use ac_model::{allowed, name_in};
+use ac_cursor::Class;
+use ac_model::allowed;
 
 impl<I: Ordered> Table<I> {
-    /// Last (A.18.6, A.18.9).
-    pub fn last(&self) -> Cursor
-        ensures { Marks self.now.object result (sequences.last_call (plain self.now.object)) }
-    {
-        self.cursor_at(self.index.last())
-    }
-
-    /// Previous (A.18.6, A.18.9).
-    pub fn previous(&self, b: Cursor) -> Result<Cursor, Fault>
-        ensures { Looks (Marks self.now.object) (λ o. sequences.previous_call o (seen_by self.now b)) self.now result }
-    {
-        if b == Cursor::NoElement {
-            return Ok(Cursor::NoElement);
-        }
-        allowed(self.needs(b))?;
-        Ok(self.cursor_at(self.index.previous(name_in(b))))
-    }
-
     /// First_Element (A.18.9), and a map's first key with its element.
     pub fn first_row(&self) -> Result<&I::Row, Fault>
         ensures { Looks Lends sequences.first_element_call self.now result }

@@ -71,4 +71,22 @@ impl<I: Index> Table<I> {
         allowed(self.needs(b))?;
         Ok(self.cursor_at(self.index.next(name_in(b))))
     }
+
+    /// Last (A.18.6, A.18.9), in order of arrival too.
+    pub fn last(&self) -> Cursor
+        ensures { Marks self.now.object result (sequences.last_call (plain self.now.object)) }
+    {
+        self.cursor_at(self.index.last())
+    }
+
+    /// Previous (A.18.6, A.18.9), in order of arrival too.
+    pub fn previous(&self, b: Cursor) -> Result<Cursor, Fault>
+        ensures { Looks (Marks self.now.object) (λ o. sequences.previous_call o (seen_by self.now b)) self.now result }
+    {
+        if b == Cursor::NoElement {
+            return Ok(Cursor::NoElement);
+        }
+        allowed(self.needs(b))?;
+        Ok(self.cursor_at(self.index.previous(name_in(b))))
+    }
 }

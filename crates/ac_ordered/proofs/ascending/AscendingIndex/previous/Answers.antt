@@ -3,7 +3,7 @@ use Rattle.ac_setwork.specs.Ends.{name_before}
 use Rattle.ac_setwork.specs.Indexed.{is_there}
 use Rattle.ac_ordered.specs.Ascents.{ascent}
 use Rattle.ac_ordered.proofs.Ascents.{there_live, alone, before_is}
-use Rattle.ac_ordered.proofs.ascending.AscendingOrdered.previous.Goals as goal
+use Rattle.ac_ordered.proofs.ascending.AscendingIndex.previous.Goals as goal
 
 pub before-requires : goal.before-requires
 before-requires g c = there_live c.self.inside.tree c.args.name (subst (λ x. is_there (ascent x) c.args.name ≡ true) (sym c.self.view_is) c.requires)
