@@ -4,7 +4,7 @@ ghost use Rattle.ac_base.specs.Growth.{pow8};
 ghost use Rattle.ac_base.specs.Limits.{IsLimit};
 ghost use Rattle.ac_model.specs.Calls.{Same, Lends, Marks};
 ghost use Rattle.ac_model.specs.Containers.{container, first_spare, guards_of, slots_of, with_guards, Grows};
-ghost use Rattle.ac_model.specs.Forms.{Does, Looks, Sets, seen_by};
+ghost use Rattle.ac_model.specs.Forms.{Does, DoesBoth, Looks, Sets, seen_by};
 ghost use Rattle.ac_model.specs.Keyed.{IsValidKeyed, by_arrival};
 ghost use Rattle.ac_model.specs.Letters.{count_of};
 ghost use Rattle.ac_model.specs.Objects.{empty_object, length_of, plain};
@@ -253,6 +253,41 @@ impl<T: Hashed> HashedSet<T> {
         ensures slots { slots_of self.new ≡ slots_of self.old }
     {
         self.table.delete(q)
+    }
+}
+
+impl<T: Hashed> HashedSet<T> {
+    /// Assign (A.18.7): copies of the source's elements take the place of the elements.
+    pub fn assign(&mut self, source: &HashedSet<T>) -> Result<(), Fault>
+        ensures changed { Does Same (λ o. common.assign_call o (plain source.now.object)) self.old self.new result }
+        ensures slots { Grows result self.old self.new }
+    {
+        self.table.assign(&source.table)
+    }
+
+    /// Assign (A.18.7) of a set to itself.
+    pub fn assign_self(&mut self) -> Result<(), Fault>
+        ensures changed { Does Same common.assign_self_call self.old self.new result }
+        ensures same { self.new ≡ self.old }
+    {
+        self.table.assign_self()
+    }
+
+    /// Move (A.18.7): the source's elements, under new names, in place of those that were here.
+    pub fn move_from(&mut self, source: &mut HashedSet<T>) -> Result<(), Fault>
+        ensures changed { DoesBoth Same common.move_from_call self.old source.old self.new source.new result }
+        ensures slots { Grows result self.old self.new }
+        ensures source { slots_of source.new ≡ slots_of source.old }
+    {
+        self.table.move_from(&mut source.table)
+    }
+
+    /// Move (A.18.7) of a set to itself.
+    pub fn move_from_self(&mut self) -> Result<(), Fault>
+        ensures changed { Does Same common.move_from_self_call self.old self.new result }
+        ensures same { self.new ≡ self.old }
+    {
+        self.table.move_from_self()
     }
 }
 

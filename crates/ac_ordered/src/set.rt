@@ -5,7 +5,7 @@ ghost use Rattle.ac_balance.specs.Indexed.{FewSteps};
 ghost use Rattle.ac_model.specs.Objects.{plain, length_of, empty_object};
 ghost use Rattle.ac_model.specs.Calls.{Same, Lends, Marks};
 ghost use Rattle.ac_model.specs.Containers.{Grows, container, first_spare, guards_of, slots_of, with_guards};
-ghost use Rattle.ac_model.specs.Forms.{Does, Looks, Sets, seen_by};
+ghost use Rattle.ac_model.specs.Forms.{Does, DoesBoth, Looks, Sets, seen_by};
 ghost use Rattle.ac_model.specs.Common as common;
 ghost use Rattle.ac_model.specs.Keyed as keyed;
 ghost use Rattle.ac_model.specs.Keyed.{ascending, IsValidKeyed};
@@ -289,6 +289,41 @@ impl<T: Rank> OrderedSet<T> {
         ensures slots { slots_of self.new ≡ slots_of self.old }
     {
         self.table.clear()
+    }
+}
+
+impl<T: Rank> OrderedSet<T> {
+    /// Assign (A.18.7): copies of the source's elements take the place of the elements.
+    pub fn assign(&mut self, source: &OrderedSet<T>) -> Result<(), Fault>
+        ensures changed { Does Same (λ o. common.assign_call o (plain source.now.object)) self.old self.new result }
+        ensures slots { Grows result self.old self.new }
+    {
+        self.table.assign(&source.table)
+    }
+
+    /// Assign (A.18.7) of a set to itself.
+    pub fn assign_self(&mut self) -> Result<(), Fault>
+        ensures changed { Does Same common.assign_self_call self.old self.new result }
+        ensures same { self.new ≡ self.old }
+    {
+        self.table.assign_self()
+    }
+
+    /// Move (A.18.7): the source's elements, under new names, in place of those that were here.
+    pub fn move_from(&mut self, source: &mut OrderedSet<T>) -> Result<(), Fault>
+        ensures changed { DoesBoth Same common.move_from_call self.old source.old self.new source.new result }
+        ensures slots { Grows result self.old self.new }
+        ensures source { slots_of source.new ≡ slots_of source.old }
+    {
+        self.table.move_from(&mut source.table)
+    }
+
+    /// Move (A.18.7) of a set to itself.
+    pub fn move_from_self(&mut self) -> Result<(), Fault>
+        ensures changed { Does Same common.move_from_self_call self.old self.new result }
+        ensures same { self.new ≡ self.old }
+    {
+        self.table.move_from_self()
     }
 }
 
