@@ -26,4 +26,5 @@ pub mod Unslotted
 pub mod HoldersAndQueues
 pub mod Plains
 pub mod Changes
+pub mod Copying
 pub mod StableSorts

@@ -1,5 +1,6 @@
 pub mod Rows
 pub mod Objects
+pub mod Capacities
 pub mod Letters
 pub mod Calls
 pub mod Containers

@@ -13,7 +13,6 @@ pub mod Appends
 pub mod Inserts
 pub mod Reserves
 pub mod Refills
-pub mod Copies
 pub mod Drains
 pub mod Weaves
 pub mod Interleaves

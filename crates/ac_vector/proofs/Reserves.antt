@@ -40,7 +40,8 @@ use Rattle.ac_model.specs.Putting.{Takes, done, put_call}
 use Rattle.ac_model.specs.Rows.{cut, fresh, put}
 use Rattle.ac_model.specs.Sequences.{with_new}
 use Rattle.ac_model.specs.Vectors.{set_length_call}
-use Rattle.ac_vector.specs.Parts.{blanks_call, widened}
+use Rattle.ac_model.specs.Capacities.{widened}
+use Rattle.ac_vector.specs.Parts.{blanks_call}
 use Rattle.ac_vector.proofs.Capacities.{widens}
 
 module _ {X : Type 0} where

@@ -1,4 +1,4 @@
--- What parts of a vector's calls mean: values that are put before a place, a Capacity that is asked for, and a variable that is set.
+-- What parts of a vector's calls mean: values that are put before a place, and a variable that is set.
 use Rattle.std.specs.Prelude.{ℕ, List, ◌∷◌, length, replicate, Option, None, Result, Ok, Err}
 use Rattle.ac_base.specs.declared.cursor.Cursor.{Cursor}
 use Rattle.ac_base.specs.declared.fault.Fault.{Fault}
@@ -8,7 +8,7 @@ use Rattle.ac_base.specs.FirstReason.{first_reason}
 use Rattle.ac_model.specs.Calls.{Call, Done, call, takes_some}
 use Rattle.ac_model.specs.Cursors.{cursor_of_first, spot}
 use Rattle.ac_model.specs.Letters.{Mark, no_mark, tampers_cursors}
-use Rattle.ac_model.specs.Objects.{Object, capacity_after, length_of, plain}
+use Rattle.ac_model.specs.Objects.{Object, length_of, plain}
 use Rattle.ac_model.specs.Sequences.{with_new, first_new}
 use Rattle.ac_model.specs.Vectors.{room_for_source, with_copies_of}
 
@@ -28,10 +28,6 @@ module _ {X : Type 0} where
   -- so many blank elements at the end
   abbrev pub blanks_call : Object ℕ X → X → ℕ → Call (Object ℕ X) Done
   blanks_call o blank more = call takes_some None (with_new o (length_of o) (replicate more blank) more) tt
-
-  -- the object after a need of so many elements
-  abbrev pub widened : Object ℕ X → ℕ → Object ℕ X
-  widened o need = record o { capacity = capacity_after o.limit o.capacity need }
 
 -- a variable that is set to the first of so many, where the call isn't refused
 abbrev pub variable_after : Result Cursor Fault → ℕ → Cursor → Cursor → Cursor

@@ -9,7 +9,8 @@ ghost use Rattle.ac_base.specs.Limits.{is_past};
 ghost use Rattle.ac_model.specs.Objects.{length_of, plain, with_rows};
 ghost use Rattle.ac_model.specs.Putting.{Takes};
 ghost use Rattle.ac_model.specs.Rows.{cut};
-ghost use Rattle.ac_vector.specs.Parts.{blanks_call, widened};
+ghost use Rattle.ac_model.specs.Capacities.{widened};
+ghost use Rattle.ac_vector.specs.Parts.{blanks_call};
 ghost use Rattle.ac_model.specs.Common as common;
 ghost use Rattle.ac_model.specs.Vectors as vectors;
 

@@ -13,8 +13,8 @@ use Rattle.ac_model.specs.Containers.{Container}
 use Rattle.ac_model.specs.Forms.{Makes}
 use Rattle.ac_model.specs.Letters.{reason_if}
 use Rattle.ac_model.specs.Objects.{Object, length_of, plain}
-use Rattle.ac_vector.specs.Parts.{widened}
-use Rattle.ac_vector.proofs.Copies.{assign_wants, copied_is, copied_slots, copy_takes, copy_within}
+use Rattle.ac_model.specs.Capacities.{widened}
+use Rattle.ac_model.proofs.Copying.{assign_wants, copied_is, copied_slots, copy_takes, copy_within}
 use Rattle.ac_vector.proofs.vector.Vector.copy.Goals as goal
 
 pub widen-requires-clause-within : goal.widen-requires-clause-within
@@ -42,7 +42,7 @@ returns-in_err-assign-clause-made g c =
     let is = c.in_ok-widen.ensures.ok.plainly ∙ ap (λ (p : Object Name _). widened (plain p) c.args.capacity) c.in_ok-made.ensures.empty in
     let fault = err_from_is_err_and c.from_residual-in_err-assign.result c.from_residual-in_err-assign.ensures.1 in
     assign_wants o c.widen.new.self.object c.assign.new.self.object c.args.tag c.args.capacity c.assign.result c.in_err-assign.field-0.0 c.from_residual-in_err-assign.result reason
-    (copy_takes o (plain c.widen.new.self.object) c.args.tag c.args.capacity c.len-length.result c.limit_of_copy-limit.result (subst (λ n. n ≤ GREATEST_LENGTH) (sym count) c.self.invariant.within_greatest) len small limit is)
+    (copy_takes true o (plain c.widen.new.self.object) c.args.tag c.args.capacity c.len-length.result c.limit_of_copy-limit.result (subst (λ n. n ≤ GREATEST_LENGTH) (sym count) c.self.invariant.within_greatest) len small limit is)
     c.assign.ensures.changed c.in_err-assign.was (fault.1 ∙ ap Err fault.2)
 
 pub returns-clause-made : goal.returns-clause-made
@@ -57,7 +57,7 @@ returns-clause-made g c =
     let some = subst (λ (x : Container _). is_some x.object.capacity ≡ true) c.self.view_is refl in (
       reason,
       c.in_ok-assign.ensures.changed.1.plainly
-          ∙ copied_is (plain o) (plain c.widen.new.self.object) c.args.tag c.args.capacity c.limit_of_copy-limit.result some (limit ∙ ap (limit_of_copy o.limit c.args.capacity) len) reason is,
+          ∙ copied_is true (plain o) (plain c.widen.new.self.object) c.args.tag c.args.capacity c.limit_of_copy-limit.result some (limit ∙ ap (limit_of_copy o.limit c.args.capacity) len) reason is,
     )
 
 pub returns-clause-slots : goal.returns-clause-slots
@@ -70,6 +70,6 @@ returns-clause-slots g c = λ unbounded.
     let limit : c.limit_of_copy-limit.result ≡ limit_of_copy o.limit c.args.capacity c.len-length.result = c.limit_of_copy-limit.ensures ∙ ap (λ (x : Container _). limit_of_copy x.object.limit c.args.capacity c.len-length.result) c.self.view_is in
     let is = c.in_ok-widen.ensures.ok.plainly ∙ ap (λ (p : Object Name _). widened (plain p) c.args.capacity) c.in_ok-made.ensures.empty in
     let some = subst (λ (x : Container _). is_some x.object.capacity ≡ true) c.self.view_is refl in
-    copied_slots o c.in_ok-made.made c.widen.new.self c.assign.new.self c.args.tag c.args.capacity c.len-length.result c.limit_of_copy-limit.result unbounded limit c.in_ok-made.ensures.empty c.in_ok-made.ensures.spare c.in_ok-widen.ensures.slots
-    (c.in_ok-assign.ensures.changed.1.plainly ∙ copied_is (plain o) (plain c.widen.new.self.object) c.args.tag c.args.capacity c.limit_of_copy-limit.result some (limit ∙ ap (limit_of_copy o.limit c.args.capacity) len) reason is)
+    copied_slots true o c.in_ok-made.made c.widen.new.self c.assign.new.self c.args.tag c.args.capacity c.len-length.result c.limit_of_copy-limit.result unbounded limit c.in_ok-made.ensures.empty c.in_ok-made.ensures.spare c.in_ok-widen.ensures.slots
+    (c.in_ok-assign.ensures.changed.1.plainly ∙ copied_is true (plain o) (plain c.widen.new.self.object) c.args.tag c.args.capacity c.limit_of_copy-limit.result some (limit ∙ ap (limit_of_copy o.limit c.args.capacity) len) reason is)
     c.in_ok-assign.ensures.slots

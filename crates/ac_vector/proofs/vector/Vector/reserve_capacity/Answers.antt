@@ -11,7 +11,7 @@ use Rattle.ac_model.specs.Containers.{slots_of}
 use Rattle.ac_model.specs.Letters.{count_of, in_range, reason_if, tampers_cursors}
 use Rattle.ac_model.specs.Objects.{plain}
 use Rattle.ac_model.proofs.Reasons.{in_range_none, not_if, passed}
-use Rattle.ac_vector.specs.Parts.{widened}
+use Rattle.ac_model.specs.Capacities.{widened}
 use Rattle.ac_vector.proofs.Reserves.{fault_same, reserve_changes, same_object}
 use Rattle.ac_vector.proofs.vector.Vector.reserve_capacity.Goals as goal
 

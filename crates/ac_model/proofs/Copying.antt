@@ -1,5 +1,5 @@
--- A copy of a vector, with the Capacity that was asked for.
-use Rattle.std.proofs.Common.{◌≡◌, ◌⊎◌, ℕ, zero, suc, ◌+◌, ◌≤◌, ◌&&◌, true, false, [], Some, None, length, map, refl, sym, ap, ◌∙◌, subst, inl, inr, arith, le-leb, lt-ltb, Result, Err}
+-- A copy: a new object that has the Capacity that was asked for, and then takes the contents.
+use Rattle.std.proofs.Common.{◌≡◌, ◌⊎◌, Bool, ℕ, zero, suc, ◌+◌, ◌≤◌, ◌&&◌, true, false, [], Some, None, length, map, refl, sym, ap, ◌∙◌, subst, inl, inr, arith, le-leb, lt-ltb, Result, Err}
 use Rattle.std.specs.Prelude.{is_some, max, nat_le, nat_lt, if◌then◌else◌}
 use Rattle.std.proofs.Math.Nat.{le-max_left, le-max_right, max-le}
 use Rattle.std.proofs.lemmas.Bool.{cases_lt, cond-true, cond-false, le-ltb, lt-leb}
@@ -16,6 +16,7 @@ use Rattle.ac_base.specs.Rows.{Row}
 use Rattle.ac_base.specs.declared.limit.TheConstants.{GREATEST_LENGTH}
 use Rattle.ac_base.proofs.Powers.{pow8-enough, pow8-rises}
 use Rattle.ac_model.specs.Calls.{Changing, Done, Same}
+use Rattle.ac_model.specs.Capacities.{widened}
 use Rattle.ac_model.specs.Common.{assign_call, copied, copy_call, limit_of_copy}
 use Rattle.ac_model.specs.Containers.{Container, first_spare, slots_of}
 use Rattle.ac_model.specs.Forms.{Makes}
@@ -25,7 +26,6 @@ use Rattle.ac_model.specs.Rows.{fresh}
 use Rattle.ac_model.proofs.Changes.{empty_takes, fits}
 use Rattle.ac_model.proofs.Lengths.{length-fresh}
 use Rattle.ac_model.proofs.Reasons.{none_first, not_if}
-use Rattle.ac_vector.specs.Parts.{widened}
 
 -- a capacity that isn't too small is 0, or no less than the length
 large_enough : (capacity len : ℕ) → reason_if (nat_lt 0 capacity && nat_lt capacity len) CapacityFull ≡ None → (capacity ≡ 0) ⊎ (len ≤ capacity)
@@ -51,40 +51,41 @@ enough_for capacity = elim (cases_lt 0 capacity) [
   | inr le ↦ subst (λ n. capacity ≤ n) (sym (cond-true _ _ _ (le-leb capacity 0 le))) le
 ]
 
-cap_twice : (m : Limit) (capacity len : ℕ) → (capacity ≡ 0) ⊎ (len ≤ capacity) → capacity_after m (capacity_after m (first_capacity true m) capacity) len ≡ capacity_after m (first_capacity true m) (max capacity len)
-cap_twice (Bounded most) capacity len h = refl
-cap_twice Unbounded capacity len (inl none) =
+cap_twice : (has : Bool) (m : Limit) (capacity len : ℕ) → (capacity ≡ 0) ⊎ (len ≤ capacity) → capacity_after m (capacity_after m (first_capacity has m) capacity) len ≡ capacity_after m (first_capacity has m) (max capacity len)
+cap_twice has (Bounded most) capacity len h = refl
+cap_twice false Unbounded capacity len h = refl
+cap_twice true Unbounded capacity len (inl none) =
     let most : max capacity len ≡ len = omega (arith, none) in
     ap (λ c. capacity_after Unbounded (capacity_after Unbounded (Some 0) c) len) none ∙ ap (capacity_after Unbounded (Some 0)) (sym most)
-cap_twice Unbounded capacity len (inr le) =
+cap_twice true Unbounded capacity len (inr le) =
     let most : max capacity len ≡ capacity = omega arith in
     let wide = if nat_le capacity 0 then 0 else pow8 capacity in
     let fit : len ≤ wide = let e = enough_for capacity in omega arith in
     ap Some (cond-true _ _ _ (le-leb len wide fit)) ∙ ap (capacity_after Unbounded (Some 0)) (sym most)
 
 module _ {X : Type 0} where
-  pub copied_is : (o made : Object ℕ X) (number capacity : ℕ) (m : Limit) → is_some o.capacity ≡ true → m ≡ limit_of_copy o.limit capacity (length_of o) → (copy_call o number capacity).reason ≡ None
-      → made ≡ widened (empty_object true number m) capacity → (assign_call made o).after ≡ copied o number capacity
-  copied_is o made number capacity m some limit none is =
+  pub copied_is : (has : Bool) (o made : Object ℕ X) (number capacity : ℕ) (m : Limit) → is_some o.capacity ≡ has → m ≡ limit_of_copy o.limit capacity (length_of o) → (copy_call o number capacity).reason ≡ None
+      → made ≡ widened (empty_object has number m) capacity → (assign_call made o).after ≡ copied o number capacity
+  copied_is has o made number capacity m some limit none is =
       let n = length_of o in
       let count : length (fresh 1 (contents o)) ≡ n = length-fresh 1 (contents o) ∙ length-map o.rows (λ (r : Row ℕ X). r.value) in
       let enough : reason_if (nat_lt 0 capacity && nat_lt capacity n) CapacityFull ≡ None = none_first (reason_if (nat_lt 0 capacity && nat_lt capacity n) CapacityFull) [] none in
-      let capacity_is : capacity_after m (capacity_after m (first_capacity true m) capacity) (length (fresh 1 (contents o))) ≡ capacity_after (limit_of_copy o.limit capacity n) (first_capacity (is_some o.capacity) (limit_of_copy o.limit capacity n)) (max capacity n) =
-      ap (capacity_after m (capacity_after m (first_capacity true m) capacity)) count ∙ cap_twice m capacity n (large_enough capacity n enough)
+      let capacity_is : capacity_after m (capacity_after m (first_capacity has m) capacity) (length (fresh 1 (contents o))) ≡ capacity_after (limit_of_copy o.limit capacity n) (first_capacity (is_some o.capacity) (limit_of_copy o.limit capacity n)) (max capacity n) =
+      ap (capacity_after m (capacity_after m (first_capacity has m) capacity)) count ∙ cap_twice has m capacity n (large_enough capacity n enough)
       ∙ (λ i. capacity_after (limit i) (first_capacity (sym some i) (limit i)) (max capacity n)) in
       ap (λ p. (assign_call p o).after) is ∙ (λ i. record { number = number; limit = limit i; capacity = capacity_is i; next = 1 + n; rows = fresh 1 (contents o); cursor_guards = 0; element_guards = 0 })
 
-  -- the new vector takes the elements
-  pub copy_takes : (o : Object Name X) (made : Object ℕ X) (number capacity len : ℕ) (m : Limit) → length_of (plain o) ≤ GREATEST_LENGTH → len ≡ length_of (plain o) → reason_if (nat_lt 0 capacity && nat_lt capacity len) CapacityFull ≡ None
-      → m ≡ limit_of_copy o.limit capacity len → made ≡ widened (plain (empty_object {N = Name} {V = X} true number m)) capacity → (assign_call made (plain o)).reason ≡ None
-  copy_takes o made number capacity len m few count enough limit is =
+  -- the new object takes the elements
+  pub copy_takes : (has : Bool) (o : Object Name X) (made : Object ℕ X) (number capacity len : ℕ) (m : Limit) → length_of (plain o) ≤ GREATEST_LENGTH → len ≡ length_of (plain o) → reason_if (nat_lt 0 capacity && nat_lt capacity len) CapacityFull ≡ None
+      → m ≡ limit_of_copy o.limit capacity len → made ≡ widened (plain (empty_object {N = Name} {V = X} has number m)) capacity → (assign_call made (plain o)).reason ≡ None
+  copy_takes has o made number capacity len m few count enough limit is =
       let large = ap (λ n. reason_if (nat_lt 0 capacity && nat_lt capacity n) CapacityFull) (sym count) ∙ enough in
       ap (λ p. (assign_call p (plain o)).reason) is
       ∙ empty_takes o number m few (ap (λ l. is_past l (length_of (plain o))) (limit ∙ ap (limit_of_copy o.limit capacity) count) ∙ fits o.limit capacity (length_of (plain o)) large)
 
-  pub copied_slots : (o : Object Name X) (start wide made : Container X) (number capacity len : ℕ) (m : Limit) → o.limit ≡ Unbounded → m ≡ limit_of_copy o.limit capacity len → start.object ≡ empty_object true number m → start.spare ≡ first_spare m
+  pub copied_slots : (has : Bool) (o : Object Name X) (start wide made : Container X) (number capacity len : ℕ) (m : Limit) → o.limit ≡ Unbounded → m ≡ limit_of_copy o.limit capacity len → start.object ≡ empty_object has number m → start.spare ≡ first_spare m
       → slots_of wide ≤ max (slots_of start) (pow8 capacity) → plain made.object ≡ copied (plain o) number capacity → slots_of made ≤ max (slots_of wide) (pow8 (length_of made.object)) → slots_of made ≤ pow8 (max (length_of o) capacity)
-  copied_slots o start wide made number capacity len m unbounded limit empty spare one is two =
+  copied_slots has o start wide made number capacity len m unbounded limit empty spare one is two =
       let none : start.spare ≡ 0 = spare ∙ ap first_spare (limit ∙ ap (λ l. limit_of_copy l capacity len) unbounded) in
       let no_rows : length_of start.object ≡ 0 = ap (λ (p : Object Name X). length p.rows) empty in
       let slots : slots_of start ≡ 0 = omega arith in
