@@ -3,7 +3,8 @@ ghost use Rattle.std.specs.Prelude.{◌≡◌, ◌≤◌, true, false, max, unwr
 ghost use Rattle.ac_base.specs.Growth.{pow8};
 ghost use Rattle.ac_base.specs.Limits.{is_past};
 ghost use Rattle.ac_base.specs.declared.limit.TheConstants.{GREATEST_LENGTH};
-ghost use Rattle.ac_model.specs.Calls.{Same};
+ghost use Rattle.ac_model.specs.Calls.{IsAfter, Same};
+ghost use Rattle.ac_model.specs.Capacities.{widened};
 ghost use Rattle.ac_model.specs.Containers.{slots_of};
 ghost use Rattle.ac_model.specs.Forms.{Does, Refuses};
 ghost use Rattle.ac_model.specs.Letters.{count_of};
@@ -13,7 +14,7 @@ ghost use Rattle.ac_model.specs.Common as common;
 use super::Table;
 use crate::filling::widen;
 use crate::index::Index;
-use ac_base::{Fault, Reason};
+use ac_base::{Fault, NoMemory, Reason};
 use ac_cursor::{Class, first_reason};
 use ac_model::{allowed, as_fault, count_of, in_range, too_many};
 
@@ -34,6 +35,20 @@ impl<I: Index> Table<I> {
         allowed(self.refuses_capacity(n))?;
         let _capacity = self.index.capacity();
         as_fault(widen(&mut self.index, self.limit, count_of(n)))
+    }
+
+    /// Makes room for so many elements in all, where there is a Capacity.
+    pub(super) fn raise_capacity(&mut self, need: u64) -> Result<(), NoMemory>
+        requires few { need ≤ GREATEST_LENGTH }
+        requires within { is_past self.old.object.limit need ≡ false }
+        ensures ok { OnOk result (IsAfter self.old.object self.new.object (widened (plain self.old.object) need)) }
+        ensures err { OnErr result (self.new ≡ self.old) }
+        ensures slots { slots_of self.new ≤ max (slots_of self.old) (pow8 need) }
+    {
+        match self.index.capacity() {
+            None => Ok(()),
+            Some(_) => widen(&mut self.index, self.limit, need),
+        }
     }
 
     /// Why a Capacity is refused.
