@@ -2,9 +2,10 @@
 ghost use Rattle.std.specs.Prelude.{◌≡◌, ◌≤◌, true, false, refl, max, IfOk, IfErr, IsOk, OnErr};
 ghost use Rattle.ac_base.specs.Growth.{pow8};
 ghost use Rattle.ac_base.specs.Limits.{IsLimit};
+ghost use Rattle.ac_base.specs.declared.limit.TheConstants.{GREATEST_LENGTH};
 ghost use Rattle.ac_model.specs.Calls.{Same, Lends, Marks};
 ghost use Rattle.ac_model.specs.Containers.{container, first_spare, guards_of, slots_of, with_guards, Grows};
-ghost use Rattle.ac_model.specs.Forms.{Does, DoesBoth, Looks, Sets, seen_by};
+ghost use Rattle.ac_model.specs.Forms.{Does, DoesBoth, Looks, Makes, Sets, seen_by};
 ghost use Rattle.ac_model.specs.Keyed.{IsValidKeyed, by_arrival};
 ghost use Rattle.ac_model.specs.Letters.{count_of};
 ghost use Rattle.ac_model.specs.Objects.{empty_object, length_of, plain};
@@ -289,6 +290,20 @@ impl<K: Hashed, V: Elem> HashedMap<K, V> {
 }
 
 impl<K: Hashed, V: Elem> HashedMap<K, V> {
+    /// Copy (A.18.5): a map of its own number with copies of the elements. A bounded one's limit is the capacity, or the length
+    /// where that is 0.
+    pub fn copy(&self, alloc: Global, tag: Tag, capacity: u64) -> Result<HashedMap<K, V>, Fault>
+        requires { capacity ≤ GREATEST_LENGTH }
+        ensures made { Makes (common.copy_call (plain self.now.object) tag capacity) result }
+        ensures slots { self.now.object.limit ≡ Limit.Unbounded → IfOk result (λ made.
+            slots_of made ≤ pow8 (max (length_of self.now.object) capacity)) }
+    {
+        match self.table.copy(alloc, tag, capacity) {
+            Ok(table) => Ok(HashedMap { table }),
+            Err(fault) => Err(fault),
+        }
+    }
+
     /// Assign (A.18.4): copies of the source's elements take the place of the elements.
     pub fn assign(&mut self, source: &HashedMap<K, V>) -> Result<(), Fault>
         ensures changed { Does Same (λ o. common.assign_call o (plain source.now.object)) self.old self.new result }

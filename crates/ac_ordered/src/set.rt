@@ -1,11 +1,13 @@
 //! The ordered set. A contract sees its object, with the slots of its names, and how many elements more it takes without memory.
-ghost use Rattle.std.specs.Prelude.{◌≡◌, true, false, refl, IfOk, IfErr, IsOk, OnErr};
+ghost use Rattle.std.specs.Prelude.{◌≡◌, ◌≤◌, true, false, refl, max, IfOk, IfErr, IsOk, OnErr};
+ghost use Rattle.ac_base.specs.Growth.{pow8};
 ghost use Rattle.ac_base.specs.Limits.{IsLimit};
+ghost use Rattle.ac_base.specs.declared.limit.TheConstants.{GREATEST_LENGTH};
 ghost use Rattle.ac_balance.specs.Indexed.{FewSteps};
 ghost use Rattle.ac_model.specs.Objects.{plain, length_of, empty_object};
 ghost use Rattle.ac_model.specs.Calls.{Same, Lends, Marks};
 ghost use Rattle.ac_model.specs.Containers.{Grows, container, first_spare, guards_of, slots_of, with_guards};
-ghost use Rattle.ac_model.specs.Forms.{Does, DoesBoth, Looks, Sets, seen_by};
+ghost use Rattle.ac_model.specs.Forms.{Does, DoesBoth, Looks, Makes, Sets, seen_by};
 ghost use Rattle.ac_model.specs.Common as common;
 ghost use Rattle.ac_model.specs.Keyed as keyed;
 ghost use Rattle.ac_model.specs.Keyed.{ascending, IsValidKeyed};
@@ -293,6 +295,20 @@ impl<T: Rank> OrderedSet<T> {
 }
 
 impl<T: Rank> OrderedSet<T> {
+    /// Copy (A.18.9): a set of its own number with copies of the elements. A bounded one's limit is the capacity, or the length
+    /// where that is 0.
+    pub fn copy(&self, alloc: Global, tag: Tag, capacity: u64) -> Result<OrderedSet<T>, Fault>
+        requires { capacity ≤ GREATEST_LENGTH }
+        ensures made { Makes (common.copy_call (plain self.now.object) tag capacity) result }
+        ensures slots { self.now.object.limit ≡ Limit.Unbounded → IfOk result (λ made.
+            slots_of made ≤ pow8 (max (length_of self.now.object) capacity)) }
+    {
+        match self.table.copy(alloc, tag, capacity) {
+            Ok(table) => Ok(OrderedSet { table }),
+            Err(fault) => Err(fault),
+        }
+    }
+
     /// Assign (A.18.7): copies of the source's elements take the place of the elements.
     pub fn assign(&mut self, source: &OrderedSet<T>) -> Result<(), Fault>
         ensures changed { Does Same (λ o. common.assign_call o (plain source.now.object)) self.old self.new result }
