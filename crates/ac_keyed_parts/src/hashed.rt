@@ -123,3 +123,47 @@ fn an_element_of_a_set_is_replaced(rt: HostRuntime) {
     assert!(rt; set.delete_item(&text(&rt, rt.alloc(), b"AaAa")).is_ok());
     assert!(rt; set.first() == p && set.length() == 1);
 }
+
+#[test]
+fn a_map_takes_copies_of_another(rt: HostRuntime) {
+    let mut source = map(&rt, rt.alloc(), Limit::Bounded(2));
+    assert!(rt; source.insert(2, 20).is_ok() && source.insert(1, 10).is_ok());
+    let mut target = map(&rt, rt.alloc(), Limit::Unbounded);
+    assert!(rt; target.insert(9, 90).is_ok());
+    assert!(rt; target.assign(&source).is_ok() && target.equal(&source));
+    assert!(rt; target.assign_self().is_ok() && target.move_from_self().is_ok());
+    assert!(rt; target.equal(&target) && !target.contains(&9));
+    assert!(rt; target.key(target.last()).ok().copied() == Some(1));
+}
+
+#[test]
+fn elements_move_to_another_set(rt: HostRuntime) {
+    let mut source = set(&rt, rt.alloc());
+    assert!(rt; source.insert(text(&rt, rt.alloc(), b"AaAa")).is_ok());
+    assert!(rt; source.insert(text(&rt, rt.alloc(), b"BBBB")).is_ok());
+    let mut target = set(&rt, rt.alloc());
+    assert!(rt; target.move_from(&mut source).is_ok() && source.is_empty());
+    assert!(rt; target.find(&text(&rt, rt.alloc(), b"BBBB")) == target.last());
+    assert!(rt; target.previous(target.last()) == Ok(target.first()));
+    assert!(rt; source.assign(&target).is_ok() && source.equal(&target));
+}
+
+#[test]
+fn a_copy_has_the_capacity_that_was_asked_for(rt: HostRuntime) {
+    let mut map = map(&rt, rt.alloc(), Limit::Unbounded);
+    assert!(rt; map.insert(1, 10).is_ok());
+    match map.copy(rt.alloc(), tag(&rt, 3), 100) {
+        Ok(made) => assert!(rt; made.capacity() == 128 && made.equal(&map)),
+        Err(_) => panic!(rt; "no memory"),
+    }
+}
+
+#[test]
+fn a_set_is_copied(rt: HostRuntime) {
+    let mut set = set(&rt, rt.alloc());
+    assert!(rt; set.insert(text(&rt, rt.alloc(), b"AaAa")).is_ok());
+    match set.copy(rt.alloc(), tag(&rt, 3), 0) {
+        Ok(made) => assert!(rt; made.number() == 3 && made.equal(&set)),
+        Err(_) => panic!(rt; "no memory"),
+    }
+}

@@ -194,3 +194,46 @@ fn equal_maps_have_the_same_pairs(rt: HostRuntime) {
     assert!(rt; left.equal(&right) && right.equal(&left));
     assert!(rt; right.clear().is_ok() && !left.equal(&right));
 }
+
+#[test]
+fn a_set_takes_copies_of_another(rt: HostRuntime) {
+    let mut source = set(&rt, rt.alloc(), 1, Limit::Bounded(4));
+    assert!(rt; source.insert(3).is_ok() && source.insert(1).is_ok() && source.insert(2).is_ok());
+    let mut target = set(&rt, rt.alloc(), 2, Limit::Unbounded);
+    assert!(rt; target.insert(0).is_ok());
+    assert!(rt; target.assign(&source).is_ok() && holds(&target, &[1, 2, 3]));
+    assert!(rt; target.assign_self().is_ok() && target.move_from_self().is_ok());
+    assert!(rt; target.equal(&source) && target.equal(&target));
+}
+
+#[test]
+fn pairs_move_to_another_map(rt: HostRuntime) {
+    let mut source = map::<i64, i64>(&rt, rt.alloc(), 1);
+    assert!(rt; source.insert(2, 20).is_ok() && source.insert(1, 10).is_ok());
+    let mut target = map::<i64, i64>(&rt, rt.alloc(), 2);
+    assert!(rt; target.insert(0, 0).is_ok());
+    assert!(rt; target.move_from(&mut source).is_ok() && source.is_empty());
+    assert!(rt; target.length() == 2 && target.first_element().ok().copied() == Some(10));
+    assert!(rt; source.assign(&target).is_ok() && source.equal(&target));
+}
+
+#[test]
+fn a_bounded_set_is_copied(rt: HostRuntime) {
+    let mut set = set(&rt, rt.alloc(), 1, Limit::Bounded(4));
+    assert!(rt; set.insert(2).is_ok() && set.insert(1).is_ok());
+    assert!(rt; set.copy(rt.alloc(), tag(&rt, 2), 1).is_err());
+    match set.copy(rt.alloc(), tag(&rt, 2), 3) {
+        Ok(made) => assert!(rt; made.limit() == Limit::Bounded(3) && holds(&made, &[1, 2])),
+        Err(_) => panic!(rt; "no memory"),
+    }
+}
+
+#[test]
+fn a_map_is_copied(rt: HostRuntime) {
+    let mut map = map::<i64, i64>(&rt, rt.alloc(), 1);
+    assert!(rt; map.insert(2, 20).is_ok() && map.insert(1, 10).is_ok());
+    match map.copy(rt.alloc(), tag(&rt, 2), 0) {
+        Ok(made) => assert!(rt; made.equal(&map) && made.last_element().ok().copied() == Some(20)),
+        Err(_) => panic!(rt; "no memory"),
+    }
+}
