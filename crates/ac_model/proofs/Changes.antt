@@ -6,7 +6,6 @@ use Rattle.ac_base.specs.Limits.{is_past, numbers_end}
 use Rattle.ac_base.specs.Rows.{Row}
 use Rattle.ac_base.specs.declared.cursor.Cursor.{Cursor}
 use Rattle.ac_base.specs.declared.fault.Fault.{Fault}
-use Rattle.ac_base.specs.declared.fault.NoMemory.{NoMemory}
 use Rattle.ac_base.specs.declared.limit.Limit.{Limit}
 use Rattle.ac_base.specs.declared.limit.Limit.TheVariants.{Bounded, Unbounded}
 use Rattle.ac_base.specs.declared.limit.TheConstants.{GREATEST_LENGTH}

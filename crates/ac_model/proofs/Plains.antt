@@ -3,7 +3,7 @@ use Rattle.ac_base.specs.Rows.{Row, row, values}
 use Rattle.ac_base.specs.declared.name.Name.{Name}
 use Rattle.ac_model.specs.Objects.{plain_row, plains}
 use Rattle.ac_model.specs.Rows.{cut, fresh}
-use Rattle.std.proofs.Common.{List, ap, arith, drop, length, refl, reverse, suc, sym, take, zero, ℕ, ◌++◌, ◌+◌, ◌-◌, ◌∙◌, ◌∷◌, ◌≡◌, []}
+use Rattle.std.proofs.Common.{List, ap, arith, drop, length, refl, reverse, suc, sym, take, zero, ℕ, ◌++◌, ◌+◌, ◌∙◌, ◌∷◌, ◌≡◌, []}
 use Rattle.std.proofs.lemmas.List.{drop-map, reverse-append, take-map}
 use Rattle.std.specs.Option.{option_map}
 use Rattle.std.specs.Prelude.{slice_get}

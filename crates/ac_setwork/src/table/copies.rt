@@ -19,8 +19,8 @@ use ac_model::{allowed, as_fault, limit_of_copy, room, too_small};
 use std::alloc::Global;
 
 impl<I: Index> Table<I> {
-    /// Copy (A.18.4, A.18.7): an object of its own number with copies of the elements. A bounded one's limit is the capacity, or the
-    /// length where that is 0.
+    /// Copy (A.18.5, A.18.6, A.18.8, A.18.9): an object of its own number with copies of the elements. A bounded one's limit is the
+    /// capacity, or the length where that is 0.
     pub fn copy(&self, alloc: Global, tag: Tag, capacity: u64) -> Result<Table<I>, Fault>
         requires { capacity ≤ GREATEST_LENGTH }
         ensures made { Makes (common.copy_call (plain self.now.object) tag capacity) result }
