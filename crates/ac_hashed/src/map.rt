@@ -110,6 +110,7 @@ impl<K: Hashed, V: Elem> HashedMap<K, V> {
     /// Reserve_Capacity (A.18.5).
     pub fn reserve_capacity(&mut self, n: i64) -> Result<(), Fault>
         ensures changed { Does Same (λ o. common.reserve_capacity_call o n) self.old self.new result }
+        ensures err { OnErr result (self.new ≡ self.old) }
         ensures slots { slots_of self.new ≤ max (slots_of self.old) (pow8 (count_of n)) }
     {
         self.table.reserve_capacity(n)

@@ -30,6 +30,7 @@ impl<I: Index> Table<I> {
     pub fn reserve_capacity(&mut self, n: i64) -> Result<(), Fault>
         requires { I.has_capacity ≡ true }
         ensures changed { Does Same (λ o. common.reserve_capacity_call o n) self.old self.new result }
+        ensures err { OnErr result (self.new ≡ self.old) }
         ensures slots { slots_of self.new ≤ max (slots_of self.old) (pow8 (count_of n)) }
     {
         allowed(self.refuses_capacity(n))?;
