@@ -4,14 +4,15 @@ use Rattle.std.specs.Prelude.{if◌then◌else◌, IsTrue}
 use Rattle.std.specs.List.{list_any}
 use Rattle.std.proofs.lemmas.List.Elements.{All-nil, All-cons}
 use Rattle.ac_syntax.specs.Code.{Code, stop, one, block, Head, loop_at, view_at, stable_at, declare_at}
-use Rattle.ac_syntax.specs.Items.{opens, bare}
+use Rattle.ac_syntax.specs.Items.{declares, opens, bare}
 use Rattle.ac_syntax.specs.declared.decl.Decl.{Decl}
 use Rattle.ac_syntax.specs.declared.refusal.RefusalKind.{RefusalKind}
 use Rattle.ac_syntax.specs.declared.refusal.RefusalKind.TheVariants.{Limit, UnknownName, WrongType, Twice}
 use Rattle.ac_syntax.specs.declared.script.Script.{Script}
 use Rattle.ac_check.specs.Scopes.{Scope, Standing, standing, with_entry, with_decls, decl_entry, decls_in, behind_words, inside, standing_decls, standings_from, standings}
 use Rattle.ac_check.specs.Rules.{is_well_typed}
-use Rattle.ac_check.specs.Faults.{used, declared, is_in_scope, is_twice, fault, IsChecked}
+use Rattle.ac_check.specs.Faults.{used, declared, decl_name, is_in_scope, is_twice, fault, IsChecked}
+use Rattle.ac_check.specs.Walks.{has_unknown, fault_with}
 use Rattle.ac_check.specs.Kept.{AreKnown, HeadKept, DeclsKept, KeepsRules, ScriptKept}
 
 none_known : {X : Type 0} (kind : RefusalKind) → Some kind ≡ None → X
@@ -25,6 +26,12 @@ faultless_by true typed twice limit h = none_known UnknownName h
 faultless_by false false twice limit h = none_known WrongType h
 faultless_by false true true limit h = none_known Twice h
 faultless_by false true false limit h = (refl, refl, refl)
+
+-- the name of a declaration that isn't faulty is new
+pub undeclared : (room : ℕ) (scope : Scope) (d : Decl) → fault_with room (standing (declares d) scope) ≡ None → is_in_scope scope (decl_name d) ≡ false
+undeclared room scope d h =
+    let s = standing (declares d) scope in
+    (faultless_by (has_unknown s.scope (used s.item)) (is_well_typed s) (is_twice s.scope (declared s.item)) _ h).2
 
 no_more : (known unknown : Bool) → (not known || unknown) ≡ false → (known ≡ true) × (unknown ≡ false)
 no_more true unknown h = (refl, h)

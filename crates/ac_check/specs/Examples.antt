@@ -237,18 +237,23 @@ NeedsCursors = TellsDecls (entry S (a_type (def false kind.HashedSet Str None fa
 abbrev declares : TypeDef → Decl
 declares def = TypeDecl 1 A def
 
-abbrev refused : List Kind
-refused =
-    kind.HashedMap ∷ kind.OrderedMap ∷ kind.HashedSet ∷ kind.OrderedSet ∷ kind.Tree ∷ kind.Holder ∷ kind.Queue ∷ kind.PriorityQueue ∷ []
+abbrev pairs : List Kind
+pairs = kind.HashedMap ∷ kind.OrderedMap ∷ []
 
--- only vectors and lists are made yet, of one sort of element, and none has keys
-abbrev pub MakesSequences : Type 0
-MakesSequences = TellsDecls []
-    (declares (list_of Integer) ∷ declares (list_of Str) ∷ declares (def true kind.List Str None false)
-    ∷ declares (def false kind.Vector Integer None false) ∷ declares (def true kind.Vector Str None false) ∷ [])
-    (declares (def false kind.List Integer (Some Integer) false) ∷ declares (def false kind.List Str None true)
-    ∷ declares (def false kind.Vector Integer (Some Integer) false) ∷ declares (def false kind.Vector Str None true)
-    ∷ (map (λ k. declares (def false k Integer None false)) refused ++ map (λ k. declares (def false k Str (Some Integer) false)) refused))
+abbrev singles : List Kind
+singles = kind.Vector ∷ kind.List ∷ kind.HashedSet ∷ kind.OrderedSet ∷ []
+
+abbrev refused : List Kind
+refused = kind.Tree ∷ kind.Holder ∷ kind.Queue ∷ kind.PriorityQueue ∷ []
+
+-- vectors, lists and sets of one sort of element and maps of two are made yet, and none has keys
+abbrev pub MakesRows : Type 0
+MakesRows = TellsDecls []
+    (map (λ k. declares (def false k Integer None false)) singles ++ map (λ k. declares (def true k Str None false)) singles
+    ++ map (λ k. declares (def false k Integer (Some Str) false)) pairs ++ map (λ k. declares (def true k Str (Some Str) false)) pairs)
+    (map (λ k. declares (def false k Integer (Some Integer) false)) singles ++ map (λ k. declares (def false k Str None true)) singles
+    ++ map (λ k. declares (def false k Integer None false)) pairs ++ map (λ k. declares (def false k Str (Some Str) true)) pairs
+    ++ map (λ k. declares (def false k Integer None false)) refused ++ map (λ k. declares (def false k Str (Some Integer) false)) refused)
 
 abbrev named : ℕ → Scope
 named zero = []

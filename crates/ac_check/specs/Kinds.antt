@@ -72,10 +72,10 @@ goes_backward kind.PriorityQueue = false
 abbrev pub is_built : Kind → Bool
 is_built kind.Vector = true
 is_built kind.List = true
-is_built kind.HashedMap = false
-is_built kind.OrderedMap = false
-is_built kind.HashedSet = false
-is_built kind.OrderedSet = false
+is_built kind.HashedMap = true
+is_built kind.OrderedMap = true
+is_built kind.HashedSet = true
+is_built kind.OrderedSet = true
 is_built kind.Tree = false
 is_built kind.Holder = false
 is_built kind.Queue = false

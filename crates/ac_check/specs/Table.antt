@@ -176,13 +176,6 @@ set_rows =
     ∷ row (codes "delete") (E ∷ []) answer.Done (operation.Set set.DeleteItem)
     ∷ row (codes "find") (E ∷ []) answer.Cursor (operation.Set set.Find)
     ∷ row (codes "contains") (E ∷ []) answer.Truth (operation.Set set.Contains)
-    ∷ row (codes "union") (S ∷ []) answer.Done (operation.Set set.Union)
-    ∷ row (codes "intersection") (S ∷ []) answer.Done (operation.Set set.Intersection)
-    ∷ row (codes "difference") (S ∷ []) answer.Done (operation.Set set.Difference)
-    ∷ row (codes "symmetric_difference") (S ∷ []) answer.Done (operation.Set set.SymmetricDifference)
-    ∷ row (codes "overlap") (S ∷ []) answer.Truth (operation.Set set.Overlap)
-    ∷ row (codes "is_subset") (S ∷ []) answer.Truth (operation.Set set.IsSubset)
-    ∷ row (codes "equivalent_sets") (S ∷ []) answer.Truth (operation.Set set.EquivalentSets)
     ∷ []
 
 -- keyed sets (Generic_Keys of A.18.8 and A.18.9)

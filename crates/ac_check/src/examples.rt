@@ -1,7 +1,7 @@
 //! Declarations and statements, judged by hand.
 ghost use Rattle.ac_check.specs.Examples.{TakesElements, CountsArguments, SplicesOfOneType, TakesCursors, TakesAnswers, SumsIntegers, CallsByKind};
 ghost use Rattle.ac_check.specs.Examples.{KeepsLoopCursor, WritesNothingQueried, WritesUpdated, WritesLooped, WritesNoSet, LoopsOverCursors};
-ghost use Rattle.ac_check.specs.Examples.{ViewsElements, ViewsSets, UpdatesNoKey, ViewsHolders, FitsCapacity, NeedsCursors, MakesSequences};
+ghost use Rattle.ac_check.specs.Examples.{ViewsElements, ViewsSets, UpdatesNoKey, ViewsHolders, FitsCapacity, NeedsCursors, MakesRows};
 ghost use Rattle.ac_check.specs.Examples.{CountsNames, MeansByArguments, MeansByKind};
 ghost use Rattle.ac_check.specs.ResolvedExamples.{PlacesInBlocks, PlacesNoName, ResolvesArguments, ResolvesByArguments, ResolvesObjects, ResolvesScript};
 
@@ -34,7 +34,7 @@ pub fn block_examples()
 pub fn declaration_examples()
     ensures fits_capacity { FitsCapacity }
     ensures needs_cursors { NeedsCursors }
-    ensures makes_sequences { MakesSequences }
+    ensures makes_rows { MakesRows }
     ensures counts_names { CountsNames }
 {}
 

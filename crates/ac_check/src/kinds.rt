@@ -52,7 +52,15 @@ pub fn goes_backward(kind: Kind) -> bool
 fn is_built(kind: Kind) -> bool
     ensures { result ≡ kinds.is_built kind }
 {
-    matches!(kind, Kind::Vector | Kind::List)
+    matches!(
+        kind,
+        Kind::Vector
+            | Kind::List
+            | Kind::HashedMap
+            | Kind::OrderedMap
+            | Kind::HashedSet
+            | Kind::OrderedSet
+    )
 }
 
 /// What the elements are: a map's are its second.
@@ -72,13 +80,6 @@ fn is_queue_right(def: TypeDef) -> bool
     !is_queue(def.kind) || def.first == ElemKind::Integer
 }
 
-/// Whether only a set of strings is keyed.
-fn is_keyed_right(def: TypeDef) -> bool
-    ensures { result ≡ (not def.keyed || (kinds.is_set def.kind && rules.is_elem Str def.first)) }
-{
-    !def.keyed || (is_set(def.kind) && def.first == ElemKind::Str)
-}
-
 /// Whether a type can be declared so.
 pub fn is_type(def: TypeDef) -> bool
     ensures { result ≡ rules.is_type def }
@@ -86,5 +87,5 @@ pub fn is_type(def: TypeDef) -> bool
     is_built(def.kind)
         && def.second.is_some() == is_map(def.kind)
         && is_queue_right(def)
-        && is_keyed_right(def)
+        && !def.keyed
 }

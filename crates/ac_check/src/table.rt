@@ -141,8 +141,8 @@ const MAP: [Row; 10] = [
     row!(b"contains", [Key], Truth => Map(MapCall::Contains)),
 ];
 
-/// Sets (A.18.7).
-const SET: [Row; 15] = [
+/// Sets (A.18.7), but for the calls of two sets.
+const SET: [Row; 8] = [
     row!(b"insert", [Element], Done => Set(SetCall::Insert)),
     row!(b"insert", [Element, CursorVariable], Truth => Set(SetCall::InsertPos)),
     row!(b"include", [Element], Done => Set(SetCall::Include)),
@@ -151,13 +151,6 @@ const SET: [Row; 15] = [
     row!(b"delete", [Element], Done => Set(SetCall::DeleteItem)),
     row!(b"find", [Element], Cursor => Set(SetCall::Find)),
     row!(b"contains", [Element], Truth => Set(SetCall::Contains)),
-    row!(b"union", [Object], Done => Set(SetCall::Union)),
-    row!(b"intersection", [Object], Done => Set(SetCall::Intersection)),
-    row!(b"difference", [Object], Done => Set(SetCall::Difference)),
-    row!(b"symmetric_difference", [Object], Done => Set(SetCall::SymmetricDifference)),
-    row!(b"overlap", [Object], Truth => Set(SetCall::Overlap)),
-    row!(b"is_subset", [Object], Truth => Set(SetCall::IsSubset)),
-    row!(b"equivalent_sets", [Object], Truth => Set(SetCall::EquivalentSets)),
 ];
 
 /// Keyed sets (Generic_Keys of A.18.8 and A.18.9).

@@ -23,7 +23,7 @@ use Rattle.ac_meaning.proofs.BoundsStay.{passed, state_same, state_then, state_s
 
 -- Assignments
 
-own_write_stays : (kind : RowKind) (o : Object ℕ (RowOf kind)) (at : Mark) (v : Value) → Stays o None ((own_calls kind o).write at v).after
+pub own_write_stays : (kind : RowKind) (o : Object ℕ (RowOf kind)) (at : Mark) (v : Value) → Stays o None ((own_calls kind o).write at v).after
 own_write_stays (a_sequence which e) o at v = renamed o None _ (names-with_value o.rows (name_of at) ((tools_of e).from_value v))
 own_write_stays (a_map which k e) o at v = renamed o None _ (names-with_some_value o.rows _ _)
 own_write_stays (a_set which e) o at v = same o None

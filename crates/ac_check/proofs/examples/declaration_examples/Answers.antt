@@ -7,8 +7,8 @@ returns-clause-fits_capacity c = refl
 pub returns-clause-needs_cursors : goal.returns-clause-needs_cursors
 returns-clause-needs_cursors c = refl
 
-pub returns-clause-makes_sequences : goal.returns-clause-makes_sequences
-returns-clause-makes_sequences c = refl
+pub returns-clause-makes_rows : goal.returns-clause-makes_rows
+returns-clause-makes_rows c = refl
 
 pub returns-clause-counts_names : goal.returns-clause-counts_names
 returns-clause-counts_names c = refl
