@@ -1,46 +1,38 @@
 -- A guard more and a guard less on an object of a script.
-use Rattle.std.proofs.Common.{◌≡◌, ◌<◌, ℕ, List, length, get_or, set, slice_get, refl, sym, ap, subst, ◌∙◌, Option, Some}
+use Rattle.std.proofs.Common.{◌≡◌, ◌<◌, ℕ, List, length, get_or, set, slice_get, refl, sym, ap, subst, ◌∙◌, Option, Some, false}
 use Rattle.std.specs.Option.{ForSome}
 use Rattle.std.proofs.lemmas.List.{take-map}
 use Rattle.std.proofs.lemmas.Option.{same_Some, slice_get_read}
-use Rattle.ac_base.specs.declared.cursor.Cursor.{Cursor}
-use Rattle.ac_base.specs.declared.cursor.Cursor.TheVariants as cursor
 use Rattle.ac_base.specs.declared.guard.GuardKind.{GuardKind}
 use Rattle.ac_base.specs.declared.guard.GuardKind.TheVariants as guard
 use Rattle.ac_base.specs.Guards.{HeldGuard, GuardCounts, count_of, one_more, one_less, raised_kind}
+use Rattle.ac_base.specs.declared.limit.Limit.TheVariants.{Unbounded}
 use Rattle.ac_model.specs.Common.{hold_call, release_call}
-use Rattle.ac_model.specs.Containers.{Container, with_guards}
-use Rattle.ac_model.specs.Cursors.{Agrees}
-use Rattle.ac_meaning.specs.Holdings.{Held, number_of, is_a_set, guard_on, with_rows_by}
+use Rattle.ac_model.specs.Objects.{empty_object}
+use Rattle.ac_syntax.specs.declared.kind.ElemKind.TheVariants.{Integer}
+use Rattle.ac_meaning.specs.Holdings.{Held, of_rows, a_sequence, of_list, number_of, is_a_set, guard_on, with_rows_by}
 use Rattle.ac_meaning.specs.Environment.{State, binds_object, bound_by, with_bound, object_at, objects_by, leaving}
 use Rattle.ac_meaning.specs.UnderGuards.{held_with, held_without}
 use Rattle.ac_meaning.proofs.OnePlace.{guards_are_on_one_object}
 use Rattle.ac_objects.specs.declared.object.Object.{Object}
-use Rattle.ac_objects.specs.declared.object.Object.TheVariants.{Integers, Texts}
-use Rattle.ac_objects.specs.declared.sequence.Sequence.TheVariants.{List as a_list, Vector as a_vector}
 use Rattle.ac_objects.specs.declared.bound.Bound.{Bound}
 use Rattle.ac_objects.specs.declared.bound.Bound.TheVariants as bound
 use Rattle.ac_objects.specs.Blocks.{IsHeldAt}
-use Rattle.ac_objects.specs.Counts.{with_counts, counts_given}
+use Rattle.ac_objects.specs.Counts.{with_counts, memory_counted}
 use Rattle.ac_objects.specs.Standing.{counts_in_held}
-use Rattle.ac_objects.specs.World.{World, world, held_of, state_of, IsSound, Persists}
+use Rattle.ac_objects.specs.World.{World, world, memory_of, held_in, held_of, AgreesIn, state_of, IsSound, Persists}
+use Rattle.ac_objects.proofs.Memory.{own_number_in, number_counted, agrees_counted, more_in, less_in}
 use Rattle.ac_objects.proofs.InScope.{GoesOn, object_there, set_state, set_object, set_sound, set_persists, within, left_object}
 
 abbrev counts_in : Object → GuardCounts
 counts_in o = counts_in_held (held_of o)
 
 -- its number stays, and the names in its rows
-guards_agree : {V : Type 0} (l : Container V) (counts : GuardCounts) (c : Cursor) → counts.number ≡ l.object.number → Agrees l.object c →
-    Agrees (with_guards l counts).object c
-guards_agree l counts cursor.NoElement same agrees = tt
-guards_agree l counts (cursor.At object name) same agrees =
-    λ e. let own = agrees (e ∙ same) in record { given = own.given; slot = own.slot }
-
 pub counts_go_on : (o : Object) (counts : GuardCounts) → counts.number ≡ number_of (held_of o) → GoesOn o (with_counts o counts)
-counts_go_on (Integers (a_list l)) counts same = record { number = same; agrees = λ c. guards_agree l counts c same }
-counts_go_on (Integers (a_vector v)) counts same = record { number = same; agrees = λ c. guards_agree v counts c same }
-counts_go_on (Texts (a_list l)) counts same = record { number = same; agrees = λ c. guards_agree l counts c same }
-counts_go_on (Texts (a_vector v)) counts same = record { number = same; agrees = λ c. guards_agree v counts c same }
+counts_go_on o counts same = record {
+  number = ap (λ m. number_of (held_in m)) (memory_counted o counts) ∙ number_counted (memory_of o) counts same;
+  agrees = λ c agrees. subst (λ m. AgreesIn m c) (sym (memory_counted o counts)) (agrees_counted (memory_of o) counts c same agrees);
+}
 
 more_number : (kind : GuardKind) (counts : GuardCounts) → (one_more kind counts).number ≡ counts.number
 more_number guard.Cursors counts = refl
@@ -51,8 +43,7 @@ less_number guard.Cursors counts = refl
 less_number guard.Elements counts = refl
 
 own_number : (o : Object) → (counts_in o).number ≡ number_of (held_of o)
-own_number (Integers l) = refl
-own_number (Texts l) = refl
+own_number o = own_number_in (memory_of o)
 
 -- the object with one guard more, and with one less
 
@@ -70,29 +61,18 @@ less_goes_on o kind = counts_go_on o (one_less kind (counts_in o)) (less_number 
 
 more_held : (o : Object) (kind : GuardKind) →
     held_of (with_one_more o (raised_kind (is_a_set (held_of o)) kind)) ≡ with_rows_by (λ V p. hold_call (is_a_set (held_of o)) kind p) (held_of o)
-more_held (Integers (a_list l)) guard.Cursors = refl
-more_held (Integers (a_vector v)) guard.Cursors = refl
-more_held (Integers (a_list l)) guard.Elements = refl
-more_held (Integers (a_vector v)) guard.Elements = refl
-more_held (Texts (a_list l)) guard.Cursors = refl
-more_held (Texts (a_vector v)) guard.Cursors = refl
-more_held (Texts (a_list l)) guard.Elements = refl
-more_held (Texts (a_vector v)) guard.Elements = refl
+more_held o kind =
+    ap held_in (memory_counted o (one_more (raised_kind (is_a_set (held_of o)) kind) (counts_in o))) ∙ more_in (memory_of o) kind
 
-less_held : (o : Object) (kind : GuardKind) →
-    held_of (with_one_less o kind) ≡ with_rows_by (λ V p. release_call (is_a_set (held_of o)) kind p) (held_of o)
-less_held (Integers (a_list l)) guard.Cursors = refl
-less_held (Integers (a_vector v)) guard.Cursors = refl
-less_held (Integers (a_list l)) guard.Elements = refl
-less_held (Integers (a_vector v)) guard.Elements = refl
-less_held (Texts (a_list l)) guard.Cursors = refl
-less_held (Texts (a_vector v)) guard.Cursors = refl
-less_held (Texts (a_list l)) guard.Elements = refl
-less_held (Texts (a_vector v)) guard.Elements = refl
+less_held : (o : Object) (kind : GuardKind) → held_of (with_one_less o kind) ≡ with_rows_by (λ V p. release_call false kind p) (held_of o)
+less_held o kind = ap held_in (memory_counted o (one_less kind (counts_in o))) ∙ less_in (memory_of o) kind
 
-own_guard : (o : Object) (g : HeldGuard) → g.object ≡ number_of (held_of o) → g ≡ guard_on (held_of o) g.kind
-own_guard (Integers l) g e = λ i. record { object = e i; kind = g.kind }
-own_guard (Texts l) g e = λ i. record { object = e i; kind = g.kind }
+-- an object that isn't a set, with this number: on it a guard is of the kind that was asked for
+abbrev no_set : ℕ → Held
+no_set number = of_rows (a_sequence of_list Integer) (empty_object false number Unbounded)
+
+own_guard : (o : Object) (g : HeldGuard) → g.object ≡ number_of (held_of o) → g ≡ guard_on (no_set (number_of (held_of o))) g.kind
+own_guard o g e = λ i. record { object = e i; kind = g.kind }
 
 module _ (bounds : List Bound) (next place : ℕ) (o : Object) (there : slice_get bounds place ≡ Some (bound.Object o)) where
   -- what stands at the place is the object
@@ -129,7 +109,7 @@ module _ (bounds : List Bound) (next place : ℕ) (o : Object) (there : slice_ge
         let e = state_of (world bounds next) in
         set_state bounds next place o (with_one_less o g.kind) there (less_goes_on o g.kind)
         ∙ (ap (λ h. with_bound e place (binds_object h)) (less_held o g.kind)
-        ∙ (sym (guards_are_on_one_object.released e place (held_of o) (held_of o) g.kind sound.numbers_differ (object_there bounds next place o there) refl)
+        ∙ (sym (guards_are_on_one_object.released e place (no_set (number_of (held_of o))) (held_of o) g.kind sound.numbers_differ (object_there bounds next place o there) refl)
         ∙ ap (λ k. objects_by (held_without k) e) (sym (own_guard o g is_own))))
 
 -- What the code does to the object that it reads at a place of the world

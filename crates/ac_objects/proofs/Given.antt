@@ -15,11 +15,11 @@ use Rattle.ac_model.specs.Cursors.{plain_mark, Agrees}
 use Rattle.ac_meaning.specs.Holdings.{number_of}
 use Rattle.ac_meaning.proofs.NumbersApart.{numbers_tell, is_there}
 use Rattle.ac_objects.specs.declared.object.Object.{Object}
-use Rattle.ac_objects.specs.declared.object.Object.TheVariants.{Integers, Texts}
 use Rattle.ac_objects.specs.declared.bound.Bound.{Bound}
 use Rattle.ac_objects.specs.declared.bound.Bound.TheVariants as bound
 use Rattle.ac_objects.specs.Given.{HasNumber, GivenBy, IsGiven}
-use Rattle.ac_objects.specs.World.{World, world, held_of, state_of, ObjectAgrees, BoundAgrees, IsKnown, IsSound}
+use Rattle.ac_objects.specs.World.{World, world, held_of, state_of, ObjectAgrees, BoundAgrees, IsKnown, IsSound, memory_of}
+use Rattle.ac_objects.proofs.Memory.{none_in, other_in, agrees_if_own}
 use Rattle.ac_objects.proofs.InScope.{object_there}
 
 or_cases : (a b : Bool) → (a || b) ≡ true → (a ≡ true) ⊎ (b ≡ true)
@@ -123,18 +123,15 @@ marked_by o c m is marks = mark_is o c m (of_is_fresh o.number m is) marks
 -- With no other object in scope does its number stand
 
 pub other_agrees : (o : Object) (object : ℕ) (name : Name) → (object ≡ number_of (held_of o) → ⊥) → ObjectAgrees o (cursor.At object name)
-other_agrees (Integers l) object name differ = λ e. absurd (differ e)
-other_agrees (Texts l) object name differ = λ e. absurd (differ e)
+other_agrees o object name differ = other_in (memory_of o) object name differ
 
 agrees_if : (o : Object) (object : ℕ) (name : Name) → (object ≡ number_of (held_of o) → ObjectAgrees o (cursor.At object name)) →
     ObjectAgrees o (cursor.At object name)
-agrees_if (Integers l) object name f = λ e. f e e
-agrees_if (Texts l) object name f = λ e. f e e
+agrees_if o object name f = agrees_if_own (memory_of o) object name f
 
 pub none_agrees : (b : Bound) → BoundAgrees b cursor.NoElement
 none_agrees bound.Type = tt
-none_agrees (bound.Object (Integers l)) = tt
-none_agrees (bound.Object (Texts l)) = tt
+none_agrees (bound.Object o) = none_in (memory_of o)
 none_agrees (bound.Cursor c) = tt
 none_agrees (bound.Value v) = tt
 none_agrees (bound.Element object at) = tt

@@ -14,7 +14,6 @@ use Rattle.ac_objects.specs.declared.argument.Arguments.{Arguments}
 use Rattle.ac_objects.specs.declared.bound.Bound.{Bound}
 use Rattle.ac_objects.specs.declared.bound.Bound.TheVariants as bound
 use Rattle.ac_objects.specs.declared.object.Object.{Object}
-use Rattle.ac_objects.specs.declared.object.Object.TheVariants.{Integers, Texts}
 use Rattle.ac_objects.specs.declared.reply.Said.{Said}
 use Rattle.ac_objects.specs.declared.reply.Said.TheVariants as said
 use Rattle.ac_objects.specs.declared.reply.Placed.{Placed}
@@ -22,7 +21,8 @@ use Rattle.ac_objects.specs.declared.reply.Reply.{Reply}
 use Rattle.ac_objects.specs.Arguments.{arguments_of}
 use Rattle.ac_objects.specs.Called.{AgreesWith, Tells, Places, HeldAfter, Called, CalledWith, Lasts}
 use Rattle.ac_objects.specs.Steps.{AllKnown, Advances, CalledIn, CalledInBoth, SaysAt, SaidKnown, placed_of, PlacedKnown, CalledAt, CallsIn, CanCall, CalledBounds, CanCallIn}
-use Rattle.ac_objects.specs.World.{world, state_of, held_of, IsSound}
+use Rattle.ac_objects.specs.World.{world, state_of, held_of, IsSound, memory_of}
+use Rattle.ac_objects.proofs.Memory.{all_agree_in}
 use Rattle.ac_objects.proofs.Places.{same_some, get_own, get_other, set_same, set_around, found_or}
 use Rattle.ac_objects.proofs.Sources.{itself_alone}
 use Rattle.ac_objects.proofs.Worlds.{stands_in, object_there_in, state_set, set_advances, advances_then, object_replaces, none_known, known_agrees, found_known}
@@ -30,18 +30,9 @@ use Rattle.ac_objects.proofs.Worlds.{stands_in, object_there_in, state_set, set_
 -- the arguments agree with each object
 pub agrees_with : (bs : List Bound) (n i : ℕ) (o : Object) (args : Arguments) → AllKnown (world bs n) args → slice_get bs i ≡ Some (bound.Object o) →
     AgreesWith o args
-agrees_with bs n i (Integers l) args k there = record {
-  first = known_agrees bs n i (Integers l) _ k.first there;
-  second = known_agrees bs n i (Integers l) _ k.second there;
-  third = known_agrees bs n i (Integers l) _ k.third there;
-  fourth = known_agrees bs n i (Integers l) _ k.fourth there;
-}
-agrees_with bs n i (Texts l) args k there = record {
-  first = known_agrees bs n i (Texts l) _ k.first there;
-  second = known_agrees bs n i (Texts l) _ k.second there;
-  third = known_agrees bs n i (Texts l) _ k.third there;
-  fourth = known_agrees bs n i (Texts l) _ k.fourth there;
-}
+agrees_with bs n i o args k there =
+    all_agree_in (memory_of o) args (known_agrees bs n i o _ k.first there) (known_agrees bs n i o _ k.second there)
+    (known_agrees bs n i o _ k.third there) (known_agrees bs n i o _ k.fourth there)
 
 pub object_ready : (bs : List Bound) (i : ℕ) (source : Option ℕ) (args : Arguments) → CanCallIn bs i source args →
     (o : Object) × (slice_get bs i ≡ Some (bound.Object o)) × AgreesWith o args

@@ -12,11 +12,11 @@ use Rattle.ac_meaning.specs.Environment as meant
 use Rattle.ac_meaning.specs.Numbers.{has_number, times_numbered, NumbersDiffer}
 use Rattle.ac_meaning.proofs.NumbersApart.{numbers_go_on}
 use Rattle.ac_objects.specs.declared.object.Object.{Object}
-use Rattle.ac_objects.specs.declared.object.Object.TheVariants.{Integers, Texts}
 use Rattle.ac_objects.specs.declared.bound.Bound.{Bound}
 use Rattle.ac_objects.specs.declared.bound.Bound.TheVariants as bound
 use Rattle.ac_objects.specs.Standing.{counts_in, counts_of}
-use Rattle.ac_objects.specs.World.{World, world, held_of, bound_of, state_of, ObjectAgrees, BoundAgrees, IsKnown, cursor_in, IsSound, Persists}
+use Rattle.ac_objects.specs.World.{World, world, held_of, bound_of, state_of, ObjectAgrees, BoundAgrees, IsKnown, cursor_in, IsSound, Persists, memory_of}
+use Rattle.ac_objects.proofs.Memory.{none_in}
 
 -- the same object to guards and cursors
 pub record GoesOn (o now : Object) : Type 0 where
@@ -26,13 +26,9 @@ pub record GoesOn (o now : Object) : Type 0 where
 pub no_cursor : (w : World) → IsKnown w cursor.NoElement
 no_cursor w = record { made = tt; agrees = λ i d h. no_agreement (get_or w.bounds i d) }
   where
-    no_object : (o : Object) → ObjectAgrees o cursor.NoElement
-    no_object (Integers l) = tt
-    no_object (Texts l) = tt
-
     no_agreement : (b : Bound) → BoundAgrees b cursor.NoElement
     no_agreement bound.Type = tt
-    no_agreement (bound.Object o) = no_object o
+    no_agreement (bound.Object o) = none_in (memory_of o)
     no_agreement (bound.Cursor c) = tt
     no_agreement (bound.Value v) = tt
     no_agreement (bound.Element object at) = tt

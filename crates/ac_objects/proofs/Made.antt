@@ -1,18 +1,23 @@
 -- What a call of the library comes to, as what a script's call comes to.
 use Rattle.std.proofs.Common.{◌≡◌, ◌<◌, ◌||◌, ℕ, zero, suc, Bool, true, false, List, [], ◌∷◌, refl, sym, ap, subst, arith, eq-eqb, None}
-use Rattle.std.specs.Prelude.{All, IsTrue, Ok}
+use Rattle.std.specs.Prelude.{All, IsTrue, Result, Ok, Err}
+use Rattle.ac_base.specs.declared.fault.Fault.{Fault}
+use Rattle.ac_base.specs.declared.fault.Fault.TheVariants as fault
 use Rattle.ac_base.specs.declared.name.Name.{Name}
 use Rattle.ac_base.specs.declared.cursor.Cursor.{Cursor}
 use Rattle.ac_base.specs.Rows.{names}
 use Rattle.ac_model.specs.Objects.{Object, plain}
 use Rattle.ac_model.specs.Letters.{Mark, is_among, is_same_name}
 use Rattle.ac_model.specs.Calls.{Call, Changing, IsAfter, Marks}
+use Rattle.ac_model.specs.Keyed.{Inserted}
+use Rattle.ac_setwork.specs.TableFields.{Places}
 use Rattle.ac_meaning.specs.Replies as replies
 use Rattle.ac_objects.specs.declared.argument.Argument.{Argument}
 use Rattle.ac_objects.specs.declared.argument.Arguments.{Arguments}
 use Rattle.ac_objects.specs.declared.argument.Argument.TheVariants.{Absent, Place, Value}
 use Rattle.ac_objects.specs.Arguments.{AllAgree, argument_of, arguments_of, cursor_in, marked, marked_argument}
 use Rattle.ac_objects.specs.Replied.{IsAnswer}
+use Rattle.ac_objects.specs.RowCalls.{PlacesOwn}
 use Rattle.ac_objects.proofs.Own.{IsOwnMark, own_cursor}
 use Rattle.ac_model.proofs.Unslotted.{seen_marks}
 use Rattle.ac_model.specs.Cursors.{Agrees}
@@ -44,6 +49,15 @@ module _ {V : Type 0} where
   own_change old new c q own h =
       let number : c.after.number ≡ new.number = ap (λ (p : Object ℕ V). p.number) (sym h.1.plainly) in
       (h.0, h.1, own_cursor new q c.answer (subst (λ n. IsOwnMark n c.answer) number (own h.0)) h.2)
+
+  -- and so is one that an insertion answers
+  pub own_inserted : (old new : Object Name V) (c : Call (Object ℕ V) Inserted) (q : Cursor) (result : Result Bool Fault)
+      → IsOwnMark c.after.number c.answer.position → Changing (Places new q) c old new result → Changing (PlacesOwn new q) c old new result
+  own_inserted old new c q (Ok inserted) own h =
+      let number : c.after.number ≡ new.number = ap (λ (p : Object ℕ V). p.number) (sym h.1.plainly) in
+      (h.0, h.1, (h.2.0, own_cursor new q c.answer.position (subst (λ n. IsOwnMark n c.answer.position) number own) h.2.1))
+  own_inserted old new c q (Err (fault.Raised reason)) own h = h
+  own_inserted old new c q (Err fault.NoMemory) own h = h
 
   seen_argument : (o : Object Name V) (a : Argument) → Agrees o (cursor_in a) → replies.seen_argument (plain o) (argument_of a) ≡ marked_argument o a
   seen_argument o Absent agrees = refl

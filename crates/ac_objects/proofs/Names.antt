@@ -1,22 +1,29 @@
 -- What a name holds, read and set.
-use Rattle.std.proofs.Common.{◌≡◌, ℕ, List, slice_get, slice_set, refl, sym, ap, subst, ◌∙◌, Some, None, Result, Ok, Err}
+use Rattle.std.proofs.Common.{◌≡◌, ℕ, List, get_or, slice_get, slice_set, refl, sym, ap, subst, ◌∙◌, Option, Some, None, Result, Ok, Err, IfOk}
+use Rattle.std.specs.Borrow.{Bor}
 use Rattle.ac_base.specs.declared.cursor.Cursor.{Cursor}
+use Rattle.ac_base.specs.declared.fault.Fault.{Fault}
+use Rattle.ac_base.specs.declared.fault.Fault.TheVariants as fault
 use Rattle.ac_base.specs.declared.fault.NoMemory.{NoMemory}
+use Rattle.ac_base.specs.declared.reason.Reason.{Reason}
 use Rattle.ac_base.specs.declared.value.Value.{Value}
 use Rattle.ac_model.specs.Calls.{Done}
 use Rattle.ac_model.specs.Cursors.{plain_mark}
-use Rattle.ac_model.specs.Letters.{Mark}
+use Rattle.ac_model.specs.Letters.{Mark, no_mark}
 use Rattle.ac_meaning.specs.Commands.{argument_in, answer_in, assigned_to, element_written, mark_set, value_set}
 use Rattle.ac_meaning.specs.Environment as meant
-use Rattle.ac_meaning.specs.Environment.{State, value_in, bound_at, object_at, binds_object, with_bound}
-use Rattle.ac_meaning.specs.Holdings.{a_sequence, a_map, a_set, Held, of_rows, element_value, write}
+use Rattle.ac_meaning.specs.Environment.{State, value_in, value_or_zero, element_in, mark_in, bound_at, object_at, binds_object, with_bound}
+use Rattle.ac_meaning.specs.Holdings.{a_sequence, a_map, a_set, Held, Written, of_rows, element_value, write}
+use Rattle.ac_meaning.proofs.CallsStay.{none_some}
 use Rattle.ac_objects.specs.declared.bound.Bound.{Bound}
 use Rattle.ac_objects.specs.declared.bound.Bound.TheVariants as bound
 use Rattle.ac_objects.specs.declared.object.Object.{Object}
+use Rattle.ac_objects.specs.Called.{WritesTo, Lasts}
+use Rattle.ac_objects.specs.Given.{HoldsObject, HoldsCursor}
 use Rattle.ac_objects.specs.Standing.{ElementsStand}
 use Rattle.ac_objects.specs.Steps.{Advances, CanRead, AssignsTo, WritesAt, SetsMark, SetsValue, StandsSomewhere, marked}
 use Rattle.ac_objects.specs.World.{World, world, state_of, bound_of, held_of, IsKnown, IsSound, cursor_in}
-use Rattle.ac_objects.proofs.Places.{all_at, set_same}
+use Rattle.ac_objects.proofs.Places.{all_at, set_same, found_or}
 use Rattle.ac_objects.proofs.Worlds.{stands_in, object_there_in, bound_there, bound_past, state_set, set_advances, same_advances, object_replaces, none_known, known_agrees}
 
 -- Reading
@@ -32,6 +39,18 @@ pub say_found : (w : World) (bs : List Bound) (n i : ℕ) (b : Bound) → world 
 say_found w bs n i b view there =
     subst (λ x. answer_in (state_of x) (bound_of b) ≡ answer_in (state_of x) (bound_at (state_of x) i)) view
     (ap (answer_in (state_of (world bs n))) (sym (bound_there bs n i b there)))
+
+pub read_past : (w : World) (bs : List Bound) (n i : ℕ) → world bs n ≡ w → slice_get bs i ≡ None →
+    argument_in (state_of w) meant.binds_type ≡ argument_in (state_of w) (bound_at (state_of w) i)
+read_past w bs n i view past =
+    subst (λ x. argument_in (state_of x) meant.binds_type ≡ argument_in (state_of x) (bound_at (state_of x) i)) view
+    (ap (argument_in (state_of (world bs n))) (sym (bound_past bs n i past)))
+
+pub say_past : (w : World) (bs : List Bound) (n i : ℕ) → world bs n ≡ w → slice_get bs i ≡ None →
+    answer_in (state_of w) meant.binds_type ≡ answer_in (state_of w) (bound_at (state_of w) i)
+say_past w bs n i view past =
+    subst (λ x. answer_in (state_of x) meant.binds_type ≡ answer_in (state_of x) (bound_at (state_of x) i)) view
+    (ap (answer_in (state_of (world bs n))) (sym (bound_past bs n i past)))
 
 -- the value that an argument is read as is the present value
 pub value_read : (e : State) (b : meant.Bound) → (argument_in e b).value ≡ value_in e b
@@ -58,7 +77,36 @@ pub can_read_in : (w : World) (bs : List Bound) (n i object : ℕ) (at : Cursor)
     slice_get bs i ≡ Some (bound.Element object at) → CanRead bs object at
 can_read_in w bs n i object at view sound stand there = can_read bs n i object at sound (subst (λ x. ElementsStand (state_of x)) (sym view) stand) there
 
+-- what is found at the object's place is the object
+pub read_object : (bs : List Bound) (i : ℕ) (at : Cursor) (b : Bound) (found : Option (Bor Object)) (r : CanRead bs i at) → b ≡ get_or bs i b → HoldsObject b found →
+    HoldsObject (bound.Object r.held) found
+read_object bs i at b found r e holds = subst (λ x. HoldsObject x found) (e ∙ found_or bs i (bound.Object r.held) b r.there) holds
+
+pub reads_value : (bs : List Bound) (i : ℕ) (at : Cursor) (r : CanRead bs i at) (o : Object) → o ≡ r.held → (result : Result Value NoMemory) →
+    IfOk result (λ v. (element_value (held_of o) (plain_mark at)).answer ≡ Some v) → (n : ℕ) →
+    IfOk result (λ v. v ≡ value_in (state_of (world bs n)) (meant.binds_element i (plain_mark at)))
+reads_value bs i at r o same (Ok v) e n =
+    let m = plain_mark at in
+    sym (ap (λ h. value_or_zero (element_in h m)) (object_there_in bs n i r.held r.there)
+    ∙ ap value_or_zero (ap (λ x. (element_value (held_of x) m).answer) (sym same) ∙ e))
+reads_value bs i at r o same (Err none) e n = tt
+
 -- A cursor
+
+held_mark : (b : Bound) (c : Cursor) → HoldsCursor b c → plain_mark c ≡ mark_in (bound_of b)
+held_mark bound.Type c e = ap plain_mark e
+held_mark (bound.Object o) c e = ap plain_mark e
+held_mark (bound.Cursor held) c e = ap plain_mark e
+held_mark (bound.Value v) c e = ap plain_mark e
+held_mark (bound.Element object at) c e = ap plain_mark e
+
+pub mark_found : (w : World) (bs : List Bound) (n i : ℕ) (b : Bound) (c : Cursor) → world bs n ≡ w → slice_get bs i ≡ Some b → HoldsCursor b c →
+    plain_mark c ≡ mark_in (bound_at (state_of w) i)
+mark_found w bs n i b c view there holds =
+    subst (λ x. plain_mark c ≡ mark_in (bound_at (state_of x) i)) view (held_mark b c holds ∙ ap mark_in (sym (bound_there bs n i b there)))
+
+pub mark_past : (w : World) (bs : List Bound) (n i : ℕ) → world bs n ≡ w → slice_get bs i ≡ None → no_mark ≡ mark_in (bound_at (state_of w) i)
+mark_past w bs n i view past = subst (λ x. no_mark ≡ mark_in (bound_at (state_of x) i)) view (ap mark_in (sym (bound_past bs n i past)))
 
 advances_marked : (bs : List Bound) (n i : ℕ) (c : Cursor) (b : Bound) → slice_get bs i ≡ Some b → IsSound (world bs n) → IsKnown (world bs n) c →
     Advances (world bs n) (world (slice_set bs i (marked c b)) n)
@@ -123,6 +171,32 @@ pub write_reason : (h : Held) (m : Mark) (v : Value) → (element_value h m).rea
 write_reason (of_rows (a_sequence which e) o) m v none = none
 write_reason (of_rows (a_map which k e) o) m v none = none
 write_reason (of_rows (a_set which e) o) m v none = refl
+
+-- an element that is written in its place
+
+pub object_is : (bs : List Bound) (i : ℕ) (o p : Object) (b : Bound) → b ≡ get_or bs i b → b ≡ bound.Object p → slice_get bs i ≡ Some (bound.Object o) → p ≡ o
+object_is bs i o p b e is there =
+    let same : bound.Object p ≡ bound.Object o = sym is ∙ (e ∙ found_or bs i (bound.Object o) b there) in
+    cc
+
+pub can_write : (bs : List Bound) (i : ℕ) (at : Cursor) (v : Value) (p : Object) (b : Bound) (r : CanRead bs i at) → b ≡ get_or bs i b → b ≡ bound.Object p →
+    (write (held_of p) (plain_mark at) v).reason ≡ None
+can_write bs i at v p b r e is =
+    subst (λ o. (write (held_of o) (plain_mark at) v).reason ≡ None) (sym (object_is bs i r.held p b e is r.there))
+    (write_reason (held_of r.held) (plain_mark at) v r.stands)
+
+pub never_raised : (w : Written) (old new : Object) (f : Fault) (reason : Reason) → w.reason ≡ None → f ≡ fault.Raised reason →
+    WritesTo w old new (Err f) → ⊥
+never_raised w old new f reason none is written =
+    let raised = subst (λ g. WritesTo w old new (Err g)) is written in
+    none_some reason (sym none ∙ raised.0)
+
+pub writes_at : (bs : List Bound) (i : ℕ) (at : Cursor) (v : Value) (o p now : Object) (b : Bound) (result : Result Done NoMemory) → b ≡ get_or bs i b →
+    b ≡ bound.Object p → slice_get bs i ≡ Some (bound.Object o) → IfOk result (λ done. held_of now ≡ (write (held_of p) (plain_mark at) v).after) → Lasts p now →
+    WritesAt i at v o bs (slice_set bs i (bound.Object now)) result
+writes_at bs i at v o p now b result e is there written lasts =
+    subst (λ x. WritesAt i at v x bs (slice_set bs i (bound.Object now)) result) (object_is bs i o p b e is there)
+    (record { now = now; bounds = refl; written = written; lasts = lasts })
 
 assigns_element : (bs now : List Bound) (n i object : ℕ) (at : Cursor) (v : Value) (o : Object) (result : Result Done NoMemory) →
     slice_get bs object ≡ Some (bound.Object o) → (element_value (held_of o) (plain_mark at)).reason ≡ None → WritesAt object at v o bs now result →

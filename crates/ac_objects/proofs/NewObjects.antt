@@ -1,5 +1,5 @@
 -- A new object in scope.
-use Rattle.std.proofs.Common.{◌≡◌, ◌+◌, ◌<◌, ◌++◌, ℕ, ℤ, Bool, true, false, List, [], ◌∷◌, get_or, nat_lt, refl, sym, ap, subst, ◌∙◌, arith, Option, None, if◌then◌else◌}
+use Rattle.std.proofs.Common.{◌≡◌, ◌+◌, ◌<◌, ◌++◌, ℕ, Bool, true, false, List, [], ◌∷◌, get_or, nat_lt, refl, sym, ap, subst, ◌∙◌, arith, Option, if◌then◌else◌}
 use Rattle.std.proofs.lemmas.List.{map_push}
 use Rattle.std.proofs.lemmas.List.Elements.{All-push}
 use Rattle.std.proofs.lemmas.Bool.{lt-ltb}
@@ -7,24 +7,19 @@ use Rattle.ac_base.specs.Limits.{numbers_end}
 use Rattle.ac_base.specs.declared.cursor.Cursor.{Cursor}
 use Rattle.ac_base.specs.declared.cursor.Cursor.TheVariants as cursor
 use Rattle.ac_base.specs.declared.limit.Limit.{Limit}
-use Rattle.ac_model.specs.Objects.{empty_object, plain}
+use Rattle.ac_model.specs.Objects.{empty_object}
 use Rattle.ac_model.specs.Objects as model
-use Rattle.ac_syntax.specs.declared.kind.ElemKind.TheVariants.{Integer, Str}
 use Rattle.ac_syntax.specs.declared.type_def.TypeDef.{TypeDef}
 use Rattle.ac_check.specs.declared.resolved.ResolvedDecl.TheVariants as decl
-use Rattle.ac_meaning.specs.Elements.{Text}
-use Rattle.ac_meaning.specs.Holdings.{RowKind, a_sequence, RowOf, Held, of_rows, number_of, limit_by, is_vector, have_capacity, kind_by, new_held}
+use Rattle.ac_meaning.specs.Holdings.{RowKind, RowOf, Held, of_rows, number_of, have_capacity, kind_by, new_held}
 use Rattle.ac_meaning.specs.Environment as meant
 use Rattle.ac_meaning.specs.Environment.{Declared, declared, number_taken}
 use Rattle.ac_meaning.specs.Numbers.{NumbersDiffer}
 use Rattle.ac_meaning.proofs.NumbersApart.{numbers_go_on}
 use Rattle.ac_objects.specs.declared.object.Object.{Object}
-use Rattle.ac_objects.specs.declared.object.Object.TheVariants.{Integers, Texts}
-use Rattle.ac_objects.specs.declared.sequence.Sequence.{Sequence}
-use Rattle.ac_objects.specs.Sequences.{rows_of, kind_of}
 use Rattle.ac_objects.specs.declared.bound.Bound.{Bound}
 use Rattle.ac_objects.specs.declared.bound.Bound.TheVariants as bound
-use Rattle.ac_objects.specs.Declarations.{object_declared}
+use Rattle.ac_objects.specs.Declarations.{new_within, object_declared}
 use Rattle.ac_objects.specs.World.{World, world, held_of, bound_of, state_of, ObjectAgrees, BoundAgrees, IsKnown, cursor_in, IsSound, Persists}
 use Rattle.ac_objects.proofs.Given.{none_agrees, other_agrees}
 use Rattle.ac_objects.proofs.InScope.{no_cursor}
@@ -49,26 +44,9 @@ abbrev empty : RowKind → ℕ → Limit → Held
 empty kind number limit = of_rows kind (empty_object (have_capacity kind) number limit)
 
 -- one of this kind, of the type that was declared
-of_type : (kind : RowKind) (o : model.Object ℕ (RowOf kind)) (def : TypeDef) (number : ℕ) (limit : Limit) (capacity : Option ℕ) →
-    kind_by def.kind def.first def.second ≡ kind → o ≡ empty_object (have_capacity kind) number limit → limit ≡ limit_by capacity →
-    of_rows kind o ≡ new_held def number capacity
-of_type kind o def number limit capacity kind_is is limit_is = ap (of_rows kind) is ∙ (λ i. empty (sym kind_is i) number (limit_is i))
-
-pub new_integers : (made : Sequence ℤ) (def : TypeDef) (number : ℕ) (limit : Limit) (capacity : Option ℕ) → def.first ≡ Integer →
-    kind_by def.kind def.first def.second ≡ a_sequence (kind_of made) def.first →
-    plain (rows_of made).object ≡ empty_object (is_vector (kind_of made)) number limit → limit ≡ limit_by capacity →
-    held_of (Integers made) ≡ new_held def number capacity
-new_integers made def number limit capacity first kind is limit_is =
-    of_type (a_sequence (kind_of made) Integer) (plain (rows_of made).object) def number limit capacity
-    (kind ∙ ap (a_sequence (kind_of made)) first) is limit_is
-
-pub new_texts : (made : Sequence Text) (def : TypeDef) (number : ℕ) (limit : Limit) (capacity : Option ℕ) → def.first ≡ Str →
-    kind_by def.kind def.first def.second ≡ a_sequence (kind_of made) def.first →
-    plain (rows_of made).object ≡ empty_object (is_vector (kind_of made)) number limit → limit ≡ limit_by capacity →
-    held_of (Texts made) ≡ new_held def number capacity
-new_texts made def number limit capacity first kind is limit_is =
-    of_type (a_sequence (kind_of made) Str) (plain (rows_of made).object) def number limit capacity
-    (kind ∙ ap (a_sequence (kind_of made)) first) is limit_is
+pub of_type : (kind : RowKind) (o : model.Object ℕ (RowOf kind)) (def : TypeDef) (number : ℕ) (limit : Limit) →
+    kind_by def.kind def.first def.second ≡ kind → o ≡ empty_object (have_capacity kind) number limit → of_rows kind o ≡ new_within def number limit
+of_type kind o def number limit kind_is is = ap (of_rows kind) is ∙ ap (λ k. empty k number limit) (sym kind_is)
 
 new_number : (def : TypeDef) (number : ℕ) (capacity : Option ℕ) → number_of (new_held def number capacity) ≡ number
 new_number def number capacity = refl

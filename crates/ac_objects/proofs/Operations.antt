@@ -1,101 +1,56 @@
--- What an operation comes to on a list or a vector, by the arguments as the object sees them.
+-- What an operation comes to, by the arguments as the object sees them, is what it comes to by their cursors in scripts: on rows of any kind.
 use Rattle.std.proofs.Common.{◌≡◌, ℕ, refl, sym, ap, subst, ◌∙◌}
-use Rattle.std.specs.Prelude.{Result}
+use Rattle.std.specs.Prelude.{Result, Ok, Err}
 use Rattle.ac_base.specs.declared.fault.Fault.{Fault}
+use Rattle.ac_base.specs.declared.fault.Fault.TheVariants as fault
 use Rattle.ac_base.specs.declared.name.Name.{Name}
 use Rattle.ac_model.specs.Objects.{Object, plain}
 use Rattle.ac_model.specs.Containers.{Container}
 use Rattle.ac_check.specs.declared.operation.Operation.{Operation}
-use Rattle.ac_check.specs.declared.operation.Operation.TheVariants as operation
-use Rattle.ac_check.specs.declared.operation.CommonCall.{CommonCall}
-use Rattle.ac_check.specs.declared.operation.SequenceCall.{SequenceCall}
-use Rattle.ac_check.specs.declared.operation.CapacityCall.{CapacityCall}
-use Rattle.ac_check.specs.declared.operation.VectorCall.{VectorCall}
-use Rattle.ac_check.specs.declared.operation.ListCall.{ListCall}
-use Rattle.ac_meaning.specs.Elements.{Tools}
-use Rattle.ac_meaning.specs.Answers.{answers_ok}
 use Rattle.ac_meaning.specs.Replies as replies
-use Rattle.ac_meaning.specs.Replies.{Source, itself, another, seen_by, tells}
-use Rattle.ac_meaning.specs.SequenceReplies.{common_reply, sequence_reply, sequence_own}
-use Rattle.ac_meaning.specs.Holdings.{SequenceKind, of_list, of_vector, reply_by}
+use Rattle.ac_meaning.specs.Replies.{Source, itself, another, seen_by}
 use Rattle.ac_objects.specs.declared.argument.Arguments.{Arguments}
 use Rattle.ac_objects.specs.declared.reply.Reply.{Reply}
 use Rattle.ac_objects.specs.Arguments.{AllAgree, arguments_of, marked}
-use Rattle.ac_objects.specs.Replied.{Replied, RepliedWith}
-use Rattle.ac_objects.specs.Sequences.{reversing, sorting}
+use Rattle.ac_objects.specs.Replied.{Replied, RepliedWith, SourceAfter}
 use Rattle.ac_objects.proofs.Made.{seen_arguments}
 
-either_kind : {A : Type 0} (f : SequenceKind → A) (x : A) → f of_list ≡ x → f of_vector ≡ x → (which : SequenceKind) → f which ≡ x
-either_kind f x list vector of_list = list
-either_kind f x list vector of_vector = vector
-
-module _ {T : Type 0} (tools : Tools T) (which : SequenceKind) where
-  -- the reply by the arguments as the object sees them is the one by their cursors in scripts
-  by_arguments : (o : Object Name T) (args : Arguments) (source : Source (Object ℕ T)) (op given : Operation) → AllAgree o args → op ≡ given
-      → reply_by tools (plain o) source (marked o args) which given ≡ reply_by tools (plain o) source (seen_by (plain o) (arguments_of args)) which op
+module _ {V : Type 0} (reply : Source (Object ℕ V) → replies.Arguments → Operation → replies.Reply (Object ℕ V)) where
+  by_arguments : (o : Object Name V) (args : Arguments) (source : Source (Object ℕ V)) (op given : Operation) → AllAgree o args → op ≡ given
+      → reply source (marked o args) given ≡ reply source (seen_by (plain o) (arguments_of args)) op
   by_arguments o args source op given agree is =
-      ap (λ g. reply_by tools (plain o) source (marked o args) which g) (sym is)
-      ∙ ap (λ a. reply_by tools (plain o) source a which op) (sym (seen_arguments o args agree))
+      ap (λ g. reply source (marked o args) g) (sym is) ∙ ap (λ a. reply source a op) (sym (seen_arguments o args agree))
 
-  by_source : (o s : Object Name T) (args : Arguments) (op given : Operation) → AllAgree o args → AllAgree s args → op ≡ given
-      → reply_by tools (plain o) (another (plain s) (marked s args)) (marked o args) which given
-      ≡ reply_by tools (plain o) (another (plain s) (seen_by (plain s) (arguments_of args))) (seen_by (plain o) (arguments_of args)) which op
+  by_source : (o s : Object Name V) (args : Arguments) (op given : Operation) → AllAgree o args → AllAgree s args → op ≡ given
+      → reply (another (plain s) (marked s args)) (marked o args) given
+      ≡ reply (another (plain s) (seen_by (plain s) (arguments_of args))) (seen_by (plain o) (arguments_of args)) op
   by_source o s args op given agree agree_with is =
       by_arguments o args (another (plain s) (marked s args)) op given agree is
-      ∙ ap (λ a. reply_by tools (plain o) (another (plain s) a) (seen_by (plain o) (arguments_of args)) which op) (sym (seen_arguments s args agree_with))
+      ∙ ap (λ a. reply (another (plain s) a) (seen_by (plain o) (arguments_of args)) op) (sym (seen_arguments s args agree_with))
 
-  pub replied_by : (old new : Container T) (args : Arguments) (op given : Operation) (result : Result Reply Fault) → AllAgree old.object args → op ≡ given
-      → Replied (reply_by tools (plain old.object) itself (marked old.object args) which given) old new result
-      → Replied (reply_by tools (plain old.object) itself (seen_by (plain old.object) (arguments_of args)) which op) old new result
+  pub replied_by : (old new : Container V) (args : Arguments) (op given : Operation) (result : Result Reply Fault) → AllAgree old.object args → op ≡ given
+      → Replied (reply itself (marked old.object args) given) old new result
+      → Replied (reply itself (seen_by (plain old.object) (arguments_of args)) op) old new result
   replied_by old new args op given result agree is h = subst (λ r. Replied r old new result) (by_arguments old.object args itself op given agree is) h
 
-  pub replied_with_by : (old source new source_new : Container T) (args : Arguments) (op given : Operation) (result : Result Reply Fault)
+  pub replied_with_by : (old source new source_new : Container V) (args : Arguments) (op given : Operation) (result : Result Reply Fault)
       → AllAgree old.object args → AllAgree source.object args → op ≡ given
-      → RepliedWith (reply_by tools (plain old.object) (another (plain source.object) (marked source.object args)) (marked old.object args) which given)
-      old source new source_new result
-      → RepliedWith (reply_by tools (plain old.object) (another (plain source.object) (seen_by (plain source.object) (arguments_of args)))
-      (seen_by (plain old.object) (arguments_of args)) which op)
+      → RepliedWith (reply (another (plain source.object) (marked source.object args)) (marked old.object args) given) old source new source_new result
+      → RepliedWith (reply (another (plain source.object) (seen_by (plain source.object) (arguments_of args))) (seen_by (plain old.object) (arguments_of args)) op)
       old source new source_new result
   replied_with_by old source new source_new args op given result agree agree_with is h =
       subst (λ r. RepliedWith r old source new source_new result) (by_source old.object source.object args op given agree agree_with is) h
 
-  -- what both kinds share
-
-  pub common_by : (o : Object ℕ T) (source : Source (Object ℕ T)) (args : replies.Arguments) (c : CommonCall) →
-      common_reply o source args (sequence_own tools o) c ≡ reply_by tools o source args which (operation.Common c)
-  common_by o source args c = common_of which
-    where
-      common_of : (which : SequenceKind) → common_reply o source args (sequence_own tools o) c ≡ reply_by tools o source args which (operation.Common c)
-      common_of of_list = refl
-      common_of of_vector = refl
-
-  pub sequence_by : (o : Object ℕ T) (source : Source (Object ℕ T)) (args : replies.Arguments) (c : SequenceCall) →
-      sequence_reply tools o source args (reversing which o) (sorting which tools.less o) c ≡ reply_by tools o source args which (operation.Sequence c)
-  sequence_by o source args c = sequence_of which
-    where
-      sequence_of : (which : SequenceKind) → sequence_reply tools o source args (reversing which o) (sorting which tools.less o) c
-          ≡ reply_by tools o source args which (operation.Sequence c)
-      sequence_of of_list = refl
-      sequence_of of_vector = refl
-
-  -- an operation of another kind's objects
-  pub no_sequence_call : (op : Operation) (o : Object ℕ T) (source : Source (Object ℕ T)) (args : replies.Arguments)
-      → ((c : CommonCall) → op ≡ operation.Common c → ⊥) → ((c : SequenceCall) → op ≡ operation.Sequence c → ⊥)
-      → ((c : CapacityCall) → op ≡ operation.Capacity c → ⊥) → ((c : VectorCall) → op ≡ operation.Vector c → ⊥)
-      → ((c : ListCall) → op ≡ operation.List c → ⊥) → reply_by tools o source args which op ≡ tells o answers_ok
-  no_sequence_call (operation.Common c) o source args common sequence capacity vector list = absurd (common c refl)
-  no_sequence_call (operation.Sequence c) o source args common sequence capacity vector list = absurd (sequence c refl)
-  no_sequence_call (operation.Capacity c) o source args common sequence capacity vector list = absurd (capacity c refl)
-  no_sequence_call (operation.Vector c) o source args common sequence capacity vector list = absurd (vector c refl)
-  no_sequence_call (operation.List c) o source args common sequence capacity vector list = absurd (list c refl)
-  no_sequence_call (operation.Walk c) o source args common sequence capacity vector list = either_kind (λ k. reply_by tools o source args k (operation.Walk c)) (tells o answers_ok) refl refl which
-  no_sequence_call (operation.Map c) o source args common sequence capacity vector list = either_kind (λ k. reply_by tools o source args k (operation.Map c)) (tells o answers_ok) refl refl which
-  no_sequence_call (operation.Set c) o source args common sequence capacity vector list = either_kind (λ k. reply_by tools o source args k (operation.Set c)) (tells o answers_ok) refl refl which
-  no_sequence_call (operation.Keyed c) o source args common sequence capacity vector list = either_kind (λ k. reply_by tools o source args k (operation.Keyed c)) (tells o answers_ok) refl refl which
-  no_sequence_call (operation.Ordered c) o source args common sequence capacity vector list = either_kind (λ k. reply_by tools o source args k (operation.Ordered c)) (tells o answers_ok) refl refl which
-  no_sequence_call (operation.OrderedMap c) o source args common sequence capacity vector list = either_kind (λ k. reply_by tools o source args k (operation.OrderedMap c)) (tells o answers_ok) refl refl which
-  no_sequence_call (operation.OrderedSet c) o source args common sequence capacity vector list = either_kind (λ k. reply_by tools o source args k (operation.OrderedSet c)) (tells o answers_ok) refl refl which
-  no_sequence_call (operation.Tree c) o source args common sequence capacity vector list = either_kind (λ k. reply_by tools o source args k (operation.Tree c)) (tells o answers_ok) refl refl which
-  no_sequence_call (operation.TreeChange c) o source args common sequence capacity vector list = either_kind (λ k. reply_by tools o source args k (operation.TreeChange c)) (tells o answers_ok) refl refl which
-  no_sequence_call (operation.Holder c) o source args common sequence capacity vector list = either_kind (λ k. reply_by tools o source args k (operation.Holder c)) (tells o answers_ok) refl refl which
-  no_sequence_call (operation.Queue c) o source args common sequence capacity vector list = either_kind (λ k. reply_by tools o source args k (operation.Queue c)) (tells o answers_ok) refl refl which
+-- a call without a source leaves another object as it is
+pub replied_beside : {V : Type 0} (r : replies.Reply (Object ℕ V)) (old source new : Container V) (result : Result Reply Fault)
+    → Replied r old new result → RepliedWith r old source new source result
+replied_beside r old source new (Ok made) h = record {
+  goes = h.goes;
+  reason = h.reason;
+  after = h.after;
+  source_after = subst (λ s. SourceAfter source source s) (sym h.source) refl;
+  says = h.says;
+  variable = h.variable;
+}
+replied_beside r old source new (Err (fault.Raised reason)) h = (h.0, h.1, refl)
+replied_beside r old source new (Err fault.NoMemory) h = (h, refl)

@@ -1,5 +1,5 @@
--- The source of a call on a list or a vector: none and the object itself are one. And only a listing answers a text.
-use Rattle.std.proofs.Common.{◌≡◌, ◌==◌, ℕ, ℤ, List, Bool, true, false, refl, sym, ap, subst, ◌∙◌, eq-eqb, Option, Some, None, if◌then◌else◌}
+-- The source of a call: none and the object itself are one. And only a listing answers a text.
+use Rattle.std.proofs.Common.{◌≡◌, ◌==◌, ℕ, List, Bool, true, false, refl, sym, ap, subst, ◌∙◌, eq-eqb, Option, Some, None, if◌then◌else◌}
 use Rattle.std.specs.Prelude.{⊤}
 use Rattle.ac_base.specs.declared.value.Value.{Value}
 use Rattle.ac_model.specs.Objects.{Object}
@@ -18,6 +18,18 @@ use Rattle.ac_check.specs.declared.operation.VectorCall.{VectorCall}
 use Rattle.ac_check.specs.declared.operation.VectorCall.TheVariants as vector_call
 use Rattle.ac_check.specs.declared.operation.ListCall.{ListCall}
 use Rattle.ac_check.specs.declared.operation.ListCall.TheVariants as list_call
+use Rattle.ac_check.specs.declared.operation.WalkCall.{WalkCall}
+use Rattle.ac_check.specs.declared.operation.WalkCall.TheVariants as walk_call
+use Rattle.ac_check.specs.declared.operation.OrderedCall.{OrderedCall}
+use Rattle.ac_check.specs.declared.operation.OrderedCall.TheVariants as ordered_call
+use Rattle.ac_check.specs.declared.operation.MapCall.{MapCall}
+use Rattle.ac_check.specs.declared.operation.MapCall.TheVariants as map_call
+use Rattle.ac_check.specs.declared.operation.OrderedMapCall.{OrderedMapCall}
+use Rattle.ac_check.specs.declared.operation.OrderedMapCall.TheVariants as ordered_map_call
+use Rattle.ac_check.specs.declared.operation.SetCall.{SetCall}
+use Rattle.ac_check.specs.declared.operation.SetCall.TheVariants as set_call
+use Rattle.ac_check.specs.declared.operation.OrderedSetCall.{OrderedSetCall}
+use Rattle.ac_check.specs.declared.operation.OrderedSetCall.TheVariants as ordered_set_call
 use Rattle.ac_model.specs.Rows.{Entry}
 use Rattle.ac_meaning.specs.Elements.{Tools, tools_of}
 use Rattle.ac_meaning.specs.Answers.{Answer, answers_ok, answers_value, answers_truth, answers_place, answers_list, answers_raised, answers_stalled}
@@ -25,10 +37,10 @@ use Rattle.ac_meaning.specs.Replies.{Arguments, Source, without, itself, another
 use Rattle.ac_meaning.specs.SequenceReplies.{OwnCalls, sequence_own, common_reply, sequence_reply, capacity_reply}
 use Rattle.ac_meaning.specs.ListReplies.{list_alone_reply, list_reply}
 use Rattle.ac_meaning.specs.VectorReplies.{vector_alone_reply, vector_reply}
-use Rattle.ac_meaning.specs.KeyedReplies.{KeyedKind, of_hashed, of_ordered}
-use Rattle.ac_meaning.specs.MapReplies.{map_own, map_reply}
-use Rattle.ac_meaning.specs.SetReplies.{set_own, set_reply}
-use Rattle.ac_meaning.specs.Holdings.{SequenceKind, of_list, of_vector, RowKind, a_sequence, a_map, a_set, RowOf, Held, of_rows, reply_by, rows_reply, reply_of}
+use Rattle.ac_meaning.specs.KeyedReplies.{KeyedKind, of_hashed, of_ordered, walk_reply, ordered_reply}
+use Rattle.ac_meaning.specs.MapReplies.{map_own, map_alone_reply, ordered_map_reply, map_reply}
+use Rattle.ac_meaning.specs.SetReplies.{set_own, set_alone_reply, ordered_set_reply, set_reply}
+use Rattle.ac_meaning.specs.Holdings.{SequenceKind, of_list, of_vector, RowKind, a_sequence, a_map, a_set, RowOf, Held, of_rows, own_calls, reply_by, rows_reply, reply_of}
 use Rattle.ac_meaning.proofs.RowKinds.{rows_own}
 
 -- None and itself
@@ -136,7 +148,7 @@ module _ {T : Type 0} (tools : Tools T) (o : Object ℕ T) (args : Arguments) wh
   set_alone of_hashed _ = refl
   set_alone of_ordered _ = refl
 
-rows_alone : (kind : RowKind) (o : Object ℕ (RowOf kind)) (op : Operation) (args : Arguments) →
+pub rows_alone : (kind : RowKind) (o : Object ℕ (RowOf kind)) (op : Operation) (args : Arguments) →
     rows_reply kind o without args op ≡ rows_reply kind o itself args op
 rows_alone (a_sequence which e) o op args = reply_alone (tools_of e) o args which op
 rows_alone (a_map which k e) o op args = map_alone (tools_of k) (tools_of e) o args which op
@@ -173,6 +185,11 @@ by_source_lists : {V : Type 0} (listing : List ℕ) (o : Object ℕ V) (source :
 by_source_lists listing o without own two h k = h
 by_source_lists listing o itself own two h k = h
 by_source_lists listing o (another s args) own two h k = k s args
+
+module _ {V : Type 0} (listing : List ℕ) (o : Object ℕ V) (args : Arguments) where
+  capacity_lists : (c : CapacityCall) → ReplyLists listing o (capacity_reply o args c)
+  capacity_lists capacity_call.Capacity = tt
+  capacity_lists capacity_call.ReserveCapacity = tt
 
 module _ {V : Type 0} (o : Object ℕ V) (source : Source (Object ℕ V)) (args : Arguments) where
   common_lists : (own : OwnCalls V) (c : CommonCall) → ReplyLists own.listing o (common_reply o source args own c)
@@ -216,15 +233,11 @@ module _ {T : Type 0} (tools : Tools T) (o : Object ℕ T) (source : Source (Obj
   indexed_lists listing vector_call.PrependVector = by_source_lists listing o source _ _ tt (λ s seen. tt)
   indexed_lists listing _ = tt
 
-  capacity_lists : (listing : List ℕ) (c : CapacityCall) → ReplyLists listing o (capacity_reply o args c)
-  capacity_lists listing capacity_call.Capacity = tt
-  capacity_lists listing capacity_call.ReserveCapacity = tt
-
   vector_lists : (op : Operation) → ReplyLists (sequence_own tools o).listing o (vector_reply tools o source args op)
   vector_lists (operation.Common c) = common_lists o source args (sequence_own tools o) c
   vector_lists (operation.Sequence c) =
       sequence_lists (sequence_own tools o).listing (vector.reverse_elements_call o) (vector.sort_call tools.less o) c
-  vector_lists (operation.Capacity c) = capacity_lists (sequence_own tools o).listing c
+  vector_lists (operation.Capacity c) = capacity_lists (sequence_own tools o).listing o args c
   vector_lists (operation.Vector c) = indexed_lists (sequence_own tools o).listing c
   vector_lists _ = tt
 
@@ -232,7 +245,72 @@ module _ {T : Type 0} (tools : Tools T) (o : Object ℕ T) (source : Source (Obj
   each_lists of_list op = list_lists op
   each_lists of_vector op = vector_lists op
 
-  pub listed : (which : SequenceKind) (op : Operation) (text : List ℕ) → (reply_by tools o source args which op).answer ≡ answers_list text →
-      (text ≡ (sequence_own tools o).listing) × ((reply_by tools o source args which op).after ≡ o)
-  listed which op text e =
-      subst (λ a. Lists (sequence_own tools o).listing o (reply_by tools o source args which op).after a) e (each_lists which op)
+module _ {V : Type 0} (listing : List ℕ) (o : Object ℕ V) (args : Arguments) where
+  walk_lists : (c : WalkCall) → ReplyLists listing o (walk_reply o args c)
+  walk_lists walk_call.First = tt
+  walk_lists walk_call.Next = tt
+  walk_lists walk_call.Delete = tt
+
+  ordered_lists : (first last : Reply (Object ℕ V)) → ReplyLists listing o first → ReplyLists listing o last → (c : OrderedCall) →
+      ReplyLists listing o (ordered_reply o args first last c)
+  ordered_lists first last h k ordered_call.Last = tt
+  ordered_lists first last h k ordered_call.Previous = tt
+  ordered_lists first last h k ordered_call.DeleteFirst = tt
+  ordered_lists first last h k ordered_call.DeleteLast = tt
+  ordered_lists first last h k ordered_call.FirstElement = h
+  ordered_lists first last h k ordered_call.LastElement = k
+
+module _ {K T : Type 0} (keys : Tools K) (tools : Tools T) (o : Object ℕ (Entry K T)) (source : Source (Object ℕ (Entry K T))) (args : Arguments) where
+  map_alone_lists : (which : KeyedKind) (listing : List ℕ) (c : MapCall) → ReplyLists listing o (map_alone_reply keys tools which o args c)
+  map_alone_lists which listing map_call.Key = value_lists listing o o _
+  map_alone_lists which listing map_call.ElementKey = value_lists listing o o _
+  map_alone_lists which listing _ = tt
+
+  ordered_map_lists : (which : KeyedKind) (listing : List ℕ) (c : OrderedMapCall) → ReplyLists listing o (ordered_map_reply keys tools which o args c)
+  ordered_map_lists which listing ordered_map_call.FirstKey = value_lists listing o o _
+  ordered_map_lists which listing ordered_map_call.LastKey = value_lists listing o o _
+  ordered_map_lists which listing _ = tt
+
+  map_lists : (which : KeyedKind) (op : Operation) → ReplyLists (map_own keys tools which o).listing o (map_reply keys tools o source args which op)
+  map_lists which (operation.Common c) = common_lists o source args (map_own keys tools which o) c
+  map_lists which (operation.Walk c) = walk_lists (map_own keys tools which o).listing o args c
+  map_lists which (operation.Map c) = map_alone_lists which (map_own keys tools which o).listing c
+  map_lists of_hashed (operation.Capacity c) = capacity_lists (map_own keys tools of_hashed o).listing o args c
+  map_lists of_ordered (operation.Ordered c) =
+      ordered_lists (map_own keys tools of_ordered o).listing o args _ _ (value_lists (map_own keys tools of_ordered o).listing o o _)
+      (value_lists (map_own keys tools of_ordered o).listing o o _) c
+  map_lists of_ordered (operation.OrderedMap c) = ordered_map_lists of_ordered (map_own keys tools of_ordered o).listing c
+  map_lists of_hashed _ = tt
+  map_lists of_ordered _ = tt
+
+module _ {T : Type 0} (tools : Tools T) (o : Object ℕ T) (source : Source (Object ℕ T)) (args : Arguments) where
+  set_alone_lists : (which : KeyedKind) (listing : List ℕ) (c : SetCall) → ReplyLists listing o (set_alone_reply tools which o args c)
+  set_alone_lists which listing set_call.Insert = tt
+  set_alone_lists which listing _ = tt
+
+  ordered_set_lists : (which : KeyedKind) (listing : List ℕ) (c : OrderedSetCall) → ReplyLists listing o (ordered_set_reply tools which o args c)
+  ordered_set_lists which listing ordered_set_call.Floor = tt
+  ordered_set_lists which listing ordered_set_call.Ceiling = tt
+
+  set_lists : (which : KeyedKind) (op : Operation) → ReplyLists (set_own tools which o).listing o (set_reply tools o source args which op)
+  set_lists which (operation.Common c) = common_lists o source args (set_own tools which o) c
+  set_lists which (operation.Walk c) = walk_lists (set_own tools which o).listing o args c
+  set_lists which (operation.Set c) = set_alone_lists which (set_own tools which o).listing c
+  set_lists of_hashed (operation.Capacity c) = capacity_lists (set_own tools of_hashed o).listing o args c
+  set_lists of_ordered (operation.Ordered c) =
+      ordered_lists (set_own tools of_ordered o).listing o args _ _ (value_lists (set_own tools of_ordered o).listing o o _)
+      (value_lists (set_own tools of_ordered o).listing o o _) c
+  set_lists of_ordered (operation.OrderedSet c) = ordered_set_lists of_ordered (set_own tools of_ordered o).listing c
+  set_lists of_hashed _ = tt
+  set_lists of_ordered _ = tt
+
+rows_lists : (kind : RowKind) (o : Object ℕ (RowOf kind)) (source : Source (Object ℕ (RowOf kind))) (args : Arguments) (op : Operation) →
+    ReplyLists (own_calls kind o).listing o (rows_reply kind o source args op)
+rows_lists (a_sequence which e) o source args op = each_lists (tools_of e) o source args which op
+rows_lists (a_map which k e) o source args op = map_lists (tools_of k) (tools_of e) o source args which op
+rows_lists (a_set which e) o source args op = set_lists (tools_of e) o source args which op
+
+pub listed : (kind : RowKind) (o : Object ℕ (RowOf kind)) (source : Source (Object ℕ (RowOf kind))) (args : Arguments) (op : Operation) (text : List ℕ) →
+    (rows_reply kind o source args op).answer ≡ answers_list text → (text ≡ (own_calls kind o).listing) × ((rows_reply kind o source args op).after ≡ o)
+listed kind o source args op text e =
+    subst (λ a. Lists (own_calls kind o).listing o (rows_reply kind o source args op).after a) e (rows_lists kind o source args op)

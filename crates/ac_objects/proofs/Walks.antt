@@ -2,7 +2,6 @@
 use Rattle.std.proofs.Common.{◌≡◌, ◌+◌, ◌<◌, ◌≤◌, ◌==◌, ◌||◌, ℕ, zero, suc, Bool, true, false, List, [], ◌∷◌, length, map, Some, None, Result, Ok, Err, refl, sym, ap, ◌∙◌, subst, arith, inl, inr, eq-eqb, ne_eqb}
 use Rattle.std.specs.Prelude.{slice_get, IsOk, if◌then◌else◌}
 use Rattle.std.specs.Option.{option_map}
-use Rattle.std.specs.Borrow.{Bor}
 use Rattle.std.proofs.lemmas.Bool.{cases_eq, cond-false}
 use Rattle.std.proofs.lemmas.List.{length-map}
 use Rattle.std.proofs.lemmas.Option.{none-some}
@@ -15,7 +14,7 @@ use Rattle.ac_base.specs.Rows.{Row, names, values}
 use Rattle.ac_model.specs.Rows.{is_named, place_of, value_at}
 use Rattle.ac_model.specs.Objects.{Object, plain, plain_row, contents, length_of, IsValid, times}
 use Rattle.ac_model.specs.Letters.{name_of, mark_at, mark_in, mark_for, mark_of, needs, may, judged_in}
-use Rattle.ac_model.specs.Calls.{Looking, Lends, Marks}
+use Rattle.ac_model.specs.Calls.{Looking, Marks}
 use Rattle.ac_model.specs.Sequences.{element_call, next_call}
 use Rattle.ac_model.proofs.RowLaws.{at_its_place}
 
@@ -103,19 +102,15 @@ module _ {V : Type 0} (o : Object Name V) (v : IsValid (plain o)) (c : Cursor) (
   value : value_at (map plain_row o.rows) s.row.name ≡ Some s.row.value
   value = ap (option_map (λ (r : Row ℕ V). r.value)) (sym (at_its_place (map plain_row o.rows) s.row.name) ∙ ap (slice_get (map plain_row o.rows)) (place_is (map plain_row o.rows) i s.row s.at once) ∙ s.at)
 
-  pub element_is_ok : (r : Result (Bor V) Fault) → Looking Lends (element_call (plain o) (mark_of o.number (names o.rows) c)) r → IsOk r
-  element_is_ok (Ok lent) k = refl
-  element_is_ok (Err (fault.Raised reason)) k = absurd (none-some reason (sym needed ∙ k))
-  element_is_ok (Err fault.NoMemory) k = absurd k
-
   found : value_at (map plain_row o.rows) (name_of (mark_of o.number (names o.rows) c)) ≡ Some s.row.value
   found = ap (λ m. value_at (map plain_row o.rows) (name_of m)) m ∙ value
 
-  pub element_is : (r : Result (Bor V) Fault) (lent : Bor V) → Looking Lends (element_call (plain o) (mark_of o.number (names o.rows) c)) r → r ≡ Ok lent → slice_get (contents (plain o)) i ≡ Some lent.now
-  element_is (Ok found_lent) lent k e =
-      let same : found_lent ≡ lent = cc e in
-      s.value ∙ sym found ∙ k.1 ∙ ap (λ (b : Bor V). Some b.now) same
-  element_is (Err q) lent k e = absurd (cc e)
+  pub is_read : (element_call (plain o) (mark_of o.number (names o.rows) c)).reason ≡ None
+  is_read = needed
+
+  -- the value that a look-up finds there is the one that stands there
+  pub here : (value : V) × ((element_call (plain o) (mark_of o.number (names o.rows) c)).answer ≡ Some value) × (slice_get (contents (plain o)) i ≡ Some value)
+  here = (s.row.value, found, s.value)
 
   may_go : first_reason (may (plain o) (mark_of o.number (names o.rows) c) ∷ []) ≡ None
   may_go = rw m (ap (λ r. first_reason (r ∷ [])) (itself o.number (is_named (map plain_row o.rows) s.row.name) s.is_there))

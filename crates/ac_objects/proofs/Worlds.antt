@@ -13,11 +13,11 @@ use Rattle.ac_meaning.proofs.NumbersApart.{is_there, numbers_tell}
 use Rattle.ac_objects.specs.declared.bound.Bound.{Bound}
 use Rattle.ac_objects.specs.declared.bound.Bound.TheVariants as bound
 use Rattle.ac_objects.specs.declared.object.Object.{Object}
-use Rattle.ac_objects.specs.declared.object.Object.TheVariants.{Integers, Texts}
 use Rattle.ac_objects.specs.Called.{IsFound, Lasts}
 use Rattle.ac_objects.specs.Standing.{counts_in, counts_of}
 use Rattle.ac_objects.specs.Steps.{Replaces, Advances}
-use Rattle.ac_objects.specs.World.{World, world, state_of, bound_of, held_of, ObjectAgrees, BoundAgrees, IsKnown, IsSound, cursor_in}
+use Rattle.ac_objects.specs.World.{World, world, state_of, bound_of, held_of, ObjectAgrees, BoundAgrees, IsKnown, IsSound, cursor_in, memory_of}
+use Rattle.ac_objects.proofs.Memory.{none_in, agrees_if_own}
 use Rattle.ac_objects.proofs.Places.{same_some, all_at, all_set, all_by, map_set, map_get, map_same}
 
 -- what is seen of a place
@@ -137,8 +137,7 @@ object_replaces o k l = record { counts = ap (λ g. Some g) l.counts; agrees = l
 
 none_agrees : (b : Bound) → BoundAgrees b cursor.NoElement
 none_agrees bound.Type = tt
-none_agrees (bound.Object (Integers l)) = tt
-none_agrees (bound.Object (Texts l)) = tt
+none_agrees (bound.Object o) = none_in (memory_of o)
 none_agrees (bound.Cursor c) = tt
 none_agrees (bound.Value v) = tt
 none_agrees (bound.Element object at) = tt
@@ -164,10 +163,9 @@ same_object bs n i k o p sound here there same =
 bound_finds : (bs : List Bound) (n i k : ℕ) (o : Object) (object : ℕ) (name : Name) → IsSound (world bs n) → slice_get bs i ≡ Some (bound.Object o) →
     object ≡ number_of (held_of o) → ObjectAgrees o (cursor.At object name) → (b : Bound) → slice_get bs k ≡ Some b → BoundAgrees b (cursor.At object name)
 bound_finds bs n i k o object name sound here own agrees bound.Type there = tt
-bound_finds bs n i k o object name sound here own agrees (bound.Object (Integers l)) there =
-    λ e. subst (λ x. ObjectAgrees x (cursor.At object name)) (same_object bs n i k o (Integers l) sound here there (sym own ∙ e)) agrees e
-bound_finds bs n i k o object name sound here own agrees (bound.Object (Texts l)) there =
-    λ e. subst (λ x. ObjectAgrees x (cursor.At object name)) (same_object bs n i k o (Texts l) sound here there (sym own ∙ e)) agrees e
+bound_finds bs n i k o object name sound here own agrees (bound.Object p) there =
+    agrees_if_own (memory_of p) object name
+    (λ e. subst (λ x. ObjectAgrees x (cursor.At object name)) (same_object bs n i k o p sound here there (sym own ∙ e)) agrees)
 bound_finds bs n i k o object name sound here own agrees (bound.Cursor c) there = tt
 bound_finds bs n i k o object name sound here own agrees (bound.Value v) there = tt
 bound_finds bs n i k o object name sound here own agrees (bound.Element other at) there = tt

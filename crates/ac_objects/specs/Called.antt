@@ -14,20 +14,20 @@ use Rattle.ac_meaning.specs.Holdings.{Held, number_of, listing_of, Written}
 use Rattle.ac_meaning.specs.Replies as replies
 use Rattle.ac_objects.specs.declared.argument.Arguments.{Arguments}
 use Rattle.ac_objects.specs.declared.object.Object.{Object}
-use Rattle.ac_objects.specs.declared.object.Object.TheVariants.{Integers, Texts}
 use Rattle.ac_objects.specs.declared.reply.Said.{Said}
 use Rattle.ac_objects.specs.declared.reply.Said.TheVariants as said
 use Rattle.ac_objects.specs.declared.reply.Placed.{Placed}
 use Rattle.ac_objects.specs.declared.reply.Reply.{Reply}
 use Rattle.ac_objects.specs.Arguments.{AllAgree}
-use Rattle.ac_objects.specs.Sequences.{rows_of}
 use Rattle.ac_objects.specs.Standing.{counts_in_held}
-use Rattle.ac_objects.specs.World.{held_of, ObjectAgrees}
+use Rattle.ac_objects.specs.World.{InMemory, in_rows, memory_of, held_of, ObjectAgrees}
 
 -- the cursors among the arguments have the slots that the object would find
+abbrev pub AllAgreeIn : InMemory → Arguments → Type 0
+AllAgreeIn (in_rows kind l) args = AllAgree l.object args
+
 abbrev pub AgreesWith : Object → Arguments → Type 0
-AgreesWith (Integers s) args = AllAgree (rows_of s).object args
-AgreesWith (Texts s) args = AllAgree (rows_of s).object args
+AgreesWith o args = AllAgreeIn (memory_of o) args
 
 -- no element, or one of the object's own, with the slot that it would find
 abbrev pub IsFound : Object → Cursor → Type 0
@@ -77,8 +77,8 @@ pub record Lasts (old new : Object) : Type 0 where
   pub cursors : (c : Cursor) → ObjectAgrees old c → ObjectAgrees new c
   pub counts : counts_in_held (held_of new) ≡ counts_in_held (held_of old)
 
--- and of a list or a vector
-pub record ListLasts {V : Type 0} (old new : Container V) : Type 0 where
+-- and of its rows
+pub record RowsLast {V : Type 0} (old new : Container V) : Type 0 where
   pub cursors : (c : Cursor) → Agrees old.object c → Agrees new.object c
   pub counts : guards_of new ≡ guards_of old
 
@@ -92,7 +92,7 @@ WritesTo w old new (Ok done) = (w.reason ≡ None) × (held_of new ≡ w.after)
 WritesTo w old new (Err (fault.Raised reason)) = (w.reason ≡ Some reason) × (new ≡ old)
 WritesTo w old new (Err fault.NoMemory) = new ≡ old
 
--- the same in a list or a vector
+-- the same in its rows
 abbrev pub WritesIn : {V : Type 0} → (lists.Object ℕ V → Call (lists.Object ℕ V) Done) → (old new : Container V) → Result Done Fault → Type 0
 WritesIn call old new (Ok done) = ((call (plain old.object)).reason ≡ None) × IsAfter old.object new.object (call (plain old.object)).after
 WritesIn call old new (Err (fault.Raised reason)) = ((call (plain old.object)).reason ≡ Some reason) × (new ≡ old)

@@ -1,15 +1,22 @@
 -- An object in memory with other counts of guards.
 use Rattle.std.specs.Prelude.{◌≡◌, refl}
+use Rattle.std.proofs.Common.{ap, ◌∙◌}
 use Rattle.ac_base.specs.Guards.{GuardCounts}
 use Rattle.ac_model.specs.Containers.{with_guards, guards_of}
 use Rattle.ac_meaning.specs.Holdings.{is_a_set}
 use Rattle.ac_objects.specs.declared.object.Object.{Object}
-use Rattle.ac_objects.specs.declared.object.Object.TheVariants.{Integers, Texts}
+use Rattle.ac_objects.specs.declared.object.Object.TheVariants.{Integers, Texts, IntegerSet, TextSet, IntegersByInteger, IntegersByText, TextsByInteger, TextsByText}
+use Rattle.ac_objects.specs.declared.map.Map.{Map}
+use Rattle.ac_objects.specs.declared.map.Map.TheVariants as map
 use Rattle.ac_objects.specs.declared.sequence.Sequence.{Sequence}
 use Rattle.ac_objects.specs.declared.sequence.Sequence.TheVariants.{List, Vector}
+use Rattle.ac_objects.specs.declared.set.Set.{Set}
+use Rattle.ac_objects.specs.declared.set.Set.TheVariants as set
+use Rattle.ac_objects.specs.Maps.{entries_of}
 use Rattle.ac_objects.specs.Sequences.{rows_of}
+use Rattle.ac_objects.specs.Sets.{items_of}
 use Rattle.ac_objects.specs.Standing.{counts_in_held}
-use Rattle.ac_objects.specs.World.{held_of}
+use Rattle.ac_objects.specs.World.{InMemory, in_rows, memory_of, held_in, held_of}
 
 -- with this number and these counts
 
@@ -17,11 +24,25 @@ abbrev pub sequence_with : {T : Type 0} → Sequence T → GuardCounts → Seque
 sequence_with (List l) counts = List (with_guards l counts)
 sequence_with (Vector v) counts = Vector (with_guards v counts)
 
+abbrev pub set_with : {T : Type 0} → Set T → GuardCounts → Set T
+set_with (set.Hashed s) counts = set.Hashed (with_guards s counts)
+set_with (set.Ordered s) counts = set.Ordered (with_guards s counts)
+
+abbrev pub map_with : {K V : Type 0} → Map K V → GuardCounts → Map K V
+map_with (map.Hashed m) counts = map.Hashed (with_guards m counts)
+map_with (map.Ordered m) counts = map.Ordered (with_guards m counts)
+
 abbrev pub with_counts : Object → GuardCounts → Object
 with_counts (Integers s) counts = Integers (sequence_with s counts)
 with_counts (Texts s) counts = Texts (sequence_with s counts)
+with_counts (IntegerSet s) counts = IntegerSet (set_with s counts)
+with_counts (TextSet s) counts = TextSet (set_with s counts)
+with_counts (IntegersByInteger m) counts = IntegersByInteger (map_with m counts)
+with_counts (IntegersByText m) counts = IntegersByText (map_with m counts)
+with_counts (TextsByInteger m) counts = TextsByInteger (map_with m counts)
+with_counts (TextsByText m) counts = TextsByText (map_with m counts)
 
--- the laws of guards, of lists and vectors
+-- the laws of guards, of each type of objects
 
 pub sequence_given : {T : Type 0} (s : Sequence T) (counts : GuardCounts) → guards_of (rows_of (sequence_with s counts)) ≡ counts
 sequence_given (List l) counts = refl
@@ -35,24 +56,83 @@ pub sequence_rest : {T : Type 0} (s : Sequence T) (counts others : GuardCounts) 
 sequence_rest (List l) counts others = refl
 sequence_rest (Vector v) counts others = refl
 
--- and of each kind of object
+pub set_given : {T : Type 0} (s : Set T) (counts : GuardCounts) → guards_of (items_of (set_with s counts)) ≡ counts
+set_given (set.Hashed s) counts = refl
+set_given (set.Ordered s) counts = refl
+
+pub set_own : {T : Type 0} (s : Set T) → set_with s (guards_of (items_of s)) ≡ s
+set_own (set.Hashed s) = refl
+set_own (set.Ordered s) = refl
+
+pub set_rest : {T : Type 0} (s : Set T) (counts others : GuardCounts) → set_with (set_with s counts) others ≡ set_with s others
+set_rest (set.Hashed s) counts others = refl
+set_rest (set.Ordered s) counts others = refl
+
+pub map_given : {K V : Type 0} (m : Map K V) (counts : GuardCounts) → guards_of (entries_of (map_with m counts)) ≡ counts
+map_given (map.Hashed m) counts = refl
+map_given (map.Ordered m) counts = refl
+
+pub map_own : {K V : Type 0} (m : Map K V) → map_with m (guards_of (entries_of m)) ≡ m
+map_own (map.Hashed m) = refl
+map_own (map.Ordered m) = refl
+
+pub map_rest : {K V : Type 0} (m : Map K V) (counts others : GuardCounts) → map_with (map_with m counts) others ≡ map_with m others
+map_rest (map.Hashed m) counts others = refl
+map_rest (map.Ordered m) counts others = refl
+
+-- and of objects
+
+abbrev pub counted_in : InMemory → GuardCounts → InMemory
+counted_in (in_rows kind l) counts = in_rows kind (with_guards l counts)
+
+pub memory_counted : (o : Object) (counts : GuardCounts) → memory_of (with_counts o counts) ≡ counted_in (memory_of o) counts
+unfolding memory_of
+memory_counted (Integers (List l)) counts = refl
+memory_counted (Integers (Vector v)) counts = refl
+memory_counted (Texts (List l)) counts = refl
+memory_counted (Texts (Vector v)) counts = refl
+memory_counted (IntegerSet (set.Hashed s)) counts = refl
+memory_counted (IntegerSet (set.Ordered s)) counts = refl
+memory_counted (TextSet (set.Hashed s)) counts = refl
+memory_counted (TextSet (set.Ordered s)) counts = refl
+memory_counted (IntegersByInteger (map.Hashed m)) counts = refl
+memory_counted (IntegersByInteger (map.Ordered m)) counts = refl
+memory_counted (IntegersByText (map.Hashed m)) counts = refl
+memory_counted (IntegersByText (map.Ordered m)) counts = refl
+memory_counted (TextsByInteger (map.Hashed m)) counts = refl
+memory_counted (TextsByInteger (map.Ordered m)) counts = refl
+memory_counted (TextsByText (map.Hashed m)) counts = refl
+memory_counted (TextsByText (map.Ordered m)) counts = refl
+
+given_in : (m : InMemory) (counts : GuardCounts) → counts_in_held (held_in (counted_in m counts)) ≡ counts
+given_in (in_rows kind l) counts = refl
+
+set_in : (m : InMemory) (counts : GuardCounts) → is_a_set (held_in (counted_in m counts)) ≡ is_a_set (held_in m)
+set_in (in_rows kind l) counts = refl
 
 pub counts_given : (o : Object) (counts : GuardCounts) → counts_in_held (held_of (with_counts o counts)) ≡ counts
-counts_given (Integers s) counts = sequence_given s counts
-counts_given (Texts s) counts = sequence_given s counts
-
-pub counts_own : (o : Object) → with_counts o (counts_in_held (held_of o)) ≡ o
-counts_own (Integers (List l)) = refl
-counts_own (Integers (Vector v)) = refl
-counts_own (Texts (List l)) = refl
-counts_own (Texts (Vector v)) = refl
-
-pub rest_kept : (o : Object) (counts others : GuardCounts) → with_counts (with_counts o counts) others ≡ with_counts o others
-rest_kept (Integers (List l)) counts others = refl
-rest_kept (Integers (Vector v)) counts others = refl
-rest_kept (Texts (List l)) counts others = refl
-rest_kept (Texts (Vector v)) counts others = refl
+counts_given o counts = ap (λ m. counts_in_held (held_in m)) (memory_counted o counts) ∙ given_in (memory_of o) counts
 
 pub set_kept : (o : Object) (counts : GuardCounts) → is_a_set (held_of (with_counts o counts)) ≡ is_a_set (held_of o)
-set_kept (Integers s) counts = refl
-set_kept (Texts s) counts = refl
+set_kept o counts = ap (λ m. is_a_set (held_in m)) (memory_counted o counts) ∙ set_in (memory_of o) counts
+
+pub counts_own : (o : Object) → with_counts o (counts_in_held (held_of o)) ≡ o
+unfolding memory_of
+counts_own (Integers s) = ap Integers (sequence_own s)
+counts_own (Texts s) = ap Texts (sequence_own s)
+counts_own (IntegerSet s) = ap IntegerSet (set_own s)
+counts_own (TextSet s) = ap TextSet (set_own s)
+counts_own (IntegersByInteger m) = ap IntegersByInteger (map_own m)
+counts_own (IntegersByText m) = ap IntegersByText (map_own m)
+counts_own (TextsByInteger m) = ap TextsByInteger (map_own m)
+counts_own (TextsByText m) = ap TextsByText (map_own m)
+
+pub rest_kept : (o : Object) (counts others : GuardCounts) → with_counts (with_counts o counts) others ≡ with_counts o others
+rest_kept (Integers s) counts others = ap Integers (sequence_rest s counts others)
+rest_kept (Texts s) counts others = ap Texts (sequence_rest s counts others)
+rest_kept (IntegerSet s) counts others = ap IntegerSet (set_rest s counts others)
+rest_kept (TextSet s) counts others = ap TextSet (set_rest s counts others)
+rest_kept (IntegersByInteger m) counts others = ap IntegersByInteger (map_rest m counts others)
+rest_kept (IntegersByText m) counts others = ap IntegersByText (map_rest m counts others)
+rest_kept (TextsByInteger m) counts others = ap TextsByInteger (map_rest m counts others)
+rest_kept (TextsByText m) counts others = ap TextsByText (map_rest m counts others)

@@ -12,8 +12,21 @@ use Rattle.ac_objects.specs.declared.object.Object.{Object}
 use Rattle.ac_meaning.specs.Environment.{object_at}
 use Rattle.ac_meaning.specs.Execution.{in_order}
 use Rattle.ac_meaning.specs.Walks.{first_mark}
+use Rattle.ac_objects.specs.declared.bound.Bound.{Bound}
 use Rattle.ac_objects.specs.declared.bound.Bound.TheVariants as bound
 use Rattle.ac_objects.specs.World.{World, held_of, state_of, ObjectAgrees}
+
+-- the object that a name holds, if it holds one
+abbrev pub HoldsObject : Bound → Option (Bor Object) → Type 0
+HoldsObject (bound.Object o) None = ⊥
+HoldsObject (bound.Object o) (Some p) = p.now ≡ o
+HoldsObject _ None = ⊤
+HoldsObject _ (Some p) = ⊥
+
+-- the cursor that a variable holds; another name holds none
+abbrev pub HoldsCursor : Bound → Cursor → Type 0
+HoldsCursor (bound.Cursor held) c = c ≡ held
+HoldsCursor _ c = c ≡ NoElement
 
 -- the object at the place, if one stands there
 abbrev pub Finds : World → ℕ → Option (Bor Object) → Type 0

@@ -1,7 +1,12 @@
 pub mod Arguments
 pub mod Listed
 pub mod Sequences
+pub mod Maps
+pub mod Sets
 pub mod SequenceCalls
+pub mod SetCalls
+pub mod RowCalls
+pub mod MapCalls
 pub mod Replied
 pub mod Shown
 pub mod World

@@ -4,16 +4,14 @@ use Rattle.std.specs.Prelude.{ℕ, Result}
 use Rattle.ac_model.specs.Objects.{Object, plain}
 use Rattle.ac_model.specs.Containers.{Container}
 use Rattle.ac_check.specs.declared.operation.Operation.{Operation}
-use Rattle.ac_check.specs.declared.operation.CommonCall.{CommonCall}
 use Rattle.ac_check.specs.declared.operation.SequenceCall.{SequenceCall}
-use Rattle.ac_check.specs.declared.operation.CapacityCall.{CapacityCall}
 use Rattle.ac_check.specs.declared.operation.VectorCall.{VectorCall}
 use Rattle.ac_check.specs.declared.operation.ListCall.{ListCall}
 use Rattle.ac_meaning.specs.Elements.{Tools}
 use Rattle.ac_meaning.specs.Holdings.{reply_by}
 use Rattle.ac_meaning.specs.Replies as replies
 use Rattle.ac_meaning.specs.Replies.{Source, itself, another}
-use Rattle.ac_meaning.specs.SequenceReplies.{common_reply, sequence_reply, capacity_reply, sequence_own}
+use Rattle.ac_meaning.specs.SequenceReplies.{sequence_reply}
 use Rattle.ac_meaning.specs.ListReplies.{list_alone_reply}
 use Rattle.ac_meaning.specs.VectorReplies.{vector_alone_reply}
 use Rattle.ac_objects.specs.declared.argument.Arguments.{Arguments}
@@ -36,13 +34,7 @@ abbrev pub source_of : {T : Type 0} → Container T → Arguments → Source (Ob
 source_of source args = another (plain source.object) (marked source.object args)
 
 module _ {T : Type 0} (tools : Tools T) where
-  -- a call that both have with all kinds of rows
-  abbrev pub CommonReplied : CommonCall → Arguments → (old new : Sequence T) → Result Reply Fault → Type 0
-  CommonReplied call args old new result =
-      let o = plain (rows_of old).object in
-      Answered (common_reply o itself (marked (rows_of old).object args) (sequence_own tools o) call) old new result
-
-  -- one that they share
+  -- a call that both share
   abbrev pub SequenceReplied : SequenceCall → Arguments → (old new : Sequence T) → Result Reply Fault → Type 0
   SequenceReplied call args old new result =
       let o = plain (rows_of old).object in
@@ -55,7 +47,7 @@ module _ {T : Type 0} (tools : Tools T) where
   OperationReplied operation args old new result =
       Answered (reply_by tools (plain (rows_of old).object) itself (marked (rows_of old).object args) (kind_of old) operation) old new result
 
-  -- one of lists alone, of vectors alone, and of what has a Capacity
+  -- one of lists alone, and of vectors alone
 
   abbrev pub ListAloneReplied : ListCall → Arguments → (old new : Container T) → Result Reply Fault → Type 0
   ListAloneReplied call args old new result =
@@ -65,16 +57,7 @@ module _ {T : Type 0} (tools : Tools T) where
   VectorAloneReplied call args old new result =
       Replied (vector_alone_reply tools (plain old.object) itself (marked old.object args) call) old new result
 
-  abbrev pub CapacityReplied : CapacityCall → Arguments → (old new : Container T) → Result Reply Fault → Type 0
-  CapacityReplied call args old new result = Replied (capacity_reply (plain old.object) (marked old.object args) call) old new result
-
   -- the same with another one as the source
-
-  abbrev pub CommonRepliedWith : CommonCall → Arguments → (old source new source_new : Sequence T) → Result Reply Fault → Type 0
-  CommonRepliedWith call args old source new source_new result =
-      let o = plain (rows_of old).object in
-      AnsweredWith (common_reply o (source_of (rows_of source) args) (marked (rows_of old).object args) (sequence_own tools o) call)
-      old source new source_new result
 
   abbrev pub SequenceRepliedWith : SequenceCall → Arguments → (old source new source_new : Sequence T) → Result Reply Fault → Type 0
   SequenceRepliedWith call args old source new source_new result =

@@ -1,16 +1,19 @@
 -- What the names in scope hold in memory, and the environment that it is.
-use Rattle.std.specs.Prelude.{◌≡◌, ◌<◌, ⊤, ℕ, List, All, map}
+use Rattle.std.specs.Prelude.{◌<◌, ⊤, ℕ, List, All, map}
 use Rattle.ac_base.specs.declared.cursor.Cursor.{Cursor}
 use Rattle.ac_base.specs.declared.cursor.Cursor.TheVariants as cursor
+use Rattle.ac_model.specs.Containers.{Container}
 use Rattle.ac_model.specs.Objects.{plain}
 use Rattle.ac_model.specs.Cursors.{plain_mark, Agrees}
 use Rattle.ac_syntax.specs.declared.kind.ElemKind.TheVariants.{Integer, Str}
-use Rattle.ac_meaning.specs.Holdings.{Held, of_rows, a_sequence}
+use Rattle.ac_meaning.specs.Holdings.{RowKind, RowOf, Held, of_rows, a_sequence, a_map, a_set}
 use Rattle.ac_meaning.specs.Environment as meant
 use Rattle.ac_meaning.specs.Numbers.{NumbersDiffer}
 use Rattle.ac_objects.specs.declared.object.Object.{Object}
-use Rattle.ac_objects.specs.declared.object.Object.TheVariants.{Integers, Texts}
+use Rattle.ac_objects.specs.declared.object.Object.TheVariants.{Integers, Texts, IntegerSet, TextSet, IntegersByInteger, IntegersByText, TextsByInteger, TextsByText}
 use Rattle.ac_objects.specs.Sequences.{rows_of, kind_of}
+use Rattle.ac_objects.specs.Sets.{items_of, set_kind_of}
+use Rattle.ac_objects.specs.Maps.{entries_of, map_kind_of}
 use Rattle.ac_objects.specs.declared.bound.Bound.{Bound}
 use Rattle.ac_objects.specs.declared.bound.Bound.TheVariants as bound
 
@@ -22,11 +25,27 @@ pub record World : Type 0 where
 abbrev pub world : List Bound → ℕ → World
 world bounds next = record { bounds = bounds; next = next }
 
+-- an object in memory: its kind, and its rows with the slots of their names
+pub data InMemory : Type 0 where
+  in_rows : (kind : RowKind) → Container (RowOf kind) → InMemory
+
+unfoldable pub memory_of : Object → InMemory
+memory_of (Integers s) = in_rows (a_sequence (kind_of s) Integer) (rows_of s)
+memory_of (Texts s) = in_rows (a_sequence (kind_of s) Str) (rows_of s)
+memory_of (IntegerSet s) = in_rows (a_set (set_kind_of s) Integer) (items_of s)
+memory_of (TextSet s) = in_rows (a_set (set_kind_of s) Str) (items_of s)
+memory_of (IntegersByInteger m) = in_rows (a_map (map_kind_of m) Integer Integer) (entries_of m)
+memory_of (IntegersByText m) = in_rows (a_map (map_kind_of m) Str Integer) (entries_of m)
+memory_of (TextsByInteger m) = in_rows (a_map (map_kind_of m) Integer Str) (entries_of m)
+memory_of (TextsByText m) = in_rows (a_map (map_kind_of m) Str Str) (entries_of m)
+
 -- without the slots of names: as the meaning of scripts has them
 
+abbrev pub held_in : InMemory → Held
+held_in (in_rows kind l) = of_rows kind (plain l.object)
+
 abbrev pub held_of : Object → Held
-held_of (Integers s) = of_rows (a_sequence (kind_of s) Integer) (plain (rows_of s).object)
-held_of (Texts s) = of_rows (a_sequence (kind_of s) Str) (plain (rows_of s).object)
+held_of o = held_in (memory_of o)
 
 abbrev pub bound_of : Bound → meant.Bound
 bound_of bound.Type = meant.binds_type
@@ -41,9 +60,11 @@ state_of w = record { bounds = map bound_of w.bounds; next = w.next }
 -- Cursors
 
 -- the slot of the cursor is the one that the object would find
+abbrev pub AgreesIn : InMemory → Cursor → Type 0
+AgreesIn (in_rows kind l) c = Agrees l.object c
+
 abbrev pub ObjectAgrees : Object → Cursor → Type 0
-ObjectAgrees (Integers s) c = Agrees (rows_of s).object c
-ObjectAgrees (Texts s) c = Agrees (rows_of s).object c
+ObjectAgrees o c = AgreesIn (memory_of o) c
 
 abbrev pub BoundAgrees : Bound → Cursor → Type 0
 BoundAgrees bound.Type c = ⊤

@@ -1,4 +1,6 @@
 //! What a name of a script holds.
+ghost use Rattle.ac_objects.specs.Given.{HoldsObject, HoldsCursor};
+
 use crate::object::Object;
 use ac_base::Value;
 use ac_cursor::Cursor;
@@ -12,4 +14,26 @@ pub enum Bound {
     Value(Value),
     /// The element itself that the cursor designates in the object at this place.
     Element { object: usize, at: Cursor },
+}
+
+impl Bound {
+    /// The object that the name holds, if it holds one.
+    pub(crate) fn object(&self) -> Option<&Object>
+        ensures { HoldsObject self.now result }
+    {
+        match self {
+            Bound::Object(object) => Some(object),
+            _ => None,
+        }
+    }
+
+    /// The cursor that a cursor variable holds. Another name holds none.
+    pub(crate) fn cursor(&self) -> Cursor
+        ensures { HoldsCursor self.now result }
+    {
+        match self {
+            Bound::Cursor(cursor) => *cursor,
+            _ => Cursor::NoElement,
+        }
+    }
 }

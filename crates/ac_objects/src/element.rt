@@ -3,6 +3,7 @@ ghost use Rattle.std.specs.Prelude.{◌≡◌, ◌≤◌, IfOk, length, refl};
 ghost use Rattle.ac_io.specs.declared.pieces.TheConstants.{MOST_WAITING};
 ghost use Rattle.ac_io.specs.Pieces.{Adds};
 ghost use Rattle.ac_syntax.specs.Canonical.{literal_text};
+ghost use Rattle.ac_syntax.specs.declared.kind.ElemKind.TheVariants.{Integer, Str};
 ghost use Rattle.ac_meaning.specs.Elements as elements;
 
 use crate::literal::add_quoted;
@@ -14,8 +15,12 @@ use std::alloc::Global;
 /// Elements that a script's values become.
 pub trait ScriptElement: Rank + Hashed {
     ghost use Rattle.ac_meaning.specs.Elements.{Tools};
+    ghost use Rattle.ac_syntax.specs.declared.kind.ElemKind.{ElemKind};
 
     ghost tools: { Tools Self };
+
+    /// The type's name in scripts.
+    ghost elem: { ElemKind };
 
     /// The value as an element: one of the other type counts as the blank element.
     fn from_value(alloc: Global, value: Value) -> Result<Self, NoMemory>
@@ -43,6 +48,8 @@ pub trait ScriptElement: Rank + Hashed {
 impl ScriptElement for i64 {
     ghost tools = { elements.integers };
 
+    ghost elem = { Integer };
+
     ghost same_is = { refl };
 
     ghost alike_is = { refl };
@@ -69,6 +76,8 @@ impl ScriptElement for i64 {
 
 impl ScriptElement for Text {
     ghost tools = { elements.texts };
+
+    ghost elem = { Str };
 
     ghost same_is = { refl };
 

@@ -1,5 +1,6 @@
 //! The guards that blocks hold on the objects of a script.
 ghost use Rattle.std.specs.Prelude.{◌≡◌, true, false, Some, refl};
+ghost use Rattle.ac_base.specs.Guards.{raised_kind};
 ghost use Rattle.ac_model.specs.Common.{hold_call};
 ghost use Rattle.ac_model.specs.Containers.{guards_of};
 ghost use Rattle.ac_meaning.specs.Holdings.{Held, with_rows_by, is_a_set, guard_on};
@@ -7,14 +8,19 @@ ghost use Rattle.ac_meaning.specs.Environment.{object_at, objects_by};
 ghost use Rattle.ac_meaning.specs.UnderGuards.{held_with, held_without};
 ghost use Rattle.ac_objects.specs.Blocks.{HasRoom, HasRoomForTwo, IsHeldAt};
 ghost use Rattle.ac_objects.specs.Counts as counts;
+ghost use Rattle.ac_objects.specs.Maps.{entries_of};
 ghost use Rattle.ac_objects.specs.Sequences.{rows_of};
+ghost use Rattle.ac_objects.specs.Sets.{items_of};
 ghost use Rattle.ac_objects.specs.Standing.{IsObject, counts_in_held};
 ghost use Rattle.ac_objects.specs.World.{held_of, state_of, Persists};
 
 use crate::bound::Bound;
+use crate::element::ScriptElement;
+use crate::map::Map;
 use crate::object::Object;
 use crate::objects::Objects;
 use crate::sequence::Sequence;
+use crate::set::Set;
 use ac_cursor::{GuardKey, GuardKind, Guarded};
 
 impl<T> Guarded for Sequence<T> {
@@ -54,6 +60,80 @@ impl<T> Guarded for Sequence<T> {
     }
 }
 
+impl<T: ScriptElement> Guarded for Set<T> {
+    ghost is_set = { λ _. true };
+
+    ghost guards = { λ s. guards_of (items_of s) };
+
+    ghost with_guards = { counts.set_with };
+
+    ghost guards_given = { counts.set_given };
+
+    ghost guards_own = { counts.set_own };
+
+    ghost rest_kept = { counts.set_rest };
+
+    ghost set_kept = { λ _ _. refl };
+
+    fn hold(&mut self, kind: GuardKind) -> GuardKey {
+        match self {
+            Set::Hashed(set) => set.hold(kind),
+            Set::Ordered(set) => set.hold(kind),
+        }
+    }
+
+    fn release(&mut self, key: GuardKey) {
+        match self {
+            Set::Hashed(set) => set.release(key),
+            Set::Ordered(set) => set.release(key),
+        }
+    }
+
+    fn held(&self, kind: GuardKind) -> u64 {
+        match self {
+            Set::Hashed(set) => set.held(kind),
+            Set::Ordered(set) => set.held(kind),
+        }
+    }
+}
+
+impl<K: ScriptElement, V: ScriptElement> Guarded for Map<K, V> {
+    ghost is_set = { λ _. false };
+
+    ghost guards = { λ m. guards_of (entries_of m) };
+
+    ghost with_guards = { counts.map_with };
+
+    ghost guards_given = { counts.map_given };
+
+    ghost guards_own = { counts.map_own };
+
+    ghost rest_kept = { counts.map_rest };
+
+    ghost set_kept = { λ _ _. refl };
+
+    fn hold(&mut self, kind: GuardKind) -> GuardKey {
+        match self {
+            Map::Hashed(map) => map.hold(kind),
+            Map::Ordered(map) => map.hold(kind),
+        }
+    }
+
+    fn release(&mut self, key: GuardKey) {
+        match self {
+            Map::Hashed(map) => map.release(key),
+            Map::Ordered(map) => map.release(key),
+        }
+    }
+
+    fn held(&self, kind: GuardKind) -> u64 {
+        match self {
+            Map::Hashed(map) => map.held(kind),
+            Map::Ordered(map) => map.held(kind),
+        }
+    }
+}
+
 impl Guarded for Object {
     ghost is_set = { λ o. is_a_set (held_of o) };
 
@@ -69,24 +149,58 @@ impl Guarded for Object {
 
     ghost set_kept = { counts.set_kept };
 
+    #[tactic(auto, unfolding(crate::specs::World::memory_of))]
     fn hold(&mut self, kind: GuardKind) -> GuardKey {
         match self {
             Object::Integers(sequence) => sequence.hold(kind),
             Object::Texts(sequence) => sequence.hold(kind),
+            Object::IntegerSet(set) => set.hold(kind),
+            Object::TextSet(set) => set.hold(kind),
+            Object::IntegersByInteger(map) => map.hold(kind),
+            Object::IntegersByText(map) => map.hold(kind),
+            Object::TextsByInteger(map) => map.hold(kind),
+            Object::TextsByText(map) => map.hold(kind),
         }
     }
 
+    #[tactic(auto, unfolding(crate::specs::World::memory_of))]
     fn release(&mut self, key: GuardKey) {
         match self {
             Object::Integers(sequence) => sequence.release(key),
             Object::Texts(sequence) => sequence.release(key),
+            Object::IntegerSet(set) => set.release(key),
+            Object::TextSet(set) => set.release(key),
+            Object::IntegersByInteger(map) => map.release(key),
+            Object::IntegersByText(map) => map.release(key),
+            Object::TextsByInteger(map) => map.release(key),
+            Object::TextsByText(map) => map.release(key),
         }
     }
 
+    #[tactic(auto, unfolding(crate::specs::World::memory_of))]
     fn held(&self, kind: GuardKind) -> u64 {
         match self {
             Object::Integers(sequence) => sequence.held(kind),
             Object::Texts(sequence) => sequence.held(kind),
+            Object::IntegerSet(set) => set.held(kind),
+            Object::TextSet(set) => set.held(kind),
+            Object::IntegersByInteger(map) => map.held(kind),
+            Object::IntegersByText(map) => map.held(kind),
+            Object::TextsByInteger(map) => map.held(kind),
+            Object::TextsByText(map) => map.held(kind),
+        }
+    }
+}
+
+impl Object {
+    /// The kind of guard that is held where this one is asked for: of a set, cursor guards alone.
+    #[tactic(auto, unfolding(crate::specs::World::memory_of))]
+    fn raised(&self, kind: GuardKind) -> GuardKind
+        ensures { result ≡ raised_kind (is_a_set (held_of self.now)) kind }
+    {
+        match self {
+            Object::IntegerSet(_) | Object::TextSet(_) => GuardKind::Cursors,
+            _ => kind,
         }
     }
 }
@@ -96,9 +210,9 @@ impl Objects {
     pub(crate) fn has_room(&self, place: usize, kind: GuardKind) -> bool
         ensures { result ≡ true → HasRoom (state_of self.now) place kind }
     {
-        match self.bounds.get(place) {
-            Some(Bound::Object(object)) => object.held(kind) < u64::MAX,
-            _ => false,
+        match self.object_at(place) {
+            Some(object) => object.held(object.raised(kind)) < u64::MAX,
+            None => false,
         }
     }
 
@@ -106,9 +220,9 @@ impl Objects {
     pub(crate) fn has_room_for_two(&self, place: usize) -> bool
         ensures { result ≡ true → HasRoomForTwo (state_of self.now) place }
     {
-        match self.bounds.get(place) {
-            Some(Bound::Object(object)) => object.held(GuardKind::Cursors) < u64::MAX - 1,
-            _ => false,
+        match self.object_at(place) {
+            Some(object) => object.held(GuardKind::Cursors) < u64::MAX - 1,
+            None => false,
         }
     }
 

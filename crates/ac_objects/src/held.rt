@@ -2,23 +2,19 @@
 ghost use Rattle.std.specs.Prelude.{◌≡◌, None, Some, IfOk};
 ghost use Rattle.ac_model.specs.Forms.{seen_by as mark_by};
 ghost use Rattle.ac_model.specs.Objects.{plain};
-ghost use Rattle.ac_model.specs.Sequences.{element_call, write_call};
 ghost use Rattle.ac_model.specs.Cursors.{plain_mark};
-ghost use Rattle.ac_meaning.specs.Holdings.{reply_by, reply_of, number_of, element_value, write};
-ghost use Rattle.ac_meaning.specs.Replies.{itself, another, seen_by, as_value};
+ghost use Rattle.ac_meaning.specs.Holdings.{reply_of, number_of, element_value, write};
+ghost use Rattle.ac_meaning.specs.Replies.{itself, another, seen_by};
 ghost use Rattle.ac_objects.specs.Arguments.{AllAgree, arguments_of};
-ghost use Rattle.ac_objects.specs.Replied.{told};
+ghost use Rattle.ac_objects.specs.Replied.{Replied, RepliedWith, told};
 ghost use Rattle.ac_objects.specs.Called.{AgreesWith, Called, CalledWith, Lasts, AreValid, WritesTo, WritesIn};
-ghost use Rattle.ac_objects.specs.SequenceCalls.{Answered, AnsweredWith};
-ghost use Rattle.ac_objects.specs.Sequences.{rows_of, kind_of, source_like};
 ghost use Rattle.ac_objects.specs.World.{held_of, ObjectAgrees};
 
 use crate::argument::Arguments;
-use crate::element::ScriptElement;
 use crate::object::Object;
-use crate::operating::{operate, operate_with};
+use crate::operated_rows::OperatedRows;
 use crate::reply::Reply;
-use crate::sequence::Sequence;
+use crate::row_object::RowObject;
 use ac_base::{Fault, NoMemory, Value};
 use ac_check::Operation;
 use ac_cursor::Cursor;
@@ -26,6 +22,7 @@ use std::alloc::Global;
 
 /// Makes a call on an object without a source, or with itself as the source.
 #[inline(always)]
+#[tactic(auto, unfolding(crate::specs::World::memory_of))]
 pub fn call_object(
     object: &mut Object,
     alloc: Global,
@@ -41,10 +38,17 @@ pub fn call_object(
     match object {
         Object::Integers(sequence) => call_own(sequence, alloc, operation, args, reply),
         Object::Texts(sequence) => call_own(sequence, alloc, operation, args, reply),
+        Object::IntegerSet(set) => call_own(set, alloc, operation, args, reply),
+        Object::TextSet(set) => call_own(set, alloc, operation, args, reply),
+        Object::IntegersByInteger(map) => call_own(map, alloc, operation, args, reply),
+        Object::IntegersByText(map) => call_own(map, alloc, operation, args, reply),
+        Object::TextsByInteger(map) => call_own(map, alloc, operation, args, reply),
+        Object::TextsByText(map) => call_own(map, alloc, operation, args, reply),
     }
 }
 
 /// Makes a call on an object with another one as the source, which is none where it is of another kind or type.
+#[tactic(auto, unfolding(crate::specs::World::memory_of))]
 pub fn call_objects(
     object: &mut Object,
     source: &mut Object,
@@ -64,122 +68,141 @@ pub fn call_objects(
     match object {
         Object::Integers(sequence) => match source {
             Object::Integers(other) => call_two(sequence, other, alloc, operation, args, reply),
-            Object::Texts(_) => call_own(sequence, alloc, operation, args, reply),
+            _ => call_own(sequence, alloc, operation, args, reply),
         },
         Object::Texts(sequence) => match source {
-            Object::Integers(_) => call_own(sequence, alloc, operation, args, reply),
             Object::Texts(other) => call_two(sequence, other, alloc, operation, args, reply),
+            _ => call_own(sequence, alloc, operation, args, reply),
+        },
+        Object::IntegerSet(set) => match source {
+            Object::IntegerSet(other) => call_two(set, other, alloc, operation, args, reply),
+            _ => call_own(set, alloc, operation, args, reply),
+        },
+        Object::TextSet(set) => match source {
+            Object::TextSet(other) => call_two(set, other, alloc, operation, args, reply),
+            _ => call_own(set, alloc, operation, args, reply),
+        },
+        Object::IntegersByInteger(map) => match source {
+            Object::IntegersByInteger(other) => call_two(map, other, alloc, operation, args, reply),
+            _ => call_own(map, alloc, operation, args, reply),
+        },
+        Object::IntegersByText(map) => match source {
+            Object::IntegersByText(other) => call_two(map, other, alloc, operation, args, reply),
+            _ => call_own(map, alloc, operation, args, reply),
+        },
+        Object::TextsByInteger(map) => match source {
+            Object::TextsByInteger(other) => call_two(map, other, alloc, operation, args, reply),
+            _ => call_own(map, alloc, operation, args, reply),
+        },
+        Object::TextsByText(map) => match source {
+            Object::TextsByText(other) => call_two(map, other, alloc, operation, args, reply),
+            _ => call_own(map, alloc, operation, args, reply),
         },
     }
 }
 
 #[inline(always)]
-fn call_own<T: ScriptElement>(
-    sequence: &mut Sequence<T>,
+fn call_own<C: OperatedRows>(
+    object: &mut C,
     alloc: Global,
     operation: Operation,
     args: &mut Arguments,
     reply: &mut Reply,
 ) -> Result<(), Fault>
-    requires agree { AllAgree (rows_of sequence.old).object args.old }
-    ensures replied { let o = plain (rows_of sequence.old).object in
-        Answered (reply_by T.tools o itself (seen_by o (arguments_of args.old)) (kind_of sequence.old) operation)
-        sequence.old sequence.new (told reply.new result) }
-    ensures kind { kind_of sequence.new ≡ kind_of sequence.old }
-    ensures valid { AreValid (rows_of sequence.old) (rows_of sequence.new) }
+    requires agree { AllAgree (C.rows object.old).object args.old }
+    ensures replied { let o = plain (C.rows object.old).object in
+        Replied (C.comes_to object.old o itself (seen_by o (arguments_of args.old)) operation)
+        (C.rows object.old) (C.rows object.new) (told reply.new result) }
+    ensures kind { C.kind object.new ≡ C.kind object.old }
+    ensures valid { AreValid (C.rows object.old) (C.rows object.new) }
 {
-    sequence.law();
-    let called = operate(sequence, alloc, operation, args, reply);
-    sequence.law();
+    object.law();
+    let called = object.operate(alloc, operation, args, reply);
+    object.law();
     called
 }
 
 /// The source is none where it is of another kind.
-fn call_two<T: ScriptElement>(
-    sequence: &mut Sequence<T>,
-    source: &mut Sequence<T>,
+fn call_two<C: OperatedRows>(
+    object: &mut C,
+    source: &mut C,
     alloc: Global,
     operation: Operation,
     args: &mut Arguments,
     reply: &mut Reply,
 ) -> Result<(), Fault>
-    requires agree { AllAgree (rows_of sequence.old).object args.old }
-    requires agree_with_source { AllAgree (rows_of source.old).object args.old }
-    ensures replied { let o = plain (rows_of sequence.old).object in let s = plain (rows_of source.old).object in
-        let own = source_like (kind_of sequence.old) (kind_of source.old) (another s (seen_by s (arguments_of args.old))) in
-        AnsweredWith (reply_by T.tools o own (seen_by o (arguments_of args.old)) (kind_of sequence.old) operation)
-        sequence.old source.old sequence.new source.new (told reply.new result) }
-    ensures kind { kind_of sequence.new ≡ kind_of sequence.old }
-    ensures source_kind { kind_of source.new ≡ kind_of source.old }
-    ensures valid { AreValid (rows_of sequence.old) (rows_of sequence.new) }
-    ensures source_valid { AreValid (rows_of source.old) (rows_of source.new) }
+    requires agree { AllAgree (C.rows object.old).object args.old }
+    requires agree_with_source { AllAgree (C.rows source.old).object args.old }
+    ensures alike { let o = plain (C.rows object.old).object in let s = plain (C.rows source.old).object in
+        C.kind source.old ≡ C.kind object.old →
+        RepliedWith (C.comes_to object.old o (another s (seen_by s (arguments_of args.old))) (seen_by o (arguments_of args.old)) operation)
+        (C.rows object.old) (C.rows source.old) (C.rows object.new) (C.rows source.new) (told reply.new result) }
+    ensures unlike { let o = plain (C.rows object.old).object in
+        (C.kind source.old ≡ C.kind object.old → ⊥) →
+        Replied (C.comes_to object.old o itself (seen_by o (arguments_of args.old)) operation)
+        (C.rows object.old) (C.rows object.new) (told reply.new result) × (source.new ≡ source.old) }
+    ensures kind { C.kind object.new ≡ C.kind object.old }
+    ensures source_kind { C.kind source.new ≡ C.kind source.old }
+    ensures valid { AreValid (C.rows object.old) (C.rows object.new) }
+    ensures source_valid { AreValid (C.rows source.old) (C.rows source.new) }
 {
     source.law();
-    if sequence.is_like(source) {
-        call_like(sequence, source, alloc, operation, args, reply)
+    if object.is_like(source) {
+        call_like(object, source, alloc, operation, args, reply)
     } else {
-        call_own(sequence, alloc, operation, args, reply)
+        call_own(object, alloc, operation, args, reply)
     }
 }
 
 /// With a source of the same kind.
-fn call_like<T: ScriptElement>(
-    sequence: &mut Sequence<T>,
-    source: &mut Sequence<T>,
+fn call_like<C: OperatedRows>(
+    object: &mut C,
+    source: &mut C,
     alloc: Global,
     operation: Operation,
     args: &mut Arguments,
     reply: &mut Reply,
 ) -> Result<(), Fault>
-    requires like { kind_of sequence.old ≡ kind_of source.old }
-    requires agree { AllAgree (rows_of sequence.old).object args.old }
-    requires agree_with_source { AllAgree (rows_of source.old).object args.old }
-    ensures replied { let o = plain (rows_of sequence.old).object in let s = plain (rows_of source.old).object in
-        AnsweredWith
-        (reply_by T.tools o (another s (seen_by s (arguments_of args.old))) (seen_by o (arguments_of args.old))
-        (kind_of sequence.old) operation)
-        sequence.old source.old sequence.new source.new (told reply.new result) }
-    ensures kind { kind_of sequence.new ≡ kind_of sequence.old }
-    ensures source_kind { kind_of source.new ≡ kind_of source.old }
-    ensures valid { AreValid (rows_of sequence.old) (rows_of sequence.new) }
-    ensures source_valid { AreValid (rows_of source.old) (rows_of source.new) }
+    requires like { C.kind source.old ≡ C.kind object.old }
+    requires agree { AllAgree (C.rows object.old).object args.old }
+    requires agree_with_source { AllAgree (C.rows source.old).object args.old }
+    ensures replied { let o = plain (C.rows object.old).object in let s = plain (C.rows source.old).object in
+        RepliedWith (C.comes_to object.old o (another s (seen_by s (arguments_of args.old))) (seen_by o (arguments_of args.old)) operation)
+        (C.rows object.old) (C.rows source.old) (C.rows object.new) (C.rows source.new) (told reply.new result) }
+    ensures kind { C.kind object.new ≡ C.kind object.old }
+    ensures source_kind { C.kind source.new ≡ C.kind source.old }
+    ensures valid { AreValid (C.rows object.old) (C.rows object.new) }
+    ensures source_valid { AreValid (C.rows source.old) (C.rows source.new) }
 {
-    sequence.law();
+    object.law();
     source.law();
-    let called = operate_with(sequence, source, alloc, operation, args, reply);
-    sequence.law();
+    let called = object.operate_with(source, alloc, operation, args, reply);
+    object.law();
     source.law();
     called
 }
 
 /// A copy of the element at which the cursor stands.
+#[tactic(auto, unfolding(crate::specs::World::memory_of))]
 pub fn element_of(object: &Object, alloc: Global, at: Cursor) -> Result<Value, NoMemory>
     requires agree { ObjectAgrees object.now at }
     requires stands { (element_value (held_of object.now) (plain_mark at)).reason ≡ None }
     ensures { IfOk result (λ value. (element_value (held_of object.now) (plain_mark at)).answer ≡ Some value) }
 {
     match object {
-        Object::Integers(sequence) => copied(sequence, alloc, at),
-        Object::Texts(sequence) => copied(sequence, alloc, at),
-    }
-}
-
-fn copied<T: ScriptElement>(
-    sequence: &Sequence<T>,
-    alloc: Global,
-    at: Cursor,
-) -> Result<Value, NoMemory>
-    requires { (element_call (plain (rows_of sequence.now).object) (mark_by (rows_of sequence.now) at)).reason ≡ None }
-    ensures { let rows = rows_of sequence.now in
-        IfOk result (λ value. (as_value T.tools (element_call (plain rows.object) (mark_by rows at))).answer ≡ Some value) }
-{
-    match sequence.element(at) {
-        Ok(element) => element.to_value(alloc),
-        Err(_) => unreachable!(),
+        Object::Integers(sequence) => sequence.element_value(alloc, at),
+        Object::Texts(sequence) => sequence.element_value(alloc, at),
+        Object::IntegerSet(set) => set.element_value(alloc, at),
+        Object::TextSet(set) => set.element_value(alloc, at),
+        Object::IntegersByInteger(map) => map.element_value(alloc, at),
+        Object::IntegersByText(map) => map.element_value(alloc, at),
+        Object::TextsByInteger(map) => map.element_value(alloc, at),
+        Object::TextsByText(map) => map.element_value(alloc, at),
     }
 }
 
 /// Writes a value through a name that stands for the element at the cursor.
+#[tactic(auto, unfolding(crate::specs::World::memory_of))]
 pub fn write_element(
     object: &mut Object,
     alloc: Global,
@@ -193,23 +216,28 @@ pub fn write_element(
     match object {
         Object::Integers(sequence) => written(sequence, alloc, at, value),
         Object::Texts(sequence) => written(sequence, alloc, at, value),
+        Object::IntegerSet(set) => written(set, alloc, at, value),
+        Object::TextSet(set) => written(set, alloc, at, value),
+        Object::IntegersByInteger(map) => written(map, alloc, at, value),
+        Object::IntegersByText(map) => written(map, alloc, at, value),
+        Object::TextsByInteger(map) => written(map, alloc, at, value),
+        Object::TextsByText(map) => written(map, alloc, at, value),
     }
 }
 
-fn written<T: ScriptElement>(
-    sequence: &mut Sequence<T>,
+fn written<C: RowObject>(
+    object: &mut C,
     alloc: Global,
     at: Cursor,
     value: Value,
 ) -> Result<(), Fault>
-    ensures written { WritesIn (λ o. write_call o (mark_by (rows_of sequence.old) at) (T.tools.from_value value))
-        (rows_of sequence.old) (rows_of sequence.new) result }
-    ensures kind { kind_of sequence.new ≡ kind_of sequence.old }
-    ensures valid { AreValid (rows_of sequence.old) (rows_of sequence.new) }
+    ensures written { WritesIn (λ o. (C.own object.old o).write (mark_by (C.rows object.old) at) value)
+        (C.rows object.old) (C.rows object.new) result }
+    ensures kind { C.kind object.new ≡ C.kind object.old }
+    ensures valid { AreValid (C.rows object.old) (C.rows object.new) }
 {
-    sequence.law();
-    let element = T::from_value(alloc, value)?;
-    let done = sequence.write(at, element);
-    sequence.law();
+    object.law();
+    let done = object.write_value(alloc, at, value);
+    object.law();
     done
 }

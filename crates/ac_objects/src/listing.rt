@@ -2,19 +2,19 @@
 ghost use Rattle.std.specs.Prelude.{◌≡◌, ◌≤◌, ◌++◌, [], length, None, Some};
 ghost use Rattle.ac_io.specs.declared.pieces.TheConstants.{MOST_WAITING};
 ghost use Rattle.ac_io.specs.Pieces.{Adds};
+ghost use Rattle.ac_model.specs.Forms.{seen_by};
 ghost use Rattle.ac_model.specs.Objects.{plain, contents};
-ghost use Rattle.ac_syntax.specs.Canonical.{literal_text};
+ghost use Rattle.ac_model.specs.Sequences.{element_call};
 ghost use Rattle.ac_meaning.specs.Listings.{separated, bracketed};
 ghost use Rattle.ac_meaning.specs.Environment.{object_at};
 ghost use Rattle.ac_meaning.specs.Holdings.{Held, listing_of};
 ghost use Rattle.ac_objects.specs.Listed.{comma_at};
-ghost use Rattle.ac_objects.specs.Sequences.{rows_of};
 ghost use Rattle.ac_objects.specs.World.{held_of, state_of};
 
-use crate::element::ScriptElement;
 use crate::object::Object;
 use crate::objects::Objects;
-use crate::sequence::Sequence;
+use crate::row_object::RowObject;
+use ac_cursor::Cursor;
 use ac_io::{Sink, WriteFault, add};
 
 /// What stands before an item.
@@ -24,56 +24,61 @@ fn comma(is_first: bool) -> &'static [u8]
     if is_first { b"" } else { b", " }
 }
 
-/// Adds one item, with a comma before it unless it is the first.
-fn add_item<T: ScriptElement, K: Sink>(
-    element: &T,
+/// Adds the row at the cursor, with a comma before it unless it is the first.
+fn add_item<C: RowObject, K: Sink>(
+    object: &C,
+    c: Cursor,
     is_first: bool,
     text: &mut Vec<u8>,
     sink: &mut K,
 ) -> Result<(), WriteFault>
-    ensures adds { Adds K.held K.faults K.room K.counts_failures sink.old sink.new
-        text.old.items text.new.items (comma_at is_first ++ literal_text (T.tools.to_value element.now)) result }
+    requires { (element_call (plain (C.rows object.now).object) (seen_by (C.rows object.now) c)).reason ≡ None }
+    ensures adds { (row : C.Row) →
+        (element_call (plain (C.rows object.now).object) (seen_by (C.rows object.now) c)).answer ≡ Some row →
+        Adds K.held K.faults K.room K.counts_failures sink.old sink.new
+        text.old.items text.new.items (comma_at is_first ++ C.row_text row) result }
     ensures short { length text.old.items ≤ MOST_WAITING → length text.new.items ≤ MOST_WAITING }
 {
     add(text, comma(is_first), sink)?;
-    element.add_literal(text, sink)
+    object.add_row(c, text, sink)
 }
 
-/// Adds the items of a list or a vector.
-fn add_items<T: ScriptElement, K: Sink>(
-    sequence: &Sequence<T>,
+/// Adds the rows of an object.
+fn add_items<C: RowObject, K: Sink>(
+    object: &C,
     text: &mut Vec<u8>,
     sink: &mut K,
 ) -> Result<(), WriteFault>
     ensures adds { Adds K.held K.faults K.room K.counts_failures sink.old sink.new
-        text.old.items text.new.items (separated (λ e. literal_text (T.tools.to_value e)) (contents (plain (rows_of sequence.now).object))) result }
+        text.old.items text.new.items (separated C.row_text (contents (plain (C.rows object.now).object))) result }
     ensures short { length text.old.items ≤ MOST_WAITING → length text.new.items ≤ MOST_WAITING }
 {
-    sequence.law();
-    let mut c = sequence.first();
-    for place in 0..sequence.live_nodes() {
-        add_item(sequence.element(c).unwrap(), place == 0, text, sink)?;
-        c = sequence.next(c).unwrap();
+    object.law();
+    let mut c = object.first();
+    for place in 0..object.live_nodes() {
+        add_item(object, c, place == 0, text, sink)?;
+        c = object.next(c).unwrap();
     }
     Ok(())
 }
 
-/// Adds the listing of a list or a vector to a text that is written in pieces.
-pub fn write_sequence<T: ScriptElement, K: Sink>(
-    sequence: &Sequence<T>,
+/// Adds the listing of an object with rows to a text that is written in pieces.
+fn write_rows<C: RowObject, K: Sink>(
+    object: &C,
     text: &mut Vec<u8>,
     sink: &mut K,
 ) -> Result<(), WriteFault>
     ensures adds { Adds K.held K.faults K.room K.counts_failures sink.old sink.new
-        text.old.items text.new.items (bracketed (λ e. literal_text (T.tools.to_value e)) (contents (plain (rows_of sequence.now).object))) result }
+        text.old.items text.new.items (bracketed C.row_text (contents (plain (C.rows object.now).object))) result }
     ensures short { length text.old.items ≤ MOST_WAITING → length text.new.items ≤ MOST_WAITING }
 {
     add(text, b"[", sink)?;
-    add_items(sequence, text, sink)?;
+    add_items(object, text, sink)?;
     add(text, b"]", sink)
 }
 
 /// Adds the listing of an object to a text that is written in pieces.
+#[tactic(auto, unfolding(crate::specs::World::memory_of))]
 fn write_object<K: Sink>(
     object: &Object,
     text: &mut Vec<u8>,
@@ -84,8 +89,14 @@ fn write_object<K: Sink>(
     ensures short { length text.old.items ≤ MOST_WAITING → length text.new.items ≤ MOST_WAITING }
 {
     match object {
-        Object::Integers(sequence) => write_sequence(sequence, text, sink),
-        Object::Texts(sequence) => write_sequence(sequence, text, sink),
+        Object::Integers(sequence) => write_rows(sequence, text, sink),
+        Object::Texts(sequence) => write_rows(sequence, text, sink),
+        Object::IntegerSet(set) => write_rows(set, text, sink),
+        Object::TextSet(set) => write_rows(set, text, sink),
+        Object::IntegersByInteger(map) => write_rows(map, text, sink),
+        Object::IntegersByText(map) => write_rows(map, text, sink),
+        Object::TextsByInteger(map) => write_rows(map, text, sink),
+        Object::TextsByText(map) => write_rows(map, text, sink),
     }
 }
 

@@ -1,5 +1,7 @@
 //! An object of a script, of any kind and element type.
+use crate::map::Map;
 use crate::sequence::Sequence;
+use crate::set::Set;
 use ac_base::Text;
 
 /// An object of a script.
@@ -7,4 +9,10 @@ use ac_base::Text;
 pub enum Object {
     Integers(Sequence<i64>),
     Texts(Sequence<Text>),
+    IntegerSet(Set<i64>),
+    TextSet(Set<Text>),
+    IntegersByInteger(Map<i64, i64>),
+    IntegersByText(Map<Text, i64>),
+    TextsByInteger(Map<i64, Text>),
+    TextsByText(Map<Text, Text>),
 }

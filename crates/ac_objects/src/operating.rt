@@ -9,13 +9,15 @@ ghost use Rattle.ac_objects.specs.SequenceCalls.{Answered, AnsweredWith, Operati
 ghost use Rattle.ac_objects.specs.Sequences.{rows_of, kind_of};
 
 use crate::argument::Arguments;
+use crate::capacity_calls::capacity_call;
+use crate::common_calls::{common_call, common_call_with};
 use crate::element::ScriptElement;
 use crate::list_calls::{list_call, list_call_with};
 use crate::reply::{Reply, Said};
 use crate::sequence::Sequence;
-use crate::sequence_calls::{common_call, sequence_call};
-use crate::sequence_source_calls::{common_call_with, sequence_call_with};
-use crate::vector_calls::{capacity_call, vector_call, vector_call_with};
+use crate::sequence_calls::sequence_call;
+use crate::sequence_source_calls::sequence_call_with;
+use crate::vector_calls::{vector_call, vector_call_with};
 use ac_base::Fault;
 use ac_check::{CapacityCall, ListCall, Operation, VectorCall};
 use std::alloc::Global;

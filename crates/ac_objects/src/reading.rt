@@ -139,9 +139,9 @@ pub(crate) fn copy_element(
     ensures { (next : ℕ) → IfOk result (λ value.
         value ≡ value_in (state_of (world bounds.now.items next)) (binds_element object (plain_mark at))) }
 {
-    match bounds.get(object) {
-        Some(Bound::Object(held)) => element_of(held, alloc, at),
-        _ => unreachable!(),
+    match bounds[object].object() {
+        Some(held) => element_of(held, alloc, at),
+        None => unreachable!(),
     }
 }
 

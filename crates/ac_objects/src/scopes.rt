@@ -1,37 +1,49 @@
 //! The names in scope: those that declarations make, and those that go at a block's end.
-ghost use Rattle.std.specs.Prelude.{◌≡◌, ◌++◌, ◌∷◌, ℕ, true, false, length, take, Option, None, Some, IfOk, OnErr, Err};
+ghost use Rattle.std.specs.Prelude.{◌≡◌, ◌++◌, ◌∷◌, [], if◌then◌else◌, ℕ, true, false, is_ok, length, take, None, Some, IfOk, OnErr, Err};
 ghost use Rattle.ac_meaning.specs.Environment.{object_at, object_in, with_name, leaving, after_decl, after_decls, nodes, nodes_in};
-ghost use Rattle.ac_base.specs.Limits.{IsLimit};
-ghost use Rattle.ac_meaning.specs.Holdings.{a_sequence, kind_by, limit_by, new_held, is_vector};
-ghost use Rattle.ac_model.specs.Objects.{plain, empty_object};
+ghost use Rattle.ac_meaning.specs.Holdings.{nodes_of};
 ghost use Rattle.ac_meaning.specs.Environment.{declared};
-ghost use Rattle.ac_syntax.specs.declared.kind.ElemKind.{ElemKind as Elements};
 ghost use Rattle.ac_objects.specs.Declarations.{object_declared, spent_at};
 ghost use Rattle.ac_objects.specs.Given.{Finds};
-ghost use Rattle.ac_objects.specs.Sequences.{rows_of, kind_of};
 ghost use Rattle.ac_objects.specs.Standing.{IsObject, counts_of};
 ghost use Rattle.ac_objects.specs.World.{held_of, bound_of, cursor_in, state_of, IsKnown, Persists};
 
 use crate::blocks::DeclareFault;
 use crate::bound::Bound;
+use crate::new_objects::new_object;
 use crate::object::Object;
 use crate::objects::Objects;
-use crate::sequence::Sequence;
-use ac_base::{Elem, GREATEST_LENGTH, Limit, NoMemory, Text, Value};
+use crate::row_object::RowObject;
+use ac_base::{Elem, NoMemory, Text, Value};
 use ac_check::ResolvedDecl;
-use ac_cursor::{Cursor, Tag};
-use ac_list::List;
-use ac_syntax::{ElemKind, Kind, TypeDef};
-use ac_vector::Vector;
-use std::alloc::Global;
+use ac_cursor::Cursor;
+use ac_syntax::TypeDef;
+
+impl Object {
+    /// How many elements have a slot.
+    #[tactic(auto, unfolding(crate::specs::World::memory_of))]
+    fn live_nodes(&self) -> u64
+        ensures { result ≡ nodes_of (held_of self.now) }
+    {
+        match self {
+            Object::Integers(sequence) => sequence.live_nodes(),
+            Object::Texts(sequence) => sequence.live_nodes(),
+            Object::IntegerSet(set) => set.live_nodes(),
+            Object::TextSet(set) => set.live_nodes(),
+            Object::IntegersByInteger(map) => map.live_nodes(),
+            Object::IntegersByText(map) => map.live_nodes(),
+            Object::TextsByInteger(map) => map.live_nodes(),
+            Object::TextsByText(map) => map.live_nodes(),
+        }
+    }
+}
 
 /// How many elements stand under a name.
 fn nodes_in(bound: &Bound) -> u64
     ensures { result ≡ nodes_in (bound_of bound.now) }
 {
     match bound {
-        Bound::Object(Object::Integers(sequence)) => sequence.live_nodes(),
-        Bound::Object(Object::Texts(sequence)) => sequence.live_nodes(),
+        Bound::Object(object) => object.live_nodes(),
         _ => 0,
     }
 }
@@ -59,8 +71,8 @@ impl Objects {
         ensures { Finds self.now place result }
     {
         match self.bounds.get(place) {
-            Some(Bound::Object(object)) => Some(object),
-            _ => None,
+            Some(bound) => bound.object(),
+            None => None,
         }
     }
 
@@ -116,10 +128,7 @@ impl Objects {
         ensures persists { Persists self.old self.new }
         ensures fault { OnErr result (self.new ≡ self.old) }
     {
-        match self.bounds.push(bound) {
-            Ok(()) => Ok(()),
-            Err(_) => Err(NoMemory),
-        }
+        put_last(&mut self.bounds, bound)
     }
 
     /// Makes the names that these declare.
@@ -194,67 +203,19 @@ impl Objects {
         let Ok(object) = new_object(self.alloc, def, tag, capacity) else {
             return Err(DeclareFault::NoMemory);
         };
-        match self.bounds.push(Bound::Object(object)) {
+        match put_last(&mut self.bounds, Bound::Object(object)) {
             Ok(()) => Ok(()),
             Err(_) => Err(DeclareFault::NoMemory),
         }
     }
 }
 
-/// An object of this number without elements, and NoMemory where so large a capacity can't be had.
-fn new_object(
-    alloc: Global,
-    def: &TypeDef,
-    tag: Tag,
-    capacity: Option<u64>,
-) -> Result<Object, NoMemory>
-    ensures { IfOk result (λ made. held_of made ≡ new_held def.now tag capacity) }
+/// Puts what a name holds behind what the others hold.
+fn put_last(bounds: &mut Vec<Bound>, bound: Bound) -> Result<(), NoMemory>
+    ensures { bounds.new.items ≡ if is_ok result then bounds.old.items ++ bound ∷ [] else bounds.old.items }
 {
-    let limit = limit_by(capacity)?;
-    match def.first {
-        ElemKind::Integer => {
-            let made = new_sequence(alloc, def.kind, tag, limit)?;
-            Ok(Object::Integers(made))
-        }
-        ElemKind::Str => {
-            let made = new_sequence(alloc, def.kind, tag, limit)?;
-            Ok(Object::Texts(made))
-        }
-    }
-}
-
-/// A list or a vector without elements.
-fn new_sequence<T: Drop>(
-    alloc: Global,
-    kind: Kind,
-    tag: Tag,
-    limit: Limit,
-) -> Result<Sequence<T>, NoMemory>
-    requires { IsLimit limit }
-    ensures kind { (first : Elements) (second : Option Elements) →
-        IfOk result (λ made. kind_by kind first second ≡ a_sequence (kind_of made) first) }
-    ensures empty { IfOk result (λ made. plain (rows_of made).object ≡ empty_object (is_vector (kind_of made)) tag limit) }
-{
-    match kind {
-        Kind::List => match List::new(alloc, tag, limit) {
-            Ok(list) => Ok(Sequence::List(list)),
-            Err(_) => Err(NoMemory),
-        },
-        Kind::Vector => match Vector::new(alloc, tag, limit) {
-            Ok(vector) => Ok(Sequence::Vector(vector)),
-            Err(_) => Err(NoMemory),
-        },
-        _ => Err(NoMemory),
-    }
-}
-
-/// The limit of an object of this capacity.
-fn limit_by(capacity: Option<u64>) -> Result<Limit, NoMemory>
-    ensures { IfOk result (λ limit. (limit ≡ limit_by capacity) × IsLimit limit) }
-{
-    match capacity {
-        None => Ok(Limit::Unbounded),
-        Some(most) if most <= GREATEST_LENGTH => Ok(Limit::Bounded(most)),
-        Some(_) => Err(NoMemory),
+    match bounds.push(bound) {
+        Ok(()) => Ok(()),
+        Err(_) => Err(NoMemory),
     }
 }

@@ -8,7 +8,10 @@ ghost use Rattle.ac_model.specs.Sequences as sequences;
 ghost use Rattle.ac_objects.specs.Sequences.{rows_of};
 
 mod changes;
+mod common_rows;
+mod operated_rows;
 mod order;
+mod row_object;
 mod sources;
 
 use ac_base::{Elem, Fault, Rank};

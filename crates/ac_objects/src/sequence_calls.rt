@@ -1,10 +1,9 @@
 //! The calls that lists and vectors share, but those with another one.
 ghost use Rattle.std.specs.Prelude.{◌≡◌};
 ghost use Rattle.ac_objects.specs.Replied.{told};
-ghost use Rattle.ac_objects.specs.SequenceCalls.{CommonReplied, SequenceReplied};
+ghost use Rattle.ac_objects.specs.SequenceCalls.{SequenceReplied};
 ghost use Rattle.ac_objects.specs.Sequences.{kind_of};
 
-mod common;
 mod deletions;
 mod looks;
 mod orders;
@@ -14,48 +13,11 @@ mod puts;
 use crate::argument::Arguments;
 use crate::element::ScriptElement;
 use crate::reply::{Reply, Said};
+use crate::row_cursors;
 use crate::sequence::Sequence;
-use ac_base::{Fault, Value};
-use ac_check::{CommonCall, SequenceCall};
+use ac_base::Fault;
+use ac_check::SequenceCall;
 use std::alloc::Global;
-
-/// A call that lists and vectors have with all kinds of rows.
-#[inline(always)]
-pub fn common_call<T: ScriptElement>(
-    sequence: &mut Sequence<T>,
-    alloc: Global,
-    call: CommonCall,
-    args: &mut Arguments,
-    reply: &mut Reply,
-) -> Result<(), Fault>
-    ensures replied { CommonReplied T.tools call args.old sequence.old sequence.new (told reply.new result) }
-    ensures kind { kind_of sequence.new ≡ kind_of sequence.old }
-{
-    match call {
-        CommonCall::IsEmpty => {
-            *reply = Reply::says(Said::Truth(sequence.is_empty()));
-            Ok(())
-        }
-        CommonCall::Clear => common::clear(sequence, reply),
-        CommonCall::Assign => common::assign(sequence, reply),
-        CommonCall::MoveFrom => common::move_from(sequence, reply),
-        CommonCall::Equal => {
-            *reply = Reply::says(Said::Truth(sequence.equal_self()));
-            Ok(())
-        }
-        CommonCall::HasElement => common::has_element(sequence, args, reply),
-        CommonCall::Element => common::element(sequence, alloc, args, reply),
-        CommonCall::ReplaceElement => common::replace_element(sequence, alloc, args, reply),
-        CommonCall::Print => {
-            *reply = Reply::says(Said::Listing);
-            Ok(())
-        }
-        CommonCall::Length => {
-            *reply = Reply::says(Said::Value(Value::Int(sequence.length())));
-            Ok(())
-        }
-    }
-}
 
 /// A call that lists and vectors share.
 pub fn sequence_call<T: ScriptElement>(
@@ -77,11 +39,11 @@ pub fn sequence_call<T: ScriptElement>(
         SequenceCall::DeleteFirst => deletions::delete_first(sequence, args, reply),
         SequenceCall::DeleteLast => deletions::delete_last(sequence, args, reply),
         SequenceCall::First => {
-            *reply = Reply::says(Said::Place(own_cursors::first(sequence)));
+            *reply = Reply::says(Said::Place(row_cursors::first(sequence)));
             Ok(())
         }
         SequenceCall::Last => {
-            *reply = Reply::says(Said::Place(own_cursors::last(sequence)));
+            *reply = Reply::says(Said::Place(row_cursors::last(sequence)));
             Ok(())
         }
         SequenceCall::FirstElement => looks::first_element(sequence, alloc, reply),

@@ -1,47 +1,32 @@
 //! The calls of vectors alone: by index, and of another vector's elements.
 ghost use Rattle.ac_objects.specs.Replied.{told};
-ghost use Rattle.ac_objects.specs.SequenceCalls.{CapacityReplied, VectorAloneReplied};
+ghost use Rattle.ac_objects.specs.SequenceCalls.{VectorAloneReplied};
 
 mod copies;
 mod indexes;
 
 use crate::argument::Arguments;
+use crate::capacity_calls::WithCapacity;
 use crate::element::ScriptElement;
 use crate::reply::{Reply, Said};
 use ac_base::{Fault, Value};
-use ac_check::{CapacityCall, VectorCall};
+use ac_check::VectorCall;
 use ac_vector::Vector;
 pub use copies::vector_call_with;
 use std::alloc::Global;
 
-/// A call of what has a Capacity.
-pub fn capacity_call<T: ScriptElement>(
-    vector: &mut Vector<T>,
-    call: CapacityCall,
-    args: &Arguments,
-    reply: &mut Reply,
-) -> Result<(), Fault>
-    ensures { CapacityReplied T.tools call args.now vector.old vector.new (told reply.new result) }
-{
-    match call {
-        CapacityCall::Capacity => {
-            *reply = Reply::says(Said::Value(Value::Int(vector.capacity())));
-            Ok(())
-        }
-        CapacityCall::ReserveCapacity => reserve_capacity(vector, args, reply),
-    }
-}
+impl<T> WithCapacity for Vector<T> {
+    type Row = T;
 
-fn reserve_capacity<T: ScriptElement>(
-    vector: &mut Vector<T>,
-    args: &Arguments,
-    reply: &mut Reply,
-) -> Result<(), Fault>
-    ensures { CapacityReplied T.tools CapacityCall.ReserveCapacity args.now vector.old vector.new (told reply.new result) }
-{
-    vector.reserve_capacity(args.first.count())?;
-    *reply = Reply::says(Said::Done);
-    Ok(())
+    ghost rows = { λ v. v };
+
+    fn capacity(&self) -> i64 {
+        Vector::capacity(self)
+    }
+
+    fn reserve_capacity(&mut self, n: i64) -> Result<(), Fault> {
+        Vector::reserve_capacity(self, n)
+    }
 }
 
 /// A call of vectors alone, where the vector is its own source if the call has one.

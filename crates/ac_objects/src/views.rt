@@ -108,12 +108,19 @@ impl Objects {
         ensures mark { plain_mark result ≡ mark_at (state_of self.now) place }
         ensures known { IsKnown self.now result }
     {
-        let Some(place) = place else {
-            return Cursor::NoElement;
-        };
+        match place {
+            Some(place) => self.cursor_in(place),
+            None => Cursor::NoElement,
+        }
+    }
+
+    fn cursor_in(&self, place: usize) -> Cursor
+        ensures mark { plain_mark result ≡ mark_at (state_of self.now) (Some place) }
+        ensures known { IsKnown self.now result }
+    {
         match self.bounds.get(place) {
-            Some(Bound::Cursor(cursor)) => *cursor,
-            _ => Cursor::NoElement,
+            Some(bound) => bound.cursor(),
+            None => Cursor::NoElement,
         }
     }
 

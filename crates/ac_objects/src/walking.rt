@@ -5,42 +5,40 @@ ghost use Rattle.ac_model.specs.Objects.{plain};
 ghost use Rattle.ac_model.specs.Cursors.{plain_mark, seen, Agrees};
 ghost use Rattle.ac_model.specs.Calls.{Marks};
 ghost use Rattle.ac_model.specs.Forms.{Looks, seen_by};
-ghost use Rattle.ac_model.specs.Sequences.{element_call};
 ghost use Rattle.ac_meaning.specs.Holdings.{names_of, number_of, element_value};
 ghost use Rattle.ac_meaning.specs.Execution.{in_order};
 ghost use Rattle.ac_meaning.specs.Walks.{step_call, first_mark};
 ghost use Rattle.ac_objects.specs.Given.{GivenBy, IsGiven, StepsOn};
-ghost use Rattle.ac_objects.specs.Sequences.{rows_of};
 ghost use Rattle.ac_objects.specs.World.{held_of, ObjectAgrees};
 
 use crate::object::Object;
-use crate::sequence::Sequence;
+use crate::row_object::RowObject;
 use ac_base::{Fault, Reason};
 use ac_cursor::Cursor;
 
-/// The cursor at which a loop over the list or vector begins.
-fn first_in<T>(sequence: &Sequence<T>, backward: bool) -> Cursor
-    ensures given { GivenBy (rows_of sequence.now).object result }
-    ensures first { let o = plain (rows_of sequence.now).object in
+/// The cursor at which a loop over the object begins.
+fn first_in<C: RowObject>(object: &C, backward: bool) -> Cursor
+    ensures given { GivenBy (C.rows object.now).object result }
+    ensures first { let o = plain (C.rows object.now).object in
         plain_mark result ≡ first_mark o.number (in_order backward (names o.rows)) }
 {
-    sequence.law();
+    object.law();
     if backward {
-        sequence.last()
+        object.last()
     } else {
-        sequence.first()
+        object.first()
     }
 }
 
 /// The cursor at which a loop goes on behind this one, and No_Element where it doesn't.
 #[inline(always)]
-fn next_in<T>(sequence: &Sequence<T>, backward: bool, at: Cursor) -> Cursor
-    requires { Agrees (rows_of sequence.now).object at }
-    ensures given { GivenBy (rows_of sequence.now).object result }
-    ensures next { let o = plain (rows_of sequence.now).object in StepsOn backward o.number (names o.rows) at result }
+fn next_in<C: RowObject>(object: &C, backward: bool, at: Cursor) -> Cursor
+    requires { Agrees (C.rows object.now).object at }
+    ensures given { GivenBy (C.rows object.now).object result }
+    ensures next { let o = plain (C.rows object.now).object in StepsOn backward o.number (names o.rows) at result }
 {
-    sequence.law();
-    match step_in(sequence, backward, at) {
+    object.law();
+    match step_in(object, backward, at) {
         Ok(next) => next,
         Err(_) => Cursor::NoElement,
     }
@@ -48,31 +46,29 @@ fn next_in<T>(sequence: &Sequence<T>, backward: bool, at: Cursor) -> Cursor
 
 /// Next, or Previous.
 #[inline(always)]
-fn step_in<T>(sequence: &Sequence<T>, backward: bool, at: Cursor) -> Result<Cursor, Fault>
-    ensures { let rows = rows_of sequence.now in
+fn step_in<C: RowObject>(object: &C, backward: bool, at: Cursor) -> Result<Cursor, Fault>
+    ensures { let rows = C.rows object.now in
         Looks (Marks rows.object) (λ o. step_call backward o (seen_by rows at)) rows result }
 {
     if backward {
-        sequence.previous(at)
+        object.previous(at)
     } else {
-        sequence.next(at)
+        object.next(at)
     }
 }
 
 /// Why the element at which the cursor stands can't be viewed.
-fn refused_in<T>(sequence: &Sequence<T>, at: Cursor) -> Option<Reason>
-    requires { Agrees (rows_of sequence.now).object at }
-    ensures { let o = plain (rows_of sequence.now).object in result ≡ (element_call o (seen o (plain_mark at))).reason }
+fn refused_in<C: RowObject>(object: &C, at: Cursor) -> Option<Reason>
+    requires { Agrees (C.rows object.now).object at }
+    ensures { let o = plain (C.rows object.now).object in
+        result ≡ ((C.own object.now o).element (seen o (plain_mark at))).reason }
 {
-    match sequence.element(at) {
-        Ok(_) => None,
-        Err(Fault::Raised(reason)) => Some(reason),
-        Err(Fault::NoMemory) => unreachable!(),
-    }
+    object.refused(at)
 }
 
 impl Object {
     /// The cursor at which a loop over the object begins.
+    #[tactic(auto, unfolding(crate::specs::World::memory_of))]
     pub(crate) fn first_of(&self, backward: bool) -> Cursor
         ensures given { IsGiven self.now result }
         ensures first { plain_mark result ≡ first_mark (number_of (held_of self.now)) (in_order backward (names_of (held_of self.now))) }
@@ -80,11 +76,18 @@ impl Object {
         match self {
             Object::Integers(sequence) => first_in(sequence, backward),
             Object::Texts(sequence) => first_in(sequence, backward),
+            Object::IntegerSet(set) => first_in(set, backward),
+            Object::TextSet(set) => first_in(set, backward),
+            Object::IntegersByInteger(map) => first_in(map, backward),
+            Object::IntegersByText(map) => first_in(map, backward),
+            Object::TextsByInteger(map) => first_in(map, backward),
+            Object::TextsByText(map) => first_in(map, backward),
         }
     }
 
     /// The cursor at which a loop goes on behind this one, and No_Element where it doesn't.
     #[inline(always)]
+    #[tactic(auto, unfolding(crate::specs::World::memory_of))]
     pub(crate) fn next_of(&self, backward: bool, at: Cursor) -> Cursor
         requires { ObjectAgrees self.now at }
         ensures given { IsGiven self.now result }
@@ -93,10 +96,17 @@ impl Object {
         match self {
             Object::Integers(sequence) => next_in(sequence, backward, at),
             Object::Texts(sequence) => next_in(sequence, backward, at),
+            Object::IntegerSet(set) => next_in(set, backward, at),
+            Object::TextSet(set) => next_in(set, backward, at),
+            Object::IntegersByInteger(map) => next_in(map, backward, at),
+            Object::IntegersByText(map) => next_in(map, backward, at),
+            Object::TextsByInteger(map) => next_in(map, backward, at),
+            Object::TextsByText(map) => next_in(map, backward, at),
         }
     }
 
     /// Why the element at which the cursor stands can't be viewed.
+    #[tactic(auto, unfolding(crate::specs::World::memory_of))]
     pub(crate) fn refused_view(&self, at: Cursor) -> Option<Reason>
         requires { ObjectAgrees self.now at }
         ensures { result ≡ (element_value (held_of self.now) (plain_mark at)).reason }
@@ -104,6 +114,12 @@ impl Object {
         match self {
             Object::Integers(sequence) => refused_in(sequence, at),
             Object::Texts(sequence) => refused_in(sequence, at),
+            Object::IntegerSet(set) => refused_in(set, at),
+            Object::TextSet(set) => refused_in(set, at),
+            Object::IntegersByInteger(map) => refused_in(map, at),
+            Object::IntegersByText(map) => refused_in(map, at),
+            Object::TextsByInteger(map) => refused_in(map, at),
+            Object::TextsByText(map) => refused_in(map, at),
         }
     }
 }

@@ -10,6 +10,7 @@ use super::own_cursors;
 use crate::argument::Arguments;
 use crate::element::ScriptElement;
 use crate::reply::{Reply, Said};
+use crate::row_cursors;
 use crate::sequence::Sequence;
 use ac_base::Fault;
 use ac_check::SequenceCall;
@@ -50,7 +51,7 @@ pub fn next<T: ScriptElement>(
 ) -> Result<(), Fault>
     ensures { SequenceReplied T.tools SequenceCall.Next args.now sequence.now sequence.now (told reply.new result) }
 {
-    let next = own_cursors::next(sequence, args.first.cursor())?;
+    let next = row_cursors::next(sequence, args.first.cursor())?;
     *reply = Reply::says(Said::Place(next));
     Ok(())
 }
@@ -62,7 +63,7 @@ pub fn previous<T: ScriptElement>(
 ) -> Result<(), Fault>
     ensures { SequenceReplied T.tools SequenceCall.Previous args.now sequence.now sequence.now (told reply.new result) }
 {
-    let previous = own_cursors::previous(sequence, args.first.cursor())?;
+    let previous = row_cursors::previous(sequence, args.first.cursor())?;
     *reply = Reply::says(Said::Place(previous));
     Ok(())
 }

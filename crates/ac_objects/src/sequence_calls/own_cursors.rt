@@ -12,32 +12,6 @@ use crate::sequence::Sequence;
 use ac_base::Fault;
 use ac_cursor::Cursor;
 
-pub fn first<T>(sequence: &Sequence<T>) -> Cursor
-    ensures { let rows = rows_of sequence.now in IsAnswer rows.object result (sequences.first_call (plain rows.object)) }
-{
-    sequence.first()
-}
-
-pub fn last<T>(sequence: &Sequence<T>) -> Cursor
-    ensures { let rows = rows_of sequence.now in IsAnswer rows.object result (sequences.last_call (plain rows.object)) }
-{
-    sequence.last()
-}
-
-pub fn next<T>(sequence: &Sequence<T>, c: Cursor) -> Result<Cursor, Fault>
-    ensures { let rows = rows_of sequence.now in
-        Looks (IsAnswer rows.object) (λ o. sequences.next_call o (seen_by rows c)) rows result }
-{
-    sequence.next(c)
-}
-
-pub fn previous<T>(sequence: &Sequence<T>, c: Cursor) -> Result<Cursor, Fault>
-    ensures { let rows = rows_of sequence.now in
-        Looks (IsAnswer rows.object) (λ o. sequences.previous_call o (seen_by rows c)) rows result }
-{
-    sequence.previous(c)
-}
-
 pub fn find<T: ScriptElement>(
     sequence: &Sequence<T>,
     element: &T,

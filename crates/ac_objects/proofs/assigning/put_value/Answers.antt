@@ -11,6 +11,14 @@ put_element-requires c =
     can_read bs c.requires.next c.args.place here.object here.at c.requires.sound c.requires.stand
     (seen_there c.deref.result.now bs c.args.place here.field-0.now _ c.deref.ensures.value here.ensures.lookup.3.0 here.ensures.lookup.1 here.field-0-is)
 
+pub put_variable-requires : goal.put_variable-requires
+put_variable-requires c =
+    let here = c.in-Some-Value in (
+      here.field-0-0,
+      seen_there c.deref.result.now c.args.bounds.now.items c.args.place here.field-0.now _ c.deref.ensures.value here.ensures.lookup.3.0
+          here.ensures.lookup.1 here.field-0-is,
+    )
+
 pub returns-in-None : goal.returns-in-None
 returns-in-None c =
     let bs = c.args.bounds.now.items in

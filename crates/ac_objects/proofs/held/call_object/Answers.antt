@@ -1,35 +1,149 @@
-use Rattle.std.proofs.Common.{None, sym, subst}
-use Rattle.ac_meaning.specs.Holdings.{reply_of}
-use Rattle.ac_objects.specs.declared.object.Object.TheVariants.{Integers, Texts}
+use Rattle.std.proofs.Common.{refl, sym, ap, ◌∙◌}
+use Rattle.ac_syntax.specs.declared.kind.ElemKind.TheVariants.{Integer, Str}
+use Rattle.ac_meaning.specs.Holdings.{a_sequence, a_map, a_set}
+use Rattle.ac_objects.specs.declared.object.Object.TheVariants.{Integers, Texts, IntegerSet, TextSet, IntegersByInteger, IntegersByText, TextsByInteger, TextsByText}
+use Rattle.ac_objects.specs.Maps.{entries_of, map_kind_of}
+use Rattle.ac_objects.specs.Sequences.{rows_of, kind_of}
+use Rattle.ac_objects.specs.Sets.{items_of, set_kind_of}
 use Rattle.ac_objects.specs.Arguments.{arguments_of}
 use Rattle.ac_objects.specs.Replied.{told}
-use Rattle.ac_objects.specs.Called.{Called, Lasts}
-use Rattle.ac_objects.specs.World.{held_of}
-use Rattle.ac_objects.proofs.CalledSequences.{called_integers, called_texts, lasts_integers, lasts_texts}
+use Rattle.ac_objects.specs.World.{memory_of}
+use Rattle.ac_objects.proofs.Families.{sequence_now, sequence_same, set_now, set_same, map_now, map_same, integers, texts, integer_set, text_set, integers_by_integer, integers_by_text, texts_by_integer, texts_by_text}
+use Rattle.ac_objects.proofs.CalledRows.{own_called, own_lasts}
 use Rattle.ac_objects.proofs.held.call_object.Goals as goal
 
 pub returns-in-Integers-clause-called : goal.returns-in-Integers-clause-called
 returns-in-Integers-clause-called c =
-    let args = arguments_of c.args.args.now in
-    subst (λ o. Called (reply_of (held_of o) None c.args.operation args) o (Integers c.call_own.new.sequence) (told c.call_own.new.reply c.call_own.result)) (sym c.in-Integers.is)
-    (called_integers c.in-Integers.sequence c.call_own.new.sequence c.args.operation args (told c.call_own.new.reply c.call_own.result) c.call_own.ensures.kind c.call_own.ensures.valid
-    c.call_own.ensures.replied)
+    let call = c.call_own in
+    let old = c.in-Integers.sequence in
+    own_called (a_sequence (kind_of old) Integer) (rows_of old) (rows_of call.new.object) c.args.object.now (Integers call.new.object) c.args.operation
+    (arguments_of c.args.args.now) (told call.new.reply call.result) (ap memory_of c.in-Integers.is ∙ integers old)
+    (sequence_now Integer Integers integers old call.new.object call.ensures.kind)
+    (λ rows. sequence_same Integer Integers integers old call.new.object call.ensures.kind rows ∙ sym c.in-Integers.is) call.ensures.valid call.ensures.replied
 
 pub returns-in-Integers-clause-lasts : goal.returns-in-Integers-clause-lasts
 returns-in-Integers-clause-lasts c =
-    subst (λ o. Lasts o (Integers c.call_own.new.sequence)) (sym c.in-Integers.is)
-    (lasts_integers c.in-Integers.sequence c.call_own.new.sequence c.args.operation (arguments_of c.args.args.now) (told c.call_own.new.reply c.call_own.result) c.call_own.ensures.valid
-    c.call_own.ensures.replied)
+    let call = c.call_own in
+    let old = c.in-Integers.sequence in
+    own_lasts (a_sequence (kind_of old) Integer) (rows_of old) (rows_of call.new.object) c.args.object.now (Integers call.new.object) c.args.operation
+    (arguments_of c.args.args.now) (told call.new.reply call.result) (ap memory_of c.in-Integers.is ∙ integers old)
+    (sequence_now Integer Integers integers old call.new.object call.ensures.kind) call.ensures.valid call.ensures.replied
 
 pub returns-in-Texts-clause-called : goal.returns-in-Texts-clause-called
 returns-in-Texts-clause-called c =
-    let args = arguments_of c.args.args.now in
     let call = c.call_own-in-Texts in
-    subst (λ o. Called (reply_of (held_of o) None c.args.operation args) o (Texts call.new.sequence) (told call.new.reply call.result)) (sym c.in-Texts.is)
-    (called_texts c.in-Texts.sequence call.new.sequence c.args.operation args (told call.new.reply call.result) call.ensures.kind call.ensures.valid call.ensures.replied)
+    let old = c.in-Texts.sequence in
+    own_called (a_sequence (kind_of old) Str) (rows_of old) (rows_of call.new.object) c.args.object.now (Texts call.new.object) c.args.operation
+    (arguments_of c.args.args.now) (told call.new.reply call.result) (ap memory_of c.in-Texts.is ∙ texts old)
+    (sequence_now Str Texts texts old call.new.object call.ensures.kind)
+    (λ rows. sequence_same Str Texts texts old call.new.object call.ensures.kind rows ∙ sym c.in-Texts.is) call.ensures.valid call.ensures.replied
 
 pub returns-in-Texts-clause-lasts : goal.returns-in-Texts-clause-lasts
 returns-in-Texts-clause-lasts c =
     let call = c.call_own-in-Texts in
-    subst (λ o. Lasts o (Texts call.new.sequence)) (sym c.in-Texts.is)
-    (lasts_texts c.in-Texts.sequence call.new.sequence c.args.operation (arguments_of c.args.args.now) (told call.new.reply call.result) call.ensures.valid call.ensures.replied)
+    let old = c.in-Texts.sequence in
+    own_lasts (a_sequence (kind_of old) Str) (rows_of old) (rows_of call.new.object) c.args.object.now (Texts call.new.object) c.args.operation
+    (arguments_of c.args.args.now) (told call.new.reply call.result) (ap memory_of c.in-Texts.is ∙ texts old)
+    (sequence_now Str Texts texts old call.new.object call.ensures.kind) call.ensures.valid call.ensures.replied
+
+pub returns-in-IntegerSet-clause-called : goal.returns-in-IntegerSet-clause-called
+returns-in-IntegerSet-clause-called c =
+    let call = c.call_own-in-IntegerSet in
+    let old = c.in-IntegerSet.set in
+    own_called (a_set (set_kind_of old) Integer) (items_of old) (items_of call.new.object) c.args.object.now (IntegerSet call.new.object) c.args.operation
+    (arguments_of c.args.args.now) (told call.new.reply call.result) (ap memory_of c.in-IntegerSet.is ∙ integer_set old)
+    (set_now Integer IntegerSet integer_set old call.new.object call.ensures.kind)
+    (λ rows. set_same Integer IntegerSet integer_set old call.new.object call.ensures.kind rows ∙ sym c.in-IntegerSet.is) call.ensures.valid call.ensures.replied
+
+pub returns-in-IntegerSet-clause-lasts : goal.returns-in-IntegerSet-clause-lasts
+returns-in-IntegerSet-clause-lasts c =
+    let call = c.call_own-in-IntegerSet in
+    let old = c.in-IntegerSet.set in
+    own_lasts (a_set (set_kind_of old) Integer) (items_of old) (items_of call.new.object) c.args.object.now (IntegerSet call.new.object) c.args.operation
+    (arguments_of c.args.args.now) (told call.new.reply call.result) (ap memory_of c.in-IntegerSet.is ∙ integer_set old)
+    (set_now Integer IntegerSet integer_set old call.new.object call.ensures.kind) call.ensures.valid call.ensures.replied
+
+pub returns-in-TextSet-clause-called : goal.returns-in-TextSet-clause-called
+returns-in-TextSet-clause-called c =
+    let call = c.call_own-in-TextSet in
+    let old = c.in-TextSet.set in
+    own_called (a_set (set_kind_of old) Str) (items_of old) (items_of call.new.object) c.args.object.now (TextSet call.new.object) c.args.operation
+    (arguments_of c.args.args.now) (told call.new.reply call.result) (ap memory_of c.in-TextSet.is ∙ text_set old)
+    (set_now Str TextSet text_set old call.new.object call.ensures.kind)
+    (λ rows. set_same Str TextSet text_set old call.new.object call.ensures.kind rows ∙ sym c.in-TextSet.is) call.ensures.valid call.ensures.replied
+
+pub returns-in-TextSet-clause-lasts : goal.returns-in-TextSet-clause-lasts
+returns-in-TextSet-clause-lasts c =
+    let call = c.call_own-in-TextSet in
+    let old = c.in-TextSet.set in
+    own_lasts (a_set (set_kind_of old) Str) (items_of old) (items_of call.new.object) c.args.object.now (TextSet call.new.object) c.args.operation
+    (arguments_of c.args.args.now) (told call.new.reply call.result) (ap memory_of c.in-TextSet.is ∙ text_set old)
+    (set_now Str TextSet text_set old call.new.object call.ensures.kind) call.ensures.valid call.ensures.replied
+
+pub returns-in-IntegersByInteger-clause-called : goal.returns-in-IntegersByInteger-clause-called
+returns-in-IntegersByInteger-clause-called c =
+    let call = c.call_own-in-IntegersByInteger in
+    let old = c.in-IntegersByInteger.map in
+    own_called (a_map (map_kind_of old) Integer Integer) (entries_of old) (entries_of call.new.object) c.args.object.now (IntegersByInteger call.new.object) c.args.operation
+    (arguments_of c.args.args.now) (told call.new.reply call.result) (ap memory_of c.in-IntegersByInteger.is ∙ integers_by_integer old)
+    (map_now Integer Integer IntegersByInteger integers_by_integer old call.new.object call.ensures.kind)
+    (λ rows. map_same Integer Integer IntegersByInteger integers_by_integer old call.new.object call.ensures.kind rows ∙ sym c.in-IntegersByInteger.is) call.ensures.valid call.ensures.replied
+
+pub returns-in-IntegersByInteger-clause-lasts : goal.returns-in-IntegersByInteger-clause-lasts
+returns-in-IntegersByInteger-clause-lasts c =
+    let call = c.call_own-in-IntegersByInteger in
+    let old = c.in-IntegersByInteger.map in
+    own_lasts (a_map (map_kind_of old) Integer Integer) (entries_of old) (entries_of call.new.object) c.args.object.now (IntegersByInteger call.new.object) c.args.operation
+    (arguments_of c.args.args.now) (told call.new.reply call.result) (ap memory_of c.in-IntegersByInteger.is ∙ integers_by_integer old)
+    (map_now Integer Integer IntegersByInteger integers_by_integer old call.new.object call.ensures.kind) call.ensures.valid call.ensures.replied
+
+pub returns-in-IntegersByText-clause-called : goal.returns-in-IntegersByText-clause-called
+returns-in-IntegersByText-clause-called c =
+    let call = c.call_own-in-IntegersByText in
+    let old = c.in-IntegersByText.map in
+    own_called (a_map (map_kind_of old) Str Integer) (entries_of old) (entries_of call.new.object) c.args.object.now (IntegersByText call.new.object) c.args.operation
+    (arguments_of c.args.args.now) (told call.new.reply call.result) (ap memory_of c.in-IntegersByText.is ∙ integers_by_text old)
+    (map_now Str Integer IntegersByText integers_by_text old call.new.object call.ensures.kind)
+    (λ rows. map_same Str Integer IntegersByText integers_by_text old call.new.object call.ensures.kind rows ∙ sym c.in-IntegersByText.is) call.ensures.valid call.ensures.replied
+
+pub returns-in-IntegersByText-clause-lasts : goal.returns-in-IntegersByText-clause-lasts
+returns-in-IntegersByText-clause-lasts c =
+    let call = c.call_own-in-IntegersByText in
+    let old = c.in-IntegersByText.map in
+    own_lasts (a_map (map_kind_of old) Str Integer) (entries_of old) (entries_of call.new.object) c.args.object.now (IntegersByText call.new.object) c.args.operation
+    (arguments_of c.args.args.now) (told call.new.reply call.result) (ap memory_of c.in-IntegersByText.is ∙ integers_by_text old)
+    (map_now Str Integer IntegersByText integers_by_text old call.new.object call.ensures.kind) call.ensures.valid call.ensures.replied
+
+pub returns-in-TextsByInteger-clause-called : goal.returns-in-TextsByInteger-clause-called
+returns-in-TextsByInteger-clause-called c =
+    let call = c.call_own-in-TextsByInteger in
+    let old = c.in-TextsByInteger.map in
+    own_called (a_map (map_kind_of old) Integer Str) (entries_of old) (entries_of call.new.object) c.args.object.now (TextsByInteger call.new.object) c.args.operation
+    (arguments_of c.args.args.now) (told call.new.reply call.result) (ap memory_of c.in-TextsByInteger.is ∙ texts_by_integer old)
+    (map_now Integer Str TextsByInteger texts_by_integer old call.new.object call.ensures.kind)
+    (λ rows. map_same Integer Str TextsByInteger texts_by_integer old call.new.object call.ensures.kind rows ∙ sym c.in-TextsByInteger.is) call.ensures.valid call.ensures.replied
+
+pub returns-in-TextsByInteger-clause-lasts : goal.returns-in-TextsByInteger-clause-lasts
+returns-in-TextsByInteger-clause-lasts c =
+    let call = c.call_own-in-TextsByInteger in
+    let old = c.in-TextsByInteger.map in
+    own_lasts (a_map (map_kind_of old) Integer Str) (entries_of old) (entries_of call.new.object) c.args.object.now (TextsByInteger call.new.object) c.args.operation
+    (arguments_of c.args.args.now) (told call.new.reply call.result) (ap memory_of c.in-TextsByInteger.is ∙ texts_by_integer old)
+    (map_now Integer Str TextsByInteger texts_by_integer old call.new.object call.ensures.kind) call.ensures.valid call.ensures.replied
+
+pub returns-in-TextsByText-clause-called : goal.returns-in-TextsByText-clause-called
+returns-in-TextsByText-clause-called c =
+    let call = c.call_own-in-TextsByText in
+    let old = c.in-TextsByText.map in
+    own_called (a_map (map_kind_of old) Str Str) (entries_of old) (entries_of call.new.object) c.args.object.now (TextsByText call.new.object) c.args.operation
+    (arguments_of c.args.args.now) (told call.new.reply call.result) (ap memory_of c.in-TextsByText.is ∙ texts_by_text old)
+    (map_now Str Str TextsByText texts_by_text old call.new.object call.ensures.kind)
+    (λ rows. map_same Str Str TextsByText texts_by_text old call.new.object call.ensures.kind rows ∙ sym c.in-TextsByText.is) call.ensures.valid call.ensures.replied
+
+pub returns-in-TextsByText-clause-lasts : goal.returns-in-TextsByText-clause-lasts
+returns-in-TextsByText-clause-lasts c =
+    let call = c.call_own-in-TextsByText in
+    let old = c.in-TextsByText.map in
+    own_lasts (a_map (map_kind_of old) Str Str) (entries_of old) (entries_of call.new.object) c.args.object.now (TextsByText call.new.object) c.args.operation
+    (arguments_of c.args.args.now) (told call.new.reply call.result) (ap memory_of c.in-TextsByText.is ∙ texts_by_text old)
+    (map_now Str Str TextsByText texts_by_text old call.new.object call.ensures.kind) call.ensures.valid call.ensures.replied

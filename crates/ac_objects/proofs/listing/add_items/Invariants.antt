@@ -4,19 +4,18 @@ use Rattle.ac_io.specs.Pieces.{AddsSoFar}
 use Rattle.ac_model.specs.Objects.{plain, contents}
 use Rattle.ac_model.specs.Letters.{mark_in}
 use Rattle.ac_model.specs.Calls.{Marks}
-use Rattle.ac_syntax.specs.Canonical.{literal_text}
 use Rattle.ac_meaning.specs.Listings.{separated}
-use Rattle.ac_objects.specs.Sequences.{rows_of}
 use Rattle.ac_objects.proofs.Listed.{listed_from}
 use Rattle.ac_objects.proofs.listing.add_items.Given as goal
 
 abbrev pub invariant-loop-place : goal.invariant-loop-place
 invariant-loop-place g l =
     let sink = g.K.Sink in
-    let literal = λ (e : g.row.T.Denot). literal_text (g.T.ScriptElement.tools.to_value e) in
+    let text = g.C.RowObject.row_text in
+    let o = (g.C.RowObject.rows l.object).object in
     record {
-      at : Marks (rows_of l.sequence).object l.c (mark_in (plain (rows_of l.sequence).object) l.place);
+      at : Marks o l.c (mark_in (plain o) l.place);
       adds : AddsSoFar sink.held sink.faults sink.room sink.counts_failures l.fn.sink l.sink l.fn.text.items l.text.items
-          (listed_from literal l.place (contents (plain (rows_of l.sequence).object))) (separated literal (contents (plain (rows_of l.sequence).object)));
+          (listed_from text l.place (contents (plain o))) (separated text (contents (plain o)));
       short : length l.fn.text.items ≤ MOST_WAITING → length l.text.items ≤ MOST_WAITING;
     }

@@ -1,12 +1,14 @@
 use Rattle.std.proofs.Common.{rules, subst, sym}
 use Rattle.ac_check.specs.declared.operation.Operation.TheVariants.{Common, Sequence, Capacity, Vector, List}
 use Rattle.ac_model.specs.Objects.{plain}
+use Rattle.ac_meaning.specs.Holdings.{reply_by}
 use Rattle.ac_meaning.specs.Replies.{itself, seen_by}
 use Rattle.ac_objects.specs.Arguments.{arguments_of, marked}
 use Rattle.ac_objects.specs.Replied.{IsMade, Replied, told}
 use Rattle.ac_objects.specs.Sequences.{rows_of, kind_of}
 use Rattle.ac_objects.proofs.Made.{unchanged}
-use Rattle.ac_objects.proofs.Operations.{replied_by, common_by, sequence_by, no_sequence_call}
+use Rattle.ac_objects.proofs.Operations.{replied_by}
+use Rattle.ac_objects.proofs.SequenceOperations.{common_by, sequence_by, no_sequence_call}
 use Rattle.ac_objects.proofs.operating.operate.Goals as goal
 
 pub returns-in-Common-clause-replied : goal.returns-in-Common-clause-replied
@@ -14,8 +16,8 @@ returns-in-Common-clause-replied g c =
     let tools = g.T.ScriptElement.tools in
     let s = c.args.sequence.now in
     let old = rows_of s in
-    replied_by tools (kind_of s) old _ c.args.args.now c.args.operation (Common c.in-Common.call) _ c.requires.agree c.in-Common.is
-    (subst (λ r. Replied r old (rows_of c.common_call.new.sequence) (told c.common_call.new.reply c.common_call.result))
+    replied_by (λ source args operation. reply_by tools (plain old.object) source args (kind_of s) operation) old _ c.args.args.now c.args.operation (Common c.in-Common.call) _ c.requires.agree c.in-Common.is
+    (subst (λ r. Replied r old (rows_of c.common_call.new.object) (told c.common_call.new.reply c.common_call.result))
     (common_by tools (kind_of s) (plain old.object) itself (marked old.object c.args.args.now) c.in-Common.call) c.common_call.ensures.replied)
 
 pub returns-in-Sequence-clause-replied : goal.returns-in-Sequence-clause-replied
@@ -23,7 +25,7 @@ returns-in-Sequence-clause-replied g c =
     let tools = g.T.ScriptElement.tools in
     let s = c.args.sequence.now in
     let old = rows_of s in
-    replied_by tools (kind_of s) old _ c.args.args.now c.args.operation (Sequence c.in-Sequence.call) _ c.requires.agree c.in-Sequence.is
+    replied_by (λ source args operation. reply_by tools (plain old.object) source args (kind_of s) operation) old _ c.args.args.now c.args.operation (Sequence c.in-Sequence.call) _ c.requires.agree c.in-Sequence.is
     (subst (λ r. Replied r old (rows_of c.sequence_call.new.sequence) (told c.sequence_call.new.reply c.sequence_call.result))
     (sequence_by tools (kind_of s) (plain old.object) itself (marked old.object c.args.args.now) c.in-Sequence.call) c.sequence_call.ensures.replied)
 
@@ -32,7 +34,7 @@ returns-in-Capacity-clause-replied g c =
     let tools = g.T.ScriptElement.tools in
     let s = c.args.sequence.now in
     let old = rows_of s in
-    replied_by tools (kind_of s) old _ c.args.args.now c.args.operation (Capacity c.in-Capacity.call) _ c.requires.agree c.in-Capacity.is
+    replied_by (λ source args operation. reply_by tools (plain old.object) source args (kind_of s) operation) old _ c.args.args.now c.args.operation (Capacity c.in-Capacity.call) _ c.requires.agree c.in-Capacity.is
     c.operate_capacity.ensures.replied
 
 pub returns-in-Vector-clause-replied : goal.returns-in-Vector-clause-replied
@@ -40,7 +42,7 @@ returns-in-Vector-clause-replied g c =
     let tools = g.T.ScriptElement.tools in
     let s = c.args.sequence.now in
     let old = rows_of s in
-    replied_by tools (kind_of s) old _ c.args.args.now c.args.operation (Vector c.in-Vector.call) _ c.requires.agree c.in-Vector.is
+    replied_by (λ source args operation. reply_by tools (plain old.object) source args (kind_of s) operation) old _ c.args.args.now c.args.operation (Vector c.in-Vector.call) _ c.requires.agree c.in-Vector.is
     c.operate_vector.ensures.replied
 
 pub returns-in-List-clause-replied : goal.returns-in-List-clause-replied
@@ -48,7 +50,7 @@ returns-in-List-clause-replied g c =
     let tools = g.T.ScriptElement.tools in
     let s = c.args.sequence.now in
     let old = rows_of s in
-    replied_by tools (kind_of s) old _ c.args.args.now c.args.operation (List c.in-List.call) _ c.requires.agree c.in-List.is
+    replied_by (λ source args operation. reply_by tools (plain old.object) source args (kind_of s) operation) old _ c.args.args.now c.args.operation (List c.in-List.call) _ c.requires.agree c.in-List.is
     c.operate_list.ensures.replied
 
 pub returns-in_default-clause-replied : goal.returns-in_default-clause-replied

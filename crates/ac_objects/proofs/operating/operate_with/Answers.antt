@@ -1,13 +1,15 @@
 use Rattle.std.proofs.Common.{rules, refl, subst, sym}
 use Rattle.ac_check.specs.declared.operation.Operation.TheVariants.{Common, Sequence, Capacity, Vector, List}
 use Rattle.ac_model.specs.Objects.{plain}
+use Rattle.ac_meaning.specs.Holdings.{reply_by}
 use Rattle.ac_meaning.specs.Replies.{another, seen_by}
 use Rattle.ac_objects.specs.Arguments.{arguments_of, marked}
 use Rattle.ac_objects.specs.Replied.{IsMadeWith, RepliedWith, told}
 use Rattle.ac_objects.specs.SequenceCalls.{source_of}
 use Rattle.ac_objects.specs.Sequences.{rows_of, kind_of}
 use Rattle.ac_objects.proofs.Made.{unchanged}
-use Rattle.ac_objects.proofs.Operations.{replied_with_by, common_by, sequence_by, no_sequence_call}
+use Rattle.ac_objects.proofs.Operations.{replied_with_by}
+use Rattle.ac_objects.proofs.SequenceOperations.{common_by, sequence_by, no_sequence_call}
 use Rattle.ac_objects.proofs.operating.operate_with.Goals as goal
 
 pub returns-in-Common-clause-replied : goal.returns-in-Common-clause-replied
@@ -16,8 +18,8 @@ returns-in-Common-clause-replied g c =
     let s = c.args.sequence.now in
     let old = rows_of s in
     let source = rows_of c.args.source.now in
-    replied_with_by tools (kind_of s) old source _ _ c.args.args.now c.args.operation (Common c.in-Common.call) _ c.requires.agree c.requires.agree_with_source c.in-Common.is
-    (subst (λ r. RepliedWith r old source (rows_of c.common_call_with.new.sequence) (rows_of c.common_call_with.new.source) (told c.common_call_with.new.reply c.common_call_with.result))
+    replied_with_by (λ source args operation. reply_by tools (plain old.object) source args (kind_of s) operation) old source _ _ c.args.args.now c.args.operation (Common c.in-Common.call) _ c.requires.agree c.requires.agree_with_source c.in-Common.is
+    (subst (λ r. RepliedWith r old source (rows_of c.common_call_with.new.object) (rows_of c.common_call_with.new.source) (told c.common_call_with.new.reply c.common_call_with.result))
     (common_by tools (kind_of s) (plain old.object) (source_of source c.args.args.now) (marked old.object c.args.args.now) c.in-Common.call) c.common_call_with.ensures.replied)
 
 pub returns-in-Sequence-clause-replied : goal.returns-in-Sequence-clause-replied
@@ -26,7 +28,7 @@ returns-in-Sequence-clause-replied g c =
     let s = c.args.sequence.now in
     let old = rows_of s in
     let source = rows_of c.args.source.now in
-    replied_with_by tools (kind_of s) old source _ _ c.args.args.now c.args.operation (Sequence c.in-Sequence.call) _ c.requires.agree c.requires.agree_with_source c.in-Sequence.is
+    replied_with_by (λ source args operation. reply_by tools (plain old.object) source args (kind_of s) operation) old source _ _ c.args.args.now c.args.operation (Sequence c.in-Sequence.call) _ c.requires.agree c.requires.agree_with_source c.in-Sequence.is
     (subst (λ r. RepliedWith r old source (rows_of c.sequence_call_with.new.sequence) (rows_of c.sequence_call_with.new.source) (told c.sequence_call_with.new.reply c.sequence_call_with.result))
     (sequence_by tools (kind_of s) (plain old.object) (source_of source c.args.args.now) (marked old.object c.args.args.now) c.in-Sequence.call) c.sequence_call_with.ensures.replied)
 
@@ -36,7 +38,7 @@ returns-in-Capacity-clause-replied g c =
     let s = c.args.sequence.now in
     let old = rows_of s in
     let source = rows_of c.args.source.now in
-    replied_with_by tools (kind_of s) old source _ _ c.args.args.now c.args.operation (Capacity c.in-Capacity.call) _ c.requires.agree c.requires.agree_with_source c.in-Capacity.is
+    replied_with_by (λ source args operation. reply_by tools (plain old.object) source args (kind_of s) operation) old source _ _ c.args.args.now c.args.operation (Capacity c.in-Capacity.call) _ c.requires.agree c.requires.agree_with_source c.in-Capacity.is
     c.operate_capacity_with.ensures.replied
 
 pub returns-in-Vector-clause-replied : goal.returns-in-Vector-clause-replied
@@ -45,7 +47,7 @@ returns-in-Vector-clause-replied g c =
     let s = c.args.sequence.now in
     let old = rows_of s in
     let source = rows_of c.args.source.now in
-    replied_with_by tools (kind_of s) old source _ _ c.args.args.now c.args.operation (Vector c.in-Vector.call) _ c.requires.agree c.requires.agree_with_source c.in-Vector.is
+    replied_with_by (λ source args operation. reply_by tools (plain old.object) source args (kind_of s) operation) old source _ _ c.args.args.now c.args.operation (Vector c.in-Vector.call) _ c.requires.agree c.requires.agree_with_source c.in-Vector.is
     c.operate_vector_with.ensures.replied
 
 pub returns-in-List-clause-replied : goal.returns-in-List-clause-replied
@@ -54,7 +56,7 @@ returns-in-List-clause-replied g c =
     let s = c.args.sequence.now in
     let old = rows_of s in
     let source = rows_of c.args.source.now in
-    replied_with_by tools (kind_of s) old source _ _ c.args.args.now c.args.operation (List c.in-List.call) _ c.requires.agree c.requires.agree_with_source c.in-List.is
+    replied_with_by (λ source args operation. reply_by tools (plain old.object) source args (kind_of s) operation) old source _ _ c.args.args.now c.args.operation (List c.in-List.call) _ c.requires.agree c.requires.agree_with_source c.in-List.is
     c.operate_list_with.ensures.replied
 
 pub returns-in_default-clause-replied : goal.returns-in_default-clause-replied

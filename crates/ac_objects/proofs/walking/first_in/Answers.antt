@@ -5,23 +5,22 @@ use Rattle.ac_model.specs.Cursors.{plain_mark}
 use Rattle.ac_meaning.specs.Execution.{in_order}
 use Rattle.ac_meaning.specs.Walks.{first_mark}
 use Rattle.ac_objects.proofs.Walked.{start_given, start_marks}
-use Rattle.ac_objects.specs.Sequences.{rows_of}
 use Rattle.ac_objects.proofs.walking.first_in.Goals as goal
 
 pub returns-then-backward-clause-given : goal.returns-then-backward-clause-given
-returns-then-backward-clause-given g c = start_given true (rows_of c.args.sequence.now).object c.last.result c.law.ensures c.last.ensures
+returns-then-backward-clause-given g c = start_given true (g.C.RowObject.rows c.args.object.now).object c.last.result c.law.ensures c.last.ensures
 
 pub returns-then-backward-clause-first : goal.returns-then-backward-clause-first
 returns-then-backward-clause-first g c =
-    let o = (rows_of c.args.sequence.now).object in
+    let o = (g.C.RowObject.rows c.args.object.now).object in
     subst (λ b. plain_mark c.last.result ≡ first_mark o.number (in_order b (names (plain o).rows))) (sym c.if-backward.true)
     (start_marks true o c.last.result c.last.ensures)
 
 pub returns-else-backward-clause-given : goal.returns-else-backward-clause-given
-returns-else-backward-clause-given g c = start_given false (rows_of c.args.sequence.now).object c.first.result c.law.ensures c.first.ensures
+returns-else-backward-clause-given g c = start_given false (g.C.RowObject.rows c.args.object.now).object c.first.result c.law.ensures c.first.ensures
 
 pub returns-else-backward-clause-first : goal.returns-else-backward-clause-first
 returns-else-backward-clause-first g c =
-    let o = (rows_of c.args.sequence.now).object in
+    let o = (g.C.RowObject.rows c.args.object.now).object in
     subst (λ b. plain_mark c.first.result ≡ first_mark o.number (in_order b (names (plain o).rows))) (sym c.if-backward.false)
     (start_marks false o c.first.result c.first.ensures)

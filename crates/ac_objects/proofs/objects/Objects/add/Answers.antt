@@ -5,11 +5,11 @@ use Rattle.ac_objects.proofs.objects.Objects.add.Goals as goal
 pub invariant_of-self : goal.invariant_of-self
 invariant_of-self c =
     let s = c.self.inside in
-    added_sound c.args.self.now s.bounds.items c.push.new.self.items s.mint c.args.bound (is_ok c.push.result) c.self.view_is
-    c.push.ensures.items c.requires.no_object c.requires.known c.self.invariant
+    added_sound c.args.self.now s.bounds.items c.put_last.new.bounds.items s.mint c.args.bound (is_ok c.put_last.result) c.self.view_is
+    c.put_last.ensures c.requires.no_object c.requires.known c.self.invariant
 
 pub returns-clause-persists : goal.returns-clause-persists
 returns-clause-persists c =
     let s = c.self.inside in
-    added_persists c.args.self.now s.bounds.items c.push.new.self.items s.mint c.args.bound (is_ok c.push.result) c.self.view_is
-    c.push.ensures.items c.requires.no_object
+    added_persists c.args.self.now s.bounds.items c.put_last.new.bounds.items s.mint c.args.bound (is_ok c.put_last.result) c.self.view_is
+    c.put_last.ensures c.requires.no_object

@@ -13,7 +13,7 @@ invariant_of-self-2 c =
     let s = c.self.inside in
     let given = c.in-Some.ensures.given in
     object_sound c.args.self.now s.bounds.items s.mint c.next.new.self c.in-Some.tag c.self.view_is given.0 given.2
-    c.push.new.self.items c.in-Ok.object c.args.def.now c.args.capacity (is_ok c.push.result) c.push.ensures.items c.in-Ok.ensures
+    c.put_last.new.bounds.items c.in-Ok.object c.args.def.now c.args.capacity (is_ok c.put_last.result) c.put_last.ensures c.in-Ok.ensures
     given.1 c.self.invariant
 
 pub returns-clause-persists : goal.returns-clause-persists
@@ -21,4 +21,4 @@ returns-clause-persists c =
     let s = c.self.inside in
     let given = c.in-Some.ensures.given in
     object_persists c.args.self.now s.bounds.items s.mint c.next.new.self c.in-Some.tag c.self.view_is given.0 given.2
-    c.push.new.self.items c.in-Ok.object c.args.def.now c.args.capacity (is_ok c.push.result) c.push.ensures.items c.in-Ok.ensures
+    c.put_last.new.bounds.items c.in-Ok.object c.args.def.now c.args.capacity (is_ok c.put_last.result) c.put_last.ensures c.in-Ok.ensures

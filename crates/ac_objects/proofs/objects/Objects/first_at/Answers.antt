@@ -1,7 +1,17 @@
-use Rattle.std.proofs.Common.{subst}
+use Rattle.std.proofs.Common.{◌≡◌, subst}
+use Rattle.ac_model.specs.Cursors.{plain_mark}
+use Rattle.ac_meaning.specs.Execution.{in_order}
+use Rattle.ac_meaning.specs.Holdings.{names_of, number_of}
+use Rattle.ac_meaning.specs.Walks.{first_mark}
 use Rattle.ac_objects.specs.World.{IsSound}
+use Rattle.ac_objects.proofs.Found.{holds_there}
 use Rattle.ac_objects.proofs.Given.{found_known}
 use Rattle.ac_objects.proofs.objects.Objects.first_at.Goals as goal
+
+pub returns-in-Some-clause-first : goal.returns-in-Some-clause-first
+returns-in-Some-clause-first c =
+    holds_there (λ h. plain_mark c.first_of.result ≡ first_mark (number_of h) (in_order c.args.backward (names_of h)))
+    c.args.self.now c.args.place c.in-Some.object.now c.in-Some.ensures c.first_of.ensures.first
 
 pub returns-in-Some-clause-known : goal.returns-in-Some-clause-known
 returns-in-Some-clause-known c =

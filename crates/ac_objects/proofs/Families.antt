@@ -1,0 +1,121 @@
+-- What a list or a vector, a set and a map of one type are in memory, after a call that keeps their kind.
+use Rattle.std.proofs.Common.{◌≡◌, ℤ, refl, ap, ◌∙◌}
+use Rattle.ac_syntax.specs.declared.kind.ElemKind.{ElemKind}
+use Rattle.ac_syntax.specs.declared.kind.ElemKind.TheVariants.{Integer, Str}
+use Rattle.ac_meaning.specs.Elements.{ElementOf, Text}
+use Rattle.ac_meaning.specs.Holdings.{SequenceKind, of_list, of_vector, RowKind, a_sequence, a_map, a_set}
+use Rattle.ac_meaning.specs.KeyedReplies.{KeyedKind, of_hashed, of_ordered}
+use Rattle.ac_objects.specs.declared.object.Object.{Object}
+use Rattle.ac_objects.specs.declared.object.Object.TheVariants.{Integers, Texts, IntegerSet, TextSet, IntegersByInteger, IntegersByText, TextsByInteger, TextsByText}
+use Rattle.ac_objects.specs.declared.map.Map.{Map}
+use Rattle.ac_objects.specs.declared.map.Map.TheVariants as map
+use Rattle.ac_objects.specs.declared.sequence.Sequence.{Sequence}
+use Rattle.ac_objects.specs.declared.sequence.Sequence.TheVariants.{List, Vector}
+use Rattle.ac_objects.specs.declared.set.Set.{Set}
+use Rattle.ac_objects.specs.declared.set.Set.TheVariants as set
+use Rattle.ac_objects.specs.Maps.{entries_of, map_kind_of}
+use Rattle.ac_objects.specs.Sequences.{rows_of, kind_of}
+use Rattle.ac_objects.specs.Sets.{items_of, set_kind_of}
+use Rattle.ac_objects.specs.World.{in_rows, memory_of}
+
+-- which of its two a kind is
+
+abbrev sequence_in : RowKind → SequenceKind
+sequence_in (a_sequence which e) = which
+sequence_in (a_map which k e) = of_list
+sequence_in (a_set which e) = of_list
+
+abbrev keyed_in : RowKind → KeyedKind
+keyed_in (a_sequence which e) = of_hashed
+keyed_in (a_map which k e) = which
+keyed_in (a_set which e) = which
+
+list_is_none : of_list ≡ of_vector → ⊥
+list_is_none e = cc
+
+vector_is_none : of_vector ≡ of_list → ⊥
+vector_is_none e = cc
+
+hashed_is_none : of_hashed ≡ of_ordered → ⊥
+hashed_is_none e = cc
+
+ordered_is_none : of_ordered ≡ of_hashed → ⊥
+ordered_is_none e = cc
+
+-- the rows and the kind are all of it
+
+same_sequence : {T : Type 0} (old new : Sequence T) → kind_of new ≡ kind_of old → rows_of new ≡ rows_of old → new ≡ old
+same_sequence (List l) (List m) kind rows = ap List rows
+same_sequence (List l) (Vector w) kind rows = absurd (vector_is_none kind)
+same_sequence (Vector v) (List m) kind rows = absurd (list_is_none kind)
+same_sequence (Vector v) (Vector w) kind rows = ap Vector rows
+
+same_set : {T : Type 0} (old new : Set T) → set_kind_of new ≡ set_kind_of old → items_of new ≡ items_of old → new ≡ old
+same_set (set.Hashed s) (set.Hashed t) kind rows = ap set.Hashed rows
+same_set (set.Hashed s) (set.Ordered t) kind rows = absurd (ordered_is_none kind)
+same_set (set.Ordered s) (set.Hashed t) kind rows = absurd (hashed_is_none kind)
+same_set (set.Ordered s) (set.Ordered t) kind rows = ap set.Ordered rows
+
+same_map : {K V : Type 0} (old new : Map K V) → map_kind_of new ≡ map_kind_of old → entries_of new ≡ entries_of old → new ≡ old
+same_map (map.Hashed m) (map.Hashed n) kind rows = ap map.Hashed rows
+same_map (map.Hashed m) (map.Ordered n) kind rows = absurd (ordered_is_none kind)
+same_map (map.Ordered m) (map.Hashed n) kind rows = absurd (hashed_is_none kind)
+same_map (map.Ordered m) (map.Ordered n) kind rows = ap map.Ordered rows
+
+module _ (e : ElemKind) (wrap : Sequence (ElementOf e) → Object) (wrapped : (s : Sequence (ElementOf e)) → memory_of (wrap s) ≡ in_rows (a_sequence (kind_of s) e) (rows_of s))
+    (old new : Sequence (ElementOf e)) (kept : a_sequence (kind_of new) e ≡ a_sequence (kind_of old) e) where
+  pub sequence_now : memory_of (wrap new) ≡ in_rows (a_sequence (kind_of old) e) (rows_of new)
+  sequence_now = wrapped new ∙ ap (λ which. in_rows (a_sequence which e) (rows_of new)) (ap sequence_in kept)
+
+  pub sequence_same : rows_of new ≡ rows_of old → wrap new ≡ wrap old
+  sequence_same rows = ap wrap (same_sequence old new (ap sequence_in kept) rows)
+
+module _ (e : ElemKind) (wrap : Set (ElementOf e) → Object) (wrapped : (s : Set (ElementOf e)) → memory_of (wrap s) ≡ in_rows (a_set (set_kind_of s) e) (items_of s))
+    (old new : Set (ElementOf e)) (kept : a_set (set_kind_of new) e ≡ a_set (set_kind_of old) e) where
+  pub set_now : memory_of (wrap new) ≡ in_rows (a_set (set_kind_of old) e) (items_of new)
+  set_now = wrapped new ∙ ap (λ which. in_rows (a_set which e) (items_of new)) (ap keyed_in kept)
+
+  pub set_same : items_of new ≡ items_of old → wrap new ≡ wrap old
+  set_same rows = ap wrap (same_set old new (ap keyed_in kept) rows)
+
+module _ (k e : ElemKind) (wrap : Map (ElementOf k) (ElementOf e) → Object) (wrapped : (s : Map (ElementOf k) (ElementOf e)) → memory_of (wrap s) ≡ in_rows (a_map (map_kind_of s) k e) (entries_of s))
+    (old new : Map (ElementOf k) (ElementOf e)) (kept : a_map (map_kind_of new) k e ≡ a_map (map_kind_of old) k e) where
+  pub map_now : memory_of (wrap new) ≡ in_rows (a_map (map_kind_of old) k e) (entries_of new)
+  map_now = wrapped new ∙ ap (λ which. in_rows (a_map which k e) (entries_of new)) (ap keyed_in kept)
+
+  pub map_same : entries_of new ≡ entries_of old → wrap new ≡ wrap old
+  map_same rows = ap wrap (same_map old new (ap keyed_in kept) rows)
+
+-- what each variant is in memory
+
+pub integers : (s : Sequence ℤ) → memory_of (Integers s) ≡ in_rows (a_sequence (kind_of s) Integer) (rows_of s)
+unfolding memory_of
+integers s = refl
+
+pub texts : (s : Sequence Text) → memory_of (Texts s) ≡ in_rows (a_sequence (kind_of s) Str) (rows_of s)
+unfolding memory_of
+texts s = refl
+
+pub integer_set : (s : Set ℤ) → memory_of (IntegerSet s) ≡ in_rows (a_set (set_kind_of s) Integer) (items_of s)
+unfolding memory_of
+integer_set s = refl
+
+pub text_set : (s : Set Text) → memory_of (TextSet s) ≡ in_rows (a_set (set_kind_of s) Str) (items_of s)
+unfolding memory_of
+text_set s = refl
+
+pub integers_by_integer : (s : Map ℤ ℤ) → memory_of (IntegersByInteger s) ≡ in_rows (a_map (map_kind_of s) Integer Integer) (entries_of s)
+unfolding memory_of
+integers_by_integer s = refl
+
+pub integers_by_text : (s : Map Text ℤ) → memory_of (IntegersByText s) ≡ in_rows (a_map (map_kind_of s) Str Integer) (entries_of s)
+unfolding memory_of
+integers_by_text s = refl
+
+pub texts_by_integer : (s : Map ℤ Text) → memory_of (TextsByInteger s) ≡ in_rows (a_map (map_kind_of s) Integer Str) (entries_of s)
+unfolding memory_of
+texts_by_integer s = refl
+
+pub texts_by_text : (s : Map Text Text) → memory_of (TextsByText s) ≡ in_rows (a_map (map_kind_of s) Str Str) (entries_of s)
+unfolding memory_of
+texts_by_text s = refl

@@ -1,0 +1,18 @@
+use Rattle.std.proofs.Common.{subst, sym}
+use Rattle.ac_model.specs.Calls.{Same}
+use Rattle.ac_model.specs.Forms.{Does}
+use Rattle.ac_model.specs.Maps.{insert_call}
+use Rattle.ac_objects.specs.declared.map.Map.{Map}
+use Rattle.ac_objects.specs.Maps.{entries_of, keys_in}
+use Rattle.ac_objects.proofs.map.Map.insert.Goals as goal
+
+pub returns-in-Hashed-clause-changed : goal.returns-in-Hashed-clause-changed
+returns-in-Hashed-clause-changed g c =
+    subst (λ (m : Map _ _). Does Same (λ o. insert_call (keys_in g.K.Hashed.is_alike g.K.Rank.is_less m) o c.args.key c.args.element)
+    (entries_of m) c.insert.new.self c.insert.result) (sym c.in-Hashed.is) c.insert.ensures.changed
+
+pub returns-in-Ordered-clause-changed : goal.returns-in-Ordered-clause-changed
+returns-in-Ordered-clause-changed g c =
+    let done = c.insert-in-Ordered in
+    subst (λ (m : Map _ _). Does Same (λ o. insert_call (keys_in g.K.Hashed.is_alike g.K.Rank.is_less m) o c.args.key c.args.element)
+    (entries_of m) done.new.self done.result) (sym c.in-Ordered.is) done.ensures.changed

@@ -1,0 +1,15 @@
+use Rattle.std.proofs.Common.{subst}
+use Rattle.ac_model.specs.Calls.{Same}
+use Rattle.ac_model.specs.Forms.{Does, seen_by}
+use Rattle.ac_model.specs.Maps.{write_call}
+use Rattle.ac_objects.specs.Maps.{entries_of}
+use Rattle.ac_objects.proofs.Kept.{writes_in}
+use Rattle.ac_objects.proofs.map.row_object.MapRowObject.write_value.Goals as goal
+
+pub returns-clause-written : goal.returns-clause-written
+returns-clause-written g c =
+    let old = entries_of c.args.self.now in
+    let new = entries_of c.write.new.self in
+    let written = g.V.ScriptElement.tools.from_value c.args.value in
+    writes_in (λ o. write_call o (seen_by old c.args.c) written) old new c.write.result c.write.ensures.slots
+    (subst (λ e. Does Same (λ o. write_call o (seen_by old c.args.c) e) old new c.write.result) c.in_ok-element.ensures c.write.ensures.changed)

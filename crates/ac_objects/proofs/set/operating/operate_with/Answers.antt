@@ -1,0 +1,33 @@
+use Rattle.std.proofs.Common.{subst}
+use Rattle.ac_check.specs.declared.operation.Operation.TheVariants.{Common}
+use Rattle.ac_model.specs.Objects.{plain}
+use Rattle.ac_meaning.specs.Replies.{another, seen_by}
+use Rattle.ac_meaning.specs.SetReplies.{set_reply}
+use Rattle.ac_objects.specs.Arguments.{arguments_of}
+use Rattle.ac_objects.specs.Replied.{RepliedWith, told}
+use Rattle.ac_objects.specs.Sets.{items_of, set_kind_of}
+use Rattle.ac_objects.proofs.Operations.{replied_beside, replied_with_by}
+use Rattle.ac_objects.proofs.SetOperations.{no_source}
+use Rattle.ac_objects.proofs.set.operating.operate_with.Goals as goal
+
+pub returns-in-Common-clause-replied : goal.returns-in-Common-clause-replied
+returns-in-Common-clause-replied g c =
+    let s = c.args.set.now in
+    let old = items_of s in
+    let source = items_of c.args.source.now in
+    replied_with_by (λ source args operation. set_reply g.T.ScriptElement.tools (plain old.object) source args (set_kind_of s) operation) old source _ _
+    c.args.args.now c.args.operation (Common c.in-Common.call) _ c.requires.agree c.requires.agree_with_source c.in-Common.is
+    c.common_call_with.ensures.replied
+
+pub returns-in_default-clause-replied : goal.returns-in_default-clause-replied
+returns-in_default-clause-replied g c =
+    let s = c.args.set.now in
+    let old = items_of s in
+    let source = items_of c.args.source.now in
+    let now = items_of c.operate.new.set in
+    let made = told c.operate.new.reply c.operate.result in
+    subst (λ r. RepliedWith r old source now source made)
+    (no_source g.T.ScriptElement.tools (set_kind_of s) c.args.operation (plain old.object)
+    (another (plain source.object) (seen_by (plain source.object) (arguments_of c.args.args.now)))
+    (seen_by (plain old.object) (arguments_of c.args.args.now)) c.in_default.not-Common)
+    (replied_beside _ old source now made c.operate.ensures.replied)

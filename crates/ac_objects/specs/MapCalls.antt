@@ -1,0 +1,35 @@
+-- What a call of a map in scripts comes to in the code, where its arguments are as the object sees them, and as its source does.
+use Rattle.ac_base.specs.declared.fault.Fault.{Fault}
+use Rattle.std.specs.Prelude.{ℕ, Result}
+use Rattle.ac_model.specs.Objects.{Object}
+use Rattle.ac_model.specs.Rows.{Entry}
+use Rattle.ac_model.specs.Containers.{Container}
+use Rattle.ac_check.specs.declared.operation.Operation.{Operation}
+use Rattle.ac_check.specs.declared.operation.MapCall.{MapCall}
+use Rattle.ac_check.specs.declared.operation.OrderedMapCall.{OrderedMapCall}
+use Rattle.ac_meaning.specs.Elements.{Tools}
+use Rattle.ac_meaning.specs.KeyedReplies.{of_ordered}
+use Rattle.ac_meaning.specs.MapReplies.{map_alone_reply, ordered_map_reply, map_reply}
+use Rattle.ac_meaning.specs.Replies.{Source}
+use Rattle.ac_objects.specs.declared.argument.Arguments.{Arguments}
+use Rattle.ac_objects.specs.declared.map.Map.{Map}
+use Rattle.ac_objects.specs.declared.reply.Reply.{Reply}
+use Rattle.ac_objects.specs.Maps.{entries_of, map_kind_of}
+use Rattle.ac_objects.specs.RowCalls.{RowsReplied}
+
+module _ {K V : Type 0} (keys : Tools K) (tools : Tools V) where
+  -- a call of maps alone
+  abbrev pub MapReplied : MapCall → Arguments → (old new : Map K V) → Result Reply Fault → Type 0
+  MapReplied call args old new result =
+      RowsReplied (λ o seen. map_alone_reply keys tools (map_kind_of old) o seen call) args (entries_of old) (entries_of new) result
+
+  -- one of ordered maps alone
+  abbrev pub OrderedMapReplied : OrderedMapCall → Arguments → (old new : Container (Entry K V)) → Result Reply Fault → Type 0
+  OrderedMapReplied call args old new result =
+      RowsReplied (λ o seen. ordered_map_reply keys tools of_ordered o seen call) args old new result
+
+  -- an operation that has no source, whatever stands for it
+  abbrev pub AloneReplied : Operation → Arguments → (old new : Map K V) → Result Reply Fault → Type 0
+  AloneReplied operation args old new result =
+      (source : Source (Object ℕ (Entry K V)))
+      → RowsReplied (λ o seen. map_reply keys tools o source seen (map_kind_of old) operation) args (entries_of old) (entries_of new) result

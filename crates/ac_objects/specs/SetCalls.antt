@@ -1,0 +1,35 @@
+-- What a call of a set in scripts comes to in the code, where its arguments are as the object sees them.
+use Rattle.std.specs.Prelude.{Bool, Result}
+use Rattle.ac_base.specs.declared.fault.Fault.{Fault}
+use Rattle.ac_model.specs.Containers.{Container}
+use Rattle.ac_check.specs.declared.operation.Operation.{Operation}
+use Rattle.ac_check.specs.declared.operation.SetCall.{SetCall}
+use Rattle.ac_check.specs.declared.operation.OrderedSetCall.{OrderedSetCall}
+use Rattle.ac_meaning.specs.Elements.{Tools}
+use Rattle.ac_meaning.specs.KeyedReplies.{of_ordered}
+use Rattle.ac_meaning.specs.Replies.{itself}
+use Rattle.ac_meaning.specs.SetReplies.{set_alone_reply, ordered_set_reply, set_reply}
+use Rattle.ac_objects.specs.declared.argument.Arguments.{Arguments}
+use Rattle.ac_objects.specs.declared.reply.Reply.{Reply}
+use Rattle.ac_objects.specs.declared.set.Set.{Set}
+use Rattle.ac_objects.specs.RowCalls.{RowsReplied}
+use Rattle.ac_objects.specs.Sets.{items_of, set_kind_of}
+
+-- the tools of an element type with its own tests
+abbrev pub tools_by : {T : Type 0} → Tools T → (alike less : T → T → Bool) → Tools T
+tools_by tools alike less = record tools { alike = alike; less = less }
+
+module _ {T : Type 0} (tools : Tools T) where
+  -- a call of sets alone
+  abbrev pub SetReplied : SetCall → Arguments → (old new : Set T) → Result Reply Fault → Type 0
+  SetReplied call args old new result =
+      RowsReplied (λ o seen. set_alone_reply tools (set_kind_of old) o seen call) args (items_of old) (items_of new) result
+
+  -- one of ordered ones
+  abbrev pub OrderedSetReplied : OrderedSetCall → Arguments → (old new : Container T) → Result Reply Fault → Type 0
+  OrderedSetReplied call args old new result = RowsReplied (λ o seen. ordered_set_reply tools of_ordered o seen call) args old new result
+
+  -- any operation
+  abbrev pub SetOperated : Operation → Arguments → (old new : Set T) → Result Reply Fault → Type 0
+  SetOperated operation args old new result =
+      RowsReplied (λ o seen. set_reply tools o itself seen (set_kind_of old) operation) args (items_of old) (items_of new) result

@@ -1,0 +1,38 @@
+//! Operations on maps as objects with rows.
+ghost use Rattle.ac_meaning.specs.MapReplies.{map_reply};
+ghost use Rattle.ac_objects.specs.Maps.{map_kind_of};
+
+use super::Map;
+use super::operating::{operate, operate_with};
+use crate::argument::Arguments;
+use crate::element::ScriptElement;
+use crate::operated_rows::OperatedRows;
+use crate::reply::Reply;
+use ac_base::Fault;
+use ac_check::Operation;
+use std::alloc::Global;
+
+impl<K: ScriptElement, V: ScriptElement> OperatedRows for Map<K, V> {
+    ghost comes_to = { λ m o source args operation. map_reply K.tools V.tools o source args (map_kind_of m) operation };
+
+    fn operate(
+        &mut self,
+        alloc: Global,
+        operation: Operation,
+        args: &mut Arguments,
+        reply: &mut Reply,
+    ) -> Result<(), Fault> {
+        operate(self, alloc, operation, args, reply)
+    }
+
+    fn operate_with(
+        &mut self,
+        source: &mut Map<K, V>,
+        alloc: Global,
+        operation: Operation,
+        args: &mut Arguments,
+        reply: &mut Reply,
+    ) -> Result<(), Fault> {
+        operate_with(self, source, alloc, operation, args, reply)
+    }
+}

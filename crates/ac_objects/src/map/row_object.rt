@@ -1,0 +1,117 @@
+//! Hashed and ordered maps as objects with rows.
+ghost use Rattle.std.specs.Prelude.{refl};
+ghost use Rattle.ac_syntax.specs.Canonical.{literal_text};
+ghost use Rattle.ac_meaning.specs.Holdings.{a_map};
+ghost use Rattle.ac_meaning.specs.MapReplies.{map_own};
+ghost use Rattle.ac_meaning.specs.Listings.{entry_text};
+ghost use Rattle.ac_objects.specs.Maps.{entries_of, map_kind_of};
+
+use super::Map;
+use super::listing::add_entry;
+use crate::element::ScriptElement;
+use crate::row_object::RowObject;
+use ac_base::{Fault, NoMemory, Reason, Value};
+use ac_cursor::Cursor;
+use ac_io::{Sink, WriteFault};
+use ac_setwork::Entry;
+use std::alloc::Global;
+
+impl<K: ScriptElement, V: ScriptElement> RowObject for Map<K, V> {
+    type Row = Entry<K, V>;
+
+    ghost rows = { entries_of };
+
+    ghost kind = { λ m. a_map (map_kind_of m) K.elem V.elem };
+
+    ghost own = { λ m o. map_own K.tools V.tools (map_kind_of m) o };
+
+    ghost row_text = { entry_text (λ k. literal_text (K.tools.to_value k)) (λ e. literal_text (V.tools.to_value e)) };
+
+    ghost listing_is = { λ _ _. refl };
+
+    fn law(&self) {
+        match self {
+            Map::Hashed(map) => map.law(),
+            Map::Ordered(map) => map.law(),
+        }
+    }
+
+    fn live_nodes(&self) -> u64 {
+        match self {
+            Map::Hashed(map) => map.live_nodes(),
+            Map::Ordered(map) => map.live_nodes(),
+        }
+    }
+
+    fn first(&self) -> Cursor {
+        match self {
+            Map::Hashed(map) => map.first(),
+            Map::Ordered(map) => map.first(),
+        }
+    }
+
+    fn last(&self) -> Cursor {
+        match self {
+            Map::Hashed(map) => map.last(),
+            Map::Ordered(map) => map.last(),
+        }
+    }
+
+    fn next(&self, c: Cursor) -> Result<Cursor, Fault> {
+        match self {
+            Map::Hashed(map) => map.next(c),
+            Map::Ordered(map) => map.next(c),
+        }
+    }
+
+    fn previous(&self, c: Cursor) -> Result<Cursor, Fault> {
+        match self {
+            Map::Hashed(map) => map.previous(c),
+            Map::Ordered(map) => map.previous(c),
+        }
+    }
+
+    fn refused(&self, c: Cursor) -> Option<Reason> {
+        match self.element(c) {
+            Ok(_) => None,
+            Err(Fault::Raised(reason)) => Some(reason),
+            Err(Fault::NoMemory) => unreachable!(),
+        }
+    }
+
+    fn element_value(&self, alloc: Global, c: Cursor) -> Result<Value, NoMemory> {
+        match self.element(c) {
+            Ok(element) => element.to_value(alloc),
+            Err(_) => unreachable!(),
+        }
+    }
+
+    fn write_value(&mut self, alloc: Global, c: Cursor, value: Value) -> Result<(), Fault> {
+        let element = V::from_value(alloc, value)?;
+        self.write(c, element)
+    }
+
+    fn add_row<W: Sink>(
+        &self,
+        c: Cursor,
+        text: &mut Vec<u8>,
+        sink: &mut W,
+    ) -> Result<(), WriteFault> {
+        let key = match self.key(c) {
+            Ok(key) => key,
+            Err(_) => unreachable!(),
+        };
+        let element = match self.element(c) {
+            Ok(element) => element,
+            Err(_) => unreachable!(),
+        };
+        add_entry(key, element, text, sink)
+    }
+
+    fn is_like(&self, other: &Map<K, V>) -> bool {
+        match self {
+            Map::Hashed(_) => other.is_hashed(),
+            Map::Ordered(_) => !other.is_hashed(),
+        }
+    }
+}

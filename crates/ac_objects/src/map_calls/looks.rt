@@ -1,0 +1,65 @@
+//! The calls of maps that look at their entries.
+ghost use Rattle.ac_objects.specs.MapCalls.{MapReplied};
+ghost use Rattle.ac_objects.specs.Replied.{told};
+
+use super::own_cursors;
+use crate::argument::Arguments;
+use crate::element::ScriptElement;
+use crate::map::Map;
+use crate::reply::{Reply, Said};
+use ac_base::Fault;
+use ac_check::MapCall;
+use std::alloc::Global;
+
+pub fn key<K: ScriptElement, V: ScriptElement>(
+    map: &Map<K, V>,
+    alloc: Global,
+    args: &Arguments,
+    reply: &mut Reply,
+) -> Result<(), Fault>
+    ensures { MapReplied K.tools V.tools MapCall.Key args.now map.now map.now (told reply.new result) }
+{
+    let key = map.key(args.first.cursor())?;
+    *reply = Reply::says(Said::Value(key.to_value(alloc)?));
+    Ok(())
+}
+
+pub fn element_key<K: ScriptElement, V: ScriptElement>(
+    map: &Map<K, V>,
+    alloc: Global,
+    args: &mut Arguments,
+    reply: &mut Reply,
+) -> Result<(), Fault>
+    ensures { MapReplied K.tools V.tools MapCall.ElementKey args.old map.now map.now (told reply.new result) }
+{
+    let key = K::from_value(alloc, args.first.take_value())?;
+    let element = map.element_key(&key)?;
+    *reply = Reply::says(Said::Value(element.to_value(alloc)?));
+    Ok(())
+}
+
+pub fn find<K: ScriptElement, V: ScriptElement>(
+    map: &Map<K, V>,
+    alloc: Global,
+    args: &mut Arguments,
+    reply: &mut Reply,
+) -> Result<(), Fault>
+    ensures { MapReplied K.tools V.tools MapCall.Find args.old map.now map.now (told reply.new result) }
+{
+    let key = K::from_value(alloc, args.first.take_value())?;
+    *reply = Reply::says(Said::Place(own_cursors::find(map, &key)));
+    Ok(())
+}
+
+pub fn contains<K: ScriptElement, V: ScriptElement>(
+    map: &Map<K, V>,
+    alloc: Global,
+    args: &mut Arguments,
+    reply: &mut Reply,
+) -> Result<(), Fault>
+    ensures { MapReplied K.tools V.tools MapCall.Contains args.old map.now map.now (told reply.new result) }
+{
+    let key = K::from_value(alloc, args.first.take_value())?;
+    *reply = Reply::says(Said::Truth(map.contains(&key)));
+    Ok(())
+}

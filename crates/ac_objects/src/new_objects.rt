@@ -1,0 +1,204 @@
+//! New objects without elements, of every kind and element type.
+ghost use Rattle.std.specs.Prelude.{◌≡◌, Option, IfOk};
+ghost use Rattle.ac_base.specs.Limits.{IsLimit};
+ghost use Rattle.ac_meaning.specs.Holdings.{a_sequence, a_set, a_map, kind_by, element_or, limit_by, new_held, is_vector, is_hashed};
+ghost use Rattle.ac_model.specs.Objects.{plain, empty_object};
+ghost use Rattle.ac_syntax.specs.declared.kind.ElemKind.{ElemKind as Elements};
+ghost use Rattle.ac_objects.specs.Declarations.{new_within};
+ghost use Rattle.ac_objects.specs.Maps.{entries_of, map_kind_of};
+ghost use Rattle.ac_objects.specs.Sequences.{rows_of, kind_of};
+ghost use Rattle.ac_objects.specs.Sets.{items_of, set_kind_of};
+ghost use Rattle.ac_objects.specs.World.{held_of};
+
+use crate::element::ScriptElement;
+use crate::map::Map;
+use crate::object::Object;
+use crate::sequence::Sequence;
+use crate::set::Set;
+use ac_base::{Elem, GREATEST_LENGTH, Limit, NoMemory};
+use ac_cursor::Tag;
+use ac_hashed::{HashedMap, HashedSet};
+use ac_list::List;
+use ac_ordered::{OrderedMap, OrderedSet};
+use ac_syntax::{ElemKind, Kind, TypeDef};
+use ac_vector::Vector;
+use std::alloc::Global;
+
+/// An object of this number without elements, and NoMemory where so large a capacity can't be had.
+pub(crate) fn new_object(
+    alloc: Global,
+    def: &TypeDef,
+    tag: Tag,
+    capacity: Option<u64>,
+) -> Result<Object, NoMemory>
+    ensures { IfOk result (λ made. held_of made ≡ new_held def.now tag capacity) }
+{
+    let limit = limit_by(capacity)?;
+    match def.kind {
+        Kind::List | Kind::Vector => new_sequence_object(alloc, def, tag, limit),
+        Kind::HashedSet | Kind::OrderedSet => new_set_object(alloc, def, tag, limit),
+        Kind::HashedMap | Kind::OrderedMap => new_map_object(alloc, def, tag, limit),
+        _ => Err(NoMemory),
+    }
+}
+
+fn new_sequence_object(
+    alloc: Global,
+    def: &TypeDef,
+    tag: Tag,
+    limit: Limit,
+) -> Result<Object, NoMemory>
+    requires { IsLimit limit }
+    ensures { IfOk result (λ made. held_of made ≡ new_within def.now tag limit) }
+{
+    match def.first {
+        ElemKind::Integer => {
+            let made = new_sequence(alloc, def.kind, tag, limit)?;
+            Ok(Object::Integers(made))
+        }
+        ElemKind::Str => {
+            let made = new_sequence(alloc, def.kind, tag, limit)?;
+            Ok(Object::Texts(made))
+        }
+    }
+}
+
+fn new_set_object(alloc: Global, def: &TypeDef, tag: Tag, limit: Limit) -> Result<Object, NoMemory>
+    requires { IsLimit limit }
+    ensures { IfOk result (λ made. held_of made ≡ new_within def.now tag limit) }
+{
+    match def.first {
+        ElemKind::Integer => {
+            let made = new_set(alloc, def.kind, tag, limit)?;
+            Ok(Object::IntegerSet(made))
+        }
+        ElemKind::Str => {
+            let made = new_set(alloc, def.kind, tag, limit)?;
+            Ok(Object::TextSet(made))
+        }
+    }
+}
+
+fn new_map_object(alloc: Global, def: &TypeDef, tag: Tag, limit: Limit) -> Result<Object, NoMemory>
+    requires { IsLimit limit }
+    ensures { IfOk result (λ made. held_of made ≡ new_within def.now tag limit) }
+{
+    let element = element_or(def.first, def.second);
+    match def.first {
+        ElemKind::Integer => match element {
+            ElemKind::Integer => {
+                let made = new_map(alloc, def.kind, tag, limit)?;
+                Ok(Object::IntegersByInteger(made))
+            }
+            ElemKind::Str => {
+                let made = new_map(alloc, def.kind, tag, limit)?;
+                Ok(Object::TextsByInteger(made))
+            }
+        },
+        ElemKind::Str => match element {
+            ElemKind::Integer => {
+                let made = new_map(alloc, def.kind, tag, limit)?;
+                Ok(Object::IntegersByText(made))
+            }
+            ElemKind::Str => {
+                let made = new_map(alloc, def.kind, tag, limit)?;
+                Ok(Object::TextsByText(made))
+            }
+        },
+    }
+}
+
+fn element_or(first: ElemKind, second: Option<ElemKind>) -> ElemKind
+    ensures { result ≡ element_or first second }
+{
+    match second {
+        Some(element) => element,
+        None => first,
+    }
+}
+
+/// A list or a vector without elements.
+fn new_sequence<T: Drop>(
+    alloc: Global,
+    kind: Kind,
+    tag: Tag,
+    limit: Limit,
+) -> Result<Sequence<T>, NoMemory>
+    requires { IsLimit limit }
+    ensures kind { (first : Elements) (second : Option Elements) →
+        IfOk result (λ made. kind_by kind first second ≡ a_sequence (kind_of made) first) }
+    ensures empty { IfOk result (λ made. plain (rows_of made).object ≡ empty_object (is_vector (kind_of made)) tag limit) }
+{
+    match kind {
+        Kind::List => match List::new(alloc, tag, limit) {
+            Ok(list) => Ok(Sequence::List(list)),
+            Err(_) => Err(NoMemory),
+        },
+        Kind::Vector => match Vector::new(alloc, tag, limit) {
+            Ok(vector) => Ok(Sequence::Vector(vector)),
+            Err(_) => Err(NoMemory),
+        },
+        _ => Err(NoMemory),
+    }
+}
+
+/// A set without elements.
+fn new_set<T: ScriptElement>(
+    alloc: Global,
+    kind: Kind,
+    tag: Tag,
+    limit: Limit,
+) -> Result<Set<T>, NoMemory>
+    requires { IsLimit limit }
+    ensures kind { (first : Elements) (second : Option Elements) →
+        IfOk result (λ made. kind_by kind first second ≡ a_set (set_kind_of made) first) }
+    ensures empty { IfOk result (λ made. plain (items_of made).object ≡ empty_object (is_hashed (set_kind_of made)) tag limit) }
+{
+    match kind {
+        Kind::HashedSet => match HashedSet::new(alloc, tag, limit) {
+            Ok(set) => Ok(Set::Hashed(set)),
+            Err(_) => Err(NoMemory),
+        },
+        Kind::OrderedSet => match OrderedSet::new(alloc, tag, limit) {
+            Ok(set) => Ok(Set::Ordered(set)),
+            Err(_) => Err(NoMemory),
+        },
+        _ => Err(NoMemory),
+    }
+}
+
+/// A map without elements.
+fn new_map<K: ScriptElement, V: ScriptElement>(
+    alloc: Global,
+    kind: Kind,
+    tag: Tag,
+    limit: Limit,
+) -> Result<Map<K, V>, NoMemory>
+    requires { IsLimit limit }
+    ensures kind { (first : Elements) (second : Option Elements) →
+        IfOk result (λ made. kind_by kind first second ≡ a_map (map_kind_of made) first (element_or first second)) }
+    ensures empty { IfOk result (λ made. plain (entries_of made).object ≡ empty_object (is_hashed (map_kind_of made)) tag limit) }
+{
+    match kind {
+        Kind::HashedMap => match HashedMap::new(alloc, tag, limit) {
+            Ok(map) => Ok(Map::Hashed(map)),
+            Err(_) => Err(NoMemory),
+        },
+        Kind::OrderedMap => match OrderedMap::new(alloc, tag, limit) {
+            Ok(map) => Ok(Map::Ordered(map)),
+            Err(_) => Err(NoMemory),
+        },
+        _ => Err(NoMemory),
+    }
+}
+
+/// The limit of an object of this capacity.
+fn limit_by(capacity: Option<u64>) -> Result<Limit, NoMemory>
+    ensures { IfOk result (λ limit. (limit ≡ limit_by capacity) × IsLimit limit) }
+{
+    match capacity {
+        None => Ok(Limit::Unbounded),
+        Some(most) if most <= GREATEST_LENGTH => Ok(Limit::Bounded(most)),
+        Some(_) => Err(NoMemory),
+    }
+}

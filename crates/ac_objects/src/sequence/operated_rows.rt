@@ -1,0 +1,38 @@
+//! Operations on lists and vectors as objects with rows.
+ghost use Rattle.ac_meaning.specs.Holdings.{reply_by};
+ghost use Rattle.ac_objects.specs.Sequences.{kind_of};
+
+use super::Sequence;
+use crate::argument::Arguments;
+use crate::element::ScriptElement;
+use crate::operated_rows::OperatedRows;
+use crate::operating::{operate, operate_with};
+use crate::reply::Reply;
+use ac_base::Fault;
+use ac_check::Operation;
+use std::alloc::Global;
+
+impl<T: ScriptElement> OperatedRows for Sequence<T> {
+    ghost comes_to = { λ s o source args operation. reply_by T.tools o source args (kind_of s) operation };
+
+    fn operate(
+        &mut self,
+        alloc: Global,
+        operation: Operation,
+        args: &mut Arguments,
+        reply: &mut Reply,
+    ) -> Result<(), Fault> {
+        operate(self, alloc, operation, args, reply)
+    }
+
+    fn operate_with(
+        &mut self,
+        source: &mut Sequence<T>,
+        alloc: Global,
+        operation: Operation,
+        args: &mut Arguments,
+        reply: &mut Reply,
+    ) -> Result<(), Fault> {
+        operate_with(self, source, alloc, operation, args, reply)
+    }
+}
