@@ -3,10 +3,16 @@
 #![tactic(auto)]
 
 #[cfg(test)]
+mod keyed;
+#[cfg(test)]
+mod maps;
+#[cfg(test)]
 mod refusals;
 #[cfg(test)]
 mod rows;
 #[cfg(test)]
 mod runs;
+#[cfg(test)]
+mod sets;
 #[cfg(test)]
 mod vectors;
