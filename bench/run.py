@@ -97,7 +97,23 @@ def vector_sort():
             + "A.Is_Sorted;\nA.Sort;\nA.Is_Sorted;\nA.Length;\nA.First_Element;\nA.Last_Element;\nB.Assign (A);\nB.Reverse_Elements;\nB.Sort;\nB.Equal (A);\n")
 
 
-BESIDE_A_PEER = [("list_churn", list_churn), ("list_sort_merge", list_sort_merge), ("dispatch", dispatch), ("vector_append_read", vector_append_read), ("vector_sort", vector_sort)]
+def map_ops(kind):
+    """Insertions, look-ups, replacements and exclusions, by 40,000 keys that rise and as many that fall. No line shows the order of a hashed map, which is each program's own."""
+    return (driven(f"type M is {kind} (integer, integer);\n", "A : M;\nN : integer;\nK : integer;\nX : integer;\n", 40_000)
+            + rounds("N := N + 1;\nK := K - 1;\nA.Insert (N, K);\nA.Insert (K, N);\nX := A.Element (K);\nA.Contains (N);\n") + "A.Length;\n"
+            + rounds("A.Include (N, X);\nA.Replace (K, X);\nX := A.Element (N);\nA.Exclude (N);\nA.Contains (N);\nN := N - 1;\nK := K + 1;\n") + "A.Length;\n")
+
+
+def hashed_map_ops():
+    return map_ops("hashed_map")
+
+
+def ordered_map_ops():
+    return map_ops("ordered_map")
+
+
+BESIDE_A_PEER = [("list_churn", list_churn), ("list_sort_merge", list_sort_merge), ("dispatch", dispatch), ("vector_append_read", vector_append_read), ("vector_sort", vector_sort),
+                 ("hashed_map_ops", hashed_map_ops), ("ordered_map_ops", ordered_map_ops)]
 
 
 def lengths(count):
