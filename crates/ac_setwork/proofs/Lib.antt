@@ -1,4 +1,5 @@
 pub mod Assigning
+pub mod Checks
 pub mod Elements
 pub mod Ends
 pub mod Equality

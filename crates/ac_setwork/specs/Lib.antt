@@ -4,5 +4,6 @@ pub mod EntryLaws
 pub mod Filling
 pub mod Indexed
 pub mod Refilling
+pub mod SetSeen
 pub mod TableCalls
 pub mod TableFields

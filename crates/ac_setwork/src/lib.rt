@@ -1,6 +1,7 @@
 //! What hashed and ordered maps and sets have in common: their calls, over any index that keeps the rows.
 #![tactic(auto)]
 
+mod algebra;
 mod entry;
 mod entry_element;
 mod filling;
@@ -10,6 +11,7 @@ mod mapped;
 mod ordered;
 mod refilling;
 mod searched;
+mod set_like;
 mod table;
 
 pub use entry::Entry;
@@ -18,4 +20,5 @@ pub use keys::{Keys, OfEntries, OfItems, OfKeyed};
 pub use mapped::Mapped;
 pub use ordered::Ordered;
 pub use searched::Searched;
+pub use set_like::SetLike;
 pub use table::Table;

@@ -1,0 +1,129 @@
+//! Set algebra, with all memory taken before any change.
+ghost use Rattle.std.specs.Prelude.{◌≡◌, ◌∷◌, [], ◌++◌, ◌≤◌, length, true, false, not, IfOk};
+ghost use Rattle.std.specs.List.{list_all};
+ghost use Rattle.std.specs.Result.{IsOkAnd};
+ghost use Rattle.ac_base.specs.declared.limit.TheConstants.{GREATEST_LENGTH};
+ghost use Rattle.ac_model.specs.Calls.{Same};
+ghost use Rattle.ac_model.specs.Containers.{Grows, slots_of};
+ghost use Rattle.ac_model.specs.Forms.{Does};
+ghost use Rattle.ac_model.specs.Objects.{contents, length_of, plain};
+ghost use Rattle.ac_model.specs.Sets as sets;
+ghost use Rattle.ac_setwork.specs.Filling.{NamesDiffer};
+ghost use Rattle.ac_setwork.specs.SetSeen.{HasAll, IsSifted, TakesAll, indexed, is_as, is_wanted, need_of, room_call};
+
+use crate::set_like::SetLike;
+use ac_base::{Fault, NoMemory};
+use ac_model::allowed;
+use std::alloc::Global;
+
+fn is_as(present: bool, found: bool) -> bool
+    ensures { result ≡ is_as present found }
+{
+    if present { found } else { !found }
+}
+
+/// The set has an equivalent of the element, or has none, as is asked for.
+fn is_wanted<A: SetLike>(set: &A, item: &A::Item, present: bool) -> bool
+    ensures { result ≡ is_wanted A.order (plain (A.seen set.now).object) present item.now }
+{
+    is_as(present, set.look(item).is_some())
+}
+
+/// Each element has an equivalent in the other set, or none has, as is asked for.
+fn all_are<A: SetLike>(set: &A, other: &A, present: bool) -> bool
+    requires names { NamesDiffer (indexed (A.seen set.now)) }
+    ensures { result ≡ list_all (is_wanted A.order (plain (A.seen other.now).object) present) (contents (plain (A.seen set.now).object)) }
+{
+    let mut place = set.first_name();
+    while let Some(name) = place {
+        if !is_wanted(other, set.item(name), present) {
+            return false;
+        }
+        place = set.next_name(name);
+    }
+    true
+}
+
+/// Overlap (A.18.7).
+pub fn overlap<A: SetLike>(left: &A, right: &A) -> bool
+    ensures { result ≡ sets.overlap_call A.order (plain (A.seen left.now).object) (plain (A.seen right.now).object) }
+{
+    left.law();
+    !all_are(left, right, false)
+}
+
+/// Is_Subset (A.18.7).
+pub fn is_subset<A: SetLike>(left: &A, right: &A) -> bool
+    ensures { result ≡ sets.is_subset_call A.order (plain (A.seen left.now).object) (plain (A.seen right.now).object) }
+{
+    left.law();
+    all_are(left, right, true)
+}
+
+/// Equivalent_Sets (A.18.7).
+pub fn equivalent<A: SetLike>(left: &A, right: &A) -> bool
+    ensures { result ≡ sets.equivalent_sets_call A.order (plain (A.seen left.now).object) (plain (A.seen right.now).object) }
+{
+    left.len() == right.len() && is_subset(left, right)
+}
+
+/// One copy more, while there is memory.
+fn with_copy<A: SetLike>(copies: Result<Vec<A::Item>, NoMemory>, item: &A::Item, alloc: Global) -> Result<Vec<A::Item>, NoMemory>
+    ensures { IfOk result (λ made. IsOkAnd copies (λ old. made.items ≡ old.items ++ item.now ∷ [])) }
+{
+    let mut made = copies?;
+    made.push(A::copied(item, alloc)?)?;
+    Ok(made)
+}
+
+/// One more to be added, where there is no equivalent.
+fn counted<A: SetLike>(found: (u64, Result<Vec<A::Item>, NoMemory>), item: &A::Item, absent: bool, alloc: Global) -> (u64, Result<Vec<A::Item>, NoMemory>)
+{
+    if absent {
+        (found.0 + 1, with_copy::<A>(found.1, item, alloc))
+    } else {
+        found
+    }
+}
+
+/// Drops each element that isn't wanted.
+fn sift<A: SetLike>(target: &mut A, other: &A, present: bool)
+    ensures { IsSifted (is_wanted A.order (plain (A.seen other.now).object) present) (A.seen target.old) (A.seen target.new) }
+{
+    target.law();
+    let mut place = target.first_name();
+    while let Some(name) = place {
+        place = target.next_name(name);
+        if !is_wanted(other, target.item(name), present) {
+            target.drop_name(name);
+        }
+    }
+}
+
+/// Intersection (A.18.7).
+pub fn intersect_into<A: SetLike>(target: &mut A, source: &A) -> Result<(), Fault>
+    ensures changed { Does Same (λ o. sets.unchecked_intersection A.order o (plain (A.seen source.now).object)) (A.seen target.old) (A.seen target.new) result }
+    ensures slots { slots_of (A.seen target.new) ≡ slots_of (A.seen target.old) }
+{
+    sift(target, source, true);
+    Ok(())
+}
+
+/// Difference (A.18.7).
+pub fn difference_into<A: SetLike>(target: &mut A, source: &A) -> Result<(), Fault>
+    ensures changed { Does Same (λ o. sets.unchecked_difference A.order o (plain (A.seen source.now).object)) (A.seen target.old) (A.seen target.new) result }
+    ensures slots { slots_of (A.seen target.new) ≡ slots_of (A.seen target.old) }
+{
+    sift(target, source, false);
+    Ok(())
+}
+
+/// Adds the elements in their order.
+fn add_each<A: SetLike>(target: &mut A, items: Vec<A::Item>)
+    requires { TakesAll A.order items.items (A.seen target.old) }
+    ensures { HasAll A.order items.items (A.seen target.old) (A.seen target.new) }
+{
+    for item in items {
+        target.add_new(item);
+    }
+}
