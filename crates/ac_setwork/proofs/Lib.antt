@@ -4,8 +4,10 @@ pub mod Elements
 pub mod Ends
 pub mod Equality
 pub mod Found
+pub mod KeptSlots
 pub mod Refills
 pub mod Replacing
+pub mod Sifts
 pub mod Tables
 pub mod Walking
 pub mod Widening

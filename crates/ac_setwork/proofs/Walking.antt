@@ -25,7 +25,7 @@ twice true m few some = absurd (omega (arith, few, some))
 twice false m few some = refl
 
 module _ {V : Type 0} where
-  place_behind : (xs : List (Row Name V)) (r : Row Name V) (ys : List (Row Name V)) → times r.name.serial (plains (xs ++ r ∷ ys)) ≤ 1 → place_of (plains (xs ++ r ∷ ys)) r.name.serial ≡ length xs
+  pub place_behind : (xs : List (Row Name V)) (r : Row Name V) (ys : List (Row Name V)) → times r.name.serial (plains (xs ++ r ∷ ys)) ≤ 1 → place_of (plains (xs ++ r ∷ ys)) r.name.serial ≡ length xs
   place_behind [] r ys few = ap (λ b. if b then 0 else suc (place_of (plains ys) r.name.serial)) (eq-eqb r.name.serial r.name.serial refl)
   place_behind (x ∷ xs) r ys few =
       let n = r.name.serial in
