@@ -1,11 +1,13 @@
 -- A walk over a set that checks each element, or collects those that pass a test.
-use Rattle.std.proofs.Common.{◌≡◌, ◌&&◌, ◌+◌, ◌≤◌, ◌<◌, ℕ, Bool, true, false, not, List, [], ◌∷◌, ◌++◌, length, Option, Some, None, Result, Ok, Err, refl, sym, ap, ◌∙◌, subst, inl, inr, arith}
-use Rattle.std.specs.Prelude.{filter, IfOk}
+use Rattle.std.proofs.Common.{◌≡◌, ◌&&◌, ◌+◌, ◌≤◌, ◌<◌, ℕ, suc, Bool, true, false, not, List, [], ◌∷◌, ◌++◌, length, Option, Some, None, Result, Ok, Err, refl, sym, ap, ◌∙◌, subst, inl, inr, arith}
+use Rattle.std.specs.Prelude.{filter, option_map, slice_get, IfOk}
 use Rattle.std.specs.List.{list_all, list_any}
 use Rattle.std.specs.Result.{IsOkAnd}
 use Rattle.std.proofs.lemmas.Bool.{cases_Bool}
-use Rattle.std.proofs.lemmas.List.{append-nil, length-append, map-append}
+use Rattle.std.proofs.lemmas.List.{append-nil, length-append, length-map, map-append}
 use Rattle.std.proofs.lemmas.List.Elements.{filter-append}
+use Rattle.std.proofs.lemmas.List.Filters.{length-filter_both}
+use Rattle.std.proofs.lemmas.Option.{none-some}
 use Rattle.ac_base.specs.declared.name.Name.{Name}
 use Rattle.ac_base.specs.Rows.{Row, values}
 use Rattle.ac_setwork.specs.Filling.{NamesDiffer}
@@ -98,3 +100,13 @@ module _ {V : Type 0} (s : Indexed V) (test : V → Bool) where
         let none = ended s m.before m.left m.walk in
         let are : values m.before ≡ values s.rows = ap values (sym (append-nil m.before) ∙ ap (λ rs. m.before ++ rs) (sym none) ∙ sym m.walk.rows) in
         (m.counted ∙ ap (λ vs. length (filter test vs)) are, subst (λ vs. IfOk copies (λ made. items made ≡ filter test vs)) are m.copied)
+
+    pub collecting_few : (count : ℕ) (copies : Result X E) (name : Name) → Collecting count copies (Some name) → count + 1 ≤ length s.rows
+    collecting_few count copies name m = by m.left refl
+      where
+        by : (left : List (Row Name V)) → m.left ≡ left → count + 1 ≤ length s.rows
+        by [] e = absurd (none-some name (sym (m.walk.stands ∙ ap (λ rs. option_map (λ (r : Row Name V). r.name) (slice_get rs 0)) e)))
+        by (r ∷ rest) e =
+            let all : length s.rows ≡ length m.before + suc (length rest) = ap length m.walk.rows ∙ length-append m.before m.left ∙ ap (λ rs. length m.before + length rs) e in
+            let fewer = length-filter_both test (λ v. not (test v)) (λ v. refl) (values m.before) in let same = length-map m.before (λ (q : Row Name V). q.value) in let is = m.counted in
+            omega (arith, all, fewer, same, is)

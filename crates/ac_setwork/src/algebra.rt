@@ -1,5 +1,5 @@
 //! Set algebra, with all memory taken before any change.
-ghost use Rattle.std.specs.Prelude.{◌≡◌, ◌∷◌, [], ◌++◌, ◌≤◌, length, true, false, not, IfOk};
+ghost use Rattle.std.specs.Prelude.{◌≡◌, ◌∷◌, [], ◌++◌, ◌+◌, ◌-◌, ◌^◌, ◌<◌, ◌≤◌, length, true, false, not, IfOk};
 ghost use Rattle.std.specs.List.{list_all};
 ghost use Rattle.std.specs.Result.{IsOkAnd};
 ghost use Rattle.ac_base.specs.declared.limit.TheConstants.{GREATEST_LENGTH};
@@ -7,9 +7,11 @@ ghost use Rattle.ac_model.specs.Calls.{Same};
 ghost use Rattle.ac_model.specs.Containers.{Grows, slots_of};
 ghost use Rattle.ac_model.specs.Forms.{Does};
 ghost use Rattle.ac_model.specs.Objects.{contents, length_of, plain};
+ghost use Rattle.ac_model.specs.Keyed.{IsValidKeyed};
 ghost use Rattle.ac_model.specs.Sets as sets;
+ghost use Rattle.ac_model.specs.Sets.{additions};
 ghost use Rattle.ac_setwork.specs.Filling.{NamesDiffer};
-ghost use Rattle.ac_setwork.specs.SetSeen.{HasAll, IsSifted, TakesAll, indexed, is_as, is_wanted, need_of, room_call};
+ghost use Rattle.ac_setwork.specs.SetSeen.{HasAll, IsSifted, TakesAll, indexed, is_as, is_wanted, need_of, room_call, those};
 
 use crate::set_like::SetLike;
 use ac_base::{Fault, NoMemory};
@@ -76,14 +78,39 @@ fn with_copy<A: SetLike>(copies: Result<Vec<A::Item>, NoMemory>, item: &A::Item,
     Ok(made)
 }
 
-/// One more to be added, where there is no equivalent.
-fn counted<A: SetLike>(found: (u64, Result<Vec<A::Item>, NoMemory>), item: &A::Item, absent: bool, alloc: Global) -> (u64, Result<Vec<A::Item>, NoMemory>)
+/// One element more, where it is to be added: how many there are, and copies of them, where there is memory.
+fn collect<A: SetLike>(
+    found: (u64, Result<Vec<A::Item>, NoMemory>),
+    wanted: bool,
+    item: &A::Item,
+    alloc: Global,
+) -> (u64, Result<Vec<A::Item>, NoMemory>)
+    requires { found.0 < 2 ^ 64 - 1 }
+    ensures count { result.0 ≡ found.0 + length (those wanted item.now) }
+    ensures copies { IfOk result.1 (λ made. IsOkAnd found.1 (λ old. made.items ≡ old.items ++ those wanted item.now)) }
 {
-    if absent {
+    if wanted {
         (found.0 + 1, with_copy::<A>(found.1, item, alloc))
     } else {
         found
     }
+}
+
+/// How many elements of the source have no equivalent in the target, and copies of them, where there is memory.
+fn additions<A: SetLike>(target: &A, source: &A) -> (u64, Result<Vec<A::Item>, NoMemory>)
+    requires { IsValidKeyed A.order (plain (A.seen source.now).object) }
+    ensures count { result.0 ≡ length (additions A.order (plain (A.seen target.now).object) (plain (A.seen source.now).object)) }
+    ensures copies { IfOk result.1 (λ made. made.items ≡ additions A.order (plain (A.seen target.now).object) (plain (A.seen source.now).object)) }
+{
+    let alloc = target.alloc();
+    let mut found = (0, Ok(Vec::new(alloc)));
+    let mut place = source.first_name();
+    while let Some(name) = place {
+        let item = source.item(name);
+        found = collect::<A>(found, is_wanted(target, item, false), item, alloc);
+        place = source.next_name(name);
+    }
+    found
 }
 
 /// Drops each element that isn't wanted.
