@@ -1,3 +1,4 @@
+pub mod Adds
 pub mod Assigning
 pub mod Checks
 pub mod Elements

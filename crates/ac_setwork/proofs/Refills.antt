@@ -24,7 +24,7 @@ use Rattle.ac_setwork.proofs.Found.{any_found, at_place}
 use Rattle.ac_setwork.proofs.Tables.{none_some}
 
 -- a value that passes a test is among those that do
-passes : {X : Type 0} (test : X → Bool) (xs : List X) (x : X) (ys : List X) → test x ≡ true → 1 ≤ length (filter test (xs ++ x ∷ ys))
+pub passes : {X : Type 0} (test : X → Bool) (xs : List X) (x : X) (ys : List X) → test x ≡ true → 1 ≤ length (filter test (xs ++ x ∷ ys))
 passes test [] x ys h = rw h (omega arith)
 passes test (w ∷ xs) x ys h = let later = passes test xs x ys h in elim (cases_Bool (test w)) [
   | inl t ↦ rw t (omega arith)
