@@ -1,6 +1,7 @@
 -- What is seen of a set by set algebra, and what becomes of it.
-use Rattle.std.specs.Prelude.{◌≡◌, ◌+◌, ◌-◌, ◌≤◌, ℕ, Bool, true, false, not, List, [], ◌∷◌, filter, length, Result, IfOk}
+use Rattle.std.specs.Prelude.{◌≡◌, ◌+◌, ◌-◌, ◌≤◌, ℕ, Bool, true, false, not, List, [], ◌∷◌, filter, length, max}
 use Rattle.ac_base.specs.FirstReason.{first_reason}
+use Rattle.ac_base.specs.Growth.{pow8}
 use Rattle.ac_base.specs.Limits.{is_past, numbers_end}
 use Rattle.ac_base.specs.declared.limit.TheConstants.{GREATEST_LENGTH}
 use Rattle.ac_model.specs.Calls.{Call, call, Done, IsAfter, takes_some}
@@ -33,6 +34,11 @@ module _ {V : Type 0} where
   -- room for so many more, once so many are gone
   abbrev pub room_call : ℕ → ℕ → Object ℕ V → Call (Object ℕ V) Done
   room_call gone more o = call takes_some (first_reason (room o (need_of o gone more) more)) (widened o (need_of o gone more)) tt
+
+  -- there are slots for so many more, once so many are gone
+  pub record HasRoomFor (gone more : ℕ) (old new : Container V) : Type 0 where
+    pub enough : need_of old.object gone more ≤ slots_of new
+    pub most : slots_of new ≤ max (slots_of old) (pow8 (need_of old.object gone more))
 
   -- an element has an equivalent in the other set, or has none, as is asked for
   abbrev pub is_wanted : Order V → Object ℕ V → Bool → V → Bool

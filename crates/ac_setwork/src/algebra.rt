@@ -1,5 +1,5 @@
 //! Set algebra, with all memory taken before any change.
-ghost use Rattle.std.specs.Prelude.{◌≡◌, ◌∷◌, [], ◌++◌, ◌+◌, ◌-◌, ◌^◌, ◌<◌, ◌≤◌, length, true, false, not, IfOk};
+ghost use Rattle.std.specs.Prelude.{◌≡◌, ◌∷◌, [], ◌++◌, ◌+◌, ◌-◌, ◌^◌, ◌<◌, ◌≤◌, length, true, false, not, IfOk, OnErr, OnOk};
 ghost use Rattle.std.specs.List.{list_all};
 ghost use Rattle.std.specs.Result.{IsOkAnd};
 ghost use Rattle.ac_base.specs.declared.limit.TheConstants.{GREATEST_LENGTH};
@@ -11,7 +11,7 @@ ghost use Rattle.ac_model.specs.Keyed.{IsValidKeyed};
 ghost use Rattle.ac_model.specs.Sets as sets;
 ghost use Rattle.ac_model.specs.Sets.{additions};
 ghost use Rattle.ac_setwork.specs.Filling.{NamesDiffer};
-ghost use Rattle.ac_setwork.specs.SetSeen.{HasAll, IsSifted, TakesAll, indexed, is_as, is_wanted, need_of, room_call, those};
+ghost use Rattle.ac_setwork.specs.SetSeen.{HasAll, HasRoomFor, IsSifted, TakesAll, indexed, is_as, is_wanted, need_of, room_call, those};
 
 use crate::set_like::SetLike;
 use ac_base::{Fault, NoMemory};
@@ -152,5 +152,64 @@ fn add_each<A: SetLike>(target: &mut A, items: Vec<A::Item>)
 {
     for item in items {
         target.add_new(item);
+    }
+}
+
+/// Room for what is to be added, once so many are gone, and the copies. A refusal comes before want of memory, and neither changes anything.
+fn room_for<A: SetLike>(
+    target: &mut A,
+    gone: u64,
+    more: u64,
+    copies: Result<Vec<A::Item>, NoMemory>,
+) -> Result<Vec<A::Item>, Fault>
+    requires gone { gone ≤ length_of (A.seen target.old).object }
+    requires more { more ≤ GREATEST_LENGTH }
+    ensures changed { Does (λ made _. IsOkAnd copies (λ old. made.items ≡ old.items)) (room_call gone more) (A.seen target.old) (A.seen target.new) result }
+    ensures ok { OnOk result (HasRoomFor gone more (A.seen target.old) (A.seen target.new)) }
+    ensures err { OnErr result (A.seen target.new ≡ A.seen target.old) }
+{
+    allowed(target.refuses_room(gone, more))?;
+    match copies {
+        Err(_) => Err(Fault::NoMemory),
+        Ok(items) => match target.room(gone, more) {
+            Err(fault) => Err(fault),
+            Ok(()) => Ok(items),
+        },
+    }
+}
+
+/// Union (A.18.7).
+pub fn union_into<A: SetLike>(target: &mut A, source: &A) -> Result<(), Fault>
+    ensures changed { Does Same (λ o. sets.unchecked_union A.order o (plain (A.seen source.now).object)) (A.seen target.old) (A.seen target.new) result }
+    ensures slots { Grows result (A.seen target.old) (A.seen target.new) }
+{
+    target.law();
+    source.law();
+    let (more, copies) = additions(target, source);
+    match room_for(target, 0, more, copies) {
+        Err(fault) => Err(fault),
+        Ok(items) => {
+            add_each(target, items);
+            Ok(())
+        }
+    }
+}
+
+/// Symmetric_Difference (A.18.7): the length after removals and additions is what there must be room for.
+pub fn symmetric_into<A: SetLike>(target: &mut A, source: &A) -> Result<(), Fault>
+    ensures changed { Does Same (λ o. sets.unchecked_symmetric_difference A.order o (plain (A.seen source.now).object))
+        (A.seen target.old) (A.seen target.new) result }
+    ensures slots { Grows result (A.seen target.old) (A.seen target.new) }
+{
+    target.law();
+    source.law();
+    let (more, copies) = additions(target, source);
+    match room_for(target, source.len() - more, more, copies) {
+        Err(fault) => Err(fault),
+        Ok(items) => {
+            sift(target, source, false);
+            add_each(target, items);
+            Ok(())
+        }
     }
 }

@@ -1,10 +1,9 @@
 //! What set algebra needs of a set.
-ghost use Rattle.std.specs.Prelude.{◌≡◌, ◌+◌, ◌-◌, ◌<◌, ◌≤◌, None, Some, max, IfOk, IsTrue, OnErr, OnOk};
+ghost use Rattle.std.specs.Prelude.{◌≡◌, ◌+◌, ◌-◌, ◌<◌, ◌≤◌, None, Some, IfOk, IsTrue, OnErr, OnOk};
 ghost use Rattle.ac_base.specs.FirstReason.{first_reason};
-ghost use Rattle.ac_base.specs.Growth.{pow8};
 ghost use Rattle.ac_base.specs.declared.limit.TheConstants.{GREATEST_LENGTH};
 ghost use Rattle.ac_model.specs.Calls.{IsAfter, Same};
-ghost use Rattle.ac_model.specs.Containers.{Container, slots_of};
+ghost use Rattle.ac_model.specs.Containers.{Container};
 ghost use Rattle.ac_model.specs.Forms.{Does, Refuses};
 ghost use Rattle.ac_model.specs.Keyed.{Order, IsValidKeyed, with_added};
 ghost use Rattle.ac_model.specs.Letters.{room_for_one};
@@ -12,7 +11,7 @@ ghost use Rattle.ac_model.specs.Objects.{capacity_after, length_of, plain, with_
 ghost use Rattle.ac_model.specs.Rows.{cut, place_of};
 ghost use Rattle.ac_model.proofs.KeyedLaws.{Closed};
 ghost use Rattle.ac_setwork.specs.Indexed.{is_there, name_at, name_after, value_of};
-ghost use Rattle.ac_setwork.specs.SetSeen.{indexed, need_of, room_call};
+ghost use Rattle.ac_setwork.specs.SetSeen.{HasRoomFor, indexed, room_call};
 ghost use Rattle.ac_setwork.specs.TableFields.{named_like};
 
 use ac_base::{Fault, Name, NoMemory, Reason};
@@ -75,8 +74,7 @@ pub trait SetLike: Drop {
         requires gone { gone ≤ length_of (seen self.old).object }
         requires more { more ≤ GREATEST_LENGTH }
         ensures changed { Does Same (room_call gone more) (seen self.old) (seen self.new) result }
-        ensures enough { OnOk result (need_of (seen self.old).object gone more ≤ slots_of (seen self.new)) }
-        ensures most { OnOk result (slots_of (seen self.new) ≤ max (slots_of (seen self.old)) (pow8 (need_of (seen self.old).object gone more))) }
+        ensures ok { OnOk result (HasRoomFor gone more (seen self.old) (seen self.new)) }
         ensures err { OnErr result (seen self.new ≡ seen self.old) };
 
     /// Adds an element, which has no equivalent, at its place. It takes no memory.
