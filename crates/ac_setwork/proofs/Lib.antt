@@ -4,11 +4,13 @@ pub mod Checks
 pub mod Elements
 pub mod Ends
 pub mod Equality
+pub mod Equivalents
 pub mod Found
 pub mod KeptSlots
 pub mod Refills
 pub mod Replacing
 pub mod Sifts
 pub mod Tables
+pub mod Unions
 pub mod Walking
 pub mod Widening

@@ -8,6 +8,7 @@ ghost use Rattle.ac_model.specs.Containers.{Grows, slots_of};
 ghost use Rattle.ac_model.specs.Forms.{Does};
 ghost use Rattle.ac_model.specs.Objects.{contents, length_of, plain};
 ghost use Rattle.ac_model.specs.Keyed.{IsValidKeyed};
+ghost use Rattle.ac_model.specs.Putting.{done};
 ghost use Rattle.ac_model.specs.Sets as sets;
 ghost use Rattle.ac_model.specs.Sets.{additions};
 ghost use Rattle.ac_setwork.specs.Filling.{NamesDiffer};
@@ -164,7 +165,8 @@ fn room_for<A: SetLike>(
 ) -> Result<Vec<A::Item>, Fault>
     requires gone { gone ≤ length_of (A.seen target.old).object }
     requires more { more ≤ GREATEST_LENGTH }
-    ensures changed { Does (λ made _. IsOkAnd copies (λ old. made.items ≡ old.items)) (room_call gone more) (A.seen target.old) (A.seen target.new) result }
+    ensures changed { Does Same (room_call gone more) (A.seen target.old) (A.seen target.new) (done result) }
+    ensures copies { IfOk result (λ made. IsOkAnd copies (λ old. made.items ≡ old.items)) }
     ensures ok { OnOk result (HasRoomFor gone more (A.seen target.old) (A.seen target.new)) }
     ensures err { OnErr result (A.seen target.new ≡ A.seen target.old) }
 {
