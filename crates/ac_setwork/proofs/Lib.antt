@@ -11,6 +11,7 @@ pub mod Refills
 pub mod Replacing
 pub mod Sifts
 pub mod Tables
+pub mod Unguarded
 pub mod Unions
 pub mod Walking
 pub mod Widening

@@ -146,7 +146,7 @@ module _ {V : Type 0} (order : Order V) (g : GuardCounts) (l : Limit) where
   pub taken_slots : (s s2 : Indexed V) (name : Name) → is_among (names s.rows) name ≡ true → IsTaken s s2 name → slots s2 ≡ slots s
   taken_slots s s2 name there b = becomes_slots s s2 (cut (plain_rows s) (place_of (plain_rows s) name.serial) 1) (s.spare + 1) b (one_less s name there)
 
-  taken_after : (s s2 : Indexed V) (name : Name) → IsTaken s s2 name → IsAfter (object_of g l s) (object_of g l s2) (with_rows (plain (object_of g l s)) (cut (plain_rows s) (place_of (plain_rows s) name.serial) 1))
+  pub taken_after : (s s2 : Indexed V) (name : Name) → IsTaken s s2 name → IsAfter (object_of g l s) (object_of g l s2) (with_rows (plain (object_of g l s)) (cut (plain_rows s) (place_of (plain_rows s) name.serial) 1))
   taken_after s s2 name b = becomes_after s s2 (cut (plain_rows s) (place_of (plain_rows s) name.serial) 1) (s.spare + 1) b
 
   abbrev pub allowed_now : Indexed V → Type 0

@@ -9,6 +9,8 @@ ghost use Rattle.ac_model.specs.Common as common;
 ghost use Rattle.ac_model.specs.Keyed.{IsValidKeyed};
 ghost use Rattle.ac_setwork.specs.TableFields.{named_like};
 
+mod algebra;
+mod as_set;
 mod capacities;
 mod copies;
 mod counted;
