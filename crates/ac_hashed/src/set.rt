@@ -15,6 +15,8 @@ ghost use Rattle.ac_model.specs.Sets as sets;
 ghost use Rattle.ac_model.specs.Sequences as sequences;
 ghost use Rattle.ac_setwork.specs.TableFields.{Places};
 
+mod algebra;
+
 use crate::arrivals::Arrivals;
 use ac_base::{Fault, Hashed, Limit};
 use ac_cursor::{Class, Cursor, GuardKey, GuardKind, Guarded, Tag};

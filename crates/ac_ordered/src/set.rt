@@ -16,6 +16,8 @@ ghost use Rattle.ac_model.specs.Sequences as sequences;
 ghost use Rattle.ac_model.specs.Sets as sets;
 ghost use Rattle.ac_setwork.specs.TableFields.{Places};
 
+mod algebra;
+
 use crate::ascending::Ascending;
 use ac_base::{Fault, Limit, Rank, Steps};
 use ac_cursor::{Class, Cursor, GuardKey, GuardKind, Guarded, Tag};

@@ -1,8 +1,8 @@
 -- Values that are added to a set one after another, without memory.
-use Rattle.std.proofs.Common.{◌≡◌, ◌||◌, ◌+◌, ◌-◌, ◌^◌, ◌<◌, ◌≤◌, ℕ, suc, Bool, true, false, List, [], ◌∷◌, ◌++◌, length, Option, Some, None, refl, sym, ap, ◌∙◌, subst, inl, inr, arith, if◌then◌else◌}
+use Rattle.std.proofs.Common.{◌≡◌, ◌||◌, ◌+◌, ◌-◌, ◌<◌, ◌≤◌, ℕ, suc, Bool, false, List, [], ◌∷◌, ◌++◌, length, Option, Some, None, refl, sym, ap, ◌∙◌, subst, inl, inr, arith, if◌then◌else◌}
 use Rattle.std.specs.Prelude.{filter, nat_le, nat_lt}
 use Rattle.std.specs.List.{list_any}
-use Rattle.std.proofs.lemmas.Bool.{cases_Bool, cond-true, cond-false}
+use Rattle.std.proofs.lemmas.Bool.{cases_Bool, cond-false}
 use Rattle.std.proofs.lemmas.Bool.Decides.{nat_tests}
 use Rattle.std.proofs.lemmas.List.{append_assoc, append-nil, length-append, length-map, length_push}
 use Rattle.std.proofs.lemmas.List.Elements.{filter-append}
@@ -16,7 +16,7 @@ use Rattle.ac_base.specs.declared.name.Name.{Name}
 use Rattle.ac_base.specs.Rows.{Row, row, values}
 use Rattle.ac_base.proofs.Powers.{pow8-enough}
 use Rattle.ac_model.specs.Calls.{IsAfter}
-use Rattle.ac_model.specs.Containers.{Container, slots_of}
+use Rattle.ac_model.specs.Containers.{Container}
 use Rattle.ac_model.specs.Keyed.{Order, added, place_in, with_added}
 use Rattle.ac_model.specs.Letters.{room_for_one}
 use Rattle.ac_model.specs.Objects.{Object, capacity_after, length_of, plain, plain_row, plains}
@@ -108,7 +108,7 @@ module _ {V : Type 0} (order : Order V) where
         let short : nat_lt GREATEST_LENGTH (length (plains now.object.rows) + 1) ≡ false = grind (arith, nat_tests) in
         let unspent : nat_lt numbers_end (now.object.next + 1) ≡ false = grind (arith, nat_tests) in
         let within : is_past now.object.limit (length (plains now.object.rows) + 1) ≡ false =
-            is_past_less now.object.limit (length (plains now.object.rows) + 1) (length_of start.object + length vs) (subst (λ l. is_past l (length_of start.object + length vs) ≡ false) (sym limit) t.within) (omega (arith, few, is, same)) in
+        is_past_less now.object.limit (length (plains now.object.rows) + 1) (length_of start.object + length vs) (subst (λ l. is_past l (length_of start.object + length vs) ≡ false) (sym limit) t.within) (omega (arith, few, is, same)) in
         rw (short, within, unspent) refl
 
     pub adding_capacity : (now : Container V) (v : V) (left : List V) → TakesAll order vs start → Adding now (v ∷ left) → capacity_after now.object.limit now.object.capacity (length_of now.object + 1) ≡ now.object.capacity
@@ -125,10 +125,10 @@ module _ {V : Type 0} (order : Order V) where
           let test : V → Bool = λ w. order.alike w v in
           let few = t.keys_differ v in
           let parts : length (filter test vs) ≡ length (filter test a.done) + length (filter test (v ∷ left)) =
-              ap (λ ws. length (filter test ws)) (sym a.all) ∙ ap length (filter-append test a.done (v ∷ left)) ∙ length-append (filter test a.done) (filter test (v ∷ left)) in
+          ap (λ ws. length (filter test ws)) (sym a.all) ∙ ap length (filter-append test a.done (v ∷ left)) ∙ length-append (filter test a.done) (filter test (v ∷ left)) in
           let itself : 1 ≤ length (filter test (v ∷ left)) = passes test [] v left (closed.equal.refl v) in
           let now_is : count test (plains now.object.rows) ≡ count test (plains start.object.rows) + length (filter test a.done) =
-              ap (λ (o : Object ℕ V). count test o.rows) a.after.plainly ∙ count-added test order a.done (plains start.object.rows) start.object.next in
+          ap (λ (o : Object ℕ V). count test o.rows) a.after.plainly ∙ count-added test order a.done (plains start.object.rows) start.object.next in
           let none : count test (plains now.object.rows) ≡ 0 = omega (arith, few, parts, itself, now_is) in
           none_some (named_like order now.object v) (any_found test now.object.rows ∙ none_any test (plains now.object.rows) none)
 
@@ -141,9 +141,9 @@ module _ {V : Type 0} (order : Order V) where
         let last : (start.object.next + n) + 1 ≡ start.object.next + length (a.done ++ v ∷ []) = omega (arith, more) in
         let count : length (added order (plains now.object.rows) now.object.next (v ∷ [])) ≡ length_of now.object + 1 = length-added order (v ∷ []) (plains now.object.rows) now.object.next ∙ ap (λ m. m + 1) (length_is now.object.rows) in
         let capacity : capacity_after now.object.limit now.object.capacity (length (added order (plains now.object.rows) now.object.next (v ∷ []))) ≡ start.object.capacity =
-            ap (capacity_after now.object.limit now.object.capacity) count ∙ adding_capacity now v left t a ∙ ap (λ (p : Object ℕ V). p.capacity) a.after.plainly in
+        ap (capacity_after now.object.limit now.object.capacity) count ∙ adding_capacity now v left t a ∙ ap (λ (p : Object ℕ V). p.capacity) a.after.plainly in
         let rows : added order (plains now.object.rows) now.object.next (v ∷ []) ≡ added order (plains start.object.rows) start.object.next (a.done ++ v ∷ []) =
-            ap (λ (p : Object ℕ V). added order p.rows p.next (v ∷ [])) a.after.plainly ∙ sym (added_more a.done (plains start.object.rows) start.object.next v) in
+        ap (λ (p : Object ℕ V). added order p.rows p.next (v ∷ [])) a.after.plainly ∙ sym (added_more a.done (plains start.object.rows) start.object.next v) in
         record {
           done = a.done ++ v ∷ [];
           all = append_assoc a.done (v ∷ []) left ∙ a.all;

@@ -1,5 +1,5 @@
 -- A walk over a set that checks each element, or collects those that pass a test.
-use Rattle.std.proofs.Common.{◌≡◌, ◌&&◌, ◌+◌, ◌≤◌, ◌<◌, ℕ, suc, Bool, true, false, not, List, [], ◌∷◌, ◌++◌, length, Option, Some, None, Result, Ok, Err, refl, sym, ap, ◌∙◌, subst, inl, inr, arith}
+use Rattle.std.proofs.Common.{◌≡◌, ◌&&◌, ◌+◌, ◌≤◌, ℕ, suc, Bool, true, false, not, List, [], ◌∷◌, ◌++◌, length, Option, Some, None, Result, Ok, Err, refl, sym, ap, ◌∙◌, subst, inl, inr, arith}
 use Rattle.std.specs.Prelude.{filter, option_map, slice_get, IfOk}
 use Rattle.std.specs.List.{list_all, list_any}
 use Rattle.std.specs.Result.{IsOkAnd}
@@ -85,8 +85,8 @@ module _ {V : Type 0} (s : Indexed V) (test : V → Bool) where
         let step = stepped s differ m.before m.left name m.walk in
         let value : step.row.value ≡ v = (let k : Some step.row.value ≡ Some v = sym step.value ∙ e in cc) in
         let now : filter test (values (m.before ++ step.row ∷ [])) ≡ filter test (values m.before) ++ those b v =
-            ap (filter test) (map-append (λ (r : Row Name V). r.value) m.before (step.row ∷ [])) ∙ filter-append test (values m.before) (step.row.value ∷ [])
-            ∙ ap (λ u. filter test (values m.before) ++ filter test (u ∷ [])) value ∙ ap (λ us. filter test (values m.before) ++ us) (filter_one test v ∙ ap (λ c. those c v) (sym is)) in
+        ap (filter test) (map-append (λ (r : Row Name V). r.value) m.before (step.row ∷ [])) ∙ filter-append test (values m.before) (step.row.value ∷ [])
+        ∙ ap (λ u. filter test (values m.before) ++ filter test (u ∷ [])) value ∙ ap (λ us. filter test (values m.before) ++ us) (filter_one test v ∙ ap (λ c. those c v) (sym is)) in
         record {
           before = m.before ++ step.row ∷ [];
           left = step.rest;

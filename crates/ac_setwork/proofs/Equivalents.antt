@@ -1,5 +1,5 @@
 -- How many elements of two sets have an equivalent in the other.
-use Rattle.std.proofs.Common.{◌≡◌, ◌||◌, ◌+◌, ◌≤◌, ℕ, suc, Bool, true, false, not, true≢false, List, [], ◌∷◌, length, refl, sym, ap, ◌∙◌, subst, inl, inr, arith, if◌then◌else◌}
+use Rattle.std.proofs.Common.{◌≡◌, ◌||◌, ◌+◌, ◌≤◌, ℕ, suc, Bool, true, false, not, true≢false, List, [], ◌∷◌, length, refl, ap, ◌∙◌, inl, inr, arith, if◌then◌else◌}
 use Rattle.std.specs.Prelude.{filter}
 use Rattle.std.specs.List.{list_any}
 use Rattle.std.specs.Cmp.{IsEquivalence}
@@ -71,9 +71,9 @@ as_many {V} order equal rows differ (v ∷ vs) few =
     let fewer : (u : V) → length (filter (λ w. order.alike w u) vs) ≤ 1 = λ u. let most = few u in let step = count_step (order.alike v u) v (filter (λ w. order.alike w u) vs) in omega (arith, most, step) in
     let later = as_many order equal rows differ vs fewer in
     let apart : (r : Row ℕ V) → p r ≡ true → q r ≡ false = λ r t.
-        let step = count_step (order.alike v r.value) v (filter (λ w. order.alike w r.value) vs) in
-        let one : ◌≡◌ {A = ℕ} (if order.alike v r.value then 1 else 0) 1 = ap (λ b. if b then 1 else 0) t in
-        none_passes (λ w. order.alike w r.value) vs (let most = few r.value in omega (arith, most, step, one)) in
+    let step = count_step (order.alike v r.value) v (filter (λ w. order.alike w r.value) vs) in
+    let one : ◌≡◌ {A = ℕ} (if order.alike v r.value then 1 else 0) 1 = ap (λ b. if b then 1 else 0) t in
+    none_passes (λ w. order.alike w r.value) vs (let most = few r.value in omega (arith, most, step, one)) in
     let split = three_counts p q apart rows in
     let there : count (λ w. order.alike w v) rows ≡ (if has order (values rows) v then 1 else 0) = one_passes (λ w. order.alike w v) rows (differ v) in
     let one_way = count_implied (λ w. order.alike v w) (λ w. order.alike w v) (λ w h. turned equal v w h) rows in

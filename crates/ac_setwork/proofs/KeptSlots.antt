@@ -1,10 +1,10 @@
 -- Names that keep their slots, through one change and through two.
-use Rattle.std.proofs.Common.{◌≡◌, ◌==◌, ◌||◌, ◌+◌, ◌<◌, ◌≤◌, ℕ, suc, Bool, true, false, List, [], ◌∷◌, length, IsTrue, refl, sym, ap, ◌∙◌, subst, inl, inr, arith, eq-eqb, if◌then◌else◌}
+use Rattle.std.proofs.Common.{◌≡◌, ◌==◌, ◌||◌, ◌<◌, ◌≤◌, ℕ, suc, true, false, List, [], ◌∷◌, length, IsTrue, refl, sym, ap, ◌∙◌, subst, inl, inr, arith, eq-eqb, if◌then◌else◌}
 use Rattle.std.specs.Prelude.{All}
 use Rattle.std.proofs.lemmas.Bool.{cases_Bool, cases_lt}
 use Rattle.ac_base.specs.declared.name.Name.{Name}
 use Rattle.ac_base.specs.Rows.{Row, names, row}
-use Rattle.ac_model.specs.Calls.{IsAfter, KeepsSlots}
+use Rattle.ac_model.specs.Calls.{KeepsSlots}
 use Rattle.ac_model.specs.Letters.{is_among, is_same_name}
 use Rattle.ac_model.specs.Objects.{IsValid, Object, plain, plain_row, plains, times}
 use Rattle.ac_model.proofs.Moves.{times-named}
@@ -25,8 +25,8 @@ module _ {V : Type 0} where
   pub keeps_both : (old now new : Object Name V) → old.next ≤ now.next → KeepsSlots old now → KeepsSlots now new → KeepsSlots old new
   keeps_both old now new risen first second =
       all_from (λ a. a.serial < old.next → IsTrue (is_among (names old.rows) a)) (names new.rows) (λ a t lt.
-          let there : is_among (names now.rows) a ≡ true = all_at (λ b. b.serial < now.next → IsTrue (is_among (names now.rows) b)) (names new.rows) second a t (omega (arith, lt, risen)) in
-          all_at (λ b. b.serial < old.next → IsTrue (is_among (names old.rows) b)) (names now.rows) first a there lt)
+      let there : is_among (names now.rows) a ≡ true = all_at (λ b. b.serial < now.next → IsTrue (is_among (names now.rows) b)) (names new.rows) second a t (omega (arith, lt, risen)) in
+      all_at (λ b. b.serial < old.next → IsTrue (is_among (names old.rows) b)) (names now.rows) first a there lt)
 
   -- of names with different serials, one that is among them is told by its serial
   pub by_serial : (rows : List (Row Name V)) → ((n : ℕ) → times n (plains rows) ≤ 1) → (a b : Name) → is_among (names rows) a ≡ true → is_among (names rows) b ≡ true → a.serial ≡ b.serial → a ≡ b
@@ -35,7 +35,7 @@ module _ {V : Type 0} where
       let n = r.name.serial in
       let own : ◌≡◌ {A = ℕ} (if n == n then 1 else 0) 1 = ap (λ c. if c then 1 else 0) (eq-eqb n n refl) in
       let alone : (c : Name) → is_among (names rows) c ≡ true → c.serial ≡ n → a ≡ b =
-          λ c t same. absurd (let few = differ n in let more = times-named c.serial (plains rows) (named_among c rows t) in let is = ap (λ m. times m (plains rows)) same in omega (arith, own, few, more, is)) in
+      λ c t same. absurd (let few = differ n in let more = times-named c.serial (plains rows) (named_among c rows t) in let is = ap (λ m. times m (plains rows)) same in omega (arith, own, few, more, is)) in
       elim (cases_Bool (is_same_name a r.name)) [
         | inl t ↦ let first = same_is a r.name t in elim (cases_Bool (is_same_name b r.name)) [
           | inl u ↦ first ∙ sym (same_is b r.name u)

@@ -1,13 +1,12 @@
 -- A walk over a set that drops each element which isn't wanted.
-use Rattle.std.proofs.Common.{◌≡◌, ◌+◌, ◌-◌, ◌≤◌, ◌<◌, ℕ, suc, Bool, true, false, List, [], ◌∷◌, ◌++◌, ◌||◌, length, Option, Some, None, IsTrue, refl, sym, ap, ◌∙◌, subst, arith, if◌then◌else◌}
-use Rattle.std.specs.Prelude.{All, filter, option_map, slice_get}
+use Rattle.std.proofs.Common.{◌≡◌, ◌+◌, ◌≤◌, ◌<◌, ℕ, suc, Bool, true, false, List, [], ◌∷◌, ◌++◌, ◌||◌, length, Option, Some, None, IsTrue, refl, sym, ap, ◌∙◌, subst, arith}
+use Rattle.std.specs.Prelude.{filter, option_map, slice_get}
 use Rattle.std.proofs.Math.Seq.{drop-append-add, take-append_seam}
-use Rattle.std.proofs.lemmas.List.{append-nil, append_assoc, length-append, length-map}
+use Rattle.std.proofs.lemmas.List.{append-nil, append_assoc, length-append}
 use Rattle.ac_base.specs.declared.name.Name.{Name}
-use Rattle.ac_base.specs.Rows.{Row, names, row}
+use Rattle.ac_base.specs.Rows.{Row, names}
 use Rattle.ac_model.specs.Calls.{IsAfter, KeepsSlots}
 use Rattle.ac_model.specs.Containers.{Container, slots_of}
-use Rattle.ac_model.specs.Keyed.{Order, IsValidKeyed}
 use Rattle.ac_model.specs.Letters.{is_among, is_same_name}
 use Rattle.ac_model.specs.Objects.{IsValid, Object, plain, plain_row, plains, times, with_rows}
 use Rattle.ac_model.specs.Rows.{cut, place_of}
@@ -95,12 +94,13 @@ module _ {V : Type 0} where
         let rows : now.object.rows ≡ m.before ++ step.row ∷ step.rest = m.walk.rows ∙ ap (λ rs. m.before ++ rs) step.is in
         let is : step.row.name ≡ name = (let k : Some name ≡ Some step.row.name = m.walk.stands ∙ ap (λ rs. option_map (λ (r : Row Name V). r.name) (slice_get rs 0)) step.is in cc) in
         let place : place_of (plains now.object.rows) name.serial ≡ length (plains m.before) =
-            ap (λ (a : Name). place_of (plains now.object.rows) a.serial) (sym is) ∙ ap (λ rs. place_of (plains rs) step.row.name.serial) rows
-            ∙ place_behind m.before step.row step.rest (subst (λ rs. times step.row.name.serial (plains rs) ≤ 1) rows (m.valid.names_differ step.row.name.serial)) ∙ sym (length-plains m.before) in
+        ap (λ (a : Name). place_of (plains now.object.rows) a.serial) (sym is) ∙ ap (λ rs. place_of (plains rs) step.row.name.serial) rows
+        ∙ place_behind m.before step.row step.rest (subst (λ rs. times step.row.name.serial (plains rs) ≤ 1) rows (m.valid.names_differ step.row.name.serial)) ∙ sym (length-plains m.before) in
         let parts : plains now.object.rows ≡ plains m.before ++ plain_row step.row ∷ plains step.rest = ap plains rows ∙ plains-append m.before (step.row ∷ step.rest) in
         let after : plains new.object.rows ≡ plains (m.before ++ step.rest) = ap (λ (o : Object ℕ V). o.rows) d.plainly ∙ (λ i. cut (parts i) (place i) 1) ∙ cut_middle (plains m.before) (plain_row step.row) (plains step.rest) ∙ sym (plains-append m.before step.rest) in
         same_with_slots (names now.object.rows) now.object.next (by_serial now.object.rows m.valid.names_differ) (below_next now.object m.valid) new.object.rows (m.before ++ step.rest) d.slots
         (λ a t. subst (λ rs. is_among (names rs) a ≡ true) (sym rows) (among_both m.before step.rest step.row a t)) after
+
     pub sifted_dropped : (now new : Container V) (name : Name) (next : Option Name) (v : V) (b : Bool) → Sifting now (Some name) → value_of (indexed now) name ≡ Some v → b ≡ wanted v → b ≡ false → next ≡ name_after (indexed now) name
         → IsDropped now new name → new.spare ≡ now.spare + 1 → Sifting new next
     sifted_dropped now new name next v b m e is failed at d spare =

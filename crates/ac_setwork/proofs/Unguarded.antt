@@ -1,6 +1,5 @@
 -- What holds of a table whatever guards are held, and a row that is added to one that has room for it.
-use Rattle.std.proofs.Common.{◌≡◌, ◌+◌, ◌-◌, ◌<◌, ◌≤◌, length, [], ◌∷◌, None, refl, sym, ap, subst, arith}
-use Rattle.std.proofs.lemmas.List.{length-map}
+use Rattle.std.proofs.Common.{◌≡◌, ◌+◌, ◌-◌, ◌<◌, length, [], ◌∷◌, None, refl, sym, arith}
 use Rattle.ac_base.specs.FirstReason.{first_reason}
 use Rattle.ac_base.specs.Guards.{GuardCounts}
 use Rattle.ac_base.specs.declared.limit.Limit.{Limit}

@@ -1,5 +1,5 @@
 -- A set that lost some rows and took the additions of a source, in the words of the definitions.
-use Rattle.std.proofs.Common.{◌≡◌, ◌+◌, ◌-◌, ◌≤◌, ℕ, Bool, true, false, not, List, [], ◌∷◌, length, Option, Some, None, Result, Ok, Err, refl, sym, ap, ◌∙◌, subst, arith, if◌then◌else◌}
+use Rattle.std.proofs.Common.{◌≡◌, ◌+◌, ◌-◌, ◌≤◌, ℕ, false, not, List, length, Option, Some, None, Result, Ok, Err, refl, sym, ap, ◌∙◌, subst, arith, if◌then◌else◌}
 use Rattle.std.specs.Prelude.{filter, max, nat_le, IfOk}
 use Rattle.std.specs.Result.{IsOkAnd}
 use Rattle.std.proofs.lemmas.Bool.Decides.{nat_tests}
@@ -12,18 +12,16 @@ use Rattle.ac_base.specs.declared.fault.Fault.{Fault}
 use Rattle.ac_base.specs.declared.fault.Fault.TheVariants as fault
 use Rattle.ac_base.specs.declared.limit.Limit.{Limit}
 use Rattle.ac_base.specs.declared.limit.Limit.TheVariants.{Unbounded, Bounded}
-use Rattle.ac_base.specs.declared.limit.TheConstants.{GREATEST_LENGTH}
-use Rattle.ac_base.specs.declared.name.Name.{Name}
-use Rattle.ac_base.specs.Rows.{Row, values}
+use Rattle.ac_base.specs.Rows.{Row}
 use Rattle.ac_base.proofs.Powers.{pow8-enough}
 use Rattle.ac_model.specs.Calls.{Changing, Done, IsAfter, Same, call, takes_some}
 use Rattle.ac_model.specs.Capacities.{widened}
-use Rattle.ac_model.specs.Containers.{Container, Grows, slots_of}
+use Rattle.ac_model.specs.Containers.{Container, slots_of}
 use Rattle.ac_model.specs.Keyed.{Order, IsValidKeyed, added, has}
 use Rattle.ac_model.specs.Letters.{room}
-use Rattle.ac_model.specs.Objects.{Object, capacity_after, contents, grown, length_of, plain, plain_row, plains, with_rows}
+use Rattle.ac_model.specs.Objects.{Object, capacity_after, contents, grown, length_of, plain, plain_row, with_rows}
 use Rattle.ac_model.specs.Sets.{additions, own_rows}
-use Rattle.ac_model.proofs.Counts.{count, count-filter, count_values}
+use Rattle.ac_model.proofs.Counts.{count, count_values}
 use Rattle.ac_model.proofs.KeyedKept.{length-added}
 use Rattle.ac_model.proofs.KeyedLaws.{Closed}
 use Rattle.ac_model.proofs.KeysDiffer.{union_apart}
@@ -114,7 +112,7 @@ module _ {V : Type 0} (order : Order V) (source : Object ℕ V) (old wide fewer 
       all_grows =
           let is_more = p.is_more in let need = p.need in let first = p.slots in let second = h.slots in
           let count : length_of new.object ≡ need_of old.object gone more =
-              sym (length-map new.object.rows plain_row) ∙ ap (λ (o : Object ℕ V). length o.rows) all_after.plainly ∙ length-added order new_values kept old.object.next ∙ ap (λ m. length kept + m) (sym is_more) ∙ sym need in
+          sym (length-map new.object.rows plain_row) ∙ ap (λ (o : Object ℕ V). length o.rows) all_after.plainly ∙ length-added order new_values kept old.object.next ∙ ap (λ m. length kept + m) (sym is_more) ∙ sym need in
           subst (λ m. slots_of new ≤ max (slots_of old) (pow8 m)) (sym count) (subst (λ m. m ≤ max (slots_of old) (pow8 (need_of old.object gone more))) (sym (second ∙ first)) p.has_room.most)
 
 -- what is refused for want of room changes nothing

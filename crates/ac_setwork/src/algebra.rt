@@ -1,5 +1,5 @@
 //! Set algebra, with all memory taken before any change.
-ghost use Rattle.std.specs.Prelude.{◌≡◌, ◌∷◌, [], ◌++◌, ◌+◌, ◌-◌, ◌^◌, ◌<◌, ◌≤◌, length, true, false, not, IfOk, OnErr, OnOk};
+ghost use Rattle.std.specs.Prelude.{◌≡◌, ◌∷◌, [], ◌++◌, ◌+◌, ◌-◌, ◌^◌, ◌<◌, ◌≤◌, length, IfOk, OnErr, OnOk};
 ghost use Rattle.std.specs.List.{list_all};
 ghost use Rattle.std.specs.Result.{IsOkAnd};
 ghost use Rattle.ac_base.specs.declared.limit.TheConstants.{GREATEST_LENGTH};
@@ -12,7 +12,7 @@ ghost use Rattle.ac_model.specs.Putting.{done};
 ghost use Rattle.ac_model.specs.Sets as sets;
 ghost use Rattle.ac_model.specs.Sets.{additions};
 ghost use Rattle.ac_setwork.specs.Filling.{NamesDiffer};
-ghost use Rattle.ac_setwork.specs.SetSeen.{HasAll, HasRoomFor, IsSifted, TakesAll, indexed, is_as, is_wanted, need_of, room_call, those};
+ghost use Rattle.ac_setwork.specs.SetSeen.{HasAll, HasRoomFor, IsSifted, TakesAll, indexed, is_as, is_wanted, room_call, those};
 
 use crate::set_like::SetLike;
 use ac_base::{Fault, NoMemory};
@@ -71,7 +71,11 @@ pub fn equivalent<A: SetLike>(left: &A, right: &A) -> bool
 }
 
 /// One copy more, while there is memory.
-fn with_copy<A: SetLike>(copies: Result<Vec<A::Item>, NoMemory>, item: &A::Item, alloc: Global) -> Result<Vec<A::Item>, NoMemory>
+fn with_copy<A: SetLike>(
+    copies: Result<Vec<A::Item>, NoMemory>,
+    item: &A::Item,
+    alloc: Global,
+) -> Result<Vec<A::Item>, NoMemory>
     ensures { IfOk result (λ made. IsOkAnd copies (λ old. made.items ≡ old.items ++ item.now ∷ [])) }
 {
     let mut made = copies?;
@@ -101,7 +105,8 @@ fn collect<A: SetLike>(
 fn additions<A: SetLike>(target: &A, source: &A) -> (u64, Result<Vec<A::Item>, NoMemory>)
     requires { IsValidKeyed A.order (plain (A.seen source.now).object) }
     ensures count { result.0 ≡ length (additions A.order (plain (A.seen target.now).object) (plain (A.seen source.now).object)) }
-    ensures copies { IfOk result.1 (λ made. made.items ≡ additions A.order (plain (A.seen target.now).object) (plain (A.seen source.now).object)) }
+    ensures copies { IfOk result.1 (λ made. made.items ≡
+        additions A.order (plain (A.seen target.now).object) (plain (A.seen source.now).object)) }
 {
     let alloc = target.alloc();
     let mut found = (0, Ok(Vec::new(alloc)));
@@ -130,7 +135,8 @@ fn sift<A: SetLike>(target: &mut A, other: &A, present: bool)
 
 /// Intersection (A.18.7).
 pub fn intersect_into<A: SetLike>(target: &mut A, source: &A) -> Result<(), Fault>
-    ensures changed { Does Same (λ o. sets.unchecked_intersection A.order o (plain (A.seen source.now).object)) (A.seen target.old) (A.seen target.new) result }
+    ensures changed { Does Same (λ o. sets.unchecked_intersection A.order o (plain (A.seen source.now).object))
+        (A.seen target.old) (A.seen target.new) result }
     ensures slots { slots_of (A.seen target.new) ≡ slots_of (A.seen target.old) }
 {
     sift(target, source, true);
@@ -139,7 +145,8 @@ pub fn intersect_into<A: SetLike>(target: &mut A, source: &A) -> Result<(), Faul
 
 /// Difference (A.18.7).
 pub fn difference_into<A: SetLike>(target: &mut A, source: &A) -> Result<(), Fault>
-    ensures changed { Does Same (λ o. sets.unchecked_difference A.order o (plain (A.seen source.now).object)) (A.seen target.old) (A.seen target.new) result }
+    ensures changed { Does Same (λ o. sets.unchecked_difference A.order o (plain (A.seen source.now).object))
+        (A.seen target.old) (A.seen target.new) result }
     ensures slots { slots_of (A.seen target.new) ≡ slots_of (A.seen target.old) }
 {
     sift(target, source, false);
@@ -156,7 +163,7 @@ fn add_each<A: SetLike>(target: &mut A, items: Vec<A::Item>)
     }
 }
 
-/// Room for what is to be added, once so many are gone, and the copies. A refusal comes before want of memory, and neither changes anything.
+/// Room for what is to be added, once so many are gone, and the copies. A refusal comes before want of memory.
 fn room_for<A: SetLike>(
     target: &mut A,
     gone: u64,
@@ -182,7 +189,8 @@ fn room_for<A: SetLike>(
 
 /// Union (A.18.7).
 pub fn union_into<A: SetLike>(target: &mut A, source: &A) -> Result<(), Fault>
-    ensures changed { Does Same (λ o. sets.unchecked_union A.order o (plain (A.seen source.now).object)) (A.seen target.old) (A.seen target.new) result }
+    ensures changed { Does Same (λ o. sets.unchecked_union A.order o (plain (A.seen source.now).object))
+        (A.seen target.old) (A.seen target.new) result }
     ensures slots { Grows result (A.seen target.old) (A.seen target.new) }
 {
     target.law();

@@ -1,7 +1,7 @@
 //! What hashed and ordered maps and sets have in common: their calls, over any index that keeps the rows.
 #![tactic(auto)]
 
-mod algebra;
+pub mod algebra;
 mod entry;
 mod entry_element;
 mod filling;

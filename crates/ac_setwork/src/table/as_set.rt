@@ -1,6 +1,4 @@
 //! A table as a set of its rows.
-ghost use Rattle.std.specs.Prelude.{◌≡◌};
-
 use super::Table;
 use crate::filling::widen;
 use crate::index::Index;

@@ -1,4 +1,4 @@
-use Rattle.std.proofs.Common.{false, length, refl, sym, ap, subst, ◌≡◌, ◌≤◌, ◌+◌, ◌∙◌, arith, IfOk}
+use Rattle.std.proofs.Common.{false, length, ap, subst, ◌≡◌, ◌∙◌, arith, IfOk}
 use Rattle.std.specs.Prelude.{filter}
 use Rattle.std.proofs.lemmas.List.{length-map}
 use Rattle.ac_model.specs.Objects.{plain, plain_row}

@@ -1,4 +1,4 @@
-use Rattle.std.proofs.Common.{false, true, ap, subst, ◌≡◌, ◌∙◌}
+use Rattle.std.proofs.Common.{ap, subst, ◌∙◌}
 use Rattle.std.specs.List.{list_all}
 use Rattle.ac_model.specs.Objects.{plain}
 use Rattle.ac_model.proofs.Plains.{values-plains}

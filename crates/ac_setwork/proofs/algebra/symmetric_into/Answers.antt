@@ -1,7 +1,5 @@
-use Rattle.std.proofs.Common.{◌≡◌, ◌≤◌, ◌+◌, ◌-◌, ◌∙◌, arith, length, not, refl, sym, ap, subst}
+use Rattle.std.proofs.Common.{◌+◌, ◌-◌, ◌∙◌, arith, length, not, refl, sym, ap, subst}
 use Rattle.std.proofs.lemmas.List.{length-map}
-use Rattle.ac_base.specs.declared.limit.TheConstants.{GREATEST_LENGTH}
-use Rattle.ac_base.specs.Rows.{values}
 use Rattle.ac_model.specs.Keyed.{added, has}
 use Rattle.ac_model.specs.Objects.{contents, grown, plain, plain_row}
 use Rattle.ac_model.specs.Sets.{additions, own_rows}
@@ -61,11 +59,10 @@ returns-in-Ok-clause-changed g c =
     let kept = own_rows order (plain old.object) source in let vs = additions order (plain old.object) source in
     let p = symmetric_prepared order source old wide fewer gone more sum few (ap (λ n. n - more) len) is h.0 h.1 c.in-Ok.ensures.ok c.sift.ensures in
     let are = copied_are c.additions-more.result.1 (λ made. made.items) c.in-Ok.items.items vs c.in-Ok.ensures.copies c.additions-more.ensures.copies in
-    let new = g.A.SetLike.seen c.add_each.new.target in let all = subst (λ us. HasAll order us fewer new) are c.add_each.ensures in
-    (
-        unrefused_room old wide gone more (length kept + length vs) (length vs) (plain old.object) (omega (arith, few, is, len, sum)) is h.0,
-        all_after order source old wide fewer kept gone more p new all,
-        refl,
+    let new = g.A.SetLike.seen c.add_each.new.target in let all = subst (λ us. HasAll order us fewer new) are c.add_each.ensures in (
+      unrefused_room old wide gone more (length kept + length vs) (length vs) (plain old.object) (omega (arith, few, is, len, sum)) is h.0,
+      all_after order source old wide fewer kept gone more p new all,
+      refl,
     )
 
 pub returns-in-Ok-clause-slots : goal.returns-in-Ok-clause-slots

@@ -1,9 +1,6 @@
-use Rattle.std.proofs.Common.{◌≡◌, ◌≤◌, ◌+◌, ◌∙◌, arith, length, refl, sym, subst}
-use Rattle.std.proofs.lemmas.List.{length-map}
-use Rattle.std.specs.Result.{IsOkAnd}
-use Rattle.ac_base.specs.declared.limit.TheConstants.{GREATEST_LENGTH}
+use Rattle.std.proofs.Common.{◌+◌, arith, length, refl, sym, subst}
 use Rattle.ac_model.specs.Keyed.{added}
-use Rattle.ac_model.specs.Objects.{grown, plain, plain_row}
+use Rattle.ac_model.specs.Objects.{grown, plain}
 use Rattle.ac_model.specs.Sets.{additions}
 use Rattle.ac_setwork.specs.SetSeen.{HasAll, TakesAll}
 use Rattle.ac_setwork.proofs.Unions.{additions_few, all_after, all_grows, copied_are, refused_room, takes_all, union_prepared, unrefused_room}
@@ -36,11 +33,10 @@ returns-in-Ok-clause-changed g c =
     let wide = g.A.SetLike.seen c.room_for.new.target in let h = c.in-Ok.ensures.changed in
     let p = union_prepared order source old wide more c.additions-more.ensures.count h.0 h.1 c.in-Ok.ensures.ok in
     let are = copied_are c.additions-more.result.1 (λ made. made.items) c.in-Ok.items.items (additions order (plain old.object) source) c.in-Ok.ensures.copies c.additions-more.ensures.copies in
-    let vs = additions order (plain old.object) source in let rows = (plain old.object).rows in let is = c.additions-more.ensures.count in
-    (
-        unrefused_room old wide 0 more (length rows + length vs) (length vs) (plain old.object) (omega (arith, is)) is h.0,
-        all_after order source old wide wide rows 0 more p (g.A.SetLike.seen c.add_each.new.target) (subst (λ us. HasAll order us wide (g.A.SetLike.seen c.add_each.new.target)) are c.add_each.ensures),
-        refl,
+    let vs = additions order (plain old.object) source in let rows = (plain old.object).rows in let is = c.additions-more.ensures.count in (
+      unrefused_room old wide 0 more (length rows + length vs) (length vs) (plain old.object) (omega (arith, is)) is h.0,
+      all_after order source old wide wide rows 0 more p (g.A.SetLike.seen c.add_each.new.target) (subst (λ us. HasAll order us wide (g.A.SetLike.seen c.add_each.new.target)) are c.add_each.ensures),
+      refl,
     )
 
 pub returns-in-Ok-clause-slots : goal.returns-in-Ok-clause-slots
