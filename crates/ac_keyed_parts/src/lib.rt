@@ -8,4 +8,6 @@ mod hashed;
 #[cfg(test)]
 mod ordered;
 #[cfg(test)]
+mod set_algebra;
+#[cfg(test)]
 mod views;

@@ -17,7 +17,7 @@ pub fn tag(rt: &impl Abort, number: u64) -> Tag {
     }
 }
 
-fn set<T: Rank>(rt: &impl Abort, alloc: Global, number: u64, limit: Limit) -> OrderedSet<T>
+pub fn set<T: Rank>(rt: &impl Abort, alloc: Global, number: u64, limit: Limit) -> OrderedSet<T>
     requires { IsLimit limit }
 {
     match OrderedSet::new(alloc, tag(rt, number), limit) {
@@ -52,7 +52,7 @@ fn look<T: Rank>(set: &OrderedSet<T>, element: &T) -> (bool, [Cursor; 3]) {
 }
 
 /// The elements are these, forwards and backwards.
-fn holds(set: &OrderedSet<i64>, wanted: &[i64]) -> bool {
+pub fn holds(set: &OrderedSet<i64>, wanted: &[i64]) -> bool {
     let mut c = set.first();
     for value in wanted {
         if set.element(c).ok().copied() != Some(*value) {
