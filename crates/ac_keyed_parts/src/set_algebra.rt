@@ -103,10 +103,12 @@ fn sets_meet_themselves(rt: HostRuntime) {
 fn a_guard_forbids_set_algebra(rt: HostRuntime) {
     let mut target = arrived(&rt, rt.alloc(), 1, &[1]);
     let source = arrived(&rt, rt.alloc(), 2, &[2]);
+    assert!(rt; target.held(GuardKind::Cursors) == 0);
     let key = target.hold(GuardKind::Cursors);
-    assert!(rt; target.union(&source) == Err(Fault::Raised(Reason::CursorTampering)));
-    assert!(rt; target.intersection_self() == Err(Fault::Raised(Reason::CursorTampering)));
+    let refused = target.union(&source);
+    let by_itself = target.intersection_self();
     target.release(key);
+    assert!(rt; refused == Err(Fault::Raised(Reason::CursorTampering)) && by_itself == refused);
     assert!(rt; target.union(&source).is_ok() && has(&target, &[1, 2]));
 }
 
