@@ -363,12 +363,12 @@ def main():
         beside(os.path.abspath(asked.before), os.path.join(folder, "out/ac_bench"), asked.runs)
         return 0
     subprocess.run([os.path.join(TOP, "adacont")], stdin=subprocess.DEVNULL, check=True)
-    folder = os.path.join(TOP, "crates/ac_bench")
-    prove_and_build(folder, "pool", "0")
     with tempfile.TemporaryDirectory() as place:
         if asked.peer:
             beside_a_peer(shlex.split(asked.peer), place)
             return 0
+        folder = os.path.join(TOP, "crates/ac_bench")
+        prove_and_build(folder, "pool", "0")
         scripts(place)
         large(place)
         a_length(place)
