@@ -23,6 +23,7 @@ use Rattle.ac_check.specs.declared.operation.ListCall.TheVariants as list_call
 use Rattle.ac_check.specs.declared.operation.VectorCall.TheVariants as vector_call
 use Rattle.ac_check.specs.declared.operation.MapCall.TheVariants as map_call
 use Rattle.ac_check.specs.declared.operation.SetCall.TheVariants as set_call
+use Rattle.ac_check.specs.declared.operation.SetPairCall.TheVariants as set_pair_call
 use Rattle.ac_check.specs.declared.operation.KeyedCall.TheVariants as keyed_call
 use Rattle.ac_check.specs.declared.operation.QueueCall.TheVariants as queue_call
 use Rattle.ac_check.specs.Operations.{operation_of}
@@ -214,10 +215,13 @@ abbrev pub CallsByKind : Type 0
 CallsByKind = Tells kinds
     (call (Some X) (codes "vector") (codes "element") (number 3 ∷ []) ∷ done (codes "map") (codes "insert") (text Y ∷ number 3 ∷ [])
     ∷ call (Some X) (codes "map") (codes "element") (text Y ∷ []) ∷ call (Some Y) (codes "ordered") (codes "last_key") []
-    ∷ done (codes "keyed") (codes "key_exclude") (text Y ∷ []) ∷ call (Some X) (codes "queue") (codes "dequeue") [] ∷ [])
+    ∷ done (codes "keyed") (codes "key_exclude") (text Y ∷ []) ∷ call (Some X) (codes "queue") (codes "dequeue") []
+    ∷ done (codes "set") (codes "union") (Var (codes "set") ∷ []) ∷ done (codes "keyed") (codes "overlap") (Var (codes "keyed") ∷ []) ∷ [])
     (call (Some X) (codes "list") (codes "element") (number 3 ∷ []) ∷ done (codes "map") (codes "insert") (number 3 ∷ text Y ∷ [])
     ∷ call (Some Y) (codes "map") (codes "last_key") [] ∷ done (codes "set") (codes "key_exclude") (text Y ∷ [])
-    ∷ done (codes "tree") (codes "length") [] ∷ done (codes "queue") (codes "clear") [] ∷ [])
+    ∷ done (codes "tree") (codes "length") [] ∷ done (codes "queue") (codes "clear") []
+    ∷ done (codes "set") (codes "union") (Var (codes "keyed") ∷ []) ∷ done (codes "map") (codes "union") (Var (codes "map") ∷ [])
+    ∷ done (codes "set") (codes "is_subset") (text Y ∷ []) ∷ call (Some X) (codes "set") (codes "union") (Var (codes "set") ∷ []) ∷ [])
 
 -- the elements of a set aren't written in a loop over them
 abbrev pub WritesNoSet : Type 0
@@ -285,7 +289,10 @@ abbrev pub MeansByKind : Type 0
 MeansByKind =
     (meant kinds (codes "vector") (codes "element") (number 3 ∷ []) ∷ meant kinds (codes "map") (codes "element") (text Y ∷ [])
     ∷ meant kinds (codes "map") (codes "delete") (text Y ∷ []) ∷ meant kinds (codes "set") (codes "delete") (text Y ∷ [])
-    ∷ meant kinds (codes "keyed") (codes "key_exclude") (text Y ∷ []) ∷ meant kinds (codes "queue") (codes "peak_use") [] ∷ [])
+    ∷ meant kinds (codes "keyed") (codes "key_exclude") (text Y ∷ []) ∷ meant kinds (codes "queue") (codes "peak_use") []
+    ∷ meant kinds (codes "set") (codes "difference") (Var (codes "set") ∷ []) ∷ meant kinds (codes "keyed") (codes "is_subset") (Var (codes "keyed") ∷ [])
+    ∷ meant kinds (codes "set") (codes "difference") (Var (codes "keyed") ∷ []) ∷ [])
     ≡ (Some (operation.Vector vector_call.ElementIndex) ∷ Some (operation.Map map_call.ElementKey)
     ∷ Some (operation.Map map_call.DeleteKey) ∷ Some (operation.Set set_call.DeleteItem)
-    ∷ Some (operation.Keyed keyed_call.KeyExclude) ∷ Some (operation.Queue queue_call.PeakUse) ∷ [])
+    ∷ Some (operation.Keyed keyed_call.KeyExclude) ∷ Some (operation.Queue queue_call.PeakUse)
+    ∷ Some (operation.SetPair set_pair_call.Difference) ∷ Some (operation.SetPair set_pair_call.IsSubset) ∷ None ∷ [])

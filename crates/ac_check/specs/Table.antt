@@ -14,6 +14,7 @@ use Rattle.ac_check.specs.declared.operation.ListCall.TheVariants as list
 use Rattle.ac_check.specs.declared.operation.WalkCall.TheVariants as walk
 use Rattle.ac_check.specs.declared.operation.MapCall.TheVariants as map
 use Rattle.ac_check.specs.declared.operation.SetCall.TheVariants as set
+use Rattle.ac_check.specs.declared.operation.SetPairCall.TheVariants as set_pair
 use Rattle.ac_check.specs.declared.operation.KeyedCall.TheVariants as keyed_set
 use Rattle.ac_check.specs.declared.operation.OrderedCall.TheVariants as ordered
 use Rattle.ac_check.specs.declared.operation.OrderedMapCall.TheVariants as ordered_map
@@ -176,6 +177,13 @@ set_rows =
     ∷ row (codes "delete") (E ∷ []) answer.Done (operation.Set set.DeleteItem)
     ∷ row (codes "find") (E ∷ []) answer.Cursor (operation.Set set.Find)
     ∷ row (codes "contains") (E ∷ []) answer.Truth (operation.Set set.Contains)
+    ∷ row (codes "union") (S ∷ []) answer.Done (operation.SetPair set_pair.Union)
+    ∷ row (codes "intersection") (S ∷ []) answer.Done (operation.SetPair set_pair.Intersection)
+    ∷ row (codes "difference") (S ∷ []) answer.Done (operation.SetPair set_pair.Difference)
+    ∷ row (codes "symmetric_difference") (S ∷ []) answer.Done (operation.SetPair set_pair.SymmetricDifference)
+    ∷ row (codes "overlap") (S ∷ []) answer.Truth (operation.SetPair set_pair.Overlap)
+    ∷ row (codes "is_subset") (S ∷ []) answer.Truth (operation.SetPair set_pair.IsSubset)
+    ∷ row (codes "equivalent_sets") (S ∷ []) answer.Truth (operation.SetPair set_pair.EquivalentSets)
     ∷ []
 
 -- keyed sets (Generic_Keys of A.18.8 and A.18.9)

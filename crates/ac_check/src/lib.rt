@@ -27,8 +27,8 @@ pub use examples::{
 pub use law::{each_script, one_fault, one_row, places, rules_kept};
 pub use operation::{
     CapacityCall, CommonCall, HolderCall, KeyedCall, ListCall, MapCall, Operation, OrderedCall,
-    OrderedMapCall, OrderedSetCall, QueueCall, SequenceCall, SetCall, TreeCall, TreeChangeCall,
-    VectorCall, WalkCall,
+    OrderedMapCall, OrderedSetCall, QueueCall, SequenceCall, SetCall, SetPairCall, TreeCall,
+    TreeChangeCall, VectorCall, WalkCall,
 };
 pub use resolved::{
     ResolvedArg, ResolvedArgs, ResolvedDecl, ResolvedDecls, ResolvedStmt, ResolvedStmts,

@@ -5,8 +5,8 @@ ghost use Rattle.ac_check.specs.Table as table;
 
 use crate::operation::{
     CapacityCall, CommonCall, HolderCall, KeyedCall, ListCall, MapCall, Operation, OrderedCall,
-    OrderedMapCall, OrderedSetCall, QueueCall, SequenceCall, SetCall, TreeCall, TreeChangeCall,
-    VectorCall, WalkCall,
+    OrderedMapCall, OrderedSetCall, QueueCall, SequenceCall, SetCall, SetPairCall, TreeCall,
+    TreeChangeCall, VectorCall, WalkCall,
 };
 use crate::rows::{Answer, Letter};
 use ac_syntax::{Kind, TypeDef};
@@ -141,8 +141,8 @@ const MAP: [Row; 10] = [
     row!(b"contains", [Key], Truth => Map(MapCall::Contains)),
 ];
 
-/// Sets (A.18.7), but for the calls of two sets.
-const SET: [Row; 8] = [
+/// Sets (A.18.7).
+const SET: [Row; 15] = [
     row!(b"insert", [Element], Done => Set(SetCall::Insert)),
     row!(b"insert", [Element, CursorVariable], Truth => Set(SetCall::InsertPos)),
     row!(b"include", [Element], Done => Set(SetCall::Include)),
@@ -151,6 +151,13 @@ const SET: [Row; 8] = [
     row!(b"delete", [Element], Done => Set(SetCall::DeleteItem)),
     row!(b"find", [Element], Cursor => Set(SetCall::Find)),
     row!(b"contains", [Element], Truth => Set(SetCall::Contains)),
+    row!(b"union", [Object], Done => SetPair(SetPairCall::Union)),
+    row!(b"intersection", [Object], Done => SetPair(SetPairCall::Intersection)),
+    row!(b"difference", [Object], Done => SetPair(SetPairCall::Difference)),
+    row!(b"symmetric_difference", [Object], Done => SetPair(SetPairCall::SymmetricDifference)),
+    row!(b"overlap", [Object], Truth => SetPair(SetPairCall::Overlap)),
+    row!(b"is_subset", [Object], Truth => SetPair(SetPairCall::IsSubset)),
+    row!(b"equivalent_sets", [Object], Truth => SetPair(SetPairCall::EquivalentSets)),
 ];
 
 /// Keyed sets (Generic_Keys of A.18.8 and A.18.9).
