@@ -30,6 +30,10 @@ Checked o reason = reason ≡ None → tampers_cursors o ≡ None
 pub first_check : {V : Type 0} (o : Object ℕ V) (others : List (Option Reason)) → Checked o (first_reason (tampers_cursors o ∷ others))
 first_check o others h = first_none (tampers_cursors o) others h
 
+-- and where it is made before the call looks for its own reasons
+pub earlier_check : {V : Type 0} (o : Object ℕ V) (reason : Option Reason) → Checked o (earlier (tampers_cursors o) reason)
+earlier_check o reason h = (earlier_none (tampers_cursors o) reason h).0
+
 pub second_check : {V : Type 0} (o : Object ℕ V) (first : Option Reason) (others : List (Option Reason)) →
     Checked o (first_reason (first ∷ tampers_cursors o ∷ others))
 second_check o first others h = second_none first (tampers_cursors o) others h

@@ -11,6 +11,7 @@ use Rattle.ac_model.specs.Calls.{Call}
 use Rattle.ac_model.specs.Keyed as keyed
 use Rattle.ac_model.specs.Keyed.{Order, row_like, replaced_rows, room_where_absent, another_is_like}
 use Rattle.ac_model.specs.Maps as map
+use Rattle.ac_model.specs.Sets.{unchecked_union, unchecked_symmetric_difference}
 use Rattle.ac_check.specs.declared.operation.Operation.{Operation}
 use Rattle.ac_check.specs.declared.operation.Operation.TheVariants as operation
 use Rattle.ac_check.specs.declared.operation.WalkCall.{WalkCall}
@@ -23,15 +24,17 @@ use Rattle.ac_check.specs.declared.operation.OrderedMapCall.{OrderedMapCall}
 use Rattle.ac_check.specs.declared.operation.OrderedMapCall.TheVariants as ordered_map_call
 use Rattle.ac_check.specs.declared.operation.SetCall.{SetCall}
 use Rattle.ac_check.specs.declared.operation.SetCall.TheVariants as set_call
+use Rattle.ac_check.specs.declared.operation.SetPairCall.{SetPairCall}
+use Rattle.ac_check.specs.declared.operation.SetPairCall.TheVariants as set_pair_call
 use Rattle.ac_check.specs.declared.operation.OrderedSetCall.{OrderedSetCall}
 use Rattle.ac_check.specs.declared.operation.OrderedSetCall.TheVariants as ordered_set_call
 use Rattle.ac_meaning.specs.Elements.{Tools}
 use Rattle.ac_meaning.specs.KeyedReplies.{KeyedKind, of_hashed, of_ordered, order_by, walk_reply, ordered_reply}
 use Rattle.ac_meaning.specs.MapReplies.{map_own, map_alone_reply, ordered_map_reply, map_reply}
-use Rattle.ac_meaning.specs.SetReplies.{set_own, set_alone_reply, ordered_set_reply, set_reply}
-use Rattle.ac_meaning.specs.Replies.{Arguments, Source, Reply}
+use Rattle.ac_meaning.specs.SetReplies.{set_own, set_alone_reply, set_pair_reply, ordered_set_reply, set_reply}
+use Rattle.ac_meaning.specs.Replies.{Arguments, Source, another, Reply}
 use Rattle.ac_meaning.specs.Stays.{Stays, ReplyStays}
-use Rattle.ac_meaning.proofs.CallsStay.{alone, same, renamed, changed, grows, grows_unless, first_check, names-with_value, names-with_some_value}
+use Rattle.ac_meaning.proofs.CallsStay.{alone, by_source_stays, same, renamed, changed, grows, grows_unless, first_check, earlier_check, names-with_value, names-with_some_value}
 use Rattle.ac_meaning.proofs.ListsStay.{common_stays}
 use Rattle.ac_meaning.proofs.VectorsStay.{capacity_stays}
 
@@ -122,7 +125,23 @@ module _ {T : Type 0} (tools : Tools T) (o : Object ℕ T) (source : Source (Obj
   set_alone_stays which set_call.DeleteItem = alone o source _ refl (delete_match_stays o _)
   set_alone_stays which set_call.Find = alone o source _ refl (same o _)
   set_alone_stays which set_call.Contains = alone o source _ refl (same o _)
-  set_alone_stays which _ = alone o source _ refl (same o _)
+
+  set_pair_stays : (which : KeyedKind) (c : SetPairCall) → ReplyStays o source (set_pair_reply tools which o source c)
+  set_pair_stays which set_pair_call.Union =
+      by_source_stays o source _ _ refl (same o _)
+      (λ s seen. alone o (another s seen) _ refl (grows o _ _ _ (earlier_check o (unchecked_union (order_by tools which) o s).reason)))
+  set_pair_stays which set_pair_call.Intersection =
+      by_source_stays o source _ _ refl (same o _) (λ s seen. alone o (another s seen) _ refl (changed o _ _ (earlier_check o None)))
+  set_pair_stays which set_pair_call.Difference =
+      by_source_stays o source _ _ refl (changed o _ _ (earlier_check o None))
+      (λ s seen. alone o (another s seen) _ refl (changed o _ _ (earlier_check o None)))
+  set_pair_stays which set_pair_call.SymmetricDifference =
+      by_source_stays o source _ _ refl (changed o _ _ (earlier_check o None))
+      (λ s seen. alone o (another s seen) _ refl
+      (grows o _ _ _ (earlier_check o (unchecked_symmetric_difference (order_by tools which) o s).reason)))
+  set_pair_stays which set_pair_call.Overlap = alone o source _ refl (same o _)
+  set_pair_stays which set_pair_call.IsSubset = alone o source _ refl (same o _)
+  set_pair_stays which set_pair_call.EquivalentSets = alone o source _ refl (same o _)
 
   ordered_set_stays : (which : KeyedKind) (c : OrderedSetCall) → ReplyStays o source (ordered_set_reply tools which o args c)
   ordered_set_stays which ordered_set_call.Floor = alone o source _ refl (same o _)
@@ -134,6 +153,7 @@ set_stays tools o source args which (operation.Common c) =
     common_stays o source args (set_own tools which o) (λ at v. replace_element_stays (order_by tools which) o _ at) c
 set_stays tools o source args which (operation.Walk c) = walk_stays o source args c
 set_stays tools o source args which (operation.Set c) = set_alone_stays tools o source args which c
+set_stays tools o source args which (operation.SetPair c) = set_pair_stays tools o source args which c
 set_stays tools o source args of_hashed (operation.Capacity c) = capacity_stays o source args c
 set_stays tools o source args of_ordered (operation.Ordered c) =
     ordered_stays o source args _ _ (alone o source _ refl (same o _)) (alone o source _ refl (same o _)) c

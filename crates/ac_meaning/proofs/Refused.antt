@@ -29,6 +29,8 @@ use Rattle.ac_check.specs.declared.operation.OrderedMapCall.{OrderedMapCall}
 use Rattle.ac_check.specs.declared.operation.OrderedMapCall.TheVariants as ordered_map_call
 use Rattle.ac_check.specs.declared.operation.SetCall.{SetCall}
 use Rattle.ac_check.specs.declared.operation.SetCall.TheVariants as set_call
+use Rattle.ac_check.specs.declared.operation.SetPairCall.{SetPairCall}
+use Rattle.ac_check.specs.declared.operation.SetPairCall.TheVariants as set_pair_call
 use Rattle.ac_check.specs.declared.operation.OrderedSetCall.{OrderedSetCall}
 use Rattle.ac_check.specs.declared.operation.OrderedSetCall.TheVariants as ordered_set_call
 use Rattle.ac_check.specs.declared.resolved.ResolvedArg.{ResolvedArg}
@@ -42,7 +44,7 @@ use Rattle.ac_meaning.specs.ListReplies.{list_alone_reply, list_reply}
 use Rattle.ac_meaning.specs.VectorReplies.{vector_alone_reply, vector_reply}
 use Rattle.ac_meaning.specs.KeyedReplies.{KeyedKind, of_hashed, of_ordered, walk_reply, ordered_reply}
 use Rattle.ac_meaning.specs.MapReplies.{map_own, map_alone_reply, ordered_map_reply, map_reply}
-use Rattle.ac_meaning.specs.SetReplies.{set_own, set_alone_reply, ordered_set_reply, set_reply}
+use Rattle.ac_meaning.specs.SetReplies.{set_own, set_alone_reply, set_pair_reply, ordered_set_reply, set_reply}
 use Rattle.ac_meaning.specs.Holdings.{SequenceKind, of_list, of_vector, RowKind, a_sequence, a_map, a_set, RowOf, Held, of_rows, rows_in, reply_by, rows_reply, reply_of}
 use Rattle.ac_meaning.specs.Environment.{Bound, binds_type, binds_object, binds_cursor, binds_value, binds_element, State, bound_at, object_at, value_at}
 use Rattle.ac_meaning.specs.Commands.{Performed, Assigned, source_place, source_of, after_call, assigned, unless_refused, waits_or_goes, replied, call_on, arguments, answer_in, answer_from, assigned_from, is_integer, sum_of, sum_assigned}
@@ -159,6 +161,14 @@ set_plain tools o source args which (operation.Set c) h = go c h
   where
     go : (c : SetCall) → Plain (set_alone_reply tools which o args c).answer
     go set_call.Insert h = h
+    go _ h = h
+set_plain tools o source args which (operation.SetPair c) h = go c h
+  where
+    go : (c : SetPairCall) → Plain (set_pair_reply tools which o source c).answer
+    go set_pair_call.Union h = by_source_plain source _ _ (λ r. r) (λ s seen r. r) h
+    go set_pair_call.Intersection h = by_source_plain source _ _ (λ r. r) (λ s seen r. r) h
+    go set_pair_call.Difference h = by_source_plain source _ _ (λ r. r) (λ s seen r. r) h
+    go set_pair_call.SymmetricDifference h = by_source_plain source _ _ (λ r. r) (λ s seen r. r) h
     go _ h = h
 set_plain tools o source args of_hashed (operation.Capacity c) h = capacity_plain o source args c h
 set_plain tools o source args of_ordered (operation.Ordered c) h = ordered_plain o args _ _ (value_plain _) (value_plain _) c h

@@ -95,3 +95,22 @@ SetsAreGuardedWhole =
     (one (called 13 (codes "a") (codes "print") []) stop)))))))
     ≡ lines (codes "3: ok" ∷ codes "4: raised CONSTRAINT_ERROR (key present)" ∷ codes "6: raised PROGRAM_ERROR (cursor tampering)"
     ∷ codes "7: true" ∷ codes "10: raised PROGRAM_ERROR (cursor tampering)" ∷ codes "12: ok" ∷ codes "13: [5]" ∷ [])
+
+-- of two sets the source stays as it was, and a set that is its own source keeps all of its elements or none
+abbrev pub SetsAreJoined : Type 0
+SetsAreJoined =
+    text_of (script (type_of kind.HashedSet Integer None ∷ object 2 (codes "a") ∷ object 3 (codes "b") ∷ [])
+    (one (called 4 (codes "a") (codes "insert") (number 1 ∷ []))
+    (one (called 5 (codes "b") (codes "insert") (number 2 ∷ []))
+    (one (called 6 (codes "b") (codes "insert") (number 1 ∷ []))
+    (one (called 7 (codes "a") (codes "is_subset") (Var (codes "b") ∷ []))
+    (one (called 8 (codes "b") (codes "is_subset") (Var (codes "a") ∷ []))
+    (one (called 9 (codes "a") (codes "union") (Var (codes "b") ∷ []))
+    (one (called 10 (codes "a") (codes "print") [])
+    (one (called 11 (codes "a") (codes "symmetric_difference") (Var (codes "a") ∷ []))
+    (one (called 12 (codes "a") (codes "overlap") (Var (codes "b") ∷ []))
+    (one (called 13 (codes "b") (codes "intersection") (Var (codes "b") ∷ []))
+    (one (called 14 (codes "b") (codes "overlap") (Var (codes "b") ∷ []))
+    (one (called 15 (codes "b") (codes "print") []) stop)))))))))))))
+    ≡ lines (codes "4: ok" ∷ codes "5: ok" ∷ codes "6: ok" ∷ codes "7: true" ∷ codes "8: false" ∷ codes "9: ok" ∷ codes "10: [1, 2]"
+    ∷ codes "11: ok" ∷ codes "12: false" ∷ codes "13: ok" ∷ codes "14: true" ∷ codes "15: [2, 1]" ∷ [])

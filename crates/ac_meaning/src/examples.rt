@@ -5,7 +5,7 @@ ghost use Rattle.ac_meaning.specs.Examples.{RefusedSetsNothing, SumsStayInRange,
 ghost use Rattle.ac_meaning.specs.Examples.{ElementsComeAndGo, ElementsMove, ListsGiveAndTake};
 ghost use Rattle.ac_meaning.specs.Examples.{VectorLoopsHoldTheirGuards, IndexesAreInRange, CursorsKeepElements, BoundedVectorIsFull};
 ghost use Rattle.ac_meaning.specs.Examples.{ElementsHaveIndexes, VectorsTakeCopies};
-ghost use Rattle.ac_meaning.specs.KeyedExamples.{MapsKeepArrival, SetsStandAscending, OrderedMapsHaveEnds, SetsAreGuardedWhole};
+ghost use Rattle.ac_meaning.specs.KeyedExamples.{MapsKeepArrival, SetsStandAscending, OrderedMapsHaveEnds, SetsAreGuardedWhole, SetsAreJoined};
 ghost use Rattle.ac_meaning.specs.Examples.{MapIsListed, NoNodesAreListed, TreeIsListed, DeepTreeIsListed};
 
 /// What small scripts write, to the byte.
@@ -54,6 +54,7 @@ pub fn map_and_set_scripts()
     ensures sets_stand_ascending { SetsStandAscending }
     ensures ordered_maps_have_ends { OrderedMapsHaveEnds }
     ensures sets_are_guarded_whole { SetsAreGuardedWhole }
+    ensures sets_are_joined { SetsAreJoined }
 {}
 
 /// How maps and trees are listed.

@@ -21,3 +21,7 @@ returns-clause-ordered_maps_have_ends c = refl
 pub returns-clause-sets_are_guarded_whole : goal.returns-clause-sets_are_guarded_whole
 unfolding digits pow8 rows_of common_rows counted_rows capacity_rows keyed_walk_rows set_rows resolve_simple run text_of
 returns-clause-sets_are_guarded_whole c = refl
+
+pub returns-clause-sets_are_joined : goal.returns-clause-sets_are_joined
+unfolding digits pow8 rows_of common_rows counted_rows capacity_rows keyed_walk_rows set_rows resolve_simple run text_of
+returns-clause-sets_are_joined c = refl
