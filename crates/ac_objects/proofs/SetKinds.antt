@@ -12,3 +12,13 @@ module _ {T : Type 0} (alike less : T → T → Bool) (P : Order T → Container
 
   pub of_ordered_set : s ≡ Ordered x → P (ascending less) x → P (set_order alike less s) (items_of s)
   of_ordered_set is h = subst (λ t. P (set_order alike less t) (items_of t)) (sym is) h
+
+-- and of two sets of one kind
+module _ {T : Type 0} (alike less : T → T → Bool) (P : Order T → Container T → Container T → Type 0) (s t : Set T) (x y : Container T) where
+  pub of_hashed_sets : s ≡ Hashed x → t ≡ Hashed y → P (by_arrival alike) x y → P (set_order alike less s) (items_of s) (items_of t)
+  of_hashed_sets is other h =
+      subst (λ u. P (set_order alike less u) (items_of u) (items_of t)) (sym is) (subst (λ u. P (by_arrival alike) x (items_of u)) (sym other) h)
+
+  pub of_ordered_sets : s ≡ Ordered x → t ≡ Ordered y → P (ascending less) x y → P (set_order alike less s) (items_of s) (items_of t)
+  of_ordered_sets is other h =
+      subst (λ u. P (set_order alike less u) (items_of u) (items_of t)) (sym is) (subst (λ u. P (ascending less) x (items_of u)) (sym other) h)

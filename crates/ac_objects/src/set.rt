@@ -6,6 +6,7 @@ ghost use Rattle.ac_model.specs.Sequences as sequences;
 ghost use Rattle.ac_meaning.specs.KeyedReplies.{of_hashed};
 ghost use Rattle.ac_objects.specs.Sets.{items_of, set_kind_of};
 
+mod algebra;
 mod changes;
 mod common_rows;
 mod keyed_rows;

@@ -44,4 +44,55 @@ impl<T: ScriptElement> Set<T> {
             Set::Ordered(set) => uncounted::contains(set, element),
         }
     }
+
+    pub fn overlap(&self, other: &Set<T>) -> bool
+        requires like { set_kind_of other.now ≡ set_kind_of self.now }
+        ensures { result ≡ sets.overlap_call (set_order T.is_alike T.is_less self.now)
+            (plain (items_of self.now).object) (plain (items_of other.now).object) }
+    {
+        match self {
+            Set::Hashed(set) => match other {
+                Set::Hashed(other) => set.overlap(other),
+                Set::Ordered(_) => unreachable!(),
+            },
+            Set::Ordered(set) => match other {
+                Set::Hashed(_) => unreachable!(),
+                Set::Ordered(other) => set.overlap(other),
+            },
+        }
+    }
+
+    pub fn is_subset(&self, other: &Set<T>) -> bool
+        requires like { set_kind_of other.now ≡ set_kind_of self.now }
+        ensures { result ≡ sets.is_subset_call (set_order T.is_alike T.is_less self.now)
+            (plain (items_of self.now).object) (plain (items_of other.now).object) }
+    {
+        match self {
+            Set::Hashed(set) => match other {
+                Set::Hashed(other) => set.is_subset(other),
+                Set::Ordered(_) => unreachable!(),
+            },
+            Set::Ordered(set) => match other {
+                Set::Hashed(_) => unreachable!(),
+                Set::Ordered(other) => set.is_subset(other),
+            },
+        }
+    }
+
+    pub fn equivalent_sets(&self, other: &Set<T>) -> bool
+        requires like { set_kind_of other.now ≡ set_kind_of self.now }
+        ensures { result ≡ sets.equivalent_sets_call (set_order T.is_alike T.is_less self.now)
+            (plain (items_of self.now).object) (plain (items_of other.now).object) }
+    {
+        match self {
+            Set::Hashed(set) => match other {
+                Set::Hashed(other) => set.equivalent_sets(other),
+                Set::Ordered(_) => unreachable!(),
+            },
+            Set::Ordered(set) => match other {
+                Set::Hashed(_) => unreachable!(),
+                Set::Ordered(other) => set.equivalent_sets(other),
+            },
+        }
+    }
 }

@@ -17,6 +17,7 @@ use crate::keyed_calls::walk_call;
 use crate::ordered_calls::ordered_call;
 use crate::reply::{Reply, Said};
 use crate::set_calls::{ordered_set_call, set_call};
+use crate::set_pair_calls::{set_pair_call, set_pair_call_with};
 use ac_base::Fault;
 use ac_check::{CapacityCall, Operation, OrderedCall, OrderedSetCall};
 use std::alloc::Global;
@@ -40,6 +41,7 @@ pub fn operate<T: ScriptElement>(
         Operation::Common(call) => common_call(set, alloc, call, args, reply),
         Operation::Walk(call) => walk_call(set, call, args, reply),
         Operation::Set(call) => set_call(set, alloc, call, args, reply),
+        Operation::SetPair(call) => set_pair_call(set, call, reply),
         Operation::Capacity(call) => operate_capacity(set, call, args, reply),
         Operation::Ordered(call) => operate_ordered(set, alloc, call, args, reply),
         Operation::OrderedSet(call) => operate_ordered_set(set, alloc, call, args, reply),
@@ -105,7 +107,7 @@ fn operate_ordered_set<T: ScriptElement>(
     }
 }
 
-/// Makes a call on a set with another one of its kind as the source, which only calls of all kinds of rows have.
+/// Makes a call on a set with another one of its kind as the source, which calls of all kinds of rows and those of two sets have.
 pub fn operate_with<T: ScriptElement>(
     set: &mut Set<T>,
     source: &mut Set<T>,
@@ -127,6 +129,7 @@ pub fn operate_with<T: ScriptElement>(
 {
     match operation {
         Operation::Common(call) => common_call_with(set, source, alloc, call, args, reply),
+        Operation::SetPair(call) => set_pair_call_with(set, source, call, reply),
         _ => operate(set, alloc, operation, args, reply),
     }
 }
