@@ -89,6 +89,8 @@ module _ {K V : Type 0} (keys : Tools K) (tools : Tools V) (which : KeyedKind) w
       either_kind (λ k. map_reply keys tools o source args k (operation.List c)) (tells o answers_ok) refl refl which
   no_map_call (operation.Set c) o source args common walk map capacity ordered ordered_map =
       either_kind (λ k. map_reply keys tools o source args k (operation.Set c)) (tells o answers_ok) refl refl which
+  no_map_call (operation.SetPair c) o source args common walk map capacity ordered ordered_map =
+      either_kind (λ k. map_reply keys tools o source args k (operation.SetPair c)) (tells o answers_ok) refl refl which
   no_map_call (operation.Keyed c) o source args common walk map capacity ordered ordered_map =
       either_kind (λ k. map_reply keys tools o source args k (operation.Keyed c)) (tells o answers_ok) refl refl which
   no_map_call (operation.OrderedSet c) o source args common walk map capacity ordered ordered_map =

@@ -53,6 +53,7 @@ module _ {T : Type 0} (tools : Tools T) (which : SequenceKind) where
   no_sequence_call (operation.Walk c) o source args common sequence capacity vector list = either_kind (λ k. reply_by tools o source args k (operation.Walk c)) (tells o answers_ok) refl refl which
   no_sequence_call (operation.Map c) o source args common sequence capacity vector list = either_kind (λ k. reply_by tools o source args k (operation.Map c)) (tells o answers_ok) refl refl which
   no_sequence_call (operation.Set c) o source args common sequence capacity vector list = either_kind (λ k. reply_by tools o source args k (operation.Set c)) (tells o answers_ok) refl refl which
+  no_sequence_call (operation.SetPair c) o source args common sequence capacity vector list = either_kind (λ k. reply_by tools o source args k (operation.SetPair c)) (tells o answers_ok) refl refl which
   no_sequence_call (operation.Keyed c) o source args common sequence capacity vector list = either_kind (λ k. reply_by tools o source args k (operation.Keyed c)) (tells o answers_ok) refl refl which
   no_sequence_call (operation.Ordered c) o source args common sequence capacity vector list = either_kind (λ k. reply_by tools o source args k (operation.Ordered c)) (tells o answers_ok) refl refl which
   no_sequence_call (operation.OrderedMap c) o source args common sequence capacity vector list = either_kind (λ k. reply_by tools o source args k (operation.OrderedMap c)) (tells o answers_ok) refl refl which

@@ -28,6 +28,8 @@ use Rattle.ac_check.specs.declared.operation.OrderedMapCall.{OrderedMapCall}
 use Rattle.ac_check.specs.declared.operation.OrderedMapCall.TheVariants as ordered_map_call
 use Rattle.ac_check.specs.declared.operation.SetCall.{SetCall}
 use Rattle.ac_check.specs.declared.operation.SetCall.TheVariants as set_call
+use Rattle.ac_check.specs.declared.operation.SetPairCall.{SetPairCall}
+use Rattle.ac_check.specs.declared.operation.SetPairCall.TheVariants as set_pair_call
 use Rattle.ac_check.specs.declared.operation.OrderedSetCall.{OrderedSetCall}
 use Rattle.ac_check.specs.declared.operation.OrderedSetCall.TheVariants as ordered_set_call
 use Rattle.ac_model.specs.Rows.{Entry}
@@ -39,7 +41,7 @@ use Rattle.ac_meaning.specs.ListReplies.{list_alone_reply, list_reply}
 use Rattle.ac_meaning.specs.VectorReplies.{vector_alone_reply, vector_reply}
 use Rattle.ac_meaning.specs.KeyedReplies.{KeyedKind, of_hashed, of_ordered, walk_reply, ordered_reply}
 use Rattle.ac_meaning.specs.MapReplies.{map_own, map_alone_reply, ordered_map_reply, map_reply}
-use Rattle.ac_meaning.specs.SetReplies.{set_own, set_alone_reply, ordered_set_reply, set_reply}
+use Rattle.ac_meaning.specs.SetReplies.{set_own, set_alone_reply, set_pair_reply, ordered_set_reply, set_reply}
 use Rattle.ac_meaning.specs.Holdings.{SequenceKind, of_list, of_vector, RowKind, a_sequence, a_map, a_set, RowOf, Held, of_rows, own_calls, reply_by, rows_reply, reply_of}
 use Rattle.ac_meaning.proofs.RowKinds.{rows_own}
 
@@ -143,8 +145,18 @@ module _ {K T : Type 0} (keys : Tools K) (tools : Tools T) (o : Object ℕ (Entr
   map_alone of_ordered _ = refl
 
 module _ {T : Type 0} (tools : Tools T) (o : Object ℕ T) (args : Arguments) where
+  pair_alone : (which : KeyedKind) (c : SetPairCall) → set_pair_reply tools which o without c ≡ set_pair_reply tools which o itself c
+  pair_alone which set_pair_call.Union = refl
+  pair_alone which set_pair_call.Intersection = refl
+  pair_alone which set_pair_call.Difference = refl
+  pair_alone which set_pair_call.SymmetricDifference = refl
+  pair_alone which set_pair_call.Overlap = refl
+  pair_alone which set_pair_call.IsSubset = refl
+  pair_alone which set_pair_call.EquivalentSets = refl
+
   set_alone : (which : KeyedKind) (op : Operation) → set_reply tools o without args which op ≡ set_reply tools o itself args which op
   set_alone which (operation.Common c) = common_own o args (set_own tools which o) c
+  set_alone which (operation.SetPair c) = pair_alone which c
   set_alone of_hashed _ = refl
   set_alone of_ordered _ = refl
 
@@ -288,6 +300,13 @@ module _ {T : Type 0} (tools : Tools T) (o : Object ℕ T) (source : Source (Obj
   set_alone_lists which listing set_call.Insert = tt
   set_alone_lists which listing _ = tt
 
+  set_pair_lists : (which : KeyedKind) (listing : List ℕ) (c : SetPairCall) → ReplyLists listing o (set_pair_reply tools which o source c)
+  set_pair_lists which listing set_pair_call.Union = by_source_lists listing o source _ _ tt (λ s seen. tt)
+  set_pair_lists which listing set_pair_call.Intersection = by_source_lists listing o source _ _ tt (λ s seen. tt)
+  set_pair_lists which listing set_pair_call.Difference = by_source_lists listing o source _ _ tt (λ s seen. tt)
+  set_pair_lists which listing set_pair_call.SymmetricDifference = by_source_lists listing o source _ _ tt (λ s seen. tt)
+  set_pair_lists which listing _ = tt
+
   ordered_set_lists : (which : KeyedKind) (listing : List ℕ) (c : OrderedSetCall) → ReplyLists listing o (ordered_set_reply tools which o args c)
   ordered_set_lists which listing ordered_set_call.Floor = tt
   ordered_set_lists which listing ordered_set_call.Ceiling = tt
@@ -296,6 +315,7 @@ module _ {T : Type 0} (tools : Tools T) (o : Object ℕ T) (source : Source (Obj
   set_lists which (operation.Common c) = common_lists o source args (set_own tools which o) c
   set_lists which (operation.Walk c) = walk_lists (set_own tools which o).listing o args c
   set_lists which (operation.Set c) = set_alone_lists which (set_own tools which o).listing c
+  set_lists which (operation.SetPair c) = set_pair_lists which (set_own tools which o).listing c
   set_lists of_hashed (operation.Capacity c) = capacity_lists (set_own tools of_hashed o).listing o args c
   set_lists of_ordered (operation.Ordered c) =
       ordered_lists (set_own tools of_ordered o).listing o args _ _ (value_lists (set_own tools of_ordered o).listing o o _)

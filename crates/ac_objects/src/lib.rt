@@ -36,6 +36,7 @@ mod sequence_calls;
 mod sequence_source_calls;
 mod set;
 mod set_calls;
+mod set_pair_calls;
 mod vector_calls;
 mod views;
 mod walking;

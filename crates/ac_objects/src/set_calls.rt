@@ -1,4 +1,4 @@
-//! The calls of sets alone, and of ordered ones. Those of two sets no script that can run has.
+//! The calls of sets alone, and of ordered ones.
 ghost use Rattle.std.specs.Prelude.{◌≡◌};
 ghost use Rattle.ac_objects.specs.Replied.{told};
 ghost use Rattle.ac_objects.specs.SetCalls.{SetReplied, OrderedSetReplied, tools_by};
@@ -10,7 +10,7 @@ mod own_cursors;
 
 use crate::argument::Arguments;
 use crate::element::ScriptElement;
-use crate::reply::{Reply, Said};
+use crate::reply::Reply;
 use crate::set::Set;
 use ac_base::Fault;
 use ac_check::{OrderedSetCall, SetCall};
@@ -37,16 +37,6 @@ pub fn set_call<T: ScriptElement>(
         SetCall::DeleteItem => changes::delete_item(set, alloc, args, reply),
         SetCall::Find => looks::find(set, alloc, args, reply),
         SetCall::Contains => looks::contains(set, alloc, args, reply),
-        SetCall::Union
-        | SetCall::Intersection
-        | SetCall::Difference
-        | SetCall::SymmetricDifference
-        | SetCall::Overlap
-        | SetCall::IsSubset
-        | SetCall::EquivalentSets => {
-            *reply = Reply::says(Said::Done);
-            Ok(())
-        }
     }
 }
 

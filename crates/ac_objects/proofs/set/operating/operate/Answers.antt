@@ -1,11 +1,11 @@
 use Rattle.std.proofs.Common.{rules, subst, sym}
-use Rattle.ac_check.specs.declared.operation.Operation.TheVariants.{Common, Walk, Set, Capacity, Ordered, OrderedSet}
+use Rattle.ac_check.specs.declared.operation.Operation.TheVariants.{Common, Walk, Set, SetPair, Capacity, Ordered, OrderedSet}
 use Rattle.ac_model.specs.Objects.{plain}
 use Rattle.ac_meaning.specs.Replies.{itself, seen_by}
 use Rattle.ac_meaning.specs.SetReplies.{set_reply}
 use Rattle.ac_objects.specs.Arguments.{arguments_of}
 use Rattle.ac_objects.specs.Replied.{IsMade, told}
-use Rattle.ac_objects.specs.SetCalls.{SetReplied}
+use Rattle.ac_objects.specs.SetCalls.{SetReplied, SetPairReplied}
 use Rattle.ac_objects.specs.Sets.{items_of, set_kind_of}
 use Rattle.ac_objects.proofs.Made.{unchanged}
 use Rattle.ac_objects.proofs.Operations.{replied_by}
@@ -36,6 +36,15 @@ returns-in-Set-clause-replied g c =
     replied_by (λ source args operation. set_reply tools (plain old.object) source args (set_kind_of s) operation) old _ c.args.args.now c.args.operation (Set c.in-Set.call) _ c.requires.agree c.in-Set.is
     (subst (λ t. SetReplied t c.in-Set.call c.args.args.now s c.set_call.new.set (told c.set_call.new.reply c.set_call.result))
     (sym (own_tools tools _ _ g.met.T.ScriptElement.alike_is g.met.T.ScriptElement.less_is)) c.set_call.ensures.replied)
+
+pub returns-in-SetPair-clause-replied : goal.returns-in-SetPair-clause-replied
+returns-in-SetPair-clause-replied g c =
+    let tools = g.T.ScriptElement.tools in
+    let s = c.args.set.now in
+    let old = items_of s in
+    replied_by (λ source args operation. set_reply tools (plain old.object) source args (set_kind_of s) operation) old _ c.args.args.now c.args.operation (SetPair c.in-SetPair.call) _ c.requires.agree c.in-SetPair.is
+    (subst (λ t. SetPairReplied t c.in-SetPair.call s c.set_pair_call.new.set (told c.set_pair_call.new.reply c.set_pair_call.result))
+    (sym (own_tools tools _ _ g.met.T.ScriptElement.alike_is g.met.T.ScriptElement.less_is)) c.set_pair_call.ensures.replied)
 
 pub returns-in-Capacity-clause-replied : goal.returns-in-Capacity-clause-replied
 returns-in-Capacity-clause-replied g c =
@@ -68,7 +77,7 @@ returns-in_default-clause-replied g c =
     let none = c.in_default in
     subst (λ r. IsMade r old old c.says.result)
     (sym (no_set_call g.T.ScriptElement.tools (set_kind_of s) c.args.operation (plain old.object) itself (seen_by (plain old.object) (arguments_of c.args.args.now))
-    none.not-Common none.not-Walk none.not-Set none.not-Capacity none.not-Ordered none.not-OrderedSet))
+    none.not-Common none.not-Walk none.not-Set none.not-SetPair none.not-Capacity none.not-Ordered none.not-OrderedSet))
     (record {
       goes = search rules;
       reason = search rules;
