@@ -63,12 +63,6 @@ A.Element (C);
 type S is hashed_set (string) keyed;
 ==> 1
 line 1: wrong type
-====
-type S is hashed_set (string);
-A : S;
-A.Union (A);
-==> 1
-line 3: wrong type
 "#;
 
 #[test]
@@ -500,55 +494,6 @@ line 5: wrong type
 #[test]
 fn types_of_maps_and_sets(rt: HostRuntime) -> Result<(), Fail> {
     each_row_is_met(&rt, rt.alloc(), TYPES_OF_MAPS_AND_SETS)
-}
-
-const CALLS_OF_TWO_SETS_ARE_NOT_THERE: &str = "type S is hashed_set (integer);
-A : S;
-B : S;
-A.Union (B);
-==> 1
-line 4: wrong type
-====
-type S is hashed_set (integer);
-A : S;
-A.Intersection (A);
-==> 1
-line 3: wrong type
-====
-type S is ordered_set (string);
-A : S;
-A.Difference (A);
-==> 1
-line 3: wrong type
-====
-type S is ordered_set (string);
-A : S;
-A.Symmetric_Difference (A);
-==> 1
-line 3: wrong type
-====
-type S is hashed_set (string);
-A : S;
-A.Overlap (A);
-==> 1
-line 3: wrong type
-====
-type S is ordered_set (integer);
-A : S;
-A.Is_Subset (A);
-==> 1
-line 3: wrong type
-====
-type S is ordered_set (integer);
-A : S;
-A.Equivalent_Sets (A);
-==> 1
-line 3: wrong type
-";
-
-#[test]
-fn calls_of_two_sets_are_not_there(rt: HostRuntime) -> Result<(), Fail> {
-    each_row_is_met(&rt, rt.alloc(), CALLS_OF_TWO_SETS_ARE_NOT_THERE)
 }
 
 /// Whether a script writes just these lines.

@@ -15,4 +15,6 @@ mod runs;
 #[cfg(test)]
 mod sets;
 #[cfg(test)]
+mod two_sets;
+#[cfg(test)]
 mod vectors;
