@@ -3,5 +3,6 @@ pub mod InBucket
 pub mod Linking
 pub mod Links
 pub mod PlaceSteps
+pub mod Powers
 pub mod Removing
 pub mod Walks

@@ -18,7 +18,11 @@ pub(crate) fn bucket_of(hash: u32, size: usize) -> usize
     ensures bucket { result ≡ hash % size }
     ensures within { result < size }
 {
-    hash as usize % size
+    if size.is_power_of_two() {
+        hash as usize & (size - 1)
+    } else {
+        hash as usize % size
+    }
 }
 
 /// The link behind the node, or at none the bucket's first one.
