@@ -19,6 +19,7 @@ pub mod SlotNames
 pub mod Standing
 pub mod StepBounds
 pub mod Taking
+pub mod Trails
 pub mod Turning
 pub mod Turns
 pub mod Walks

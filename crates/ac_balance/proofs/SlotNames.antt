@@ -25,11 +25,11 @@ module _ {Y : Type 0} where
       by_test before true e = absurd (none (name_at slot n) e refl)
       by_test before false e = cond-false _ _ _ e ∙ before
 
-  name_in_live : (c : Contents Y) → IsSound c → (a : Name) → IsLive c a → name_in c a.slot ≡ Some a
+  pub name_in_live : (c : Contents Y) → IsSound c → (a : Name) → IsLive c a → name_in c a.slot ≡ Some a
   unfolding name_in
   name_in_live c sound a live = below_live c.next_serial c a (λ b h e. sound.slots b a h live e) live (sound.issued a live).1
 
-  name_in_none : (c : Contents Y) (slot : ℕ) → ((b : Name) → IsLive c b → b.slot ≢ slot) → name_in c slot ≡ None
+  pub name_in_none : (c : Contents Y) (slot : ℕ) → ((b : Name) → IsLive c b → b.slot ≢ slot) → name_in c slot ≡ None
   unfolding name_in
   name_in_none c slot none = below_none c.next_serial c slot none
 

@@ -8,5 +8,6 @@ pub mod Link
 pub mod Present
 pub mod Seeking
 pub mod TreeFields
+pub mod Trails
 pub mod Trees
 pub mod Walking

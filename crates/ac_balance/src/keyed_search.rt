@@ -7,8 +7,8 @@ ghost use Rattle.ac_balance.specs.Seeking.{IsTree, Stood, Leads, OfKey};
 
 use crate::entry::Entry;
 use crate::keyed::Keyed;
-use crate::links::Node;
-use crate::search::{Spot, lower, start};
+use crate::links::{Node, name_in};
+use crate::search::{Spot, lower, spot_at, start};
 use ac_base::{Name, Rank, Steps};
 use ac_pool::Pool;
 use std::sync::ledger::Ledger;
@@ -51,15 +51,15 @@ pub(crate) fn seek_key<K: Keyed, V, L: Ledger>(
     ensures few { (t : Tree (Entry K V)) → Stood nodes.now root t → steps.new ≤ steps.old + 2 * height t }
     ensures counted { steps.old ≤ steps.new }
 {
-    let mut spot = start(root);
-    while let Some(name) = spot.part {
+    let mut trail = start(root);
+    while let Some(name) = name_in(nodes, trail.part) {
         if is_before(k, nodes, name, steps) {
-            spot = lower(nodes, spot, name, true);
+            trail = lower(nodes, trail, name, true);
         } else if is_after(k, nodes, name, steps) {
-            spot = lower(nodes, spot, name, false);
+            trail = lower(nodes, trail, name, false);
         } else {
-            return spot;
+            return spot_at(nodes, trail);
         }
     }
-    spot
+    spot_at(nodes, trail)
 }

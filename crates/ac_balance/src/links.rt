@@ -59,13 +59,13 @@ pub(crate) fn renew<T: Drop>(nodes: &mut Pool<Node<T>>, name: Name, value: T)
 }
 
 /// The name to which a link leads.
-fn name_in<T>(nodes: &Pool<Node<T>>, slot: u32) -> Option<Name>
+pub(crate) fn name_in<T>(nodes: &Pool<Node<T>>, slot: u32) -> Option<Name>
     ensures { result ≡ name_in nodes.now slot }
 {
     nodes.name_in(slot)
 }
 
-fn left_link<T>(nodes: &Pool<Node<T>>, name: Name) -> u32
+pub(crate) fn left_link<T>(nodes: &Pool<Node<T>>, name: Name) -> u32
     ensures { result ≡ left_link (value_of nodes.now name) }
 {
     match nodes.get(name) {
@@ -74,7 +74,7 @@ fn left_link<T>(nodes: &Pool<Node<T>>, name: Name) -> u32
     }
 }
 
-fn right_link<T>(nodes: &Pool<Node<T>>, name: Name) -> u32
+pub(crate) fn right_link<T>(nodes: &Pool<Node<T>>, name: Name) -> u32
     ensures { result ≡ right_link (value_of nodes.now name) }
 {
     match nodes.get(name) {

@@ -3,16 +3,17 @@ ghost use Rattle.std.specs.Prelude.{◌≡◌, ◌<◌, ◌≤◌, ◌+◌, ◌*
 ghost use Rattle.ac_pool.specs.Contents.{IsLive};
 ghost use Rattle.ac_balance.specs.declared.entry.Entry.{Entry};
 ghost use Rattle.ac_balance.specs.Trees.{Tree, height};
-ghost use Rattle.ac_balance.specs.Seeking.{IsTree, Stood, Leads, OfKey, lowered, start};
+ghost use Rattle.ac_balance.specs.Seeking.{IsTree, Stood, Leads, OfKey};
+ghost use Rattle.ac_balance.specs.Trails.{spot_at, trail_from, trail_lowered};
 
 use crate::entry::Entry;
-use crate::links::{Node, left, right};
+use crate::links::{NO_SLOT, Node, left_link, link_to, name_in, right_link};
 use ac_base::{Name, Rank, Steps};
 use ac_pool::Pool;
 use std::marker::Brand;
 use std::sync::ledger::{Blank, Ledger};
 
-/// How far a search is: the part it has come to, its place, and the nearest rows on both sides.
+/// Where a search ended: the part that it came to, its place, and the nearest rows on both sides.
 #[derive(Clone, Copy)]
 pub struct Spot {
     pub part: Option<Name>,
@@ -22,36 +23,60 @@ pub struct Spot {
     pub above: Option<Name>,
 }
 
-pub(crate) fn start(root: Option<Name>) -> Spot
-    ensures { result ≡ start root }
+/// How far a search is, as a spot of links: five words, which stay in registers on the way down.
+#[derive(Clone, Copy)]
+pub struct Trail {
+    pub part: u32,
+    pub parent: u32,
+    pub is_left: bool,
+    pub below: u32,
+    pub above: u32,
+}
+
+pub(crate) fn start(root: Option<Name>) -> Trail
+    ensures { result ≡ trail_from root }
 {
-    Spot {
-        part: root,
-        parent: None,
+    Trail {
+        part: link_to(root),
+        parent: NO_SLOT,
         is_left: false,
-        below: None,
-        above: None,
+        below: NO_SLOT,
+        above: NO_SLOT,
     }
 }
 
-pub(crate) fn lower<T>(nodes: &Pool<Node<T>>, spot: Spot, name: Name, is_left: bool) -> Spot
-    ensures { result ≡ lowered nodes.now spot name is_left }
+/// The spot to which the links lead.
+pub(crate) fn spot_at<T>(nodes: &Pool<Node<T>>, trail: Trail) -> Spot
+    ensures { result ≡ spot_at nodes.now trail }
+{
+    Spot {
+        part: name_in(nodes, trail.part),
+        parent: name_in(nodes, trail.parent),
+        is_left: trail.is_left,
+        below: name_in(nodes, trail.below),
+        above: name_in(nodes, trail.above),
+    }
+}
+
+#[inline(always)]
+pub(crate) fn lower<T>(nodes: &Pool<Node<T>>, trail: Trail, name: Name, is_left: bool) -> Trail
+    ensures { result ≡ trail_lowered nodes.now trail name is_left }
 {
     if is_left {
-        return Spot {
-            part: left(nodes, name),
-            parent: Some(name),
+        return Trail {
+            part: left_link(nodes, name),
+            parent: name.slot,
             is_left: true,
-            below: spot.below,
-            above: Some(name),
+            below: trail.below,
+            above: name.slot,
         };
     }
-    Spot {
-        part: right(nodes, name),
-        parent: Some(name),
+    Trail {
+        part: right_link(nodes, name),
+        parent: name.slot,
         is_left: false,
-        below: Some(name),
-        above: spot.above,
+        below: name.slot,
+        above: trail.above,
     }
 }
 
@@ -93,17 +118,17 @@ pub(crate) fn seek<K: Rank, V, L: Ledger>(
     ensures few { (t : Tree (Entry K V)) → Stood nodes.now root t → steps.new ≤ steps.old + 2 * height t }
     ensures counted { steps.old ≤ steps.new }
 {
-    let mut spot = start(root);
-    while let Some(name) = spot.part {
+    let mut trail = start(root);
+    while let Some(name) = name_in(nodes, trail.part) {
         if is_before(k, nodes, name, steps) {
-            spot = lower(nodes, spot, name, true);
+            trail = lower(nodes, trail, name, true);
         } else if is_after(k, nodes, name, steps) {
-            spot = lower(nodes, spot, name, false);
+            trail = lower(nodes, trail, name, false);
         } else {
-            return spot;
+            return spot_at(nodes, trail);
         }
     }
-    spot
+    spot_at(nodes, trail)
 }
 
 fn sought<K: Rank, V, L: Ledger>(
