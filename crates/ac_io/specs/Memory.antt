@@ -101,3 +101,15 @@ after_put s answer bytes = record {
   calls = counted s.calls;
   faults = faults_after_put answer s.faults;
 }
+
+-- a sink in memory that grows: the bytes taken so far, and how many calls failed
+pub record Growth : Type 0 where
+  pub held : List ℕ
+  pub faults : ℕ
+
+-- the sink after an answer to this piece
+abbrev pub after_growth : Growth → Put → List ℕ → Growth
+after_growth s answer bytes = record {
+  held = s.held ++ take (taken answer) bytes;
+  faults = faults_after_put answer s.faults;
+}

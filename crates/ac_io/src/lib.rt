@@ -2,6 +2,7 @@
 //! memory, and the adapters to standard input and output.
 #![tactic(auto)]
 
+mod grow_sink;
 mod memory_sink;
 mod memory_source;
 mod outside;
@@ -9,6 +10,7 @@ mod pieces;
 mod standard;
 mod whole;
 
+pub use grow_sink::GrowSink;
 pub use memory_sink::MemorySink;
 pub use memory_source::MemorySource;
 pub use outside::{Next, Put, Sink, Source};

@@ -67,6 +67,16 @@ fn writes_all_or_a_front(rt: HostRuntime) -> Result<(), Fail> {
 }
 
 #[test]
+fn writes_to_a_sink_that_grows(rt: HostRuntime) -> Result<(), Fail> {
+    let mut sink = GrowSink::new(rt.alloc());
+    assert!(rt; sink.bytes().is_empty());
+    write_all(&mut sink, LINE)?;
+    write_all(&mut sink, LINE)?;
+    assert_eq!(rt; sink.bytes(), b"3: ok\n3: ok\n".as_slice());
+    Ok(())
+}
+
+#[test]
 fn writes_in_pieces(rt: HostRuntime) -> Result<(), Fail> {
     let mut sink = MemorySink::with_room(rt.alloc(), 12, 4, Vec::new(rt.alloc()))?;
     let mut text = Vec::new(rt.alloc());
