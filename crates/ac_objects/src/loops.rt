@@ -12,6 +12,7 @@ ghost use Rattle.ac_objects.specs.Blocks.{holding, releasing, guard_if, guards_o
 ghost use Rattle.ac_objects.specs.Given.{StepsOn};
 ghost use Rattle.ac_objects.specs.Standing.{IsObject, ComingStands, counts_of};
 ghost use Rattle.ac_objects.specs.World.{bound_of, cursor_in, state_of, IsKnown, Persists};
+ghost use Rattle.ac_objects.specs.declared.bound.Bound.TheVariants as bound;
 
 use crate::blocks::LoopKey;
 use crate::bound::Bound;
@@ -120,6 +121,45 @@ fn turn_bound(elements: bool, object: usize, at: Cursor) -> Bound
     }
 }
 
+/// Puts over what a name holds. What a turn's name holds is written where that of the turn before stood, and the rest of its place,
+/// which is as large as an object, is left alone.
+#[inline(always)]
+fn put_over(held: &mut Bound, bound: Bound)
+    ensures { held.new ≡ bound }
+{
+    match bound {
+        Bound::Cursor(at) => put_cursor(held, at),
+        Bound::Element { object, at } => put_element(held, object, at),
+        other => *held = other,
+    }
+}
+
+#[inline(always)]
+fn put_cursor(held: &mut Bound, at: Cursor)
+    ensures { held.new ≡ bound.Cursor at }
+{
+    match held {
+        Bound::Cursor(place) => *place = at,
+        _ => *held = Bound::Cursor(at),
+    }
+}
+
+#[inline(always)]
+fn put_element(held: &mut Bound, object: usize, at: Cursor)
+    ensures { held.new ≡ bound.Element object at }
+{
+    match held {
+        Bound::Element {
+            object: its_object,
+            at: its_place,
+        } => {
+            *its_object = object;
+            *its_place = at;
+        }
+        _ => *held = Bound::Element { object, at },
+    }
+}
+
 impl Objects {
     /// Puts a turn's name, which is no object's, behind so many names. Where one name stands there, as that of the turn before,
     /// it takes its place.
@@ -153,7 +193,7 @@ impl Objects {
         ensures names { last ≤ length self.new.bounds }
         ensures persists { Persists self.old self.new }
     {
-        self.bounds[last] = bound;
+        put_over(&mut self.bounds[last], bound);
     }
 
     /// The cursor at which a loop over the object at the place begins.
