@@ -3,21 +3,23 @@ use Rattle.std.proofs.Common.{◌≡◌, ◌≢◌, ◌<◌, ℕ, List, [], leng
 use Rattle.std.specs.Prelude.{◌⊎◌, IfSome}
 use Rattle.ac_io.specs.Outside.{GrewByFront}
 use Rattle.ac_meaning.specs.declared.limits.TheConstants.{INPUT_LIMIT}
-use Rattle.ac_meaning.specs.Meanings.{too_long, is_too_long}
+use Rattle.ac_meaning.specs.Meanings.{Meaning, too_long, is_too_long}
 use Rattle.ac_top.specs.declared.status.Status.{Status}
 use Rattle.ac_top.specs.declared.status.Status.TheVariants.{Done, Refused, Usage, ReadFault, WriteFault, NoMemory}
 use Rattle.ac_top.specs.declared.mode.Mode.{Mode}
-use Rattle.ac_top.specs.Modes.{meant_by, Means}
+use Rattle.ac_top.specs.declared.mode.Mode.TheVariants.{Read}
+use Rattle.ac_top.specs.declared.mode.Task.{Task}
+use Rattle.ac_top.specs.Modes.{Means, read_by}
 use Rattle.ac_top.specs.Status.{IsAnswer}
-use Rattle.ac_top.specs.Answers.{Answers, HasRoom}
-use Rattle.ac_top.proofs.Checked.{each_input}
+use Rattle.ac_top.specs.Answers.{Answers, HasRoom, IfAsked}
+use Rattle.ac_top.proofs.Meant.{each_meaning}
 
 pub if_some_of : {T : Type 0} {P : T → Type 0} (o : Option T) → ((x : T) → P x) → IfSome o P
 if_some_of None p = tt
 if_some_of (Some x) p = p x
 
-pub long_means : (mode : Mode) (input : List ℕ) → INPUT_LIMIT < length input → Means mode input too_long
-long_means mode input long = is_too_long long refl
+pub long_means : (task : Task) (input : List ℕ) → INPUT_LIMIT < length input → Means (Read task) input too_long
+long_means task input long = is_too_long long refl
 
 nothing_written : (held : Option (List ℕ)) (text : List ℕ) → GrewByFront held held text
 nothing_written None text = tt
@@ -26,7 +28,7 @@ nothing_written (Some h) text = ([], record { rest = text; whole = refl }, ap So
 -- an end without an answer, with nothing written
 pub unanswered : (mode : Mode) (input : List ℕ) (held : Option (List ℕ)) (room : Option ℕ) (s : Status) → (IsAnswer s → ⊥) → s ≢ WriteFault → Answers mode input held held room s
 unanswered mode input held room s none wrote =
-    let m = each_input (meant_by mode) input in
+    let m = each_meaning mode input in
     record {
       meaning = m.0;
       means = m.1;
@@ -51,3 +53,8 @@ pub with_room : (mode : Mode) (input : List ℕ) (held held' : Option (List ℕ)
     → IfSome room (λ n. HasRoom mode input n → IsAnswer s ⊎ (s ≡ NoMemory))
 with_room mode input held held' None s u r a = tt
 with_room mode input held held' (Some n) s u r a = λ fits. ends s u r (a.writes.within (fits a.meaning a.means))
+
+-- before anything was written
+pub untold : (asked : Option Mode) (left held : Option (List ℕ)) → IfAsked asked left (λ mode input. (m : Meaning) × Means mode input m × GrewByFront held held m.text)
+untold None left held = tt
+untold (Some mode) left held = if_some_of (read_by mode left) (λ input. let m = each_meaning mode input in (m.0, m.1, nothing_written held m.0.text))

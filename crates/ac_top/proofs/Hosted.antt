@@ -1,7 +1,9 @@
 -- How a script's run ends, by what the host wrote.
-use Rattle.std.proofs.Common.{◌≡◌, ℕ, Bool, List, [], Option, Some, None, refl, append-nil}
+use Rattle.std.proofs.Common.{◌≡◌, ◌≢◌, ◌-◌, ◌≤◌, ℕ, Bool, List, [], ◌++◌, length, Option, Some, None, refl, subst, append-nil, length-append, arith}
+use Rattle.std.specs.Prelude.{IfSome}
 use Rattle.std.proofs.lemmas.Option.{IfSome_then}
 use Rattle.ac_io.specs.Outside.{GrewBy, GrewByFront}
+use Rattle.ac_io.proofs.Telling.{front_on, told_on, told_all}
 use Rattle.ac_meaning.specs.Meanings.{written}
 use Rattle.ac_host.specs.declared.end.HostEnd.{HostEnd}
 use Rattle.ac_host.specs.declared.end.HostEnd.TheVariants as host
@@ -42,4 +44,33 @@ module _ {K : Type 0} (held : K → Option (List ℕ)) (faults : K → ℕ) (roo
   broke_counted end s same back b = record {
     rose = λ e. b.rose (same e);
     stays = λ counts n. (b.counts counts).0 (λ e. n (back e));
+  }
+
+-- A text that is written behind another
+
+grew_behind : (a b c : Option (List ℕ)) (text more : List ℕ) → GrewBy a b text → GrewBy b c more → GrewBy a c (text ++ more)
+grew_behind a b c text more f g =
+    told_all a c (text ++ more)
+    (told_on a b c [] [] more text (record { told = text; parts = append-nil text; grew = f }) (record { told = more; parts = append-nil more; grew = g }))
+
+front_behind : (a b c : Option (List ℕ)) (text more : List ℕ) → GrewBy a b text → GrewByFront b c more → GrewByFront a c (text ++ more)
+front_behind a b c text more f g = front_on a b c [] more text (record { told = text; parts = append-nil text; grew = f }) g
+
+room_behind : (P : Type 0) (a b : Option ℕ) (text more : List ℕ) → IfSome a (λ n. length text ≤ n → b ≡ Some (n - length text)) → IfSome b (λ n. length more ≤ n → P)
+    → IfSome a (λ n. length (text ++ more) ≤ n → P)
+room_behind P None b text more f g = tt
+room_behind P (Some n) b text more f g = λ fits.
+    let long = length-append text more in
+    let then = subst (λ o. IfSome o (λ m. length more ≤ m → P)) (f (omega (arith, long, fits))) g in
+    then (omega (arith, long, fits))
+
+module _ {K : Type 0} (held : K → Option (List ℕ)) (faults : K → ℕ) (room : K → Option ℕ) (counts_failures : K → Bool) (old mid new : K)
+    (text more : List ℕ) (s : Status) where
+  pub wrote_more : Wrote held faults room counts_failures old mid text → Writes (written more) (held mid) (held new) (room mid) s
+      → Writes (written (text ++ more)) (held old) (held new) (room old) s
+  wrote_more f w = record {
+    whole = λ a. grew_behind (held old) (held mid) (held new) text more f.grew (w.whole a);
+    number = w.number;
+    front = front_behind (held old) (held mid) (held new) text more f.grew w.front;
+    within = room_behind (s ≢ WriteFault) (room old) (room mid) text more f.within w.within;
   }

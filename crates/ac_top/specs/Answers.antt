@@ -7,12 +7,12 @@ use Rattle.ac_check.specs.Faults.{IsFirstFault}
 use Rattle.ac_meaning.specs.Meanings.{Meaning}
 use Rattle.ac_top.specs.declared.mode.Mode.{Mode}
 use Rattle.ac_top.specs.declared.status.Status.{Status}
-use Rattle.ac_top.specs.Modes.{Means}
+use Rattle.ac_top.specs.Modes.{Means, read_by}
 use Rattle.ac_top.specs.Status.{Writes}
 
--- what is said of a mode and an input, where the words ask for one and the source tells the other
+-- what is said of a mode and its input, where the words ask for one and the source tells the other
 abbrev pub IfAsked : Option Mode → Option (List ℕ) → (Mode → List ℕ → Type 0) → Type 0
-IfAsked asked left Said = IfSome asked (λ mode. IfSome left (λ input. Said mode input))
+IfAsked asked left Said = IfSome asked (λ mode. IfSome (read_by mode left) (λ input. Said mode input))
 
 -- there is room for the text of every meaning
 abbrev pub HasRoom : Mode → List ℕ → (room : ℕ) → Type 0

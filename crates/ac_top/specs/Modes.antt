@@ -1,22 +1,50 @@
--- What the words after the program's name ask for, and what a text means then.
-use Rattle.std.specs.Prelude.{ℕ, codes, List, [], ◌∷◌, Option, Some, None, if◌then◌else◌, String, string_bytes}
-use Rattle.std.proofs.Common.{Global}
-use Rattle.std.specs.Str.{bytes_eq}
+-- What an input means, by what is done with it.
+use Rattle.std.specs.Prelude.{◌≡◌, ℕ, Bool, true, false, codes, decimal, List, [], ◌∷◌, ◌++◌, Option, Some, None}
 use Rattle.ac_top.specs.declared.mode.Mode.{Mode}
-use Rattle.ac_top.specs.declared.mode.Mode.TheVariants.{Run, Check}
+use Rattle.ac_top.specs.declared.mode.Mode.TheVariants.{Read, Generate}
+use Rattle.ac_top.specs.declared.mode.Task.{Task}
+use Rattle.ac_top.specs.declared.mode.Task.TheVariants.{Run, Audit, Check}
 use Rattle.ac_syntax.specs.declared.script.Script.{Script}
-use Rattle.ac_meaning.specs.Meanings.{Meaning, IsMeaningBy, ran, canonical}
+use Rattle.ac_meaning.specs.Environment.{nodes}
+use Rattle.ac_meaning.specs.Execution.{run, text_of}
+use Rattle.ac_meaning.specs.Meanings.{Meaning, IsMeaningBy, ran, canonical, written}
+use Rattle.ac_top.specs.Generator.{generated}
+use Rattle.ac_top.specs.Summary.{summary_text}
 
--- no word, or `--check` alone
-abbrev pub mode_of : List (String Global) → Option Mode
-mode_of [] = Some Run
-mode_of (word ∷ []) = if bytes_eq (string_bytes word) (codes "--check") then Some Check else None
-mode_of (word ∷ next ∷ words) = None
+abbrev pub nodes_line : ℕ → List ℕ
+nodes_line count = codes "nodes " ++ (decimal count ++ 10 ∷ [])
 
--- what a script that can run means then: its lines, or its canonical text
-abbrev pub meant_by : Mode → Script → Meaning
+-- its lines, and then how many elements the objects of the outermost scope have
+abbrev pub audited : Script → Meaning
+audited script = written (text_of script ++ nodes_line (nodes (run script).after))
+
+-- what a script that can run means, by what is done with it
+abbrev pub meant_by : Task → Script → Meaning
 meant_by Run script = ran script
+meant_by Audit script = audited script
 meant_by Check script = canonical script
 
+-- the summary of what the generator's script writes, whatever that is
+pub record IsSummary (size : ℕ) (m : Meaning) : Type 0 where
+  pub told : Meaning
+  pub means : IsMeaningBy ran (generated size) told
+  pub is : m ≡ written (summary_text told.text)
+
+-- a meaning, where nothing is read of any input
 abbrev pub Means : Mode → List ℕ → Meaning → Type 0
-Means mode input m = IsMeaningBy (meant_by mode) input m
+Means (Read task) input m = IsMeaningBy (meant_by task) input m
+Means (Generate size) input m = IsSummary size m
+
+abbrev pub is_reading : Mode → Bool
+is_reading (Read task) = true
+is_reading (Generate size) = false
+
+-- the words ask for something to be read
+abbrev pub asks_to_read : Option Mode → Bool
+asks_to_read None = false
+asks_to_read (Some mode) = is_reading mode
+
+-- what is read, where the source tells it: nothing, where the words ask for nothing to be read
+abbrev pub read_by : Mode → Option (List ℕ) → Option (List ℕ)
+read_by (Read task) left = left
+read_by (Generate size) left = Some []

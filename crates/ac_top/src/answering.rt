@@ -4,18 +4,18 @@ ghost use Rattle.ac_syntax.specs.declared.refusal.RefusalKind.{RefusalKind};
 ghost use Rattle.ac_syntax.specs.declared.fault.ScriptFault.TheVariants.{Refused as RefusedAt};
 ghost use Rattle.ac_syntax.specs.Refusals.{Spells, IsFirstRefusal};
 ghost use Rattle.ac_check.specs.Faults.{IsChecked};
-ghost use Rattle.ac_meaning.specs.Meanings.{ran, canonical, refused_at};
+ghost use Rattle.ac_meaning.specs.Meanings.{ran, canonical, refused_at, written};
 ghost use Rattle.ac_meaning.specs.declared.limits.TheConstants.{INPUT_LIMIT};
 ghost use Rattle.ac_top.specs.Answers.{Answers, IsFaulty};
-ghost use Rattle.ac_top.specs.Modes.{meant_by};
+ghost use Rattle.ac_top.specs.Modes.{meant_by, audited, nodes_line};
 ghost use Rattle.ac_top.specs.Status.{Writes, Counted};
 
-use crate::line::{refusal_line, refuse};
-use crate::mode::Mode;
+use crate::line::{nodes_line, refusal_line, refuse, tell};
+use crate::mode::{Mode, Task};
 use crate::status::Status;
 use ac_check::{Checked, check};
 use ac_host::{Host, HostEnd};
-use ac_io::{Sink, write_all};
+use ac_io::Sink;
 use ac_script::{parse, print};
 use ac_syntax::{RefusalKind, Script, ScriptFault};
 use std::alloc::Global;
@@ -44,6 +44,31 @@ fn run_script<K: Sink>(alloc: Global, script: &Checked, sink: &mut K) -> Status
     }
 }
 
+/// Writes how many elements there are.
+fn write_nodes<K: Sink>(alloc: Global, count: u64, sink: &mut K) -> Status
+    ensures writes { Writes (written (nodes_line count)) (K.held sink.old) (K.held sink.new) (K.room sink.old) result }
+    ensures counted { Counted (K.counts_failures sink.old) (K.faults sink.old) (K.faults sink.new) result }
+    ensures kind { (result ≢ Status.Usage) × (result ≢ Status.ReadFault) }
+{
+    match nodes_line(alloc, count) {
+        Ok(line) => tell(sink, &line),
+        Err(_) => Status::NoMemory,
+    }
+}
+
+/// Runs a script, and then writes how many elements its outermost objects have.
+fn audit_script<K: Sink>(alloc: Global, script: &Checked, sink: &mut K) -> Status
+    ensures writes { Writes (audited script.now) (K.held sink.old) (K.held sink.new) (K.room sink.old) result }
+    ensures counted { Counted (K.counts_failures sink.old) (K.faults sink.old) (K.faults sink.new) result }
+    ensures kind { (result ≢ Status.Usage) × (result ≢ Status.ReadFault) }
+{
+    match Host::run_serial(alloc, script, sink) {
+        Ok(count) => write_nodes(alloc, count, sink),
+        Err(HostEnd::WriteFault) => Status::WriteFault,
+        Err(HostEnd::NoMemory) => Status::NoMemory,
+    }
+}
+
 /// Writes the canonical text.
 fn write_canonical<K: Sink>(alloc: Global, script: &Script, sink: &mut K) -> Status
     ensures writes { Writes (canonical script.now) (K.held sink.old) (K.held sink.new) (K.room sink.old) result }
@@ -51,23 +76,21 @@ fn write_canonical<K: Sink>(alloc: Global, script: &Script, sink: &mut K) -> Sta
     ensures kind { (result ≢ Status.Usage) × (result ≢ Status.ReadFault) }
 {
     match print(alloc, script) {
-        Ok(text) => match write_all(sink, &text) {
-            Ok(()) => Status::Done,
-            Err(_) => Status::WriteFault,
-        },
+        Ok(text) => tell(sink, &text),
         Err(_) => Status::NoMemory,
     }
 }
 
 /// Answers a script that can run.
-fn answer_script<K: Sink>(alloc: Global, mode: Mode, script: &Checked, sink: &mut K) -> Status
-    ensures writes { Writes (meant_by mode script.now) (K.held sink.old) (K.held sink.new) (K.room sink.old) result }
+fn answer_script<K: Sink>(alloc: Global, task: Task, script: &Checked, sink: &mut K) -> Status
+    ensures writes { Writes (meant_by task script.now) (K.held sink.old) (K.held sink.new) (K.room sink.old) result }
     ensures counted { Counted (K.counts_failures sink.old) (K.faults sink.old) (K.faults sink.new) result }
     ensures kind { (result ≢ Status.Usage) × (result ≢ Status.ReadFault) }
 {
-    match mode {
-        Mode::Run => run_script(alloc, script, sink),
-        Mode::Check => write_canonical(alloc, script.script(), sink),
+    match task {
+        Task::Run => run_script(alloc, script, sink),
+        Task::Audit => audit_script(alloc, script, sink),
+        Task::Check => write_canonical(alloc, script.script(), sink),
     }
 }
 
@@ -84,14 +107,14 @@ fn refuse_at<K: Sink>(alloc: Global, line: u64, kind: RefusalKind, sink: &mut K)
 }
 
 /// Answers the script that an input spells, or refuses it.
-pub fn answer_input<K: Sink>(alloc: Global, mode: Mode, input: &[u8], sink: &mut K) -> Status
+pub fn answer_input<K: Sink>(alloc: Global, task: Task, input: &[u8], sink: &mut K) -> Status
     requires { length input.now ≤ INPUT_LIMIT }
-    ensures answers { Answers mode input.now (K.held sink.old) (K.held sink.new) (K.room sink.old) result }
+    ensures answers { Answers (Mode.Read task) input.now (K.held sink.old) (K.held sink.new) (K.room sink.old) result }
     ensures counted { Counted (K.counts_failures sink.old) (K.faults sink.old) (K.faults sink.new) result }
     ensures kind { (result ≢ Status.Usage) × (result ≢ Status.ReadFault) }
 {
     match checked(alloc, input) {
-        Ok(script) => answer_script(alloc, mode, &script, sink),
+        Ok(script) => answer_script(alloc, task, &script, sink),
         Err(ScriptFault::Refused { line, kind }) => refuse_at(alloc, line, kind, sink),
         Err(ScriptFault::NoMemory) => Status::NoMemory,
     }

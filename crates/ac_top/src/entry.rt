@@ -1,16 +1,19 @@
 //! The top call.
-ghost use Rattle.std.specs.Prelude.{◌≡◌, ◌≢◌, ◌≤◌, ◌↔◌, ◌⊎◌, true, Some, None, [], length, IfSome};
+ghost use Rattle.std.specs.Prelude.{◌≡◌, ◌≢◌, ◌≤◌, ◌⊎◌, true, false, Some, None, [], length, IfSome};
 ghost use Rattle.ac_io.specs.Outside.{Rose, GrewBy, GrewByFront};
 ghost use Rattle.ac_meaning.specs.Meanings.{Meaning};
-ghost use Rattle.ac_top.specs.Modes.{mode_of, Means};
+ghost use Rattle.ac_top.specs.Words.{mode_of};
+ghost use Rattle.ac_top.specs.Modes.{Means, asks_to_read};
 ghost use Rattle.ac_top.specs.Status.{number_of, IsAnswer, Counted};
 ghost use Rattle.ac_top.specs.Answers.{Answers, IfAsked, HasRoom};
 
 use crate::answering::answer_input;
 use crate::gate::Gate;
+use crate::generating::answer_size;
 use crate::line::refuse;
-use crate::mode::{Mode, asked_for};
+use crate::mode::{Mode, Task};
 use crate::status::Status;
+use crate::words::asked_for;
 use ac_io::{ReadEnd, Sink, Source, read_all};
 use ac_meaning::INPUT_LIMIT;
 use std::alloc::Global;
@@ -20,12 +23,12 @@ use std::thread::Threads;
 /// Reads the source to its end, and answers what it held.
 fn answer_source<S: Source, K: Sink>(
     alloc: Global,
-    mode: Mode,
+    task: Task,
     source: &mut S,
     sink: &mut K,
 ) -> Status
     ensures answers { IfSome (S.left source.old) (λ input.
-        Answers mode input (K.held sink.old) (K.held sink.new) (K.room sink.old) result) }
+        Answers (Mode.Read task) input (K.held sink.old) (K.held sink.new) (K.room sink.old) result) }
     ensures drained { IsAnswer result → IfSome (S.left source.old) (λ input.
         length input ≤ INPUT_LIMIT → S.left source.new ≡ Some []) }
     ensures read_fault { result ≡ Status.ReadFault → Rose (S.faults source.old) (S.faults source.new) }
@@ -36,7 +39,7 @@ fn answer_source<S: Source, K: Sink>(
     ensures kind { result ≢ Status.Usage }
 {
     match read_all(alloc, source, INPUT_LIMIT) {
-        Ok(input) => answer_input(alloc, mode, &input, sink),
+        Ok(input) => answer_input(alloc, task, &input, sink),
         Err(ReadEnd::TooLong) => refuse(sink, b"input: limit\n"),
         Err(ReadEnd::ReadFault) => Status::ReadFault,
         Err(ReadEnd::NoMemory) => Status::NoMemory,
@@ -44,9 +47,11 @@ fn answer_source<S: Source, K: Sink>(
 }
 
 /// Runs the script that the source holds, and writes the line of each command to the sink as soon as it has run. `words` are the
-/// words after the program's name: with `--check` alone nothing is run, and the script's canonical text is written. An input that
-/// isn't a script that can run gets one line, which says where and why, as `line 3: wrong type`, and one of more than 1,048,576
-/// bytes gets `input: limit`.
+/// words after the program's name. With `--audit` a script that ran to its end is followed by `nodes ` and how many elements its
+/// outermost objects have. With `--check` nothing is run, and the script's canonical text is written. With `--generate N` nothing
+/// is read: a script of that size is run in memory, and the number of its lines and the last four are written; it goes before
+/// `--check`, and `--audit` adds nothing to either. An input that isn't a script that can run gets one line, which says where and
+/// why, as `line 3: wrong type`, and one of more than 1,048,576 bytes gets `input: limit`.
 pub fn run<R: Threads + Wait + Sync, S: Source, K: Sink, G: Gate + Sync>(
     _rt: &R,
     alloc: Global,
@@ -55,16 +60,18 @@ pub fn run<R: Threads + Wait + Sync, S: Source, K: Sink, G: Gate + Sync>(
     sink: &mut K,
     _gate: &G,
 ) -> Status
-    // Words that aren't the command's: nothing is read or written.
-    ensures usage { result ≡ Status.Usage ↔ (mode_of words.now ≡ None) }
-    ensures untouched { result ≡ Status.Usage → (source.new ≡ source.old) × (sink.new ≡ sink.old) }
+    // Words that aren't the command's, by clap's definition of it: nothing is read or written.
+    ensures usage { result ≡ Status.Usage → mode_of words.now ≡ None }
+    ensures refused { mode_of words.now ≡ None → (result ≡ Status.Usage) ⊎ (result ≡ Status.NoMemory) }
+    ensures untouched { mode_of words.now ≡ None → (source.new ≡ source.old) × (sink.new ≡ sink.old) }
 
-    // An answer is the whole of a meaning of all the bytes: without words what the script writes as it runs, with `--check` its
-    // canonical text or its refusal.
+    // An answer is the whole of a meaning of all the bytes: what the script writes as it runs, that and the number of nodes, or its
+    // canonical text, or its refusal; or, where nothing is read, the summary of what the script of a size writes.
     ensures written { IsAnswer result → IfAsked (mode_of words.now) (S.left source.old) (λ mode input.
         (m : Meaning) × Means mode input m × GrewBy (K.held sink.old) (K.held sink.new) m.text × (number_of result ≡ m.status)) }
-    ensures drained { IsAnswer result → IfSome (S.left source.old) (λ input.
+    ensures drained { IsAnswer result → asks_to_read (mode_of words.now) ≡ true → IfSome (S.left source.old) (λ input.
         length input ≤ INPUT_LIMIT → S.left source.new ≡ Some []) }
+    ensures unread { asks_to_read (mode_of words.now) ≡ false → source.new ≡ source.old }
 
     // Any other end comes after a front of it, a fault only where a count rose.
     ensures front { IfAsked (mode_of words.now) (S.left source.old) (λ mode input.
@@ -77,15 +84,18 @@ pub fn run<R: Threads + Wait + Sync, S: Source, K: Sink, G: Gate + Sync>(
     ensures source_counts { S.counts_failures source.old ≡ true → result ≢ Status.ReadFault → S.faults source.new ≡ S.faults source.old }
     ensures sink_counts { K.counts_failures sink.old ≡ true → result ≢ Status.WriteFault → K.faults sink.new ≡ K.faults sink.old }
 
-    // Where no count rises, the input is answered, unless memory runs out.
+    // Where no count rises, the input is answered, unless memory runs out. What isn't read can't fail.
     ensures complete { mode_of words.now ≢ None
-        → (Rose (S.faults source.old) (S.faults source.new) → ⊥) → (Rose (K.faults sink.old) (K.faults sink.new) → ⊥)
+        → (asks_to_read (mode_of words.now) ≡ true → Rose (S.faults source.old) (S.faults source.new) → ⊥)
+        → (Rose (K.faults sink.old) (K.faults sink.new) → ⊥)
         → IsAnswer result ⊎ (result ≡ Status.NoMemory) }
-    ensures complete_with_room { S.is_steady source.old ≡ true → IfAsked (mode_of words.now) (S.left source.old) (λ mode input.
+    ensures complete_with_room { (asks_to_read (mode_of words.now) ≡ true → S.is_steady source.old ≡ true)
+        → IfAsked (mode_of words.now) (S.left source.old) (λ mode input.
         IfSome (K.room sink.old) (λ room. HasRoom mode input room → IsAnswer result ⊎ (result ≡ Status.NoMemory))) }
 {
-    match asked_for(words) {
-        Some(mode) => answer_source(alloc, mode, source, sink),
-        None => Status::Usage,
+    match asked_for(alloc, words) {
+        Ok(Mode::Read(task)) => answer_source(alloc, task, source, sink),
+        Ok(Mode::Generate(size)) => answer_size(alloc, size, sink),
+        Err(status) => status,
     }
 }

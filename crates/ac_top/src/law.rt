@@ -1,11 +1,45 @@
-//! What holds of the meanings that inputs have.
-ghost use Rattle.std.specs.Prelude.{◌≡◌, ℕ, List};
+//! What holds of the meanings that inputs have, and what some words ask for.
+ghost use Rattle.std.specs.Prelude.{◌≡◌, ℕ, List, [], ◌∷◌, Some, None, codes};
 ghost use Rattle.ac_meaning.specs.Meanings.{Meaning};
 ghost use Rattle.ac_top.specs.declared.mode.Mode.{Mode};
+ghost use Rattle.ac_top.specs.declared.mode.Mode.TheVariants.{Read, Generate};
+ghost use Rattle.ac_top.specs.declared.mode.Task.TheVariants.{Run, Audit, Check};
 ghost use Rattle.ac_top.specs.Modes.{Means};
+ghost use Rattle.ac_top.specs.Words.{asked_by};
 
-/// Each input means something, and one thing only, where it is run and where it is checked alone.
+/// Each input means something, and one thing only, whatever is done with it; where nothing is read, that is the same for all.
 pub fn one_meaning()
     ensures some { (mode : Mode) (input : List ℕ) → (m : Meaning) × Means mode input m }
     ensures one { (mode : Mode) (input : List ℕ) (m other : Meaning) → Means mode input m → Means mode input other → m ≡ other }
+{}
+
+/// What some words ask for, as clap takes them.
+pub fn asked_words()
+    ensures none { asked_by [] ≡ Some (Read Run) }
+    ensures audit { asked_by (codes "--audit" ∷ []) ≡ Some (Read Audit) }
+    ensures check { asked_by (codes "--check" ∷ []) ≡ Some (Read Check) }
+    ensures generate { asked_by (codes "--generate" ∷ codes "3" ∷ []) ≡ Some (Generate 3) }
+
+    // `--generate` goes before `--check`, and `--audit` adds nothing to either.
+    ensures before { asked_by (codes "--check" ∷ codes "--generate" ∷ codes "3" ∷ []) ≡ Some (Generate 3) }
+    ensures audited_check { asked_by (codes "--check" ∷ codes "--audit" ∷ []) ≡ Some (Read Check) }
+    ensures audited_size { asked_by (codes "--generate" ∷ codes "3" ∷ codes "--audit" ∷ []) ≡ Some (Generate 3) }
+
+    // How a number may be spelled.
+    ensures joined { asked_by (codes "--generate=3" ∷ []) ≡ Some (Generate 3) }
+    ensures plus { asked_by (codes "--generate" ∷ codes "+3" ∷ []) ≡ Some (Generate 3) }
+    ensures zeros { asked_by (codes "--generate" ∷ codes "003" ∷ []) ≡ Some (Generate 3) }
+    ensures most { asked_by (codes "--generate" ∷ codes "200000" ∷ []) ≡ Some (Generate 200000) }
+    ensures trailing { asked_by (codes "--" ∷ []) ≡ Some (Read Run) }
+
+    // What isn't accepted.
+    ensures too_small { asked_by (codes "--generate" ∷ codes "0" ∷ []) ≡ None }
+    ensures too_large { asked_by (codes "--generate" ∷ codes "200001" ∷ []) ≡ None }
+    ensures no_number { asked_by (codes "--generate" ∷ codes "x" ∷ []) ≡ None }
+    ensures negative { asked_by (codes "--generate" ∷ codes "-3" ∷ []) ≡ None }
+    ensures alone { asked_by (codes "--generate" ∷ []) ≡ None }
+    ensures twice { asked_by (codes "--check" ∷ codes "--check" ∷ []) ≡ None }
+    ensures valued { asked_by (codes "--check=true" ∷ []) ≡ None }
+    ensures help { asked_by (codes "--help" ∷ []) ≡ None }
+    ensures other { asked_by (codes "more" ∷ []) ≡ None }
 {}

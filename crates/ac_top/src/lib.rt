@@ -4,12 +4,16 @@
 mod answering;
 mod entry;
 mod gate;
+mod generating;
+mod generator;
 mod law;
 mod line;
 mod mode;
 mod status;
+mod summary;
+mod words;
 
 pub use entry::run;
 pub use gate::{FreeGate, Gate};
-pub use law::one_meaning;
+pub use law::{asked_words, one_meaning};
 pub use status::Status;

@@ -1,6 +1,7 @@
-//! The one line of an input that is refused.
+//! Lines and texts that are written of an input, besides those of its script.
 ghost use Rattle.std.specs.Prelude.{◌≡◌, ◌≢◌, ◌++◌, decimal, codes, OnOk, IfOk};
-ghost use Rattle.ac_meaning.specs.Meanings.{Meaning, kind_text, refused_at};
+ghost use Rattle.ac_meaning.specs.Meanings.{Meaning, kind_text, refused_at, written};
+ghost use Rattle.ac_top.specs.Modes.{nodes_line};
 ghost use Rattle.ac_top.specs.Status.{Writes, Counted, refusal_line};
 
 use crate::status::Status;
@@ -9,7 +10,8 @@ use ac_syntax::RefusalKind;
 use itoa::Buffer;
 use std::alloc::{AllocError, Global};
 
-fn append(text: &mut Vec<u8>, words: &str) -> Result<(), AllocError>
+/// Adds some words.
+pub fn append(text: &mut Vec<u8>, words: &str) -> Result<(), AllocError>
     ensures { OnOk result (text.new.items ≡ text.old.items ++ words.now) }
 {
     text.extend_from_slice(words.as_bytes())
@@ -45,6 +47,29 @@ pub fn refusal_line(alloc: Global, line: u64, kind: RefusalKind) -> Result<Vec<u
     append(&mut text, kind_text(kind))?;
     append(&mut text, "\n")?;
     Ok(text)
+}
+
+/// The line that says how many elements there are.
+pub fn nodes_line(alloc: Global, count: u64) -> Result<Vec<u8>, AllocError>
+    ensures { IfOk result (λ text. text.items ≡ nodes_line count) }
+{
+    let mut text = Vec::new(alloc);
+    append(&mut text, "nodes ")?;
+    append(&mut text, Buffer::new().format(count))?;
+    append(&mut text, "\n")?;
+    Ok(text)
+}
+
+/// Writes a text of a script that can run.
+pub fn tell<K: Sink>(sink: &mut K, text: &[u8]) -> Status
+    ensures writes { Writes (written text.now) (K.held sink.old) (K.held sink.new) (K.room sink.old) result }
+    ensures counted { Counted (K.counts_failures sink.old) (K.faults sink.old) (K.faults sink.new) result }
+    ensures kind { (result ≢ Status.Usage) × (result ≢ Status.ReadFault) }
+{
+    match write_all(sink, text) {
+        Ok(()) => Status::Done,
+        Err(_) => Status::WriteFault,
+    }
 }
 
 /// Writes the one line of a refusal.

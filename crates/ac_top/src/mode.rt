@@ -1,22 +1,20 @@
-//! What the program is asked for by its words.
-ghost use Rattle.std.specs.Prelude.{◌≡◌};
-ghost use Rattle.ac_top.specs.Modes.{mode_of};
+//! What the program does.
 
 /// What is done with a script.
 #[derive(Clone, Copy, Debug, PartialEq, Eq)]
-pub enum Mode {
+pub enum Task {
     Run,
+    /// It is run, and then the number of nodes is written.
+    Audit,
     /// It is checked, and its canonical text written.
     Check,
 }
 
-/// What the words after the program's name ask for. Other words aren't the command's.
-pub fn asked_for(words: &[String]) -> Option<Mode>
-    ensures { result ≡ mode_of words.now }
-{
-    match words {
-        [] => Some(Mode::Run),
-        [word] if word.as_str() == "--check" => Some(Mode::Check),
-        _ => None,
-    }
+/// What the words ask for.
+#[derive(Clone, Copy, Debug, PartialEq, Eq)]
+pub enum Mode {
+    /// Something is done with the script that is read.
+    Read(Task),
+    /// Nothing is read, and the generator's script of this size is run.
+    Generate(u64),
 }

@@ -2,12 +2,13 @@ use Rattle.std.proofs.Common.{ap, Err, inl, inr, refl}
 use Rattle.ac_meaning.specs.Meanings.{is_refused, is_faulty, is_sound, refused_at}
 use Rattle.ac_top.specs.declared.status.Status.TheVariants.{NoMemory}
 use Rattle.ac_top.specs.Modes.{meant_by}
+use Rattle.ac_top.specs.declared.mode.Mode.TheVariants.{Read}
 use Rattle.ac_top.proofs.Answered.{unanswered}
 use Rattle.ac_top.proofs.answering.answer_input.Goals as goal
 
 pub returns-in-Ok-clause-answers : goal.returns-in-Ok-clause-answers
 returns-in-Ok-clause-answers g c = record {
-  meaning = meant_by c.args.mode c.in-Ok.script;
+  meaning = meant_by c.args.task c.in-Ok.script;
   means = is_sound c.in-Ok.script c.requires c.in-Ok.ensures.spelled c.in-Ok.ensures.checked refl;
   writes = c.answer_script.ensures.writes;
 }
@@ -24,4 +25,4 @@ returns-in-Err-Refused-clause-answers g c = record {
 
 pub returns-in-Err-NoMemory-clause-answers : goal.returns-in-Err-NoMemory-clause-answers
 returns-in-Err-NoMemory-clause-answers g c =
-    unanswered c.args.mode c.args.input.now (g.K.Sink.held c.args.sink.now) (g.K.Sink.room c.args.sink.now) NoMemory (λ a. a) (λ e. cc e)
+    unanswered (Read c.args.task) c.args.input.now (g.K.Sink.held c.args.sink.now) (g.K.Sink.room c.args.sink.now) NoMemory (λ a. a) (λ e. cc e)

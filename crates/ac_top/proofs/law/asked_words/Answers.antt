@@ -1,0 +1,88 @@
+use Rattle.std.proofs.Common.{refl}
+use Rattle.clap.proofs.OnLiterals.{clap_on_literals}
+use Rattle.ac_top.specs.Words.{asked_by}
+use Rattle.ac_top.proofs.law.asked_words.Goals as goal
+
+pub returns-clause-none : goal.returns-clause-none
+unfolding asked_by clap_on_literals
+returns-clause-none c = refl
+
+pub returns-clause-audit : goal.returns-clause-audit
+unfolding asked_by clap_on_literals
+returns-clause-audit c = refl
+
+pub returns-clause-check : goal.returns-clause-check
+unfolding asked_by clap_on_literals
+returns-clause-check c = refl
+
+pub returns-clause-generate : goal.returns-clause-generate
+unfolding asked_by clap_on_literals
+returns-clause-generate c = refl
+
+pub returns-clause-before : goal.returns-clause-before
+unfolding asked_by clap_on_literals
+returns-clause-before c = refl
+
+pub returns-clause-audited_check : goal.returns-clause-audited_check
+unfolding asked_by clap_on_literals
+returns-clause-audited_check c = refl
+
+pub returns-clause-audited_size : goal.returns-clause-audited_size
+unfolding asked_by clap_on_literals
+returns-clause-audited_size c = refl
+
+pub returns-clause-joined : goal.returns-clause-joined
+unfolding asked_by clap_on_literals
+returns-clause-joined c = refl
+
+pub returns-clause-plus : goal.returns-clause-plus
+unfolding asked_by clap_on_literals
+returns-clause-plus c = refl
+
+pub returns-clause-zeros : goal.returns-clause-zeros
+unfolding asked_by clap_on_literals
+returns-clause-zeros c = refl
+
+pub returns-clause-most : goal.returns-clause-most
+unfolding asked_by clap_on_literals
+returns-clause-most c = refl
+
+pub returns-clause-trailing : goal.returns-clause-trailing
+unfolding asked_by clap_on_literals
+returns-clause-trailing c = refl
+
+pub returns-clause-too_small : goal.returns-clause-too_small
+unfolding asked_by clap_on_literals
+returns-clause-too_small c = refl
+
+pub returns-clause-too_large : goal.returns-clause-too_large
+unfolding asked_by clap_on_literals
+returns-clause-too_large c = refl
+
+pub returns-clause-no_number : goal.returns-clause-no_number
+unfolding asked_by clap_on_literals
+returns-clause-no_number c = refl
+
+pub returns-clause-negative : goal.returns-clause-negative
+unfolding asked_by clap_on_literals
+returns-clause-negative c = refl
+
+pub returns-clause-alone : goal.returns-clause-alone
+unfolding asked_by clap_on_literals
+returns-clause-alone c = refl
+
+pub returns-clause-twice : goal.returns-clause-twice
+unfolding asked_by clap_on_literals
+returns-clause-twice c = refl
+
+pub returns-clause-valued : goal.returns-clause-valued
+unfolding asked_by clap_on_literals
+returns-clause-valued c = refl
+
+pub returns-clause-help : goal.returns-clause-help
+unfolding asked_by clap_on_literals
+returns-clause-help c = refl
+
+pub returns-clause-other : goal.returns-clause-other
+unfolding asked_by clap_on_literals
+returns-clause-other c = refl

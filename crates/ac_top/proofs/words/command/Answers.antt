@@ -1,0 +1,15 @@
+use Rattle.std.proofs.Common.{◌≡◌, ap, ap₂, codes, true, ◌∙◌}
+use Rattle.std.proofs.lemmas.Result.{IfOk-weaker}
+use Rattle.clap.specs.Simple.{app_of_fields, on_top}
+use Rattle.clap.specs.Words.{app_of, new_app, with_rule}
+use Rattle.ac_top.specs.Words.{adacont}
+use Rattle.ac_top.proofs.words.command.Goals as goal
+
+pub returns : goal.returns
+unfolding adacont
+returns c =
+    let bare : app_of c.no_binary_name-bare.result ≡ on_top (λ s. record s { no_binary_name = true }) (new_app (codes "adacont")) =
+    ap app_of_fields c.no_binary_name-bare.ensures ∙ ap (on_top (λ s. record s { no_binary_name = true })) c.new.ensures.app in
+    let checking = c.in_ok-checking.ensures.shape c.flag.ensures.local ∙ ap₂ with_rule bare c.flag.ensures.rule in
+    let auditing = c.in_ok-auditing.ensures.shape c.flag-2.ensures.local ∙ ap₂ with_rule checking c.flag-2.ensures.rule in
+    IfOk-weaker c.arg-3.result _ _ (λ made added. added.shape c.generate.ensures.local ∙ ap₂ with_rule auditing c.generate.ensures.rule) c.arg-3.ensures

@@ -1,0 +1,112 @@
+//! What the words after the program's name ask for. clap reads them.
+ghost use Rattle.std.specs.Prelude.{◌≡◌, ◌≢◌, ◌⊎◌, None, Some, [], false, codes, map, string_bytes, IfOk, IfErr};
+ghost use Rattle.clap.specs.Faults.{fault_of};
+ghost use Rattle.clap.specs.Kinds.{HasKind};
+ghost use Rattle.clap.specs.Words.{app_of, found_of, kind_of, matches_of, rows_of, rule_of};
+ghost use Rattle.clap.specs.declared.error.kind.ErrorKind.TheVariants.{OutOfMemory};
+ghost use Rattle.ac_top.specs.Words.{adacont, is_set, number_given, task_by, mode_by, mode_of, flag_rule, number_rule};
+
+use crate::mode::{Mode, Task};
+use crate::status::Status;
+use clap::builder::ValueParser;
+use clap::error::ErrorKind;
+use clap::{Arg, ArgAction, ArgMatches, Command, Error};
+use std::alloc::{AllocError, Global};
+
+const CHECK: &str = "check";
+
+const AUDIT: &str = "audit";
+
+const GENERATE: &str = "generate";
+
+/// A flag, which is given by its name.
+fn flag<'a>(alloc: Global, name: &'a str) -> Arg<'a>
+    ensures rule { rule_of result ≡ flag_rule name.now }
+    ensures local { result.global ≡ false }
+{
+    Arg::new(alloc, name).long(name).action(ArgAction::SetTrue)
+}
+
+/// The option that asks for a script of a size.
+fn generate<'a>(alloc: Global) -> Arg<'a>
+    ensures rule { rule_of result ≡ number_rule (codes "generate") 1 200000 }
+    ensures local { result.global ≡ false }
+{
+    Arg::new(alloc, GENERATE)
+        .long(GENERATE)
+        .action(ArgAction::Set)
+        .value_parser(ValueParser::unsigned(1, 200_000))
+}
+
+/// The command, with its flags and its option.
+fn command<'a>(alloc: Global) -> Result<Command<'a>, AllocError>
+    ensures { IfOk result (λ made. app_of made ≡ adacont) }
+{
+    let bare = Command::new(alloc, "adacont").no_binary_name(true);
+    let checking = bare.arg(flag(alloc, CHECK))?;
+    let auditing = checking.arg(flag(alloc, AUDIT))?;
+    auditing.arg(generate(alloc))
+}
+
+/// What clap finds in the words.
+fn find<'a>(alloc: Global, words: &'a [String]) -> Result<ArgMatches<'a>, Error>
+    ensures taken { IfOk result (λ found. (fault_of adacont (map string_bytes words.now) ≡ [])
+        × (rows_of (found_of found) ≡ matches_of adacont (map string_bytes words.now))) }
+    ensures refused { IfErr result (HasKind (fault_of adacont (map string_bytes words.now))) }
+{
+    command(alloc)?.try_get_matches_from(words)
+}
+
+fn is_set(matches: &ArgMatches<'_>, flag: &str) -> bool
+    ensures { result ≡ is_set flag.now (rows_of (found_of matches.now)) }
+{
+    matches.get_one::<bool>(flag) == Some(true)
+}
+
+fn task_by(matches: &ArgMatches<'_>) -> Task
+    ensures { result ≡ task_by (rows_of (found_of matches.now)) }
+{
+    if is_set(matches, CHECK) {
+        Task::Check
+    } else if is_set(matches, AUDIT) {
+        Task::Audit
+    } else {
+        Task::Run
+    }
+}
+
+fn size_given(matches: &ArgMatches<'_>) -> Option<u64>
+    ensures { result ≡ number_given (codes "generate") (rows_of (found_of matches.now)) }
+{
+    matches.get_one::<u64>(GENERATE)
+}
+
+fn mode_by(matches: &ArgMatches<'_>) -> Mode
+    ensures { result ≡ mode_by (rows_of (found_of matches.now)) }
+{
+    match size_given(matches) {
+        Some(size) => Mode::Generate(size),
+        None => Mode::Read(task_by(matches)),
+    }
+}
+
+/// How the program ends where clap refuses its words.
+fn refusal(error: &Error) -> Status
+    ensures { (result ≡ Status.NoMemory) ⊎ ((result ≡ Status.Usage) × (kind_of error.now ≢ OutOfMemory)) }
+{
+    match error.kind() {
+        ErrorKind::OutOfMemory => Status::NoMemory,
+        _ => Status::Usage,
+    }
+}
+
+/// What the words after the program's name ask for, or how the program ends where they aren't the command's.
+pub fn asked_for(alloc: Global, words: &[String]) -> Result<Mode, Status>
+    ensures asked { IfOk result (λ mode. mode_of words.now ≡ Some mode) }
+    ensures refused { IfErr result (λ status. (status ≡ Status.NoMemory) ⊎ ((status ≡ Status.Usage) × (mode_of words.now ≡ None))) }
+{
+    match find(alloc, words) {
+        Ok(matches) => Ok(mode_by(&matches)),
+        Err(error) => Err(refusal(&error)),
+    }
+}
