@@ -18,3 +18,5 @@ mod sets;
 mod two_sets;
 #[cfg(test)]
 mod vectors;
+#[cfg(test)]
+mod words;
