@@ -3,7 +3,7 @@
 
 Prints the program's time for each generated script, the ratio to the baseline's, and the growth from half the script to the whole: 2 is linear. Then the time and the memory of long runs, and what `A.Length` costs. Then the time of `--check` on inputs of 1 MiB that are the worst of their sorts, and the growth. Then the time of a put and a take of the pool, and the ratio; and of an insertion and a removal in the middle of a chain, which stays flat where the chain grows. Then the times of calls of lists and sets, and their growth from 10,000 elements to 1,000,000, and the memory of a slot. Needs rustc; isn't part of the gate.
 
-With `--peer COMMAND` it prints instead the times of some scripts beside those of another interpreter of the same language, and the ratio: below 1 is faster.
+With `--peer COMMAND` it prints instead the times of some scripts, and of the generator's longest, beside those of another interpreter of the same language, and the ratio: below 1 is faster.
 
 With `--before PROGRAM`, where PROGRAM is `crates/ac_bench/out/ac_bench` of another checkout, built there by `rt run`, it prints instead the times of each workload with that program and with this checkout's, which run in turn, beside one another, and the ratio: below 1 is faster than before.
 """
@@ -114,6 +114,7 @@ def ordered_map_ops():
 
 BESIDE_A_PEER = [("list_churn", list_churn), ("list_sort_merge", list_sort_merge), ("dispatch", dispatch), ("vector_append_read", vector_append_read), ("vector_sort", vector_sort),
                  ("hashed_map_ops", hashed_map_ops), ("ordered_map_ops", ordered_map_ops)]
+GENERATED = ["--generate", "200000"]
 
 
 def lengths(count):
@@ -261,15 +262,16 @@ def a_length(place):
 
 
 def beside_a_peer(peer, place):
-    """Each script's time, and the ratio to another interpreter's of the same language, which runs in turn with this one."""
+    """Each script's time, and the generator's, with the ratio to another interpreter's of the same language, which runs in turn with this one."""
     program = os.path.join(TOP, "crates/adacont/out/adacont")
     print(f"{'script':<30}{'adacont s':>12}{'peer s':>12}{'ratio':>8}")
-    for name, text in BESIDE_A_PEER:
-        path = written(place, text())
+    rows = [(name, text(), []) for name, text in BESIDE_A_PEER] + [(" ".join(GENERATED), "", GENERATED)]
+    for name, text, words in rows:
+        path = written(place, text)
         ours, theirs = [], []
         for _ in range(RUNS):
-            ours.append(once([program], path))
-            theirs.append(once(peer, path))
+            ours.append(once([program, *words], path))
+            theirs.append(once([*peer, *words], path))
         print(f"{name:<30}{min(ours):>12.3f}{min(theirs):>12.3f}{min(ours) / min(theirs):>8.2f}", flush=True)
 
 
