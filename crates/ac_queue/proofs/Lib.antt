@@ -1,0 +1,3 @@
+-- Proofs of the queues.
+pub mod Places
+pub mod SameQueues

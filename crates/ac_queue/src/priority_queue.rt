@@ -1,0 +1,155 @@
+//! The priority queue.
+ghost use Rattle.std.specs.Prelude.{◌≡◌, ◌≤◌, pos, max, IsOk, IfOk, OnErr, OnOk};
+ghost use Rattle.std.specs.Bool.{Decides};
+ghost use Rattle.std.specs.List.{slice_get};
+ghost use Rattle.ac_model.specs.Queues as queues;
+ghost use Rattle.ac_model.specs.Queues.{LimitInRange, by_priority};
+ghost use Rattle.ac_queue.specs.QueueStates.{IsQueueState, new_state, with_spare};
+ghost use Rattle.ac_queue.specs.QueueCalls.{HasSpareFor, enqueue_answer, dequeue_answer, after_enqueue, after_leaving};
+
+use crate::answers::{Dequeued, Enqueued};
+use crate::line::Line;
+use crate::priority::priority;
+use ac_base::{Limit, NoMemory};
+use std::alloc::Global;
+use std::marker::Model;
+
+/// A queue of integers, those of the greatest priority first (A.18.30, and A.18.31 for the bounded one).
+/// The priority of an item is its hundredth part, rounded toward zero.
+#[derive(Drop)]
+pub struct PriorityQueue {
+    line: Line,
+}
+
+impl Model for PriorityQueue {
+    ghost use Rattle.std.specs.Prelude.{◌≡◌, true};
+    ghost use Rattle.ac_model.specs.Queues.{are_in_line};
+    ghost use Rattle.ac_queue.specs.QueueStates.{QueueState, state_code};
+
+    ghost Value = { QueueState };
+
+    ghost coded = { state_code };
+
+    ghost view = { λ q. q.line };
+
+    ghost invariant = { λ q. are_in_line q.line.queue.items ≡ true };
+}
+
+impl PriorityQueue {
+    /// An empty queue. A bounded one takes all its memory here.
+    pub fn new(alloc: Global, limit: Limit) -> Result<PriorityQueue, NoMemory>
+        requires { LimitInRange limit }
+        ensures { IfOk result (λ made. made ≡ new_state limit) }
+    {
+        Ok(PriorityQueue {
+            line: Line::new(alloc, limit)?,
+        })
+    }
+
+    /// What holds of every queue, for proofs alone.
+    pub fn law(&self)
+        ensures { IsQueueState by_priority self.now }
+    {
+        self.line.law();
+    }
+
+    pub fn limit(&self) -> Limit
+        ensures { result ≡ self.now.queue.limit }
+    {
+        self.line.limit()
+    }
+
+    /// Current_Use (A.18.27).
+    pub fn current_use(&self) -> u64
+        ensures { pos result ≡ queues.current_use_call self.now.queue }
+    {
+        self.line.len()
+    }
+
+    /// Peak_Use (A.18.27).
+    pub fn peak_use(&self) -> u64
+        ensures { pos result ≡ queues.peak_use_call self.now.queue }
+    {
+        self.line.peak()
+    }
+
+    /// How many more items take no memory.
+    pub fn spare(&self) -> u64
+        ensures { result ≡ self.now.spare }
+    {
+        self.line.spare()
+    }
+
+    /// The item at this place, from 0 at the front.
+    pub fn item(&self, place: u64) -> Option<i64>
+        ensures { result ≡ slice_get self.now.queue.items place }
+    {
+        self.line.item(place)
+    }
+
+    /// Whether limits, items and peaks are the same.
+    pub fn same(&self, other: &PriorityQueue) -> bool
+        ensures { Decides result (self.now.queue ≡ other.now.queue) }
+    {
+        self.line.same(&other.line)
+    }
+
+    /// A queue with the same items and the same spare.
+    pub fn copy(&self) -> Result<PriorityQueue, NoMemory>
+        ensures { IfOk result (λ made. made ≡ self.now) }
+    {
+        Ok(PriorityQueue {
+            line: self.line.copy()?,
+        })
+    }
+
+    /// Makes the spare at least n.
+    pub fn reserve(&mut self, n: u64) -> Result<(), NoMemory>
+        ensures ok { OnOk result (self.new ≡ with_spare self.old n) }
+        ensures err { OnErr result (self.new ≡ self.old) }
+        ensures in_place { n ≤ self.old.spare → IsOk result }
+    {
+        self.line.reserve(n)
+    }
+
+    /// Enqueue (A.18.27): behind all items that aren't of lower priority.
+    pub fn try_enqueue(&mut self, item: i64) -> Enqueued
+        requires { HasSpareFor self.old (queues.enqueue_call by_priority self.old.queue item) }
+        ensures answer { result ≡ enqueue_answer (queues.enqueue_call by_priority self.old.queue item) }
+        ensures left { self.new ≡ after_enqueue by_priority self.old item }
+    {
+        if self.line.is_full() {
+            return Enqueued::WouldWait;
+        }
+        if self.line.is_too_long() {
+            return Enqueued::TooLong;
+        }
+        self.law();
+        let place = self.line.place_behind(item);
+        self.line.put_at(place, item);
+        Enqueued::Took
+    }
+
+    /// Dequeue (A.18.27).
+    pub fn try_dequeue(&mut self) -> Dequeued
+        ensures answer { result ≡ dequeue_answer (queues.dequeue_call self.old.queue) }
+        ensures left { self.new ≡ after_leaving self.old (queues.dequeue_call self.old.queue) }
+    {
+        match self.line.take_first() {
+            None => Dequeued::WouldWait,
+            Some(item) => Dequeued::Got(item),
+        }
+    }
+
+    /// Dequeue_Only_High_Priority (A.18.30): none, where the queue is empty or its front item of a lower priority.
+    pub fn high_only(&mut self, at_least: i64) -> Option<i64>
+        ensures answer { result ≡ (queues.high_only_call self.old.queue at_least).answer }
+        ensures left { self.new ≡ after_leaving self.old (queues.high_only_call self.old.queue at_least) }
+    {
+        let first = self.line.item(0)?;
+        if priority(first) < at_least {
+            return None;
+        }
+        self.line.take_first()
+    }
+}

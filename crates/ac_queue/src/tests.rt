@@ -1,0 +1,42 @@
+use super::*;
+use ac_base::Limit;
+use std::test::Fail;
+
+#[test]
+fn a_bounded_queue_has_room_from_the_start(rt: HostRuntime) -> Result<(), Fail> {
+    let mut queue = Queue::new(rt.alloc(), Limit::Bounded(1))?;
+    assert!(rt; queue.try_enqueue(5) == Enqueued::Took);
+    assert!(rt; queue.try_enqueue(6) == Enqueued::WouldWait);
+    assert!(rt; queue.try_dequeue() == Dequeued::Got(5));
+    Ok(())
+}
+
+#[test]
+fn an_unbounded_queue_takes_what_was_reserved(rt: HostRuntime) -> Result<(), Fail> {
+    let mut queue = Queue::new(rt.alloc(), Limit::Unbounded)?;
+    queue.reserve(2)?;
+    assert!(rt; queue.try_enqueue(-5) == Enqueued::Took);
+    assert!(rt; queue.spare() == 1);
+    assert!(rt; queue.copy()?.same(&queue));
+    Ok(())
+}
+
+#[test]
+fn a_priority_queue_gives_the_greatest_first(rt: HostRuntime) -> Result<(), Fail> {
+    let mut queue = AnyQueue::Ranked(PriorityQueue::new(rt.alloc(), Limit::Bounded(3))?);
+    assert!(rt; queue.try_enqueue(150) == Enqueued::Took);
+    assert!(rt; queue.try_enqueue(199) == Enqueued::Took);
+    let mut other = queue.copy()?;
+    assert!(rt; other.high_only(2).is_none());
+    assert!(rt; other.high_only(1) == Some(150));
+    Ok(())
+}
+
+#[test]
+fn a_queue_of_either_kind_reserves(rt: HostRuntime) -> Result<(), Fail> {
+    let mut queue = AnyQueue::Plain(Queue::new(rt.alloc(), Limit::Unbounded)?);
+    queue.reserve(1)?;
+    assert!(rt; queue.try_enqueue(7) == Enqueued::Took);
+    assert!(rt; queue.item(0) == Some(7));
+    Ok(())
+}
