@@ -1,0 +1,2 @@
+-- Proofs of task blocks.
+pub mod LegalHistories

@@ -1,0 +1,12 @@
+//! The core of a task block, as one value: what its tasks share, how far each is, and the history of the
+//! steps that were done, which explains both.
+#![tactic(auto)]
+
+mod code;
+mod entry;
+pub mod examples;
+mod law;
+
+pub use code::{Steplist, TaskArg, TaskCode, TaskStep};
+pub use entry::{Entry, Reply, Turn};
+pub use law::{every_list_of_turns, in_parts};
