@@ -3,6 +3,7 @@ use Rattle.std.specs.Prelude.{◌+◌, ◌≤◌, ⊤, ℕ, ℤ, List, length, m
 use Rattle.std.specs.Coded.{Coded, code_by, coded×, coded_ℕ, coded_ℤ, coded_list}
 use Rattle.ac_base.specs.declared.limit.Limit.{Limit}
 use Rattle.ac_base.specs.declared.limit.Limit.TheVariants.{Unbounded, Bounded}
+use Rattle.ac_base.specs.declared.limit.TheConstants.{GREATEST_LENGTH}
 use Rattle.ac_base.specs.Limits.{limit_code}
 use Rattle.ac_model.specs.Queues.{Queue, Discipline, IsValidQueue, empty_queue}
 
@@ -36,6 +37,7 @@ HasRoom (Bounded most) held spare = most ≤ held + spare
 pub record IsQueueState (discipline : Discipline) (s : QueueState) : Type 0 where
   pub valid : IsValidQueue discipline s.queue
   pub room : HasRoom s.queue.limit (length s.queue.items) s.spare
+  pub peak_in_range : s.queue.peak ≤ GREATEST_LENGTH
 
 -- how many items a new queue takes without memory
 abbrev pub first_spare : Limit → ℕ

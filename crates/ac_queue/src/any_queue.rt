@@ -1,6 +1,7 @@
 //! A queue of either kind.
 ghost use Rattle.std.specs.Prelude.{◌≡◌, ◌≤◌, pos, max, IsOk, IfOk, OnErr, OnOk};
 ghost use Rattle.std.specs.Bool.{Decides};
+ghost use Rattle.ac_base.specs.declared.limit.TheConstants.{GREATEST_LENGTH};
 ghost use Rattle.std.specs.List.{slice_get};
 ghost use Rattle.ac_model.specs.Queues as queues;
 ghost use Rattle.ac_model.specs.Queues.{by_priority};
@@ -53,7 +54,8 @@ impl AnyQueue {
 
     /// Current_Use (A.18.27).
     pub fn current_use(&self) -> u64
-        ensures { pos result ≡ queues.current_use_call (state_of self.now).queue }
+        ensures use_now { pos result ≡ queues.current_use_call (state_of self.now).queue }
+        ensures bound { result ≤ GREATEST_LENGTH }
     {
         match self {
             AnyQueue::Plain(queue) => queue.current_use(),
@@ -63,7 +65,8 @@ impl AnyQueue {
 
     /// Peak_Use (A.18.27).
     pub fn peak_use(&self) -> u64
-        ensures { pos result ≡ queues.peak_use_call (state_of self.now).queue }
+        ensures use_most { pos result ≡ queues.peak_use_call (state_of self.now).queue }
+        ensures bound { result ≤ GREATEST_LENGTH }
     {
         match self {
             AnyQueue::Plain(queue) => queue.peak_use(),

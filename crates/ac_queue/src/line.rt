@@ -1,6 +1,7 @@
 //! What queues of both kinds have in common: items in a line, with a limit and a peak.
 ghost use Rattle.std.specs.Prelude.{◌≡◌, ◌+◌, ◌-◌, ◌<◌, ◌≤◌, ◌∷◌, ◌++◌, length, take, drop, [], true, false, not, max, IsOk, IfOk, OnErr, OnOk};
 ghost use Rattle.std.specs.Bool.{Decides};
+ghost use Rattle.ac_base.specs.declared.limit.TheConstants.{GREATEST_LENGTH};
 ghost use Rattle.std.specs.List.{slice_get, prefix_len};
 ghost use Rattle.ac_model.specs.Queues.{LimitInRange, by_arrival, are_in_line, comes_before, is_full, is_too_long, front};
 ghost use Rattle.ac_queue.specs.QueueStates.{IsQueueState, queue_of, state, first_spare, new_state, with_spare};
@@ -90,13 +91,15 @@ impl Line {
     }
 
     pub(crate) fn len(&self) -> u64
-        ensures { result ≡ length self.now.queue.items }
+        ensures len { result ≡ length self.now.queue.items }
+        ensures bound { result ≤ GREATEST_LENGTH }
     {
         self.items.len() as u64
     }
 
     pub(crate) fn peak(&self) -> u64
-        ensures { result ≡ self.now.queue.peak }
+        ensures peak { result ≡ self.now.queue.peak }
+        ensures bound { result ≤ GREATEST_LENGTH }
     {
         self.peak
     }

@@ -1,6 +1,7 @@
 //! The priority queue.
 ghost use Rattle.std.specs.Prelude.{◌≡◌, ◌≤◌, pos, max, IsOk, IfOk, OnErr, OnOk};
 ghost use Rattle.std.specs.Bool.{Decides};
+ghost use Rattle.ac_base.specs.declared.limit.TheConstants.{GREATEST_LENGTH};
 ghost use Rattle.std.specs.List.{slice_get};
 ghost use Rattle.ac_model.specs.Queues as queues;
 ghost use Rattle.ac_model.specs.Queues.{LimitInRange, by_priority};
@@ -61,14 +62,16 @@ impl PriorityQueue {
 
     /// Current_Use (A.18.27).
     pub fn current_use(&self) -> u64
-        ensures { pos result ≡ queues.current_use_call self.now.queue }
+        ensures use_now { pos result ≡ queues.current_use_call self.now.queue }
+        ensures bound { result ≤ GREATEST_LENGTH }
     {
         self.line.len()
     }
 
     /// Peak_Use (A.18.27).
     pub fn peak_use(&self) -> u64
-        ensures { pos result ≡ queues.peak_use_call self.now.queue }
+        ensures use_most { pos result ≡ queues.peak_use_call self.now.queue }
+        ensures bound { result ≤ GREATEST_LENGTH }
     {
         self.line.peak()
     }
