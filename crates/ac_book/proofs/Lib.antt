@@ -1,2 +1,3 @@
 -- Proofs of task blocks.
 pub mod LegalHistories
+pub mod Shared

@@ -39,11 +39,13 @@ pub record QueueStep : Type 0 where
   pub after : Queue
 
 abbrev pub enqueue_step : TaskQueue → ℤ → QueueStep
-enqueue_step q item = let c = enqueue_call q.discipline q.queue item in
-    elim c.reason [
-      | None ↦ record { waits = c.waits; answer = reply.Done; after = c.after }
-      | Some reason ↦ record { waits = c.waits; answer = reply.Raised reason; after = q.queue }
-    ]
+enqueue_step q item =
+    let c = enqueue_call q.discipline q.queue item in
+    record {
+      waits = c.waits;
+      answer = elim c.reason [ None ↦ reply.Done | Some reason ↦ reply.Raised reason ];
+      after = elim c.reason [ None ↦ c.after | Some reason ↦ q.queue ];
+    }
 
 abbrev pub number_or_no : Option ℤ → Reply
 number_or_no None = reply.No

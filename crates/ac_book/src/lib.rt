@@ -6,6 +6,9 @@ mod code;
 mod entry;
 pub mod examples;
 mod law;
+mod one_queue;
+mod step;
+mod sum;
 
 pub use code::{Steplist, TaskArg, TaskCode, TaskStep};
 pub use entry::{Entry, Reply, Turn};

@@ -52,6 +52,16 @@ impl AnyQueue {
         }
     }
 
+    /// Whether it is bounded and holds as many items as it may: then an Enqueue would wait.
+    pub fn is_full(&self) -> bool
+        ensures { result ≡ queues.is_full (state_of self.now).queue }
+    {
+        match self {
+            AnyQueue::Plain(queue) => queue.is_full(),
+            AnyQueue::Ranked(queue) => queue.is_full(),
+        }
+    }
+
     /// Current_Use (A.18.27).
     pub fn current_use(&self) -> u64
         ensures use_now { pos result ≡ queues.current_use_call (state_of self.now).queue }

@@ -54,6 +54,13 @@ impl Queue {
         self.line.limit()
     }
 
+    /// Whether it is bounded and holds as many items as it may: then an Enqueue would wait.
+    pub fn is_full(&self) -> bool
+        ensures { result ≡ queues.is_full self.now.queue }
+    {
+        self.line.is_full()
+    }
+
     /// Current_Use (A.18.27).
     pub fn current_use(&self) -> u64
         ensures use_now { pos result ≡ queues.current_use_call self.now.queue }
