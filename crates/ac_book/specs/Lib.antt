@@ -5,3 +5,4 @@ pub mod Histories
 pub mod Running
 pub mod States
 pub mod Steps
+pub mod Tasks

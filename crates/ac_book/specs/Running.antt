@@ -35,6 +35,11 @@ added_by (CurrentUse line queue into) = 0
 added_by (PeakUse line queue into) = 0
 added_by (Set line into from add) = 0
 
+-- the same of the next step, if there is one
+abbrev pub added_next : Option TaskStep → ℕ
+added_next None = 0
+added_next (Some step) = added_by step
+
 abbrev pub IsArg : (locals : ℕ) → TaskArg → Type 0
 IsArg locals (arg.Number n) = ⊤
 IsArg locals (arg.Local i) = i < locals

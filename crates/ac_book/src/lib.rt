@@ -9,6 +9,7 @@ mod law;
 mod one_queue;
 mod step;
 mod sum;
+mod task;
 
 pub use code::{Steplist, TaskArg, TaskCode, TaskStep};
 pub use entry::{Entry, Reply, Turn};
