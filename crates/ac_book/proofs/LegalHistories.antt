@@ -5,7 +5,7 @@ use Rattle.ac_book.specs.declared.code.TaskStep.{TaskStep}
 use Rattle.ac_book.specs.declared.entry.Entry.{Entry}
 use Rattle.ac_book.specs.States.{State, TaskState}
 use Rattle.ac_book.specs.Steps.{step_call}
-use Rattle.ac_book.specs.Histories.{Outcome, over, held_up, done, outcome, outcome_of, entries_of, state_after, replay, IsLegal, Turned, begun_at, turned}
+use Rattle.ac_book.specs.Histories.{Outcome, over, held_up, done, outcome, outcome_of, entries_of, state_after, replay, IsLegal, Explains, Turned, begun_at, turned}
 
 task_if : (b : Bool) (e given : Entry) (after left : State) (task : ℕ) → given.task ≡ task → (if b then held_up else done given left) ≡ done e after → e.task ≡ task
 task_if true e given after left task own same = cc
@@ -22,10 +22,6 @@ task_at s task (Some t) e after same = task_in s task t (slice_get t.steps t.pla
 -- a turn's entry is of its task
 pub done_task : (s : State) (task : ℕ) (e : Entry) (after : State) → outcome s task ≡ done e after → e.task ≡ task
 done_task s task e after same = task_at s task (slice_get s.tasks task) e after same
-
-pub record Explains (s : State) (history : List Entry) (after : State) : Type 0 where
-  pub legal : IsLegal s history
-  pub leaves : replay s history ≡ after
 
 explains_by : (s : State) (task : ℕ) (o : Outcome) → outcome s task ≡ o → Explains s (entries_of o) (state_after s o)
 explains_by s task over same = record { legal = tt; leaves = refl }

@@ -1,3 +1,6 @@
 -- Proofs of task blocks.
+pub mod KindsKept
+pub mod Left
 pub mod LegalHistories
 pub mod Shared
+pub mod Turning

@@ -62,6 +62,11 @@ abbrev pub IsLegal : State → List Entry → Type 0
 IsLegal s [] = ⊤
 IsLegal s (e ∷ es) = (entries_of (outcome s e.task) ≡ e ∷ []) × IsLegal (state_after s (outcome s e.task)) es
 
+-- a legal history leads from s to after
+pub record Explains (s : State) (history : List Entry) (after : State) : Type 0 where
+  pub legal : IsLegal s history
+  pub leaves : replay s history ≡ after
+
 -- no task is able: each has no next step, or one that would wait
 abbrev pub IsAtRest : State → Type 0
 IsAtRest s = (task : ℕ) → is_able s task ≡ false

@@ -1,5 +1,5 @@
 //! The steps that change a queue, on that queue: each answers none, where it would wait.
-ghost use Rattle.std.specs.Prelude.{◌≡◌, ◌+◌, ◌<◌, ◌≤◌};
+ghost use Rattle.std.specs.Prelude.{◌≡◌, ◌+◌, ◌<◌, ◌≤◌, IfNone};
 ghost use Rattle.ac_model.specs.Queues.{by_priority, dequeue_call, high_only_call};
 ghost use Rattle.ac_queue.specs.Kinds.{discipline_of, state_of};
 ghost use Rattle.ac_book.specs.States.{shared};
@@ -15,6 +15,7 @@ pub(crate) fn enqueue(queue: &mut AnyQueue, item: i64) -> Option<Reply>
     ensures answer { let c = enqueue_step (shared queue.old) item in result ≡ answered c.waits c.answer }
     ensures left { shared queue.new ≡ queue_after (shared queue.old) (enqueue_step (shared queue.old) item) }
     ensures spare { (state_of queue.old).spare ≤ (state_of queue.new).spare + 1 }
+    ensures held_up { IfNone result ((state_of queue.old).spare ≤ (state_of queue.new).spare) }
 {
     match queue.try_enqueue(item) {
         Enqueued::Took => Some(Reply::Done),

@@ -1,5 +1,5 @@
 //! A step of a task, on all queues.
-ghost use Rattle.std.specs.Prelude.{◌≡◌, ◌+◌, ◌<◌, ℕ, map, length, get_or};
+ghost use Rattle.std.specs.Prelude.{◌≡◌, ◌+◌, ◌<◌, ℕ, IfNone, map, length, get_or};
 ghost use Rattle.ac_model.specs.Queues.{by_priority, is_full, is_without_items, dequeue_call, high_only_call, current_use_call, peak_use_call};
 ghost use Rattle.ac_queue.specs.Kinds.{discipline_of, state_of};
 ghost use Rattle.ac_book.specs.declared.entry.Reply.TheVariants as reply;
@@ -29,6 +29,7 @@ fn enqueue_at(queues: &mut [AnyQueue], queue: u32, item: i64) -> Option<Reply>
     ensures answer { let c = on_queue (map shared queues.old) queue (λ q. enqueue_step q item) in result ≡ answered c.waits c.answer }
     ensures left { map shared queues.new ≡ queues_after (map shared queues.old) (on_queue (map shared queues.old) queue (λ q. enqueue_step q item)) }
     ensures spare { (n : ℕ) → HaveSpare (n + 1) queues.old → HaveSpare n queues.new }
+    ensures held_up { IfNone result ((n : ℕ) → HaveSpare n queues.old → HaveSpare n queues.new) }
 {
     enqueue(&mut queues[queue as usize], item)
 }
@@ -78,6 +79,7 @@ pub(crate) fn run(step: TaskStep, queues: &mut [AnyQueue], locals: &[i64]) -> Op
     ensures answer { let c = step_call step (map shared queues.old) locals.now in result ≡ answered c.waits c.answer }
     ensures left { map shared queues.new ≡ queues_after (map shared queues.old) (step_call step (map shared queues.old) locals.now) }
     ensures spare { (n : ℕ) → HaveSpare (n + added_by step) queues.old → HaveSpare n queues.new }
+    ensures held_up { IfNone result ((n : ℕ) → HaveSpare n queues.old → HaveSpare n queues.new) }
 {
     match step {
         TaskStep::Enqueue { queue, item, .. } => enqueue_at(queues, queue, value(locals, item)),

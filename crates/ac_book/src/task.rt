@@ -1,5 +1,5 @@
 //! A task in memory.
-ghost use Rattle.std.specs.Prelude.{◌≡◌, ◌+◌, ◌<◌, ℕ, IfSome, OnSome, map, length};
+ghost use Rattle.std.specs.Prelude.{◌≡◌, ◌+◌, ◌<◌, ℕ, IfSome, OnSome, IfErr, map, length};
 ghost use Rattle.ac_book.specs.Running.{Fits, HaveSpare, IsTarget, added_next};
 ghost use Rattle.ac_book.specs.States.{shared};
 ghost use Rattle.ac_book.specs.Steps.{advanced, kept, target_of};
@@ -102,6 +102,7 @@ pub(crate) fn take_turn(
     requires spare { HaveSpare (added_next (next_of task.old)) queues.old }
     ensures turn { TakesTurn (next_of task.old) task.old (map shared queues.old) number task.new (map shared queues.new) result }
     ensures spare { (n : ℕ) → HaveSpare (n + added_next (next_of task.old)) queues.old → HaveSpare n queues.new }
+    ensures held_up { IfErr result (λ _. (n : ℕ) → HaveSpare n queues.old → HaveSpare n queues.new) }
 {
     let Some(step) = task.next() else {
         return Err(Turn::Ended);
