@@ -1,7 +1,7 @@
 -- A turn of a task keeps a book, and adds what the turn comes to.
-use Rattle.std.proofs.Common.{◌≡◌, ◌+◌, ◌<◌, ◌≤◌, ◌^◌, ℕ, ℤ, Bool, true, false, List, [], ◌∷◌, ◌++◌, map, length, get_or, set, Option, Some, None, Result, Ok, Err, IfErr, IfSome, refl, sym, ap, ◌∙◌, subst, arith, if◌then◌else◌, length-append, length-set, append-nil}
+use Rattle.std.proofs.Common.{◌≡◌, ◌+◌, ◌<◌, ◌≤◌, ◌^◌, ℕ, ℤ, zero, suc, Bool, true, false, List, [], ◌∷◌, ◌++◌, map, length, take, drop, get_or, set, Option, Some, None, Result, Ok, Err, IfErr, IfSome, refl, sym, ap, ◌∙◌, subst, arith, if◌then◌else◌, length-append, length-set, append-nil}
 use Rattle.std.specs.List.{All, slice_get}
-use Rattle.std.proofs.lemmas.List.{map-set, get_or-map, set-get_or}
+use Rattle.std.proofs.lemmas.List.{length-map, take_all, drop_all, map-set, get_or-map, set-get_or}
 use Rattle.std.proofs.lemmas.List.Elements.{All-set}
 use Rattle.ac_queue.specs.declared.any_queue.AnyQueue.{AnyQueue}
 use Rattle.ac_book.specs.declared.code.TaskStep.{TaskStep}
@@ -11,7 +11,8 @@ use Rattle.ac_book.specs.declared.entry.Reply.{Reply}
 use Rattle.ac_book.specs.declared.entry.Reply.TheVariants as reply
 use Rattle.ac_book.specs.declared.entry.Turn.{Turn}
 use Rattle.ac_book.specs.declared.entry.Turn.TheVariants as turn
-use Rattle.ac_book.specs.Books.{IsBook, TaskFits, left, one_each, state_now, entries_in, told_in}
+use Rattle.ac_book.specs.Blocks.{Block, opening, present, with_entries}
+use Rattle.ac_book.specs.Books.{IsBook, block_of, TaskFits, left, one_each, state_now, entries_in, told_in}
 use Rattle.ac_book.specs.Histories.{Outcome, over, held_up, done, outcome, outcome_of, entry, entries_of, state_after, turn_told, Explains}
 use Rattle.ac_book.specs.Running.{Fits, HaveSpare, added_by, added_next}
 use Rattle.ac_book.specs.States.{State, TaskQueue, TaskState, opening_state, shared}
@@ -173,3 +174,91 @@ next_fits opened queues tasks i t history slots holds at =
 pub next_spare : (opened : List TaskQueue) (queues : List AnyQueue) (tasks : List TaskState) (i : ℕ) (t : TaskState) (history : List Entry) (slots : ℕ) → IsBook opened queues tasks history slots → slice_get tasks i ≡ Some t
     → HaveSpare (added_next (next_of t)) queues
 next_spare opened queues tasks i t history slots holds at = λ k d within. spare_for (next_of t) tasks i t at refl _ (holds.spare k d within)
+
+got : {X : Type 0} (xs : List X) (i : ℕ) (x : X) → i < length xs → x ≡ get_or xs i x → slice_get xs i ≡ Some x
+got [] i x within is = absurd (omega arith)
+got (y ∷ ys) zero x within is = ap Some (sym is)
+got (y ∷ ys) (suc i) x within is = got ys i x (omega arith) is
+
+-- the same, where queues and task are lent
+pub turns_lent : (opened : List TaskQueue) (queues lent now : List AnyQueue) (tasks : List TaskState) (i : ℕ) (t new : TaskState) (history : List Entry) (slots : ℕ) (result : Result Entry Turn)
+    → IsBook opened queues tasks history slots → i < length tasks → t ≡ get_or tasks i t → lent ≡ queues
+    → ((n : ℕ) → HaveSpare (n + added_next (next_of t)) lent → HaveSpare n now)
+    → IfErr result (λ _. (n : ℕ) → HaveSpare n lent → HaveSpare n now)
+    → TakesTurn (next_of t) t (map shared lent) i new (map shared now) result
+    → Turns opened queues now tasks i new history slots result
+turns_lent opened queues lent now tasks i t new history slots result holds within is same =
+    subst (λ qs. ((n : ℕ) → HaveSpare (n + added_next (next_of t)) qs → HaveSpare n now) → IfErr result (λ _. (n : ℕ) → HaveSpare n qs → HaveSpare n now) → TakesTurn (next_of t) t (map shared qs) i new (map shared now) result → Turns opened queues now tasks i new history slots result) (sym same)
+      (λ spare held_spare taken. turns opened queues now tasks i t new history slots result holds (got tasks i t within is) spare held_spare taken)
+
+pub spare_lent : (opened : List TaskQueue) (queues lent : List AnyQueue) (tasks : List TaskState) (i : ℕ) (t : TaskState) (history : List Entry) (slots : ℕ)
+    → IsBook opened queues tasks history slots → i < length tasks → t ≡ get_or tasks i t → lent ≡ queues → HaveSpare (added_next (next_of t)) lent
+spare_lent opened queues lent tasks i t history slots holds within is same = subst (HaveSpare (added_next (next_of t))) (sym same) (next_spare opened queues tasks i t history slots holds (got tasks i t within is))
+
+-- what is written back over a list of the same length
+pub written_back : {X : Type 0} (n : ℕ) (xs new : List X) → length new ≡ n → length xs ≡ n → take n (new ++ drop (length new) xs) ≡ new
+written_back n xs new e f = subst (λ rest. take n (new ++ rest) ≡ new) (sym (drop_all (length new) xs (omega (arith, e, f)))) (subst (λ ys. take n ys ≡ new) (sym (append-nil new)) (take_all n new (omega (arith, e))))
+
+pub record Whole (opened queues now : List AnyQueue) (n : ℕ) (tasks : List TaskState) (i : ℕ) (new : TaskState) (history : List Entry) (slots : ℕ) (result : Result Entry Turn) (b : Block) : Type 0 where
+  pub holds : IsBook (map shared opened) (take n (now ++ drop (length now) queues)) (set tasks i new) (history ++ entries_in result) slots
+  pub told : told_in result ≡ turn_told (outcome (present b) i)
+  pub becomes : block_of opened (set tasks i new) (history ++ entries_in result) ≡ with_entries b (entries_of (outcome (present b) i))
+
+pub in_tasks : (opened : List AnyQueue) (tasks : List TaskState) (history : List Entry) (b : Block) (i : ℕ) → block_of opened tasks history ≡ b → i < length b.code → i < length tasks
+in_tasks opened tasks history b i is within = subst (λ n. i < n) (length-map tasks code_of) (subst (λ (x : Block). i < length x.code) (sym is) within)
+
+whole_by : (opened queues now : List AnyQueue) (n : ℕ) (tasks : List TaskState) (i : ℕ) (new : TaskState) (history : List Entry) (slots : ℕ) (result : Result Entry Turn)
+    → IsBook (map shared opened) queues tasks history slots → take n (now ++ drop (length now) queues) ≡ now
+    → Turns (map shared opened) queues now tasks i new history slots result → Whole opened queues now n tasks i new history slots result (block_of opened tasks history)
+whole_by opened queues now n tasks i new history slots result holds back turned =
+    let leaves = holds.explains.leaves in
+    record {
+      holds = subst (λ qs. IsBook (map shared opened) qs (set tasks i new) (history ++ entries_in result) slots) (sym back) turned.holds;
+      told = sym (ap (λ s. turn_told (outcome s i)) leaves ∙ turned.told);
+      becomes = λ j. record {
+        queues = map shared opened;
+        code = turned.code j;
+        history = history ++ (sym (ap (λ s. entries_of (outcome s i)) leaves ∙ turned.entries)) j;
+      };
+    }
+
+-- the whole of a turn, as the code makes it
+pub whole_turn : (opened queues lent now : List AnyQueue) (n : ℕ) (tasks : List TaskState) (i : ℕ) (t new : TaskState) (history : List Entry) (slots : ℕ) (result : Result Entry Turn) (b : Block)
+    → IsBook (map shared opened) queues tasks history slots → block_of opened tasks history ≡ b → i < length b.code → t ≡ get_or tasks i t
+    → lent ≡ queues → length lent ≡ n → length now ≡ length lent
+    → ((m : ℕ) → HaveSpare (m + added_next (next_of t)) lent → HaveSpare m now)
+    → IfErr result (λ _. (m : ℕ) → HaveSpare m lent → HaveSpare m now)
+    → TakesTurn (next_of t) t (map shared lent) i new (map shared now) result
+    → Whole opened queues now n tasks i new history slots result b
+whole_turn opened queues lent now n tasks i t new history slots result b holds is within at same len as_long spare held_spare taken =
+    subst (λ x. Whole opened queues now n tasks i new history slots result x) is
+      (whole_by opened queues now n tasks i new history slots result holds (written_back n queues now (as_long ∙ len) (ap length (sym same) ∙ len))
+        (turns_lent (map shared opened) queues lent now tasks i t new history slots result holds (in_tasks opened tasks history b i is within) at same spare held_spare taken))
+
+module _ {opened queues now : List AnyQueue} {n : ℕ} {tasks : List TaskState} {i : ℕ} {new : TaskState} {history : List Entry} {slots : ℕ} {result : Result Entry Turn} {b : Block} where
+  -- where nothing was done
+  pub stood_still : Whole opened queues now n tasks i new history slots result b → (told : Turn) → result ≡ Err told → IsBook (map shared opened) (take n (now ++ drop (length now) queues)) (set tasks i new) history slots
+  stood_still whole told is =
+      subst (λ h. IsBook (map shared opened) (take n (now ++ drop (length now) queues)) (set tasks i new) h slots) (append-nil history)
+        (subst (λ r. IsBook (map shared opened) (take n (now ++ drop (length now) queues)) (set tasks i new) (history ++ entries_in r) slots) is whole.holds)
+
+  pub stands_still : Whole opened queues now n tasks i new history slots result b → (told : Turn) → result ≡ Err told → block_of opened (set tasks i new) history ≡ with_entries b (entries_of (outcome (present b) i))
+  stands_still whole told is =
+      subst (λ h. block_of opened (set tasks i new) h ≡ with_entries b (entries_of (outcome (present b) i))) (append-nil history)
+        (subst (λ r. block_of opened (set tasks i new) (history ++ entries_in r) ≡ with_entries b (entries_of (outcome (present b) i))) is whole.becomes)
+
+  -- where a step was done
+  pub moved_on : Whole opened queues now n tasks i new history slots result b → (e : Entry) (longer : List Entry) (room : ℕ) → result ≡ Ok e → longer ≡ history ++ e ∷ [] → room ≡ slots
+      → IsBook (map shared opened) (take n (now ++ drop (length now) queues)) (set tasks i new) longer room
+  moved_on whole e longer room is longer_is room_is =
+      rw (longer_is, room_is) (subst (λ r. IsBook (map shared opened) (take n (now ++ drop (length now) queues)) (set tasks i new) (history ++ entries_in r) slots) is whole.holds)
+
+  pub moves_on : Whole opened queues now n tasks i new history slots result b → (e : Entry) (longer : List Entry) → result ≡ Ok e → longer ≡ history ++ e ∷ [] → block_of opened (set tasks i new) longer ≡ with_entries b (entries_of (outcome (present b) i))
+  moves_on whole e longer is longer_is =
+      rw longer_is (subst (λ r. block_of opened (set tasks i new) (history ++ entries_in r) ≡ with_entries b (entries_of (outcome (present b) i))) is whole.becomes)
+
+  pub room_for_entry : Whole opened queues now n tasks i new history slots result b → (e : Entry) → result ≡ Ok e → length history < slots
+  room_for_entry whole e is =
+      let holds = subst (λ r. IsBook (map shared opened) (take n (now ++ drop (length now) queues)) (set tasks i new) (history ++ entries_in r) slots) is whole.holds in
+      let room = holds.room in
+      omega (arith, length-append history (e ∷ []), room)

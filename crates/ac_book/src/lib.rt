@@ -2,6 +2,7 @@
 //! steps that were done, which explains both.
 #![tactic(auto)]
 
+mod book;
 mod code;
 mod entry;
 pub mod examples;
@@ -11,6 +12,7 @@ mod step;
 mod sum;
 mod task;
 
+pub use book::Book;
 pub use code::{Steplist, TaskArg, TaskCode, TaskStep};
 pub use entry::{Entry, Reply, Turn};
 pub use law::{every_list_of_turns, in_parts};
