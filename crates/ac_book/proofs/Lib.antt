@@ -1,4 +1,6 @@
 -- Proofs of task blocks.
+pub mod Beginning
+pub mod Ending
 pub mod KindsKept
 pub mod Left
 pub mod LegalHistories

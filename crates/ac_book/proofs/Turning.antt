@@ -11,7 +11,7 @@ use Rattle.ac_book.specs.declared.entry.Reply.{Reply}
 use Rattle.ac_book.specs.declared.entry.Reply.TheVariants as reply
 use Rattle.ac_book.specs.declared.entry.Turn.{Turn}
 use Rattle.ac_book.specs.declared.entry.Turn.TheVariants as turn
-use Rattle.ac_book.specs.Blocks.{Block, opening, present, with_entries}
+use Rattle.ac_book.specs.Blocks.{Block, commands_in, opening, present, with_entries}
 use Rattle.ac_book.specs.Books.{IsBook, block_of, TaskFits, left, one_each, state_now, entries_in, told_in}
 use Rattle.ac_book.specs.Histories.{Outcome, over, held_up, done, outcome, outcome_of, entry, entries_of, state_after, turn_told, Explains}
 use Rattle.ac_book.specs.Running.{Fits, HaveSpare, added_by, added_next}
@@ -74,7 +74,7 @@ stays_put opened queues now tasks i t new history slots told holds at spare stay
     let tasks_same : set tasks i new ≡ tasks = ap (λ u. set tasks i u) stays.task ∙ set_same tasks i t at in
     let explains = subst (λ qs. Explains (opening_state opened (map code_of tasks)) history (record { queues = qs; tasks = tasks })) (sym stays.queues) holds.explains in
     let fits = subst (λ qs. All (TaskFits qs) tasks) (sym stays.queues) holds.fits in
-    let whole : IsBook opened now tasks history slots = record { explains = explains; fits = fits; spare = spare; room = holds.room; few = holds.few } in
+    let whole : IsBook opened now tasks history slots = record { explains = explains; fits = fits; spare = spare; room = holds.room; all = holds.all; few = holds.few } in
     record {
       holds = subst (λ us. IsBook opened now us (history ++ []) slots) (sym tasks_same) (subst (λ h. IsBook opened now tasks h slots) (sym (append-nil history)) whole);
       code = ap (map code_of) tasks_same;
@@ -117,6 +117,7 @@ goes_on opened queues now tasks i t new step history slots holds at next runs sp
         fits = All-set (TaskFits (map shared now)) tasks i new (subst (TaskFits (map shared now)) (sym goes.task) (task_fits tasks (map shared now) t step c.answer (all_fit qs (map shared now) kinds tasks holds.fits) i at)) (all_fit qs (map shared now) kinds tasks holds.fits);
         spare = spare (left added_by (set tasks i new)) (subst (λ n. HaveSpare n queues) (sym (falls added_by)) holds.spare);
         room = let room = holds.room in omega (arith, length-append history more, falls one_each, room);
+        all = subst (λ cs. commands_in cs ≡ slots) (sym code) holds.all;
         few = subst (λ n. n < 2 ^ 32) (sym (length-set tasks i new)) holds.few;
       };
       code = code;
@@ -189,7 +190,7 @@ pub turns_lent : (opened : List TaskQueue) (queues lent now : List AnyQueue) (ta
     → Turns opened queues now tasks i new history slots result
 turns_lent opened queues lent now tasks i t new history slots result holds within is same =
     subst (λ qs. ((n : ℕ) → HaveSpare (n + added_next (next_of t)) qs → HaveSpare n now) → IfErr result (λ _. (n : ℕ) → HaveSpare n qs → HaveSpare n now) → TakesTurn (next_of t) t (map shared qs) i new (map shared now) result → Turns opened queues now tasks i new history slots result) (sym same)
-      (λ spare held_spare taken. turns opened queues now tasks i t new history slots result holds (got tasks i t within is) spare held_spare taken)
+    (λ spare held_spare taken. turns opened queues now tasks i t new history slots result holds (got tasks i t within is) spare held_spare taken)
 
 pub spare_lent : (opened : List TaskQueue) (queues lent : List AnyQueue) (tasks : List TaskState) (i : ℕ) (t : TaskState) (history : List Entry) (slots : ℕ)
     → IsBook opened queues tasks history slots → i < length tasks → t ≡ get_or tasks i t → lent ≡ queues → HaveSpare (added_next (next_of t)) lent
@@ -232,20 +233,20 @@ pub whole_turn : (opened queues lent now : List AnyQueue) (n : ℕ) (tasks : Lis
     → Whole opened queues now n tasks i new history slots result b
 whole_turn opened queues lent now n tasks i t new history slots result b holds is within at same len as_long spare held_spare taken =
     subst (λ x. Whole opened queues now n tasks i new history slots result x) is
-      (whole_by opened queues now n tasks i new history slots result holds (written_back n queues now (as_long ∙ len) (ap length (sym same) ∙ len))
-        (turns_lent (map shared opened) queues lent now tasks i t new history slots result holds (in_tasks opened tasks history b i is within) at same spare held_spare taken))
+    (whole_by opened queues now n tasks i new history slots result holds (written_back n queues now (as_long ∙ len) (ap length (sym same) ∙ len))
+    (turns_lent (map shared opened) queues lent now tasks i t new history slots result holds (in_tasks opened tasks history b i is within) at same spare held_spare taken))
 
 module _ {opened queues now : List AnyQueue} {n : ℕ} {tasks : List TaskState} {i : ℕ} {new : TaskState} {history : List Entry} {slots : ℕ} {result : Result Entry Turn} {b : Block} where
   -- where nothing was done
   pub stood_still : Whole opened queues now n tasks i new history slots result b → (told : Turn) → result ≡ Err told → IsBook (map shared opened) (take n (now ++ drop (length now) queues)) (set tasks i new) history slots
   stood_still whole told is =
       subst (λ h. IsBook (map shared opened) (take n (now ++ drop (length now) queues)) (set tasks i new) h slots) (append-nil history)
-        (subst (λ r. IsBook (map shared opened) (take n (now ++ drop (length now) queues)) (set tasks i new) (history ++ entries_in r) slots) is whole.holds)
+      (subst (λ r. IsBook (map shared opened) (take n (now ++ drop (length now) queues)) (set tasks i new) (history ++ entries_in r) slots) is whole.holds)
 
   pub stands_still : Whole opened queues now n tasks i new history slots result b → (told : Turn) → result ≡ Err told → block_of opened (set tasks i new) history ≡ with_entries b (entries_of (outcome (present b) i))
   stands_still whole told is =
       subst (λ h. block_of opened (set tasks i new) h ≡ with_entries b (entries_of (outcome (present b) i))) (append-nil history)
-        (subst (λ r. block_of opened (set tasks i new) (history ++ entries_in r) ≡ with_entries b (entries_of (outcome (present b) i))) is whole.becomes)
+      (subst (λ r. block_of opened (set tasks i new) (history ++ entries_in r) ≡ with_entries b (entries_of (outcome (present b) i))) is whole.becomes)
 
   -- where a step was done
   pub moved_on : Whole opened queues now n tasks i new history slots result b → (e : Entry) (longer : List Entry) (room : ℕ) → result ≡ Ok e → longer ≡ history ++ e ∷ [] → room ≡ slots

@@ -1,9 +1,10 @@
 -- A task block: the queues that it began with, its tasks, and the history of what was done.
-use Rattle.std.specs.Prelude.{List, ◌++◌}
+use Rattle.std.specs.Prelude.{◌≡◌, ◌<◌, ℕ, false, List, [], ◌++◌, length}
+use Rattle.std.specs.List.{sum_by}
 use Rattle.std.specs.Coded.{Coded, codes}
 use Rattle.ac_book.specs.declared.code.TaskCode.{TaskCode}
 use Rattle.ac_book.specs.declared.entry.Entry.{Entry}
-use Rattle.ac_book.specs.Histories.{replay}
+use Rattle.ac_book.specs.Histories.{is_able, replay}
 use Rattle.ac_book.specs.States.{State, TaskQueue, opening_state}
 
 pub record Block : Type 0 where
@@ -23,3 +24,15 @@ present b = replay (opening b) b.history
 
 abbrev pub with_entries : Block → List Entry → Block
 with_entries b more = record { queues = b.queues; code = b.code; history = b.history ++ more }
+
+-- nothing was done yet
+abbrev pub new_block : List TaskQueue → List TaskCode → Block
+new_block queues code = record { queues = queues; code = code; history = [] }
+
+-- the steps of all tasks together
+abbrev pub commands_in : List TaskCode → ℕ
+commands_in code = sum_by (λ t. length t.steps) code
+
+-- each task has no next step, or one that would wait
+abbrev pub IsComplete : Block → Type 0
+IsComplete b = (task : ℕ) → task < length b.code → is_able (present b) task ≡ false

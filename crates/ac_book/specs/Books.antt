@@ -1,5 +1,5 @@
 -- What a book in memory keeps: its history explains the queues and the tasks, and there is room for all that is left to do.
-use Rattle.std.specs.Prelude.{◌+◌, ◌≤◌, ◌<◌, ◌^◌, ℕ, List, [], ◌∷◌, map, length, drop, Result, Ok, Err}
+use Rattle.std.specs.Prelude.{◌≡◌, ◌+◌, ◌≤◌, ◌<◌, ◌^◌, ℕ, List, [], ◌∷◌, map, length, drop, Result, Ok, Err}
 use Rattle.std.specs.List.{All, sum_by}
 use Rattle.ac_queue.specs.declared.any_queue.AnyQueue.{AnyQueue}
 use Rattle.ac_book.specs.declared.code.TaskStep.{TaskStep}
@@ -7,7 +7,7 @@ use Rattle.ac_book.specs.declared.code.TaskCode.{TaskCode}
 use Rattle.ac_book.specs.declared.entry.Entry.{Entry}
 use Rattle.ac_book.specs.declared.entry.Turn.{Turn}
 use Rattle.ac_book.specs.declared.entry.Turn.TheVariants as turn
-use Rattle.ac_book.specs.Blocks.{Block}
+use Rattle.ac_book.specs.Blocks.{Block, commands_in}
 use Rattle.ac_book.specs.Histories.{Explains}
 use Rattle.ac_book.specs.Running.{Fits, HaveSpare, added_by}
 use Rattle.ac_book.specs.States.{State, TaskQueue, TaskState, opening_state, shared}
@@ -38,6 +38,7 @@ pub record IsBook (opened : List TaskQueue) (queues : List AnyQueue) (tasks : Li
   pub fits : All (TaskFits (map shared queues)) tasks
   pub spare : HaveSpare (left added_by tasks) queues
   pub room : length history + left one_each tasks ≤ slots
+  pub all : commands_in (map code_of tasks) ≡ slots
   pub few : length tasks < 2 ^ 32
 
 -- the entry of what was done, if anything was

@@ -67,10 +67,6 @@ pub record Explains (s : State) (history : List Entry) (after : State) : Type 0 
   pub legal : IsLegal s history
   pub leaves : replay s history ≡ after
 
--- no task is able: each has no next step, or one that would wait
-abbrev pub IsAtRest : State → Type 0
-IsAtRest s = (task : ℕ) → is_able s task ≡ false
-
 -- turns of these tasks one after another: the history that they add, and the state that they leave
 pub record Turned : Type 0 where
   pub history : List Entry

@@ -1,13 +1,20 @@
 //! A task block while it runs.
-ghost use Rattle.std.specs.Prelude.{◌≡◌, ◌<◌, map, length, get_or};
-ghost use Rattle.ac_book.specs.Blocks.{opening, present, with_entries};
+ghost use Rattle.std.specs.Prelude.{◌≡◌, ◌<◌, ◌^◌, true, List, IfNone, IfSome, IfOk, map, length, get_or};
+ghost use Rattle.std.specs.List.{All};
+ghost use Rattle.ac_book.specs.declared.entry.Entry.{Entry};
+ghost use Rattle.ac_book.specs.Blocks.{IsComplete, commands_in, new_block, opening, present, with_entries};
+ghost use Rattle.ac_book.specs.Books.{CodeFits};
 ghost use Rattle.ac_book.specs.Histories.{IsLegal, entries_of, is_able, outcome, turn_told};
 ghost use Rattle.ac_book.specs.States.{TaskState, shared};
 
+use crate::code::TaskCode;
 use crate::entry::{Entry, Turn};
+use crate::prepare::{begin, copies, items_added, reserve_all, steps_in};
 use crate::step::would_wait;
 use crate::task::{Task, take_turn};
+use ac_base::NoMemory;
 use ac_queue::AnyQueue;
+use std::alloc::Global;
 use std::marker::Model;
 
 /// The queues and tasks of a block with the history of what was done. Contracts see how it began, and the
@@ -37,6 +44,30 @@ impl Model for Book {
 }
 
 impl Book {
+    /// The block before its first turn, with all the memory that it will take.
+    pub fn prepare(
+        alloc: Global,
+        queues: Vec<AnyQueue>,
+        code: Vec<TaskCode>,
+    ) -> Result<Book, NoMemory>
+        requires fits { All (CodeFits (map shared queues.items)) code.items }
+        requires few_tasks { length code.items < 2 ^ 32 }
+        requires few_steps { All (λ task. length task.steps < 2 ^ 32) code.items }
+        ensures { IfOk result (λ made. made ≡ new_block (map shared queues.items) code.items) }
+    {
+        let mut queues = queues;
+        let opened = copies(alloc, &queues)?;
+        reserve_all(&mut queues, items_added(&code)?)?;
+        let history = Vec::with_capacity(alloc, steps_in(&code)? as usize)?;
+        let tasks = begin(alloc, code)?;
+        Ok(Book {
+            opened,
+            queues,
+            tasks,
+            history,
+        })
+    }
+
     /// What holds of every book, for proofs alone: its history is legal.
     pub fn law(&self)
         ensures { IsLegal (opening self.now) self.now.history }
@@ -48,6 +79,13 @@ impl Book {
         ensures { result ≡ length self.now.code }
     {
         self.tasks.len() as u32
+    }
+
+    /// The steps of all tasks together: the history has room for each.
+    pub fn commands(&self) -> u64
+        ensures { result ≡ commands_in self.now.code }
+    {
+        self.history.capacity() as u64
     }
 
     /// What was done, in order.
@@ -90,6 +128,28 @@ impl Book {
                 Turn::Ran
             }
         }
+    }
+
+    /// Makes turns until no task is able.
+    pub fn finish(&mut self)
+        ensures complete { IsComplete self.new }
+        ensures history { (more : List Entry) × (self.new ≡ with_entries self.old more) }
+    {
+        while let Some(task) = self.first_able() {
+            self.turn(task);
+        }
+    }
+
+    fn first_able(&self) -> Option<u32>
+        ensures able { IfSome result (λ task. (task < length self.now.code) × (is_able (present self.now) task ≡ true)) }
+        ensures none { IfNone result (IsComplete self.now) }
+    {
+        for task in 0..self.tasks() {
+            if self.able(task) {
+                return Some(task);
+            }
+        }
+        None
     }
 
     /// The queues as the history leaves them.

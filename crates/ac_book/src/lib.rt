@@ -8,6 +8,7 @@ mod entry;
 pub mod examples;
 mod law;
 mod one_queue;
+mod prepare;
 mod step;
 mod sum;
 mod task;
@@ -16,3 +17,6 @@ pub use book::Book;
 pub use code::{Steplist, TaskArg, TaskCode, TaskStep};
 pub use entry::{Entry, Reply, Turn};
 pub use law::{every_list_of_turns, in_parts};
+
+#[cfg(test)]
+mod tests;

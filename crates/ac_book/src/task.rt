@@ -1,14 +1,16 @@
 //! A task in memory.
-ghost use Rattle.std.specs.Prelude.{◌≡◌, ◌+◌, ◌<◌, ℕ, IfSome, OnSome, IfErr, map, length};
+ghost use Rattle.std.specs.Prelude.{◌≡◌, ◌+◌, ◌<◌, ℕ, IfSome, OnSome, IfErr, IfOk, ◌^◌, map, length};
 ghost use Rattle.ac_book.specs.Running.{Fits, HaveSpare, IsTarget, added_next};
-ghost use Rattle.ac_book.specs.States.{shared};
+ghost use Rattle.ac_book.specs.States.{begun, shared};
 ghost use Rattle.ac_book.specs.Steps.{advanced, kept, target_of};
 ghost use Rattle.ac_book.specs.Tasks.{TakesTurn, next_of};
 
-use crate::code::{Steplist, TaskStep};
+use crate::code::{Steplist, TaskCode, TaskStep};
 use crate::entry::{Entry, Reply, Turn};
 use crate::step::run;
+use ac_base::NoMemory;
 use ac_queue::AnyQueue;
+use std::alloc::Global;
 use std::marker::Model;
 
 #[derive(Drop)]
@@ -32,6 +34,19 @@ impl Model for Task {
 }
 
 impl Task {
+    pub(crate) fn new(alloc: Global, code: TaskCode) -> Result<Task, NoMemory>
+        requires { length code.steps < 2 ^ 32 }
+        ensures { IfOk result (λ made. made ≡ begun code) }
+    {
+        let mut locals = Vec::new(alloc);
+        locals.resize(code.locals as usize, 0)?;
+        Ok(Task {
+            steps: code.steps,
+            place: 0,
+            locals,
+        })
+    }
+
     pub(crate) fn place(&self) -> u32
         ensures { result ≡ self.now.place }
     {

@@ -1,0 +1,11 @@
+use Rattle.std.proofs.Common.{◌≡◌, List}
+use Rattle.ac_book.specs.declared.entry.Entry.{Entry}
+use Rattle.ac_book.specs.Blocks.{present, with_entries}
+use Rattle.ac_book.specs.Books.{left, one_each}
+use Rattle.ac_book.proofs.book.Book.finish.Given as goal
+
+abbrev pub invariant-loop-task : goal.invariant-loop-task
+invariant-loop-task l = (more : List Entry) × (l.self ≡ with_entries l.initial.self more)
+
+abbrev pub decreases-loop-task : goal.decreases-loop-task
+decreases-loop-task l = left one_each (present l.self).tasks
