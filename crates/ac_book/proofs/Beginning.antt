@@ -1,5 +1,5 @@
 -- A book before its first turn.
-use Rattle.std.proofs.Common.{◌≡◌, ◌+◌, ◌<◌, ◌≤◌, ◌^◌, ℕ, ℤ, suc, pos, List, [], ◌∷◌, ◌++◌, map, length, take, drop, get_or, set, replicate, Result, Ok, Err, OnOk, OnErr, refl, sym, ap, ◌∙◌, subst, arith, append_assoc}
+use Rattle.std.proofs.Common.{◌≡◌, ◌+◌, ◌<◌, ◌^◌, ℕ, suc, pos, List, [], ◌∷◌, ◌++◌, map, length, take, drop, get_or, set, Result, Ok, Err, OnOk, OnErr, refl, sym, ap, ◌∙◌, subst, arith, append_assoc}
 use Rattle.std.specs.List.{All, sum_by}
 use Rattle.std.proofs.lemmas.List.{length-map, length-replicate, map-set, set-get_or, get_or-map}
 use Rattle.std.proofs.lemmas.List.Elements.{All-map}
@@ -12,10 +12,9 @@ use Rattle.ac_book.specs.declared.code.TaskStep.{TaskStep}
 use Rattle.ac_book.specs.declared.code.TaskCode.{TaskCode}
 use Rattle.ac_book.specs.declared.entry.Entry.{Entry}
 use Rattle.ac_book.specs.Blocks.{commands_in, new_block}
-use Rattle.ac_book.specs.Books.{IsBook, block_of, CodeFits, TaskFits, left, one_each, state_now}
-use Rattle.ac_book.specs.Histories.{Explains}
+use Rattle.ac_book.specs.Books.{IsBook, block_of, CodeFits, TaskFits, left, one_each}
 use Rattle.ac_book.specs.Running.{Fits, HaveSpare, added_by}
-use Rattle.ac_book.specs.States.{State, TaskQueue, TaskState, begun, shared, opening_state}
+use Rattle.ac_book.specs.States.{TaskQueue, TaskState, begun, shared}
 use Rattle.ac_book.specs.Tasks.{code_of}
 use Rattle.ac_book.proofs.Turning.{written_back}
 

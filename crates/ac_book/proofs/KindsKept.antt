@@ -1,14 +1,13 @@
 -- A step keeps the kinds of the queues, so that what was in range stays so.
-use Rattle.std.proofs.Common.{◌≡◌, ◌<◌, ℕ, ℤ, Bool, true, false, List, map, length, get_or, set, Option, Some, None, refl, sym, ap, ◌∙◌, subst, if◌then◌else◌}
-use Rattle.std.specs.List.{All}
+use Rattle.std.proofs.Common.{◌≡◌, ◌<◌, ℕ, ℤ, List, map, length, get_or, refl, sym, ap, ◌∙◌, subst}
 use Rattle.std.proofs.lemmas.List.{length-map, map-set, get_or-map, set-get_or}
 use Rattle.ac_base.specs.declared.limit.Limit.TheVariants.{Unbounded}
-use Rattle.ac_model.specs.Queues.{Queue, Discipline, by_arrival, by_priority, empty_queue, dequeue_call, high_only_call}
+use Rattle.ac_model.specs.Queues.{Discipline, by_arrival, empty_queue, dequeue_call, high_only_call}
 use Rattle.ac_book.specs.declared.code.TaskStep.{TaskStep}
 use Rattle.ac_book.specs.declared.code.TaskStep.TheVariants.{Enqueue, Dequeue, High, CurrentUse, PeakUse, Set}
 use Rattle.ac_book.specs.States.{TaskQueue}
 use Rattle.ac_book.specs.Steps.{QueueStep, queue_at, on_queue, step_call, enqueue_step, taking_step, value_of}
-use Rattle.ac_book.specs.Running.{Fits, IsArg, IsTarget}
+use Rattle.ac_book.specs.Running.{Fits}
 
 abbrev pub kind : TaskQueue → Discipline
 kind q = q.discipline

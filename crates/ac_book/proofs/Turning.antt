@@ -11,12 +11,12 @@ use Rattle.ac_book.specs.declared.entry.Reply.{Reply}
 use Rattle.ac_book.specs.declared.entry.Reply.TheVariants as reply
 use Rattle.ac_book.specs.declared.entry.Turn.{Turn}
 use Rattle.ac_book.specs.declared.entry.Turn.TheVariants as turn
-use Rattle.ac_book.specs.Blocks.{Block, commands_in, opening, present, with_entries}
+use Rattle.ac_book.specs.Blocks.{Block, commands_in, present, with_entries}
 use Rattle.ac_book.specs.Books.{IsBook, block_of, TaskFits, left, one_each, state_now, entries_in, told_in}
-use Rattle.ac_book.specs.Histories.{Outcome, over, held_up, done, outcome, outcome_of, entry, entries_of, state_after, turn_told, Explains}
+use Rattle.ac_book.specs.Histories.{over, held_up, done, outcome, outcome_of, entry, entries_of, state_after, turn_told, Explains}
 use Rattle.ac_book.specs.Running.{Fits, HaveSpare, added_by, added_next}
 use Rattle.ac_book.specs.States.{State, TaskQueue, TaskState, opening_state, shared}
-use Rattle.ac_book.specs.Steps.{StepCall, step_call, advanced, kept, target_of}
+use Rattle.ac_book.specs.Steps.{step_call, advanced, kept, target_of}
 use Rattle.ac_book.specs.Tasks.{code_of, next_of, GoesBy, TakesTurn, Stays, Goes}
 use Rattle.ac_book.proofs.KindsKept.{kind, step_keeps, fits_kept}
 use Rattle.ac_book.proofs.Left.{found_within, found_at, left_falls}

@@ -1,4 +1,3 @@
-use Rattle.std.proofs.Common.{rules}
 use Rattle.ac_book.proofs.Beginning.{shared_stays}
 use Rattle.ac_book.proofs.prepare.reserve_at.Goals as goal
 

@@ -1,4 +1,3 @@
-use Rattle.std.proofs.Common.{rules}
 use Rattle.ac_book.proofs.Ending.{nearer}
 use Rattle.ac_book.proofs.book.Book.finish.Goals as goal
 

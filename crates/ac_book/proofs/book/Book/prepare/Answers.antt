@@ -1,4 +1,4 @@
-use Rattle.std.proofs.Common.{rules, ◌≡◌, ◌∙◌, ap, sym}
+use Rattle.std.proofs.Common.{rules}
 use Rattle.std.specs.Vec.{vec_capacity}
 use Rattle.ac_book.proofs.Beginning.{prepared, begun_block}
 use Rattle.ac_book.proofs.book.Book.prepare.Goals as goal
