@@ -58,10 +58,6 @@ pub record Turns (opened : List TaskQueue) (queues now : List AnyQueue) (tasks :
   pub entries : entries_of (outcome (state_now queues tasks) i) ≡ entries_in result
   pub told : turn_told (outcome (state_now queues tasks) i) ≡ told_in result
 
-step_fits : (qs : List TaskQueue) (locals : ℕ) (steps : List TaskStep) (place : ℕ) (next : Option TaskStep) → slice_get steps place ≡ next → All (Fits qs locals) steps → IfSome next (λ step. Fits qs locals step)
-step_fits qs locals steps place None at h = tt
-step_fits qs locals steps place (Some step) at h = subst (Fits qs locals) (found_at steps place step step at) (h place step (found_within steps place step at))
-
 spare_for : (next : Option TaskStep) (tasks : List TaskState) (i : ℕ) (t : TaskState) → slice_get tasks i ≡ Some t → next_of t ≡ next → (n : ℕ) → left added_by tasks ≤ n → added_next next ≤ n
 spare_for None tasks i t at next n le = omega arith
 spare_for (Some step) tasks i t at next n le = let falls = left_falls added_by tasks i t step reply.Done at next in omega (arith, falls, le)
@@ -165,13 +161,7 @@ pub turns : (opened : List TaskQueue) (queues now : List AnyQueue) (tasks : List
 turns opened queues now tasks i t new history slots result holds at spare held_spare taken =
     by_next (next_of t) opened queues now tasks i t new history slots result refl holds at spare held_spare taken
 
--- a task's next step finds all that it wants
-pub next_fits : (opened : List TaskQueue) (queues : List AnyQueue) (tasks : List TaskState) (i : ℕ) (t : TaskState) (history : List Entry) (slots : ℕ) → IsBook opened queues tasks history slots → slice_get tasks i ≡ Some t
-    → IfSome (next_of t) (λ step. Fits (map shared queues) (length t.locals) step)
-next_fits opened queues tasks i t history slots holds at =
-    let own = subst (TaskFits (map shared queues)) (found_at tasks i t t at) (holds.fits i t (found_within tasks i t at)) in
-    step_fits (map shared queues) (length t.locals) t.steps t.place (slice_get t.steps t.place) refl own
-
+-- the queues have the spare that a task's next step wants
 pub next_spare : (opened : List TaskQueue) (queues : List AnyQueue) (tasks : List TaskState) (i : ℕ) (t : TaskState) (history : List Entry) (slots : ℕ) → IsBook opened queues tasks history slots → slice_get tasks i ≡ Some t
     → HaveSpare (added_next (next_of t)) queues
 next_spare opened queues tasks i t history slots holds at = λ k d within. spare_for (next_of t) tasks i t at refl _ (holds.spare k d within)

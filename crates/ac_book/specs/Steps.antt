@@ -70,6 +70,15 @@ on_queue queues i step =
     let c = step q in
     record { waits = c.waits; answer = c.answer; queues = set queues i (record { discipline = q.discipline; queue = c.after }) }
 
+abbrev pub enqueue_on : List TaskQueue → ℕ → ℤ → StepCall
+enqueue_on queues i item = on_queue queues i (λ q. enqueue_step q item)
+
+abbrev pub dequeue_on : List TaskQueue → ℕ → StepCall
+dequeue_on queues i = on_queue queues i (λ q. taking_step (dequeue_call q.queue))
+
+abbrev pub high_on : List TaskQueue → ℕ → ℤ → StepCall
+high_on queues i at_least = on_queue queues i (λ q. taking_step (high_only_call q.queue at_least))
+
 -- nothing changes on the queues
 abbrev pub only_answers : List TaskQueue → Reply → StepCall
 only_answers queues answer = record { waits = false; answer = answer; queues = queues }
@@ -81,9 +90,9 @@ abbrev pub sum_reply : ℤ → Reply
 sum_reply n = if is_integer n then reply.Number n else reply.Raised Overflow
 
 abbrev pub step_call : TaskStep → List TaskQueue → List ℤ → StepCall
-step_call (Enqueue line queue item) queues locals = on_queue queues queue (λ q. enqueue_step q (value_of locals item))
-step_call (Dequeue line queue into) queues locals = on_queue queues queue (λ q. taking_step (dequeue_call q.queue))
-step_call (High line queue at_least into) queues locals = on_queue queues queue (λ q. taking_step (high_only_call q.queue (value_of locals at_least)))
+step_call (Enqueue line queue item) queues locals = enqueue_on queues queue (value_of locals item)
+step_call (Dequeue line queue into) queues locals = dequeue_on queues queue
+step_call (High line queue at_least into) queues locals = high_on queues queue (value_of locals at_least)
 step_call (CurrentUse line queue into) queues locals = only_answers queues (reply.Number (current_use_call (queue_at queues queue).queue))
 step_call (PeakUse line queue into) queues locals = only_answers queues (reply.Number (peak_use_call (queue_at queues queue).queue))
 step_call (Set line into from add) queues locals = only_answers queues (sum_reply (value_of locals from +ℤ add))

@@ -1,10 +1,10 @@
 //! A step of a task, on all queues.
 ghost use Rattle.std.specs.Prelude.{◌≡◌, ◌+◌, ◌<◌, ℕ, IfNone, map, length, get_or};
-ghost use Rattle.ac_model.specs.Queues.{by_priority, is_full, is_without_items, dequeue_call, high_only_call, current_use_call, peak_use_call};
+ghost use Rattle.ac_model.specs.Queues.{by_priority, is_full, is_without_items, current_use_call, peak_use_call};
 ghost use Rattle.ac_queue.specs.Kinds.{discipline_of, state_of};
 ghost use Rattle.ac_book.specs.declared.entry.Reply.TheVariants as reply;
 ghost use Rattle.ac_book.specs.States.{shared};
-ghost use Rattle.ac_book.specs.Steps.{enqueue_step, taking_step, on_queue, queue_at, step_call, value_of};
+ghost use Rattle.ac_book.specs.Steps.{dequeue_on, enqueue_on, high_on, queue_at, step_call, value_of};
 ghost use Rattle.ac_book.specs.Running.{HaveSpare, Fits, IsArg, added_by, answered, queues_after};
 
 use crate::code::{TaskArg, TaskStep};
@@ -26,8 +26,8 @@ fn value(locals: &[i64], arg: TaskArg) -> i64
 fn enqueue_at(queues: &mut [AnyQueue], queue: u32, item: i64) -> Option<Reply>
     requires queue { queue < length queues.old }
     requires spare { HaveSpare 1 queues.old }
-    ensures answer { let c = on_queue (map shared queues.old) queue (λ q. enqueue_step q item) in result ≡ answered c.waits c.answer }
-    ensures left { map shared queues.new ≡ queues_after (map shared queues.old) (on_queue (map shared queues.old) queue (λ q. enqueue_step q item)) }
+    ensures answer { let c = enqueue_on (map shared queues.old) queue item in result ≡ answered c.waits c.answer }
+    ensures left { map shared queues.new ≡ queues_after (map shared queues.old) (enqueue_on (map shared queues.old) queue item) }
     ensures spare { (n : ℕ) → HaveSpare (n + 1) queues.old → HaveSpare n queues.new }
     ensures held_up { IfNone result ((n : ℕ) → HaveSpare n queues.old → HaveSpare n queues.new) }
 {
@@ -36,8 +36,8 @@ fn enqueue_at(queues: &mut [AnyQueue], queue: u32, item: i64) -> Option<Reply>
 
 fn dequeue_at(queues: &mut [AnyQueue], queue: u32) -> Option<Reply>
     requires { queue < length queues.old }
-    ensures answer { let c = on_queue (map shared queues.old) queue (λ q. taking_step (dequeue_call q.queue)) in result ≡ answered c.waits c.answer }
-    ensures left { map shared queues.new ≡ queues_after (map shared queues.old) (on_queue (map shared queues.old) queue (λ q. taking_step (dequeue_call q.queue))) }
+    ensures answer { let c = dequeue_on (map shared queues.old) queue in result ≡ answered c.waits c.answer }
+    ensures left { map shared queues.new ≡ queues_after (map shared queues.old) (dequeue_on (map shared queues.old) queue) }
     ensures spare { (n : ℕ) → HaveSpare n queues.old → HaveSpare n queues.new }
 {
     dequeue(&mut queues[queue as usize])
@@ -47,8 +47,8 @@ fn dequeue_at(queues: &mut [AnyQueue], queue: u32) -> Option<Reply>
 fn high_at(queues: &mut [AnyQueue], queue: u32, at_least: i64) -> Option<Reply>
     requires queue { queue < length queues.old }
     requires ranked { (queue_at (map shared queues.old) queue).discipline ≡ by_priority }
-    ensures answer { let c = on_queue (map shared queues.old) queue (λ q. taking_step (high_only_call q.queue at_least)) in result ≡ answered c.waits c.answer }
-    ensures left { map shared queues.new ≡ queues_after (map shared queues.old) (on_queue (map shared queues.old) queue (λ q. taking_step (high_only_call q.queue at_least))) }
+    ensures answer { let c = high_on (map shared queues.old) queue at_least in result ≡ answered c.waits c.answer }
+    ensures left { map shared queues.new ≡ queues_after (map shared queues.old) (high_on (map shared queues.old) queue at_least) }
     ensures spare { (n : ℕ) → HaveSpare n queues.old → HaveSpare n queues.new }
 {
     high_only(&mut queues[queue as usize], at_least)
