@@ -32,6 +32,7 @@ pub fn in_two_ways()
 pub fn overflows()
     ensures legal { IsLegal too_great
         (entry 0 0 (reply.Number (pos 9223372036854775807)) ∷ entry 0 1 (reply.Raised Overflow) ∷ entry 0 2 reply.Done ∷ []) }
-    ensures left { let s = replay too_great (entry 0 0 (reply.Number (pos 9223372036854775807)) ∷ entry 0 1 (reply.Raised Overflow) ∷ entry 0 2 reply.Done ∷ []) in
+    ensures left { let s = replay too_great
+        (entry 0 0 (reply.Number (pos 9223372036854775807)) ∷ entry 0 1 (reply.Raised Overflow) ∷ entry 0 2 reply.Done ∷ []) in
         (map (λ (q : TaskQueue). q.queue.items) s.queues ≡ (pos 9223372036854775807 ∷ []) ∷ []) × (is_able s 0 ≡ false) }
 {}

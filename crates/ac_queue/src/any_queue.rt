@@ -106,7 +106,8 @@ impl AnyQueue {
 
     /// Whether kinds, limits, items and peaks are the same.
     pub fn same(&self, other: &AnyQueue) -> bool
-        ensures { Decides result ((discipline_of self.now ≡ discipline_of other.now) × ((state_of self.now).queue ≡ (state_of other.now).queue)) }
+        ensures { Decides result ((discipline_of self.now ≡ discipline_of other.now)
+            × ((state_of self.now).queue ≡ (state_of other.now).queue)) }
     {
         match (self, other) {
             (AnyQueue::Plain(queue), AnyQueue::Plain(other)) => queue.same(other),

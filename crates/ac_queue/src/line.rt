@@ -188,7 +188,8 @@ impl Line {
     pub(crate) fn take_first(&mut self) -> Option<i64>
         ensures answer { result ≡ front self.old.queue.items }
         ensures empty { length self.old.queue.items ≡ 0 → self.new ≡ self.old }
-        ensures left { let q = self.old.queue in 0 < length q.items → self.new ≡ state (queue_of q.limit (drop 1 q.items) q.peak) (self.old.spare + 1) }
+        ensures left { let q = self.old.queue in 0 < length q.items →
+            self.new ≡ state (queue_of q.limit (drop 1 q.items) q.peak) (self.old.spare + 1) }
     {
         let first = self.items.pop_front()?;
         self.spare += 1;
