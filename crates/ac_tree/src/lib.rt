@@ -1,0 +1,7 @@
+//! Multiway trees (A.18.10): elements in nodes that have any number of children, each under a name that it keeps, with tampering checks.
+#![tactic(auto)]
+
+mod links;
+
+#[doc(hidden)]
+pub use links::{Links, TreeNode};

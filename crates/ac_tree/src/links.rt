@@ -1,0 +1,227 @@
+//! Nodes in a pool, each with links to its parent, to its first and last child, and to the siblings on both sides.
+//! A link is a slot, and leads to the live name of the slot: the serial stands in the pool alone. The root has no node.
+ghost use Rattle.std.specs.Prelude.{◌≡◌};
+ghost use Rattle.ac_pool.specs.Contents.{value_of, IsLive};
+ghost use Rattle.ac_chain.specs.Link.{link_of, name_in};
+ghost use Rattle.ac_tree.specs.TreeFields.{parent_link, first_link, last_link, prev_link, next_link, parent_of, first_of, last_of, prev_of, next_of, first_put, last_put, prev_put, next_put, written_at, with_next, with_prev, tied, closed};
+
+use ac_base::Name;
+use ac_pool::Pool;
+
+/// A link to no node: no pool has so many slots.
+pub(crate) const NO_SLOT: u32 = u32::MAX;
+
+/// The link to a live name.
+pub(crate) fn link_to(to: Option<Name>) -> u32
+    ensures { result ≡ link_of to }
+{
+    match to {
+        Some(name) => name.slot,
+        None => NO_SLOT,
+    }
+}
+
+#[derive(Drop)]
+pub struct TreeNode<T> {
+    pub value: T,
+    /// Of a child of the root it leads to no node.
+    pub parent: u32,
+    pub first: u32,
+    pub last: u32,
+    pub prev: u32,
+    pub next: u32,
+}
+
+/// The nodes, and the first and the last child of the root.
+#[derive(Drop)]
+pub struct Links<T> {
+    pub nodes: Pool<TreeNode<T>>,
+    pub first: Option<Name>,
+    pub last: Option<Name>,
+}
+
+impl<T> Links<T> {
+    fn parent_link(&self, name: Name) -> u32
+        ensures { result ≡ parent_link (value_of self.now.nodes name) }
+    {
+        match self.nodes.get(name) {
+            Some(node) => node.parent,
+            None => NO_SLOT,
+        }
+    }
+
+    fn first_link(&self, name: Name) -> u32
+        ensures { result ≡ first_link (value_of self.now.nodes name) }
+    {
+        match self.nodes.get(name) {
+            Some(node) => node.first,
+            None => NO_SLOT,
+        }
+    }
+
+    fn last_link(&self, name: Name) -> u32
+        ensures { result ≡ last_link (value_of self.now.nodes name) }
+    {
+        match self.nodes.get(name) {
+            Some(node) => node.last,
+            None => NO_SLOT,
+        }
+    }
+
+    fn prev_link(&self, name: Name) -> u32
+        ensures { result ≡ prev_link (value_of self.now.nodes name) }
+    {
+        match self.nodes.get(name) {
+            Some(node) => node.prev,
+            None => NO_SLOT,
+        }
+    }
+
+    fn next_link(&self, name: Name) -> u32
+        ensures { result ≡ next_link (value_of self.now.nodes name) }
+    {
+        match self.nodes.get(name) {
+            Some(node) => node.next,
+            None => NO_SLOT,
+        }
+    }
+
+    /// The name to which a link leads.
+    fn name_in(&self, slot: u32) -> Option<Name>
+        ensures { result ≡ name_in self.now.nodes slot }
+    {
+        self.nodes.name_in(slot)
+    }
+
+    /// The parent of a node, where none is the root.
+    pub fn parent(&self, name: Name) -> Option<Name>
+        ensures { result ≡ parent_of self.now name }
+    {
+        self.name_in(self.parent_link(name))
+    }
+
+    pub fn prev(&self, name: Name) -> Option<Name>
+        ensures { result ≡ prev_of self.now name }
+    {
+        self.name_in(self.prev_link(name))
+    }
+
+    pub fn next(&self, name: Name) -> Option<Name>
+        ensures { result ≡ next_of self.now name }
+    {
+        self.name_in(self.next_link(name))
+    }
+
+    /// The first child of a node, or of the root at none.
+    pub fn first_child(&self, parent: Option<Name>) -> Option<Name>
+        ensures { result ≡ first_of self.now parent }
+    {
+        match parent {
+            Some(name) => self.name_in(self.first_link(name)),
+            None => self.first,
+        }
+    }
+
+    pub fn last_child(&self, parent: Option<Name>) -> Option<Name>
+        ensures { result ≡ last_of self.now parent }
+    {
+        match parent {
+            Some(name) => self.name_in(self.last_link(name)),
+            None => self.last,
+        }
+    }
+
+    /// Links a node, or a parent where there is none before, with the one that follows.
+    #[tactic(auto, unfolding(crate::specs::TreeFields::with_next))]
+    fn set_next(&mut self, parent: Option<Name>, prev: Option<Name>, to: Option<Name>)
+        ensures { self.new ≡ with_next self.old parent prev to }
+    {
+        match prev {
+            Some(name) => set_node_next(&mut self.nodes, name, to),
+            None => self.set_first(parent, to),
+        }
+    }
+
+    #[tactic(auto, unfolding(crate::specs::TreeFields::with_next))]
+    fn set_first(&mut self, parent: Option<Name>, to: Option<Name>)
+        ensures { self.new ≡ with_next self.old parent None to }
+    {
+        match parent {
+            Some(name) => set_node_first(&mut self.nodes, name, to),
+            None => self.first = to,
+        }
+    }
+
+    /// Links a node, or a parent where there is none behind, with the one before it.
+    #[tactic(auto, unfolding(crate::specs::TreeFields::with_prev))]
+    fn set_prev(&mut self, parent: Option<Name>, next: Option<Name>, to: Option<Name>)
+        ensures { self.new ≡ with_prev self.old parent next to }
+    {
+        match next {
+            Some(name) => set_node_prev(&mut self.nodes, name, to),
+            None => self.set_last(parent, to),
+        }
+    }
+
+    #[tactic(auto, unfolding(crate::specs::TreeFields::with_prev))]
+    fn set_last(&mut self, parent: Option<Name>, to: Option<Name>)
+        ensures { self.new ≡ with_prev self.old parent None to }
+    {
+        match parent {
+            Some(name) => set_node_last(&mut self.nodes, name, to),
+            None => self.last = to,
+        }
+    }
+
+    /// Links the nodes on both sides of one, or its parent, with it.
+    pub fn tie(&mut self, parent: Option<Name>, prev: Option<Name>, next: Option<Name>, name: Name)
+        ensures { self.new ≡ tied self.old parent prev next name }
+    {
+        self.set_next(parent, prev, Some(name));
+        self.set_prev(parent, next, Some(name));
+    }
+
+    /// Links the nodes on both sides of one that goes with each other.
+    pub fn close(&mut self, parent: Option<Name>, prev: Option<Name>, next: Option<Name>)
+        ensures { self.new ≡ closed self.old parent prev next }
+    {
+        self.set_next(parent, prev, next);
+        self.set_prev(parent, next, prev);
+    }
+}
+
+#[tactic(auto, unfolding(crate::specs::TreeFields::written_at))]
+fn set_node_next<T>(nodes: &mut Pool<TreeNode<T>>, name: Name, to: Option<Name>)
+    ensures { nodes.new ≡ written_at nodes.old name (next_put to) }
+{
+    if let Some(node) = nodes.get_mut(name) {
+        node.next = link_to(to);
+    }
+}
+
+#[tactic(auto, unfolding(crate::specs::TreeFields::written_at))]
+fn set_node_prev<T>(nodes: &mut Pool<TreeNode<T>>, name: Name, to: Option<Name>)
+    ensures { nodes.new ≡ written_at nodes.old name (prev_put to) }
+{
+    if let Some(node) = nodes.get_mut(name) {
+        node.prev = link_to(to);
+    }
+}
+
+#[tactic(auto, unfolding(crate::specs::TreeFields::written_at))]
+fn set_node_first<T>(nodes: &mut Pool<TreeNode<T>>, name: Name, to: Option<Name>)
+    ensures { nodes.new ≡ written_at nodes.old name (first_put to) }
+{
+    if let Some(node) = nodes.get_mut(name) {
+        node.first = link_to(to);
+    }
+}
+
+#[tactic(auto, unfolding(crate::specs::TreeFields::written_at))]
+fn set_node_last<T>(nodes: &mut Pool<TreeNode<T>>, name: Name, to: Option<Name>)
+    ensures { nodes.new ≡ written_at nodes.old name (last_put to) }
+{
+    if let Some(node) = nodes.get_mut(name) {
+        node.last = link_to(to);
+    }
+}
