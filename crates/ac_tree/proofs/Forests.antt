@@ -19,21 +19,21 @@ use Rattle.ac_tree.proofs.Writes.{Keeps, keeps_then, keeps_next, keeps_prev, kee
 use Rattle.ac_tree.proofs.Standing.{some_name, Stands-live, Stands-same, Framed-same, Open, opened, shut, closed-open, tied-open}
 
 module _ {X : Type 0} where
-  first_has : (t : Forest X) (a : Name) → first_in t ≡ Some a → Has a t
+  pub first_has : (t : Forest X) (a : Name) → first_in t ≡ Some a → Has a t
   first_has bare a e = cc
   first_has (grove x below rest) a e = inl (sym (some_name x.name a e))
 
-  last_has : (t : Forest X) (a : Name) → last_in t ≡ Some a → Has a t
+  pub last_has : (t : Forest X) (a : Name) → last_in t ≡ Some a → Has a t
   last_has bare a e = cc
   last_has (grove x below bare) a e = inl (sym (some_name x.name a e))
   last_has (grove x below (grove y c r)) a e = inr (inr (last_has (grove y c r) a e))
 
-  parent_has : (steps : List (Step X)) (a : Name) → parent_in steps ≡ Some a → IsAround a steps
+  pub parent_has : (steps : List (Step X)) (a : Name) → parent_in steps ≡ Some a → IsAround a steps
   parent_has [] a e = cc
   parent_has (under x rest ∷ steps) a e = inl (sym (some_name x.name a e))
   parent_has (after x below ∷ steps) a e = inr (inr (parent_has steps a e))
 
-  prev_has : (steps : List (Step X)) (a : Name) → prev_in steps ≡ Some a → IsAround a steps
+  pub prev_has : (steps : List (Step X)) (a : Name) → prev_in steps ≡ Some a → IsAround a steps
   prev_has [] a e = cc
   prev_has (under x rest ∷ steps) a e = cc
   prev_has (after x below ∷ steps) a e = inl (sym (some_name x.name a e))

@@ -1,4 +1,7 @@
 pub mod Forests
+pub mod Judging
+pub mod Looking
+pub mod Objects
 pub mod Outlines
 pub mod Places
 pub mod Spots

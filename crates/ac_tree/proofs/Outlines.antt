@@ -128,6 +128,10 @@ module _ {X : Type 0} where
     pub position_parent : parent_of (plains rows) name ≡ find (λ (q : Spot). q.depth + 1 == depth) (reverse p.front)
     position_parent = parent_is (spots (plains rows)) (at_depth depth name) p.front (seen (outline (depth + 1) below)) p.tail p.spotted
 
+  pub root_parent : (t : Forest X) → parent_of (plains (outline 2 t)) 0 ≡ None
+  unfolding root_position
+  root_parent t = position_parent (outline 2 t) 0 1 t (root_position t)
+
   -- the spot above a place
   abbrev pub parent_spot : List (Step X) → Spot
   parent_spot [] = root

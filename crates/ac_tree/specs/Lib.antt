@@ -1,2 +1,4 @@
 pub mod Forests
 pub mod TreeFields
+pub mod TreeRows
+pub mod TreeCursors

@@ -2,7 +2,7 @@
 use Rattle.std.specs.Prelude.{◌≡◌, ℕ, zero, suc, List, [], ◌∷◌, Option, Some, None}
 use Rattle.ac_base.specs.declared.name.Name.{Name}
 use Rattle.ac_base.specs.Rows.{row}
-use Rattle.ac_pool.specs.Contents.{Contents, value_of, with_value, IsLive, live_count, IsSound}
+use Rattle.ac_pool.specs.Contents.{Contents, value_of, with_value, no_values, IsLive, live_count, IsSound}
 use Rattle.ac_chain.specs.Link.{link_of, name_in}
 use Rattle.ac_tree.specs.declared.links.TreeNode.{TreeNode}
 use Rattle.ac_tree.specs.declared.links.Links.{Links}
@@ -139,3 +139,10 @@ module _ {X : Type 0} where
   -- no node between the two
   abbrev pub closed : Links X → Option Name → Option Name → Option Name → Links X
   closed l parent prev next = with_prev (with_next l parent prev next) parent next prev
+
+  -- no nodes, and so many slots
+  pub record IsEmptied (l : Links X) (spare : ℕ) : Type 0 where
+    pub nodes : l.nodes ≡ no_values 1 spare
+    pub first : l.first ≡ None
+    pub last : l.last ≡ None
+    pub sound : IsSound l.nodes

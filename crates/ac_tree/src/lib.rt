@@ -2,6 +2,8 @@
 #![tactic(auto)]
 
 mod links;
+mod tree;
 
 #[doc(hidden)]
 pub use links::{Links, TreeNode};
+pub use tree::Tree;

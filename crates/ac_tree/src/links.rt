@@ -1,12 +1,16 @@
 //! Nodes in a pool, each with links to its parent, to its first and last child, and to the siblings on both sides.
 //! A link is a slot, and leads to the live name of the slot: the serial stands in the pool alone. The root has no node.
-ghost use Rattle.std.specs.Prelude.{◌≡◌};
+ghost use Rattle.std.specs.Prelude.{◌≡◌, Some, IfOk, IsOk};
+ghost use Rattle.std.specs.Option.{option_map};
 ghost use Rattle.ac_pool.specs.Contents.{value_of, IsLive};
+ghost use Rattle.ac_base.specs.Limits.{IsLimit};
+ghost use Rattle.ac_model.specs.Containers.{first_spare};
 ghost use Rattle.ac_chain.specs.Link.{link_of, name_in};
-ghost use Rattle.ac_tree.specs.TreeFields.{parent_link, first_link, last_link, prev_link, next_link, parent_of, first_of, last_of, prev_of, next_of, first_put, last_put, prev_put, next_put, written_at, with_next, with_prev, tied, closed};
+ghost use Rattle.ac_tree.specs.TreeFields.{parent_link, first_link, last_link, prev_link, next_link, parent_of, first_of, last_of, prev_of, next_of, first_put, last_put, prev_put, next_put, written_at, with_next, with_prev, tied, closed, IsEmptied};
 
-use ac_base::Name;
+use ac_base::{Limit, Name, NoMemory};
 use ac_pool::Pool;
+use std::alloc::Global;
 
 /// A link to no node: no pool has so many slots.
 pub(crate) const NO_SLOT: u32 = u32::MAX;
@@ -41,6 +45,8 @@ pub struct Links<T> {
 }
 
 impl<T> Links<T> {
+    ghost use Rattle.ac_tree.specs.declared.links.TreeNode.{TreeNode};
+
     fn parent_link(&self, name: Name) -> u32
         ensures { result ≡ parent_link (value_of self.now.nodes name) }
     {
@@ -131,6 +137,14 @@ impl<T> Links<T> {
         }
     }
 
+    /// The value of a live name's node.
+    pub fn at(&self, name: Name) -> &T
+        requires { IsLive self.now.nodes name }
+        ensures { option_map (λ (n : TreeNode T). n.value) (value_of self.now.nodes name) ≡ Some result.now }
+    {
+        &self.nodes.get(name).unwrap().value
+    }
+
     /// Links a node, or a parent where there is none before, with the one that follows.
     #[tactic(auto, unfolding(crate::specs::TreeFields::with_next))]
     fn set_next(&mut self, parent: Option<Name>, prev: Option<Name>, to: Option<Name>)
@@ -187,6 +201,25 @@ impl<T> Links<T> {
     {
         self.set_next(parent, prev, next);
         self.set_prev(parent, next, prev);
+    }
+}
+
+impl<T: Drop> Links<T> {
+    /// No nodes, with the slots that a limit asks for.
+    pub fn empty(alloc: Global, limit: Limit) -> Result<Links<T>, NoMemory>
+        requires { IsLimit limit }
+        ensures empty { IfOk result (λ made. IsEmptied made (first_spare limit)) }
+        ensures unbounded { limit ≡ Limit.Unbounded → IsOk result }
+    {
+        let nodes = match limit {
+            Limit::Unbounded => Pool::new(alloc),
+            Limit::Bounded(most) => Pool::with_slots(alloc, most)?,
+        };
+        Ok(Links {
+            nodes,
+            first: None,
+            last: None,
+        })
     }
 }
 

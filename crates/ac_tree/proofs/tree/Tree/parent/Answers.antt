@@ -1,0 +1,15 @@
+use Rattle.std.proofs.Common.{refl, sym, ap}
+use Rattle.ac_model.specs.Containers.{Container}
+use Rattle.ac_model.proofs.Reasons.{passed}
+use Rattle.ac_tree.proofs.Looking.{parent_of_none, parent_looks}
+use Rattle.ac_tree.proofs.tree.Tree.parent.Goals as goal
+
+pub returns-in-None : goal.returns-in-None
+returns-in-None g c =
+    let i = c.self.inside in let o = c.args.self.now.object in let rows = ap (λ (x : Container _). x.object.rows) (sym c.self.view_is) in
+    parent_of_none i.links c.self.invariant.forest o rows c.args.c _ (sym (passed _ _ c.in_ok-allowed.ensures c.may_node.ensures)) c.in-None.ensures refl
+
+pub returns-in-Some : goal.returns-in-Some
+returns-in-Some g c =
+    let i = c.self.inside in let o = c.args.self.now.object in let rows = ap (λ (x : Container _). x.object.rows) (sym c.self.view_is) in
+    parent_looks i.links c.self.invariant.forest o rows c.args.c c.in-Some.name c.parent.result c.at_node.result (sym (passed _ _ c.in_ok-allowed.ensures c.may_node.ensures)) c.in-Some.ensures c.parent.ensures c.at_node.ensures
