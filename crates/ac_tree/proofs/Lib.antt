@@ -1,9 +1,11 @@
 pub mod Forests
+pub mod Inserting
 pub mod Judging
 pub mod Looking
 pub mod Objects
 pub mod Outlines
 pub mod Places
+pub mod Putting
 pub mod Spots
 pub mod Standing
 pub mod Writes

@@ -145,7 +145,7 @@ module _ {X : Type 0} where
   last_some (under x rest ∷ steps) a = refl
   last_some (after x below ∷ steps) a = last_some steps a
 
-  last_none : (steps : List (Step X)) → last_at steps None ≡ prev_in steps
+  pub last_none : (steps : List (Step X)) → last_at steps None ≡ prev_in steps
   last_none [] = refl
   last_none (under x rest ∷ steps) = refl
   last_none (after x below ∷ steps) = last_some steps x.name

@@ -2,3 +2,4 @@ pub mod Forests
 pub mod TreeFields
 pub mod TreeRows
 pub mod TreeCursors
+pub mod Inserting

@@ -100,6 +100,11 @@ module _ {X : Type 0} where
   last_of l None = l.last
   last_of l (Some a) = name_in l.nodes (last_link (value_of l.nodes a))
 
+  -- the node after which one before a child, or behind the last, is linked
+  abbrev pub prev_before : Links X → Option Name → Option Name → Option Name
+  prev_before l parent None = last_of l parent
+  prev_before l parent (Some b) = prev_of l b
+
   -- the node with one of its links changed
   abbrev pub first_put : Option Name → TreeNode X → TreeNode X
   first_put to n = node_with n.value n.parent (link_of to) n.last n.prev n.next

@@ -1,12 +1,13 @@
 //! Nodes in a pool, each with links to its parent, to its first and last child, and to the siblings on both sides.
 //! A link is a slot, and leads to the live name of the slot: the serial stands in the pool alone. The root has no node.
-ghost use Rattle.std.specs.Prelude.{◌≡◌, Some, IfOk, IsOk};
+ghost use Rattle.std.specs.Prelude.{◌≡◌, ◌+◌, ◌-◌, ◌^◌, ◌<◌, ◌≤◌, Some, IfOk, IsOk, OnOk, OnErr};
 ghost use Rattle.std.specs.Option.{option_map};
-ghost use Rattle.ac_pool.specs.Contents.{value_of, IsLive};
+ghost use Rattle.ac_pool.specs.Contents.{value_of, IsLive, live_count};
 ghost use Rattle.ac_base.specs.Limits.{IsLimit};
 ghost use Rattle.ac_model.specs.Containers.{first_spare};
 ghost use Rattle.ac_chain.specs.Link.{link_of, name_in};
-ghost use Rattle.ac_tree.specs.TreeFields.{parent_link, first_link, last_link, prev_link, next_link, parent_of, first_of, last_of, prev_of, next_of, first_put, last_put, prev_put, next_put, written_at, with_next, with_prev, tied, closed, IsEmptied};
+ghost use Rattle.ac_tree.specs.Inserting.{Inserts, Reserves};
+ghost use Rattle.ac_tree.specs.TreeFields.{parent_link, first_link, last_link, prev_link, next_link, parent_of, first_of, last_of, prev_of, next_of, prev_before, first_put, last_put, prev_put, next_put, written_at, with_next, with_prev, tied, closed, IsEmptied};
 
 use ac_base::{Limit, Name, NoMemory};
 use ac_pool::Pool;
@@ -193,6 +194,45 @@ impl<T> Links<T> {
     {
         self.set_next(parent, prev, Some(name));
         self.set_prev(parent, next, Some(name));
+    }
+
+    /// The node after which one before a child of the parent, or behind the last, is linked.
+    fn prev_before(&self, parent: Option<Name>, before: Option<Name>) -> Option<Name>
+        ensures { result ≡ prev_before self.now parent before }
+    {
+        match before {
+            Some(name) => self.prev(name),
+            None => self.last_child(parent),
+        }
+    }
+
+    /// Puts a value as a new child of the parent before one of its children, or behind the last.
+    pub fn insert(&mut self, parent: Option<Name>, before: Option<Name>, value: T) -> Name
+        requires spare { 0 < self.old.nodes.spare }
+        requires unspent { self.old.nodes.next_serial < 2 ^ 64 - 1 }
+        ensures { Inserts self.old parent before value self.new result }
+    {
+        let prev = self.prev_before(parent, before);
+        let name = self.nodes.put_reserved(TreeNode {
+            value,
+            parent: link_to(parent),
+            first: NO_SLOT,
+            last: NO_SLOT,
+            prev: link_to(prev),
+            next: link_to(before),
+        });
+        self.tie(parent, prev, before, name);
+        name
+    }
+
+    /// Makes at least `n` slots spare. Where it must grow, the slots become the least `8 * 2^k` that has room for `n` nodes more.
+    pub fn reserve(&mut self, n: u64) -> Result<(), NoMemory>
+        requires { live_count self.old.nodes + n ≤ 2 ^ 30 }
+        ensures ok { OnOk result (Reserves self.old n self.new) }
+        ensures err { OnErr result (self.new ≡ self.old) }
+        ensures had_room { n ≤ self.old.nodes.spare → IsOk result }
+    {
+        self.nodes.reserve(n)
     }
 
     /// Links the nodes on both sides of one that goes with each other.
