@@ -91,13 +91,13 @@ pub root_needed : {V : Type 0} (o : Object Name V) (c : Cursor) → earlier (nee
 root_needed o NoElement = refl
 root_needed o (At object a) = root_mark (plain o) object a.serial (is_among (root_name ∷ names o.rows) a) (object == o.number) refl
 
-serial_of_node : (a : Name) → serial_in (node_of a) ≡ a.serial
+pub serial_of_node : (a : Name) → serial_in (node_of a) ≡ a.serial
 serial_of_node a = elim (cases_Bool (a.serial == 0)) [
   | inl e ↦ ap serial_in (cond-true _ _ _ e) ∙ sym (eqb-true a.serial 0 e)
   | inr n ↦ ap serial_in (cond-false _ _ _ n)
 ]
 
-node_some : (a b : Name) → node_of a ≡ Some b → ((a.serial == 0) ≡ false) × (a ≡ b)
+pub node_some : (a b : Name) → node_of a ≡ Some b → ((a.serial == 0) ≡ false) × (a ≡ b)
 node_some a b e = elim (cases_Bool (a.serial == 0)) [
   | inl t ↦ absurd (let none : None ≡ Some b = sym (cond-true _ _ _ t) ∙ e in cc)
   | inr n ↦ let some : Some a ≡ Some b = sym (cond-false _ _ _ n) ∙ e in (n, cc)

@@ -1,4 +1,6 @@
+pub mod Children
 pub mod Forests
+pub mod Holes
 pub mod Inserting
 pub mod Judging
 pub mod Looking
@@ -8,4 +10,5 @@ pub mod Places
 pub mod Putting
 pub mod Spots
 pub mod Standing
+pub mod Steps
 pub mod Writes

@@ -40,10 +40,15 @@ module _ {X : Type 0} where
         not_root = λ e. let low = (s.sound.issued x.name live).0 in omega (arith, e, low);
       }
 
-  all_alone : (l : Links X) (steps : List (Step X)) (t : Forest X) → StandsFor l (plugged steps t) → AllAlone steps
+  pub all_alone : (l : Links X) (steps : List (Step X)) (t : Forest X) → StandsFor l (plugged steps t) → AllAlone steps
   all_alone l [] t s = tt
   all_alone l (under x rest ∷ steps) t s = (alone_at l steps x t rest s, all_alone l steps (grove x t rest) s)
   all_alone l (after x below ∷ steps) t s = all_alone l steps (grove x below t) s
+
+  pub parent_serial : (steps : List (Step X)) → (parent_spot steps).name ≡ serial_in (parent_in steps)
+  parent_serial [] = refl
+  parent_serial (under x rest ∷ steps) = refl
+  parent_serial (after x below ∷ steps) = parent_serial steps
 
   -- where a live name stands
   pub record At_place (l : Links X) (a : Name) : Type 0 where
@@ -203,11 +208,6 @@ module _ {X : Type 0} (l : Links X) (s : IsForest l) (o : Object Name (Node X)) 
 
   pub live_there : (c : Cursor) (a : Name) → Some a ≡ node_in c → needs_node (plain o) (tree_mark o c) ≡ None → IsLive l.nodes a
   live_there c a is h = (at_node l s o rows_is c h).live a (sym is)
-
-  parent_serial : (steps : List (Step X)) → (parent_spot steps).name ≡ serial_in (parent_in steps)
-  parent_serial [] = refl
-  parent_serial (under x rest ∷ steps) = refl
-  parent_serial (after x below ∷ steps) = parent_serial steps
 
   pub parent_looks : (c : Cursor) (a : Name) (p : Option Name) (r : Cursor) → may_node (plain o) (tree_mark o c) ≡ None → Some a ≡ node_in c → p ≡ fields.parent_of l a → r ≡ cursor_of_node o.number p
       → Looking (NodeMarks o) (trees.parent_call (plain o) (tree_mark o c)) (Ok r)

@@ -132,6 +132,16 @@ module _ {X : Type 0} where
   unfolding root_position
   root_parent t = position_parent (outline 2 t) 0 1 t (root_position t)
 
+  pub root_start : (t : Forest X) → run_start (plains (outline 2 t)) 0 ≡ 0
+  unfolding root_position
+  root_start t = position_start (outline 2 t) 0 1 t (root_position t)
+
+  pub node_start : (steps : List (Step X)) (x : Row Name X) (below rest : Forest X) → IsAlone steps x.name.serial → run_start (plains (outline 2 (plugged steps (grove x below rest)))) x.name.serial ≡ suc (length (before_in steps))
+  unfolding node_position
+  node_start steps x below rest alone =
+      position_start (outline 2 (plugged steps (grove x below rest))) x.name.serial (depth_in steps) below (node_position steps x below rest alone)
+      ∙ ap suc (length-map (plains (before_in steps)) spot ∙ length-map (before_in steps) plain_row)
+
   -- the spot above a place
   abbrev pub parent_spot : List (Step X) → Spot
   parent_spot [] = root

@@ -3,3 +3,4 @@ pub mod TreeFields
 pub mod TreeRows
 pub mod TreeCursors
 pub mod Inserting
+pub mod Children
