@@ -3,6 +3,7 @@ pub mod Forests
 pub mod Holes
 pub mod Inserting
 pub mod Judging
+pub mod Leaves
 pub mod Looking
 pub mod Objects
 pub mod Outlines

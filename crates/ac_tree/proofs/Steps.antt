@@ -3,7 +3,7 @@ use Rattle.std.proofs.Common.{◌≡◌, ◌≤◌, ◌<◌, ◌+◌, ℕ, ℤ, 
 use Rattle.std.specs.Prelude.{◌==◌, nat_lt, if◌then◌else◌, IfSome}
 use Rattle.std.proofs.lemmas.Bool.{cond-false, cases_Bool, le-ltb}
 use Rattle.ac_base.specs.declared.reason.Reason.{Reason}
-use Rattle.ac_base.specs.declared.reason.Reason.TheVariants.{CursorTampering, ElementTampering, NoElement, ForeignCursor, DeadCursor, NotChild, NotLeaf, LengthRange, CapacityFull, NamesSpent}
+use Rattle.ac_base.specs.declared.reason.Reason.TheVariants.{CursorTampering, ElementTampering, NoElement, ForeignCursor, DeadCursor, RootNode, NotChild, NotLeaf, LengthRange, CapacityFull, NamesSpent}
 use Rattle.ac_base.specs.declared.guard.Class.TheVariants as class
 use Rattle.ac_base.specs.Limits.{is_past, numbers_end}
 use Rattle.ac_base.specs.declared.limit.TheConstants.{GREATEST_LENGTH}
@@ -12,7 +12,7 @@ use Rattle.ac_base.specs.Tampering.{forbids}
 use Rattle.ac_model.specs.Objects.{Object, length_of}
 use Rattle.ac_model.specs.Letters.{Mark, no_mark, mark_at, stale_mark, judged_in, reason_if, in_range, room, count_of, tampers_cursors}
 use Rattle.ac_model.specs.Sequences.{room_for_copies}
-use Rattle.ac_model.specs.Trees.{is_node, needs_node, may_node}
+use Rattle.ac_model.specs.Trees.{is_node, needs_node, may_node, needs_element, is_root}
 
 abbrev pub Early : Option Reason → Type 0
 Early a = IfSome a (λ r. step_of r ≤ 5)
@@ -106,3 +106,20 @@ or_else_some (Some r) late e = refl
 pub or_else_none : (a late : Option Reason) → is_some a ≡ false → late ≡ or_else a late
 or_else_none None late e = refl
 or_else_none (Some r) late e = absurd (true≢false e)
+
+pub element_early : {V : Type 0} (o : Object ℕ V) (m : Mark) → Early (needs_element o m)
+element_early o m = both_by (λ r. step_of r ≤ 5) (needs_node o m) (reason_if (is_root m) RootNode) (needs_early o m) (reason_by (λ r. step_of r ≤ 5) (is_root m) RootNode (omega arith))
+
+pub late_leaf : (t : Bool) → Late (first_reason (reason_if t NotLeaf ∷ []))
+late_leaf t = both_by (λ r. 6 ≤ step_of r) (reason_if t NotLeaf) None (reason_by (λ r. 6 ≤ step_of r) t NotLeaf (omega arith)) tt
+
+pub two_first : (a b late : Option Reason) → Early a → Early b → Late late → earlier a (earlier b late) ≡ or_else (first_reason (a ∷ b ∷ [])) late
+two_first a b late ea eb l = ap (earlier a) (absorbed b None late eb l) ∙ absorbed a (earlier b None) late ea l
+
+pub none_if : (a : Option Reason) → is_some a ≡ false → a ≡ None
+none_if None h = refl
+none_if (Some r) h = absurd (true≢false h)
+
+pub leaf_if : (b : Bool) → reason_if (not b) NotLeaf ≡ None → b ≡ true
+leaf_if true h = refl
+leaf_if false h = absurd (let k : Some NotLeaf ≡ None = h in cc)

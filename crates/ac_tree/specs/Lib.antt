@@ -4,3 +4,4 @@ pub mod TreeRows
 pub mod TreeCursors
 pub mod Inserting
 pub mod Children
+pub mod Removing

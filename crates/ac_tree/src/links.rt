@@ -7,6 +7,7 @@ ghost use Rattle.ac_base.specs.Limits.{IsLimit};
 ghost use Rattle.ac_model.specs.Containers.{first_spare};
 ghost use Rattle.ac_chain.specs.Link.{link_of, name_in};
 ghost use Rattle.ac_tree.specs.Inserting.{Inserts, Reserves};
+ghost use Rattle.ac_tree.specs.Removing.{Removes};
 ghost use Rattle.ac_tree.specs.TreeFields.{parent_link, first_link, last_link, prev_link, next_link, parent_of, first_of, last_of, prev_of, next_of, prev_before, first_put, last_put, prev_put, next_put, written_at, with_next, with_prev, tied, closed, IsEmptied};
 
 use ac_base::{Limit, Name, NoMemory};
@@ -245,6 +246,17 @@ impl<T> Links<T> {
 }
 
 impl<T: Drop> Links<T> {
+    /// Takes a node without children out, and frees its slot.
+    pub fn remove(&mut self, name: Name)
+        ensures { Removes self.old name self.new }
+    {
+        let parent = self.parent(name);
+        let prev = self.prev(name);
+        let next = self.next(name);
+        self.close(parent, prev, next);
+        let _node = self.nodes.take(name);
+    }
+
     /// No nodes, with the slots that a limit asks for.
     pub fn empty(alloc: Global, limit: Limit) -> Result<Links<T>, NoMemory>
         requires { IsLimit limit }

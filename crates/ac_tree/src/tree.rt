@@ -8,6 +8,7 @@ ghost use Rattle.ac_model.specs.Outline.{IsValidTree};
 ghost use Rattle.ac_model.specs.Trees as trees;
 
 mod cursors;
+mod deletions;
 mod insertions;
 mod looking;
 mod moves;
