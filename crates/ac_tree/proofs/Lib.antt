@@ -9,6 +9,7 @@ pub mod Objects
 pub mod Outlines
 pub mod Places
 pub mod Putting
+pub mod Replacing
 pub mod Spots
 pub mod Standing
 pub mod Steps

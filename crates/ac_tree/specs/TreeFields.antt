@@ -118,6 +118,10 @@ module _ {X : Type 0} where
   abbrev pub next_put : Option Name → TreeNode X → TreeNode X
   next_put to n = node_with n.value n.parent n.first n.last n.prev (link_of to)
 
+  -- and with another value
+  abbrev pub value_put : X → TreeNode X → TreeNode X
+  value_put w n = node_with w n.parent n.first n.last n.prev n.next
+
   abbrev pub written : Contents (TreeNode X) → Name → (TreeNode X → TreeNode X) → Option (TreeNode X) → Contents (TreeNode X)
   written c a w None = c
   written c a w (Some n) = with_value c a (w n)

@@ -8,7 +8,7 @@ ghost use Rattle.ac_model.specs.Containers.{first_spare};
 ghost use Rattle.ac_chain.specs.Link.{link_of, name_in};
 ghost use Rattle.ac_tree.specs.Inserting.{Inserts, Reserves};
 ghost use Rattle.ac_tree.specs.Removing.{Removes};
-ghost use Rattle.ac_tree.specs.TreeFields.{parent_link, first_link, last_link, prev_link, next_link, parent_of, first_of, last_of, prev_of, next_of, prev_before, first_put, last_put, prev_put, next_put, written_at, with_next, with_prev, tied, closed, IsEmptied};
+ghost use Rattle.ac_tree.specs.TreeFields.{parent_link, first_link, last_link, prev_link, next_link, parent_of, first_of, last_of, prev_of, next_of, prev_before, first_put, last_put, prev_put, next_put, written_at, with_next, with_prev, tied, closed, links, value_put, IsEmptied};
 
 use ac_base::{Limit, Name, NoMemory};
 use ac_pool::Pool;
@@ -246,6 +246,16 @@ impl<T> Links<T> {
 }
 
 impl<T: Drop> Links<T> {
+    /// Gives the name's node another value.
+    #[tactic(auto, unfolding(crate::specs::TreeFields::written_at))]
+    pub fn set_value(&mut self, name: Name, value: T)
+        ensures { self.new ≡ links (written_at self.old.nodes name (value_put value)) self.old.first self.old.last }
+    {
+        if let Some(node) = self.nodes.get_mut(name) {
+            node.value = value;
+        }
+    }
+
     /// Takes a node without children out, and frees its slot.
     pub fn remove(&mut self, name: Name)
         ensures { Removes self.old name self.new }

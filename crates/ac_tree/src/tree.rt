@@ -12,6 +12,7 @@ mod deletions;
 mod insertions;
 mod looking;
 mod moves;
+mod values;
 
 use crate::links::Links;
 use ac_base::{Fault, GREATEST_LENGTH, Limit};
