@@ -34,7 +34,7 @@ use Rattle.ac_tree.specs.TreeCursors.{node_of, node_in, serial_in}
 use Rattle.ac_tree.specs.Inserting.{Hole, place_at, depth_at}
 use Rattle.ac_tree.specs.Children.{IsPlace, place_among, children_call}
 use Rattle.ac_tree.proofs.Judging.{At_node, at_node, may_at, node_some, serial_of_node}
-use Rattle.ac_tree.proofs.Holes.{Held, held, no_child_here, named_node}
+use Rattle.ac_tree.proofs.Holes.{Held, held, Front, no_child_here, named_node}
 use Rattle.ac_tree.proofs.Putting as putting
 
 pub if_left : {A E : Type 0} (P : Type 0) (Q : A → Type 0) (r : Result A E) → IfOk r (λ a. P × Q a) → IfOk r (λ _. P)
@@ -48,6 +48,7 @@ element_mark number live (At n a) object serial h = by_tests (n == number) (is_a
   where
     is_root : Name → Bool
     is_root a = (a.slot == 0) && (a.serial == 0)
+
     by_tests : (same there root : Bool) → (if same && not there then stale_mark n else mark_at n a.serial) ≡ mark_at object serial → (if same && not (root || there) then stale_mark n else mark_at n a.serial) ≡ mark_at object serial
     by_tests false there root h = h
     by_tests true true true h = h
@@ -86,7 +87,7 @@ module _ {X : Type 0} (l : Links X) (s : IsForest l) (o : Object Name (Node X)) 
       let needs = sym (may_at o object a) ∙ may in
       let at = at_node l s o rows_is (At object a) needs in
       let kids : is_in (serial_in (node_of a)) (children_of (plain o).rows (name_of (tree_mark o parent))) ≡ true =
-          none_child (is_in (serial_in (node_of a)) (children_of (plain o).rows (name_of (tree_mark o parent)))) (sym (ap (λ m. child_or_none (plain o) (tree_mark o parent) m) at.mark) ∙ child) in
+      none_child (is_in (serial_in (node_of a)) (children_of (plain o).rows (name_of (tree_mark o parent)))) (sym (ap (λ m. child_or_none (plain o) (tree_mark o parent) m) at.mark) ∙ child) in
       by_node (node_of a) refl at needs kids
     where
       by_node : (n : Option Name) → node_of a ≡ n → At_node l s o rows_is (At object a) → needs_node (plain o) (tree_mark o (At object a)) ≡ None
@@ -114,6 +115,13 @@ module _ {X : Type 0} (l : Links X) (s : IsForest l) (o : Object Name (Node X)) 
       place_same (At object a) may =
           let at = (at_node l s o rows_is (At object a) (sym (may_at o object a) ∙ may)).mark in
           sym (ap (child_place (plain o).rows (tree_mark o parent)) at ∙ ap (λ k. child_place (plain o).rows (tree_mark o parent) (mark_at o.number k)) (serial_of_node a))
+
+  pub front_after : (parent : Cursor) (first : Option Name) (e : X) (n : ℤ) (m : ℕ) → needs_node (plain o) (tree_mark o parent) ≡ None → Front l s o rows_is (node_in parent) first → m ≡ count_of n
+      → (children_call o (node_in parent) first e m).after ≡ with_children (plain o) (tree_mark o parent) (run_start (plain o).rows (name_of (tree_mark o parent))) e n
+  front_after parent first e n m hp f count =
+      let mark = (at_node l s o rows_is parent hp).mark in
+      let at : place_among o (node_in parent) first ≡ run_start (plain o).rows (name_of (tree_mark o parent)) = f.at ∙ sym (ap (λ k. run_start (plain o).rows (name_of k)) mark) in
+      λ j. with_new (plain o) (at j) (replicate (count j) (node (depth_of (plain o).rows (name_of (sym mark j)) + 1) e)) (count j)
 
 -- the first new node's cursor is what the variable is set to
 pub first_set : {V : Type 0} (o new : Object Name V) (before first : Cursor) (m : ℕ) → (m ≡ 0 → new ≡ o) → mark_of new.number (names new.rows) first ≡ first_new (plain o) no_mark m

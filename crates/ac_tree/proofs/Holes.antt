@@ -32,7 +32,7 @@ use Rattle.ac_tree.proofs.Places.{plugged_has, outline_plugged, once_rows, size_
 use Rattle.ac_tree.proofs.Forests.{links_at, live_of, forest-is}
 use Rattle.ac_tree.proofs.Outlines.{seen, seen-append, at_depth, tops, elders, family, parent_spot, parent_depth, parent_position, position_children, position_depth, position_run, position_start, Position, root_position, node_position, root_start, node_start, family_tops, before_out, IsAlone}
 use Rattle.ac_tree.proofs.Judging.{At_node, at_node, needed, may_at}
-use Rattle.ac_tree.proofs.Looking.{At_place, at_place, all_alone, parent_serial}
+use Rattle.ac_tree.proofs.Looking.{alone_at, At_place, at_place, all_alone, parent_serial}
 
 in_middle : (xs : List Spot) (s : Spot) (ys : List Spot) → is_in s.name (xs ++ s ∷ ys) ≡ true
 in_middle [] s ys = ap (λ b. b || is_in s.name ys) (eq-eqb s.name s.name refl)
@@ -54,6 +54,7 @@ module _ {X : Type 0} where
     pub deep : depth_in steps ≡ depth + 1
     pub position : Position (outline 2 (plugged steps below)) (serial_in node_name) depth below
     pub start : run_start (plains (outline 2 (plugged steps below))) (serial_in node_name) ≡ length (before_in steps)
+    pub first : first_of l node_name ≡ first_in below
 
   length_seen : (rows : List (Row Name (Node X))) → length (seen rows) ≡ length rows
   length_seen rows = length-map (plains rows) spot ∙ length-map rows (λ (r : Row Name (Node X)). row r.name.serial r.value)
@@ -69,6 +70,7 @@ module _ {X : Type 0} where
     deep = refl;
     position = root_position (forest_in l);
     start = root_start (forest_in l);
+    first = s.framed.0;
   }
 
   pub under_node : (l : Links X) (a : Name) → At_place l a → Under l (Some a)
@@ -86,6 +88,7 @@ module _ {X : Type 0} where
         position = subst (λ (n : Name). Position (outline 2 (plugged k.steps t)) n.serial (depth_in k.steps) k.below) k.named (node_position k.steps k.at k.below k.rest k.alone);
         start = subst (λ (n : Name). run_start (plains (outline 2 (plugged k.steps t))) n.serial ≡ length (before_in k.steps ++ r ∷ [])) k.named
             (node_start k.steps k.at k.below k.rest k.alone ∙ sym (length-append (before_in k.steps) (r ∷ []) ∙ (let e : length (before_in k.steps) + 1 ≡ suc (length (before_in k.steps)) = omega arith in e)));
+        first = ap (λ n. first_of l (Some n)) (sym k.named) ∙ k.links.first;
       }
 
   pub under_of : (l : Links X) → IsForest l → (node_name : Option Name) → ((a : Name) → node_name ≡ Some a → IsLive l.nodes a) → Under l node_name
@@ -172,11 +175,11 @@ module _ {X : Type 0} (l : Links X) (s : IsForest l) (o : Object Name (Node X)) 
       let rows : o.rows ≡ outline 2 (plugged k.steps t) = rows_is ∙ ap (outline 2) (sym k.is) in
       let sp = parent_spot k.steps in
       let kids : children_of (plain o).rows (serial_in parent) ≡ elders k.steps ++ at_depth (depth_in k.steps) k.at.name.serial ∷ tops (depth_in k.steps) k.rest =
-          ap (λ n. children_of (plain o).rows n) (ap serial_in up ∙ sym (parent_serial k.steps))
-          ∙ ap (λ z. children_of (plains z) sp.name) rows
-          ∙ position_children (outline 2 (plugged k.steps t)) sp.name sp.depth (family k.steps t) (parent_position k.steps t k.all)
-          ∙ ap (λ d. tops d (family k.steps t)) (sym (parent_depth k.steps))
-          ∙ family_tops k.steps t in
+      ap (λ n. children_of (plain o).rows n) (ap serial_in up ∙ sym (parent_serial k.steps))
+      ∙ ap (λ z. children_of (plains z) sp.name) rows
+      ∙ position_children (outline 2 (plugged k.steps t)) sp.name sp.depth (family k.steps t) (parent_position k.steps t k.all)
+      ∙ ap (λ d. tops d (family k.steps t)) (sym (parent_depth k.steps))
+      ∙ family_tops k.steps t in
       ap (is_in b.serial) kids
       ∙ ap (λ (n : Name). is_in n.serial (elders k.steps ++ at_depth (depth_in k.steps) k.at.name.serial ∷ tops (depth_in k.steps) k.rest)) (sym k.named)
       ∙ in_middle (elders k.steps) (at_depth (depth_in k.steps) k.at.name.serial) (tops (depth_in k.steps) k.rest)
@@ -220,7 +223,7 @@ module _ {X : Type 0} (l : Links X) (s : IsForest l) (o : Object Name (Node X)) 
       let there = at_node l s o rows_is before hb in
       let lives = there.live b (sym is) in
       let marks : is_in (name_of (tree_mark o before)) (children_of (plain o).rows (name_of (tree_mark o parent))) ≡ is_in b.serial (children_of (plain o).rows (serial_in (node_in parent))) =
-          (λ i. is_in (name_of ((there.mark ∙ ap (λ n. mark_at o.number (serial_in n)) (sym is)) i)) (children_of (plain o).rows (name_of (at.mark i)))) in
+      (λ i. is_in (name_of ((there.mark ∙ ap (λ n. mark_at o.number (serial_in n)) (sym is)) i)) (children_of (plain o).rows (name_of (at.mark i)))) in
       bool_is r (is_in b.serial (children_of (plain o).rows (serial_in (node_in parent)))) (λ t. parent_child (node_in parent) b lives (test.0 t)) (λ t. test.1 (child_parent (node_in parent) at.live b lives t)) ∙ sym marks
 
   -- No_Element, and the root, are no child
@@ -235,6 +238,7 @@ module _ {X : Type 0} (l : Links X) (s : IsForest l) (o : Object Name (Node X)) 
       zero_name : (before : Cursor) → may_node (plain o) (tree_mark o before) ≡ None → None ≡ node_in before → name_of (tree_mark o before) ≡ 0
       zero_name NoElement may is = refl
       zero_name (At object a) may is = ap name_of ((at_node l s o rows_is (At object a) (sym (may_at o object a) ∙ may)).mark ∙ ap (λ n. mark_at o.number (serial_in n)) (sym is))
+
       tops_not_root : (steps : List (Step X)) (t : Forest X) (depth : ℕ) → StandsFor l (plugged steps t) → is_in 0 (tops depth t) ≡ false
       tops_not_root steps bare depth s = refl
       tops_not_root steps (grove x below rest) depth s =
@@ -243,3 +247,35 @@ module _ {X : Type 0} (l : Links X) (s : IsForest l) (o : Object Name (Node X)) 
 
   pub named_node : (c : Cursor) → needs_node (plain o) (tree_mark o c) ≡ None → ForSome (node_in c) (IsNamed o)
   named_node c h = λ a e. has_among a o.rows (subst (λ k. HasName a k) (sym rows_is) (named a 2 (forest_in l) (s.all a ((at_node l s o rows_is c h).live a e))))
+
+  -- before the first child, if there is one
+  pub record Front (parent first : Option Name) : Type 0 where
+    pub place : IsPlace o parent first
+    pub at : place_among o parent first ≡ run_start (plain o).rows (serial_in parent)
+
+  pub front : (parent first : Option Name) → ForSome parent (IsNamed o) → first ≡ first_of l parent → Front parent first
+  front parent first parent_named is =
+      let u = under_of l s parent (λ a e. named_live a (parent_named a e)) in
+      subst (λ n. Front parent n) (sym (is ∙ u.first)) (at_front u u.below refl)
+    where
+      at_front : (u : Under l parent) (t : Forest X) → u.below ≡ t → Front parent (first_in u.below)
+      at_front u bare e =
+          let none : size u.below ≡ 0 = ap size e in
+          let run = run_under parent u in
+          subst (λ n. Front parent n) (sym (ap first_in e)) (record {
+            place = record { parent_named = parent_named; before_named = λ a q. absurd (none-some a q); child = λ a q. absurd (none-some a q) };
+            at = omega (arith, run, none);
+          })
+      at_front u (grove x below rest) e =
+          let stands : StandsFor l (plugged u.steps (grove x below rest)) = subst (λ z. StandsFor l (plugged u.steps z)) e u.stands in
+          let lives = live_of l (plugged u.steps (grove x below rest)) stands x.name (plugged_has u.steps (grove x below rest) x.name (inl refl)) in
+          let rows : o.rows ≡ outline 2 (plugged u.steps (grove x below rest)) = rows_under parent u ∙ ap (λ z. outline 2 (plugged u.steps z)) e in
+          let up : parent_of l x.name ≡ parent = (links_at l u.steps x below rest stands).parent ∙ u.parent_is in
+          subst (λ n. Front parent n) (sym (ap first_in e)) (record {
+            place = record {
+              parent_named = parent_named;
+              before_named = λ a q. subst (IsNamed o) (let same : x.name ≡ a = cc in same) (has_among x.name o.rows (subst (λ k. HasName x.name k) (sym rows_is) (named x.name 2 (forest_in l) (s.all x.name lives))));
+              child = λ a q. subst (λ (k : Name). is_in k.serial (children_of (plain o).rows (serial_in parent)) ≡ true) (let same : x.name ≡ a = cc in same) (parent_child parent x.name lives up);
+            };
+            at = ap (λ z. place_of (plains z) x.name.serial) rows ∙ place_at_place u.steps x below rest (alone_at l u.steps x below rest stands) ∙ sym (start_under parent u);
+          })

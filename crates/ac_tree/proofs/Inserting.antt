@@ -76,10 +76,10 @@ module _ {X : Type 0} where
       let old = outline_plugged steps t in
       let once : IsOnce (before_in steps ++ ys) = subst (λ z. IsOnce z) old (once_rows 2 (plugged steps t) h.stands.once) in
       let put : insert (outline 2 (plugged steps t)) (place_of (place_at h) (outline 2 (plugged steps t))) r ≡ before_in steps ++ r ∷ ys =
-          (λ i. insert (old i) (place_of (place_at h) (old i)) r) ∙ ap (λ j. insert (before_in steps ++ ys) j r) (place_cut (place_at h) (before_in steps) ys once refl) ∙ insert-cut (before_in steps) r ys in
+      (λ i. insert (old i) (place_of (place_at h) (old i)) r) ∙ ap (λ j. insert (before_in steps ++ ys) j r) (place_cut (place_at h) (before_in steps) ys once refl) ∙ insert-cut (before_in steps) r ys in
       let all : outline 2 (plugged steps u) ≡ insert (outline 2 (plugged steps t)) (place_of (place_at h) (outline 2 (plugged steps t))) r = outline_plugged steps u ∙ sym put in
       let rows : rows_of m ≡ inserted (rows_of l) (place_at h) r =
-          rows-are m (plugged steps u) s ∙ (λ i. chained (all i) (next i) (spare i)) ∙ sym (ap (λ (c : Chained (Node X)). inserted c (place_at h) r) (rows-are l (plugged steps t) h.stands)) in
+      rows-are m (plugged steps u) s ∙ (λ i. chained (all i) (next i) (spare i)) ∙ sym (ap (λ (c : Chained (Node X)). inserted c (place_at h) r) (rows-are l (plugged steps t) h.stands)) in
       subst (λ (z : Links X). Inserted l parent before h v z a) (sym same) (record {
         hole = record { steps = after (row a v) bare ∷ steps; rest = t; stands = s; parent_is = h.parent_is; before_is = h.before_is };
         place = refl;

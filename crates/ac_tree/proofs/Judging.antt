@@ -131,6 +131,7 @@ module _ {X : Type 0} (l : Links X) (s : IsForest l) (o : Object Name (Node X)) 
       and_right : (b c : Bool) → (b && c) ≡ true → c ≡ true
       and_right true c e = e
       and_right false c e = absurd (true≢false (sym e))
+
       or_last : (b c : Bool) → c ≡ true → (b || c) ≡ true
       or_last true c e = refl
       or_last false c e = e
@@ -210,6 +211,7 @@ module _ {X : Type 0} (l : Links X) (s : IsForest l) (o : Object Name (Node X)) 
       of_serial serial false true false e h = refl
       of_serial serial false false true e h = refl
       of_serial serial false false false e h = refl
+
       by_test : (test : Bool) → is_none (needs_element (plain o) (if test then stale_mark object else mark_at object a.serial)) ≡ designates (plain o) (if test then stale_mark object else mark_at object a.serial)
       by_test true = stale_none (object == o.number)
         where
@@ -237,6 +239,7 @@ module _ {X : Type 0} (l : Links X) (s : IsForest l) (o : Object Name (Node X)) 
       root_none : (b : Bool) → reason_if b RootNode ≡ None → b ≡ false
       root_none true e = absurd (let k : Some RootNode ≡ None = e in cc)
       root_none false e = refl
+
       by_node : (n : Option Name) → node_in c ≡ n → At_node c → needs_node (plain o) (tree_mark o c) ≡ None → is_root (mark_at o.number (serial_in (node_in c))) ≡ is_root (tree_mark o c) → is_root (tree_mark o c) ≡ false → At_element c
       by_node None is at needs same e = absurd (true≢false (sym (ap (λ k. serial_in k == 0) is) ∙ same ∙ e))
       by_node (Some a) is at needs same e = record { name = a; node = is; needs = needs; live = at.live a is; is = at.name a is; mark = at.mark ∙ ap (λ k. mark_at o.number (serial_in k)) is }

@@ -117,8 +117,8 @@ module _ {X : Type 0} where
       let old : outline 2 (forest_in l) ≡ before_in steps ++ q ∷ ys = ap (outline 2) (forest-is l (plugged steps (grove x bare rest)) s) ∙ outline_plugged steps (grove x bare rest) in
       let new : outline 2 (forest_in m) ≡ before_in steps ++ ys = ap (outline 2) (forest-is m (plugged steps rest) r.stands) ∙ outline_plugged steps rest in
       let rows : plains (outline 2 (forest_in m)) ≡ cut (plains (outline 2 (forest_in l))) at 1 =
-          ap plains new ∙ plains-append (before_in steps) ys ∙ sym (cut_one (plains (before_in steps)) (row x.name.serial q.value) (plains ys))
-          ∙ sym ((λ i. cut (plains (old i)) ((place ∙ sym (length-plains (before_in steps))) i) 1) ∙ ap (λ z. cut z (length (plains (before_in steps))) 1) (plains-append (before_in steps) (q ∷ ys))) in
+      ap plains new ∙ plains-append (before_in steps) ys ∙ sym (cut_one (plains (before_in steps)) (row x.name.serial q.value) (plains ys))
+      ∙ sym ((λ i. cut (plains (old i)) ((place ∙ sym (length-plains (before_in steps))) i) 1) ∙ ap (λ z. cut z (length (plains (before_in steps))) 1) (plains-append (before_in steps) (q ∷ ys))) in
       record {
         plainly = λ i. record { number = g.number; limit = limit; capacity = None; next = r.next i; rows = rows i; cursor_guards = g.cursor_guards; element_guards = g.element_guards };
         slots = all_from (λ name. name.serial < l.nodes.next_serial → IsTrue (is_among (names (outline 2 (forest_in l))) name)) (outline 2 (forest_in m)) (λ a t lt.

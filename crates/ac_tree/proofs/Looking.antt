@@ -29,7 +29,7 @@ use Rattle.ac_tree.proofs.Outlines.{Position, root_position, node_position, posi
 use Rattle.ac_tree.proofs.Judging.{mark_named, spot_mark, At_node, at_node, At_element, at_element, may_needed, needed, may_at, named_mark, node_mark}
 
 module _ {X : Type 0} where
-  alone_at : (l : Links X) (steps : List (Step X)) (x : Row Name X) (below rest : Forest X) → StandsFor l (plugged steps (grove x below rest)) → IsAlone steps x.name.serial
+  pub alone_at : (l : Links X) (steps : List (Step X)) (x : Row Name X) (below rest : Forest X) → StandsFor l (plugged steps (grove x below rest)) → IsAlone steps x.name.serial
   alone_at l steps x below rest s =
       let t = grove x below rest in
       let live = live_of l (plugged steps t) s x.name (plugged_has steps t x.name (inl refl)) in
@@ -216,8 +216,8 @@ module _ {X : Type 0} (l : Links X) (s : IsForest l) (o : Object Name (Node X)) 
       let k = at_place l s a (live_there c a is h) in
       let up : p ≡ parent_in k.steps = found ∙ ap (fields.parent_of l) (sym k.named) ∙ k.links.parent in
       let there : parent_of (plain o).rows a.serial ≡ Some (parent_spot k.steps) =
-          ap (λ z. parent_of (plains z) a.serial) (rows_is ∙ ap (outline 2) (sym k.is)) ∙ ap (λ n. parent_of (plains (outline 2 (plugged k.steps (grove k.at k.below k.rest)))) n.serial) (sym k.named)
-          ∙ parent_found k.steps k.at k.below k.rest k.alone in (
+      ap (λ z. parent_of (plains z) a.serial) (rows_is ∙ ap (outline 2) (sym k.is)) ∙ ap (λ n. parent_of (plains (outline 2 (plugged k.steps (grove k.at k.below k.rest)))) n.serial) (sym k.named)
+      ∙ parent_found k.steps k.at k.below k.rest k.alone in (
         ap (λ m. first_reason (m ∷ [])) may,
         ap (tree_mark o) (e ∙ ap (cursor_of_node o.number) up)
             ∙ node_mark l s o rows_is (parent_in k.steps) (λ b q. live_of l _ k.stands b (around_has k.steps (grove k.at k.below k.rest) b (parent_has k.steps b q)))
@@ -232,9 +232,9 @@ module _ {X : Type 0} (l : Links X) (s : IsForest l) (o : Object Name (Node X)) 
       let k = at_place l s a (live_there c a is h) in
       let next : name ≡ first_in k.rest = found ∙ ap (fields.next_of l) (sym k.named) ∙ k.links.next in
       let there : next_after (siblings_of (plain o).rows a.serial) a.serial ≡ slice_get (tops (depth_in k.steps) k.rest) 0 =
-          ap (λ z. next_after (siblings_of (plains z) a.serial) a.serial) (rows_is ∙ ap (outline 2) (sym k.is))
-          ∙ ap (λ n. next_after (siblings_of (plains (outline 2 (plugged k.steps (grove k.at k.below k.rest)))) n.serial) n.serial) (sym k.named)
-          ∙ next_found k.steps k.at k.below k.rest k.alone k.all in (
+      ap (λ z. next_after (siblings_of (plains z) a.serial) a.serial) (rows_is ∙ ap (outline 2) (sym k.is))
+      ∙ ap (λ n. next_after (siblings_of (plains (outline 2 (plugged k.steps (grove k.at k.below k.rest)))) n.serial) n.serial) (sym k.named)
+      ∙ next_found k.steps k.at k.below k.rest k.alone k.all in (
         ap (λ m. first_reason (m ∷ [])) may,
         ap (tree_mark o) (e ∙ ap (cursor_at o.number) next)
             ∙ named_mark l s o rows_is (first_in k.rest) (λ b q. live_of l _ k.stands b (plugged_has k.steps (grove k.at k.below k.rest) b (inr (inr (first_has k.rest b q)))))
@@ -249,9 +249,9 @@ module _ {X : Type 0} (l : Links X) (s : IsForest l) (o : Object Name (Node X)) 
       let k = at_place l s a (live_there c a is h) in
       let prev : name ≡ prev_in k.steps = found ∙ ap (fields.prev_of l) (sym k.named) ∙ k.links.prev in
       let there : last_before (siblings_of (plain o).rows a.serial) a.serial ≡ slice_get (reverse (elders k.steps)) 0 =
-          ap (λ z. last_before (siblings_of (plains z) a.serial) a.serial) (rows_is ∙ ap (outline 2) (sym k.is))
-          ∙ ap (λ n. last_before (siblings_of (plains (outline 2 (plugged k.steps (grove k.at k.below k.rest)))) n.serial) n.serial) (sym k.named)
-          ∙ last_found k.steps k.at k.below k.rest k.alone k.all in (
+      ap (λ z. last_before (siblings_of (plains z) a.serial) a.serial) (rows_is ∙ ap (outline 2) (sym k.is))
+      ∙ ap (λ n. last_before (siblings_of (plains (outline 2 (plugged k.steps (grove k.at k.below k.rest)))) n.serial) n.serial) (sym k.named)
+      ∙ last_found k.steps k.at k.below k.rest k.alone k.all in (
         ap (λ m. first_reason (m ∷ [])) may,
         ap (tree_mark o) (e ∙ ap (cursor_at o.number) prev)
             ∙ named_mark l s o rows_is (prev_in k.steps) (λ b q. live_of l _ k.stands b (around_has k.steps (grove k.at k.below k.rest) b (prev_has k.steps b q)))

@@ -77,7 +77,7 @@ module _ {X : Type 0} where
       let d = depth_in steps in let r = row x.name (node d x.value) in
       ap (is_in n) (seen-append (before_in steps) (r ∷ outline (d + 1) below))
       ∙ out-append n (seen (before_in steps)) (seen (r ∷ outline (d + 1) below)) (before_out n steps (λ a h. other a (inr (inr h))))
-          (ap (λ b. b || is_in n (seen (outline (d + 1) below))) (ne_eqb x.name.serial n (other x.name (inl refl))) ∙ forest_out n (d + 1) below (λ a h. other a (inr (inl h))))
+      (ap (λ b. b || is_in n (seen (outline (d + 1) below))) (ne_eqb x.name.serial n (other x.name (inl refl))) ∙ forest_out n (d + 1) below (λ a h. other a (inr (inl h))))
 
   -- where a node is, or the root, with what is below it
   pub record Position (rows : List (Row Name (Node X))) (name depth : ℕ) (below : Forest X) : Type 0 where

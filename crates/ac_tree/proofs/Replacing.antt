@@ -107,11 +107,11 @@ module _ {X : Type 0} where
       let d = depth_in steps in let n = x.name.serial in
       let ys = (outline (d + 1) below ++ outline d rest) ++ after_in steps in
       let behind : is_in n (seen ys) ≡ false =
-          ap (is_in n) (seen-append (outline (d + 1) below ++ outline d rest) (after_in steps))
-          ∙ out-append n (seen (outline (d + 1) below ++ outline d rest)) (seen (after_in steps))
-              (ap (is_in n) (seen-append (outline (d + 1) below) (outline d rest))
-              ∙ out-append n (seen (outline (d + 1) below)) (seen (outline d rest)) (forest_out n (d + 1) below (λ a h. part_out l steps x below rest s a (inl h))) (forest_out n d rest (λ a h. part_out l steps x below rest s a (inr h))))
-              (after_out n steps alone.around) in
+      ap (is_in n) (seen-append (outline (d + 1) below ++ outline d rest) (after_in steps))
+      ∙ out-append n (seen (outline (d + 1) below ++ outline d rest)) (seen (after_in steps))
+      (ap (is_in n) (seen-append (outline (d + 1) below) (outline d rest))
+      ∙ out-append n (seen (outline (d + 1) below)) (seen (outline d rest)) (forest_out n (d + 1) below (λ a h. part_out l steps x below rest s a (inl h))) (forest_out n d rest (λ a h. part_out l steps x below rest s a (inr h))))
+      (after_out n steps alone.around) in
       ap (λ z. with_value (plains z) n (node d w)) (outline_plugged steps (grove x below rest))
       ∙ value_set (before_in steps) x.name (node d x.value) (node d w) ys (before_out n steps alone.around) behind
       ∙ sym (ap plains (outline_plugged steps (grove (row x.name w) below rest)))
@@ -135,9 +135,9 @@ module _ {X : Type 0} where
       let new : outline 2 (forest_in m) ≡ outline 2 (plugged k.steps (grove (row k.at.name w) k.below k.rest)) = ap (outline 2) (forest-is m _ r.stands) in
       let serial : name_of (tree_mark o c) ≡ k.at.name.serial = ap name_of e.mark ∙ ap (λ (n : Name). n.serial) (sym k.named) in
       let rows : plains (outline 2 (forest_in m)) ≡ trees.with_element (plains (outline 2 (forest_in l))) (name_of (tree_mark o c)) (Some w) =
-          ap plains new ∙ sym (rows_set l k.steps k.at k.below k.rest w k.stands k.alone)
-          ∙ sym (ap (λ v. with_some_value (plains (outline 2 (plugged k.steps (grove k.at k.below k.rest)))) k.at.name.serial (option_map (λ (n : Node X). node n.depth w) v)) (value_at_place k.steps k.at k.below k.rest k.alone))
-          ∙ sym (λ i. trees.with_element (plains (old i)) (serial i) (Some w)) in (
+      ap plains new ∙ sym (rows_set l k.steps k.at k.below k.rest w k.stands k.alone)
+      ∙ sym (ap (λ v. with_some_value (plains (outline 2 (plugged k.steps (grove k.at k.below k.rest)))) k.at.name.serial (option_map (λ (n : Node X). node n.depth w) v)) (value_at_place k.steps k.at k.below k.rest k.alone))
+      ∙ sym (λ i. trees.with_element (plains (old i)) (serial i) (Some w)) in (
         revalued_tree limit l w a k.steps k.at k.below k.rest t k.stands r,
         record {
           plainly = λ i. record { number = g.number; limit = limit; capacity = None; next = r.next i; rows = rows i; cursor_guards = g.cursor_guards; element_guards = g.element_guards };

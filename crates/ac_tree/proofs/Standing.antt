@@ -122,12 +122,11 @@ module _ {X : Type 0} where
 
   last-framed : (l m : Links X) (steps : List (Step X)) (o e to : Option Name) → OnceAround steps → Lasts l m (parent_in steps) (last_at steps to) → Framed l steps o e → Framed m steps o to
   last-framed l m [] o e to once w h = (w.first ∙ h.0, w.last refl)
-  last-framed l m (under x rest ∷ steps) o e to once w h =
-      (
-        w.here x.name refl ∙ ap (option_map (last_put to)) h.0,
-        Stands-same (value_of l.nodes) (value_of m.nodes) (parent_in steps) (Some x.name) rest (λ a k. w.there a (λ e. once.0 (subst (λ n. Has n rest) (sym (some_name x.name a e)) k))) h.1,
-        Framed-same l m steps (Some x.name) (Some (or_name x.name (last_in rest))) (λ a k. w.there a (λ e. once.1 (subst (λ n. IsAround n steps) (sym (some_name x.name a e)) k))) w.first (w.last_kept x.name refl) h.2,
-      )
+  last-framed l m (under x rest ∷ steps) o e to once w h = (
+    w.here x.name refl ∙ ap (option_map (last_put to)) h.0,
+    Stands-same (value_of l.nodes) (value_of m.nodes) (parent_in steps) (Some x.name) rest (λ a k. w.there a (λ e. once.0 (subst (λ n. Has n rest) (sym (some_name x.name a e)) k))) h.1,
+    Framed-same l m steps (Some x.name) (Some (or_name x.name (last_in rest))) (λ a k. w.there a (λ e. once.1 (subst (λ n. IsAround n steps) (sym (some_name x.name a e)) k))) w.first (w.last_kept x.name refl) h.2,
+  )
   last-framed l m (after x below ∷ steps) o e to once w h = (
     w.there x.name (λ q. once.1 (parent_around steps x.name q)) ∙ h.0,
     Stands-same (value_of l.nodes) (value_of m.nodes) (Some x.name) None below (λ a k. w.there a (λ q. once.2 a k (parent_around steps a q))) h.1,

@@ -107,10 +107,7 @@ impl<T> Tree<T> {
     pub(crate) fn needs_element(&self, c: Cursor) -> Option<Reason>
         ensures { result ≡ trees.needs_element (plain self.now.object) (seen_by self.now c) }
     {
-        first_reason(&[
-            self.needs_node(c),
-            reason_if(is_root(c), Reason::RootNode),
-        ])
+        first_reason(&[self.needs_node(c), reason_if(is_root(c), Reason::RootNode)])
     }
 
     /// The name as a cursor of this tree.

@@ -108,7 +108,13 @@ impl<T> Tree<T> {
 
 impl<T: Elem> Tree<T> {
     /// Puts so many copies as children of the node. The answer is the first one's cursor.
-    fn put(&mut self, parent: Option<Name>, before: Option<Name>, e: T, n: u64) -> Result<Cursor, Fault>
+    fn put(
+        &mut self,
+        parent: Option<Name>,
+        before: Option<Name>,
+        e: T,
+        n: u64,
+    ) -> Result<Cursor, Fault>
         requires place { IsPlace self.old.object parent before }
         requires room { Takes self.old.object n }
         ensures changed { Does (Marks self.new.object) (λ o. children_call self.old.object parent before e n) self.old self.new result }
@@ -144,7 +150,13 @@ impl<T: Elem> Tree<T> {
     }
 
     /// Insert_Child (A.18.10): so many children of the node before one of its children, where No_Element is the end.
-    pub fn insert_child(&mut self, parent: Cursor, before: Cursor, e: T, n: i64) -> Result<(), Fault>
+    pub fn insert_child(
+        &mut self,
+        parent: Cursor,
+        before: Cursor,
+        e: T,
+        n: i64,
+    ) -> Result<(), Fault>
         ensures changed { Does Same (λ o. trees.insert_child_call o (seen_by self.old parent) (seen_by self.old before) e n)
             self.old self.new result }
         ensures slots { Grows result self.old self.new }
@@ -161,5 +173,17 @@ impl<T: Elem> Tree<T> {
         let _links = &self.links;
         allowed(self.refuses_more(parent, n))?;
         done(self.put(node_in(parent), None, e, count_of(n)))
+    }
+
+    /// Prepend_Child (A.18.10): so many children of the node, before the first.
+    pub fn prepend_child(&mut self, parent: Cursor, e: T, n: i64) -> Result<(), Fault>
+        ensures changed { Does Same (λ o. trees.prepend_child_call o (seen_by self.old parent) e n) self.old self.new result }
+        ensures slots { Grows result self.old self.new }
+    {
+        let _links = &self.links;
+        allowed(self.refuses_more(parent, n))?;
+        let node = node_in(parent);
+        let first = self.links.first_child(node);
+        done(self.put(node, first, e, count_of(n)))
     }
 }

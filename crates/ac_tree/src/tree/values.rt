@@ -17,10 +17,7 @@ impl<T> Tree<T> {
         ensures { result ≡ first_reason (tampers_elements (plain self.now.object)
             ∷ trees.needs_element (plain self.now.object) (seen_by self.now c) ∷ []) }
     {
-        first_reason(&[
-            self.guards.forbids(Class::Elements),
-            self.needs_element(c),
-        ])
+        first_reason(&[self.guards.forbids(Class::Elements), self.needs_element(c)])
     }
 }
 

@@ -53,7 +53,7 @@ returns-in-Ok-clause-changed g c =
     let h = held_in i.guards i.limit i.links c.self.invariant c.args.parent c.args.before place in
     let now = rows_of c.put_copies.new.links in let put = c.in-Ok.ensures.put h.hole in
     let done = put_done i.guards i.limit None None (rows_of i.links) now c.args.n (place_at h.hole) (node (depth_at h.hole) c.args.e) c.in-Ok.first c.named.result (no_capacity i.limit (length now.rows)) c.self.invariant.sequence
-        (place_live i.links c.args.parent c.args.before h.hole) put.0 put.1 c.named.ensures in
+    (place_live i.links c.args.parent c.args.before h.hole) put.0 put.1 c.named.ensures in
     subst (λ (q : Object _ _). Changing (Marks (tree_object i.guards i.limit c.put_copies.new.links)) (children_call q c.args.parent c.args.before c.args.e c.args.n) q (tree_object i.guards i.limit c.put_copies.new.links) (Ok c.named.result)) view
     (subst (λ k. Changing (Marks (tree_object i.guards i.limit c.put_copies.new.links)) k (tree_object i.guards i.limit i.links) (tree_object i.guards i.limit c.put_copies.new.links) (Ok c.named.result))
     (children_is i.guards i.limit i.links c.self.invariant c.args.parent c.args.before place c.args.e c.args.n) done)
@@ -68,7 +68,7 @@ returns-in-Err-clause-changed g c =
     let place = subst (λ (q : Object _ _). IsPlace q c.args.parent c.args.before) (sym view) c.requires.place in
     let h = held_in i.guards i.limit i.links c.self.invariant c.args.parent c.args.before place in
     let wants = put_wants i.guards i.limit None (rows_of i.links) (rows_of c.put_copies.new.links) c.args.n (place_at h.hole) (node (depth_at h.hole) c.args.e) c.self.invariant.sequence tt
-        (takes_within i.guards i.limit None (rows_of i.links) o view c.args.n c.requires.room) (ap rows_of c.in-Err.ensures.refused) (λ few spare. absurd (let t : false ≡ true = c.in-Err.ensures.room few spare in true≢false (sym t))) in
+    (takes_within i.guards i.limit None (rows_of i.links) o view c.args.n c.requires.room) (ap rows_of c.in-Err.ensures.refused) (λ few spare. absurd (let t : false ≡ true = c.in-Err.ensures.room few spare in true≢false (sym t))) in
     subst (λ (q : Object _ _). Changing (Marks (tree_object i.guards i.limit c.put_copies.new.links)) (children_call q c.args.parent c.args.before c.args.e c.args.n) q (tree_object i.guards i.limit c.put_copies.new.links) (Err fault.NoMemory)) view
     (subst (λ k. Changing (Marks (tree_object i.guards i.limit c.put_copies.new.links)) k (tree_object i.guards i.limit i.links) (tree_object i.guards i.limit c.put_copies.new.links) (Err fault.NoMemory))
     (children_is i.guards i.limit i.links c.self.invariant c.args.parent c.args.before place c.args.e c.args.n) wants)
