@@ -51,7 +51,8 @@ pub fn put_copies<T: Elem>(
     ensures refused { IfErr result (λ _. links.new ≡ links.old) }
     ensures room { n ≤ 1 → n ≤ links.old.nodes.spare → IsOk result }
     ensures slots { n ≤ links.old.nodes.spare → slots_in (rows_of links.new) ≡ slots_in (rows_of links.old) }
-    ensures grown { IfOk result (λ _. slots_in (rows_of links.new) ≤ max (slots_in (rows_of links.old)) (pow8 (length (rows_of links.new).rows))) }
+    ensures grown { IfOk result (λ _.
+        slots_in (rows_of links.new) ≤ max (slots_in (rows_of links.old)) (pow8 (length (rows_of links.new).rows))) }
 {
     if n == 0 {
         return Ok(None);

@@ -37,7 +37,8 @@ impl<T> Tree<T> {
 impl<T: Drop> Tree<T> {
     /// Delete_Leaf (A.18.10): the node goes, and the variable is set to No_Element.
     pub fn delete_leaf(&mut self, position: &mut Cursor) -> Result<(), Fault>
-        ensures changed { SetsNode (λ o. trees.delete_leaf_call o (seen_by self.old position.old)) self.old position.old self.new position.new result }
+        ensures changed { SetsNode (λ o. trees.delete_leaf_call o (seen_by self.old position.old))
+            self.old position.old self.new position.new result }
         ensures slots { length_of self.new.object + self.new.spare ≡ length_of self.old.object + self.old.spare }
     {
         allowed(self.refuses_leaf(*position))?;

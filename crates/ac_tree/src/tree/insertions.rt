@@ -44,7 +44,8 @@ impl<T> Tree<T> {
     fn is_child(&self, parent: Cursor, before: Cursor) -> bool
         requires parent { trees.needs_node (plain self.now.object) (seen_by self.now parent) ≡ None }
         requires before { trees.may_node (plain self.now.object) (seen_by self.now before) ≡ None }
-        ensures { result ≡ is_in (name_of (seen_by self.now before)) (children_of (plain self.now.object).rows (name_of (seen_by self.now parent))) }
+        ensures { result ≡ is_in (name_of (seen_by self.now before))
+            (children_of (plain self.now.object).rows (name_of (seen_by self.now parent))) }
     {
         let _links = &self.links;
         match node_in(before) {
