@@ -1,8 +1,6 @@
 -- What a tree is after new children were put into it.
-use Rattle.std.proofs.Common.{◌≡◌, ℕ, ℤ, zero, suc, ◌+◌, Bool, true, false, true≢false, not, ◌&&◌, ◌||◌, List, ◌∷◌, length, replicate, Option, Some, None, Result, Ok, Err, refl, sym, ap, ◌∙◌, subst, arith, eq-eqb, eqb-true}
+use Rattle.std.proofs.Common.{◌≡◌, ℕ, ℤ, zero, suc, ◌+◌, Bool, true, false, true≢false, not, ◌&&◌, ◌||◌, List, ◌∷◌, length, replicate, Option, Some, None, Result, Ok, Err, refl, sym, ap, ◌∙◌, subst}
 use Rattle.std.specs.Prelude.{◌==◌, IfOk, IfErr, if◌then◌else◌}
-use Rattle.std.specs.Option.{ForSome}
-use Rattle.std.proofs.lemmas.Bool.{cases_Bool}
 use Rattle.std.proofs.lemmas.Option.{none-some}
 use Rattle.ac_base.specs.declared.limit.Limit.{Limit}
 use Rattle.ac_base.specs.declared.name.Name.{Name}
@@ -13,12 +11,11 @@ use Rattle.ac_base.specs.declared.fault.Fault.{Fault}
 use Rattle.ac_base.specs.declared.fault.Fault.TheVariants as fault
 use Rattle.ac_base.specs.Guards.{GuardCounts}
 use Rattle.ac_base.specs.Rows.{names}
-use Rattle.ac_chain.specs.Rows.{Chained, IsLive, IsSound, place_of}
+use Rattle.ac_chain.specs.Rows.{IsLive, IsSound, place_of}
 use Rattle.ac_chain.proofs.Marks.{place_live}
-use Rattle.ac_chain.specs.Sequence.{object_of}
 use Rattle.ac_model.specs.Rows.{Node, node}
-use Rattle.ac_model.specs.Objects.{Object, plain, plains}
-use Rattle.ac_model.specs.Letters.{Mark, no_mark, mark_at, stale_mark, mark_of, is_among, has_room, name_of, is_no_mark, count_of, reason_if}
+use Rattle.ac_model.specs.Objects.{Object, plain}
+use Rattle.ac_model.specs.Letters.{no_mark, mark_at, stale_mark, mark_of, is_among, has_room, name_of, count_of, reason_if}
 use Rattle.ac_model.specs.Calls.{Call, call, Done, Changing, IsAfter, Marks, Same}
 use Rattle.ac_model.specs.Cursors.{spot, place_in, cursor_of_first}
 use Rattle.ac_model.specs.Outline.{depth_of, run_start, run_of, children_of, is_in}
@@ -31,7 +28,7 @@ use Rattle.ac_tree.specs.Forests.{outline}
 use Rattle.ac_tree.specs.TreeFields.{forest_in, IsForest}
 use Rattle.ac_tree.specs.TreeRows.{rows_of, tree_object, IsTree}
 use Rattle.ac_tree.specs.TreeCursors.{node_of, node_in, serial_in}
-use Rattle.ac_tree.specs.Inserting.{Hole, place_at, depth_at}
+use Rattle.ac_tree.specs.Inserting.{place_at, depth_at}
 use Rattle.ac_tree.specs.Children.{IsPlace, place_among, children_call}
 use Rattle.ac_tree.proofs.Judging.{At_node, at_node, may_at, node_some, serial_of_node}
 use Rattle.ac_tree.proofs.Holes.{Held, held, Front, no_child_here, named_node}

@@ -4,18 +4,17 @@ use Rattle.std.specs.FinMap as map
 use Rattle.ac_base.specs.declared.name.Name.{Name}
 use Rattle.ac_base.specs.Rows.{Row, row}
 use Rattle.ac_pool.specs.Names.{name_cmp}
-use Rattle.ac_pool.specs.Contents as pool
 use Rattle.ac_pool.specs.Contents.{Contents, value_of, with_value, IsLive, live_count, added, taken, IsFresh, IsSound}
 use Rattle.ac_pool.proofs.NameLaws.{cases_name}
-use Rattle.ac_pool.proofs.ContentsLaws.{value_of-added_same, value_of-added_other, value_of-taken_same, value_of-taken_other, live_count-added, live_count-taken, fresh_is_dead, value_of-with_value_same, value_of-with_value_other, taken_live}
-use Rattle.ac_chain.specs.Link.{link_of, name_in}
+use Rattle.ac_pool.proofs.ContentsLaws.{value_of-added_same, value_of-added_other, value_of-taken_same, value_of-taken_other, live_count-added, live_count-taken, fresh_is_dead, value_of-with_value_same, value_of-with_value_other}
+use Rattle.ac_chain.specs.Link.{name_in}
 use Rattle.ac_chain.proofs.SlotNames.{linked_name}
 use Rattle.ac_tree.specs.declared.links.TreeNode.{TreeNode}
 use Rattle.ac_tree.specs.declared.links.Links.{Links}
-use Rattle.ac_tree.specs.Forests.{Forest, bare, grove, Step, under, after, size, first_in, last_in, or_name, Has, Once, plugged, parent_in, prev_in}
-use Rattle.ac_tree.specs.TreeFields.{linked, node_with, links, Stands, Framed, StandsFor, read, read_on, forest_in, IsForest, parent_link, first_link, last_link, prev_link, next_link, parent_of, prev_of, next_of, first_of, last_of, with_next, tied, closed}
+use Rattle.ac_tree.specs.Forests.{Forest, bare, grove, Step, under, after, size, first_in, last_in, Has, plugged, parent_in, prev_in}
+use Rattle.ac_tree.specs.TreeFields.{linked, node_with, links, Stands, StandsFor, read, read_on, forest_in, IsForest, parent_link, first_link, last_link, prev_link, next_link, parent_of, prev_of, next_of, first_of, last_of, with_next, tied, closed}
 use Rattle.ac_tree.proofs.Places.{IsAround, Parted, parted, joint, plugged_has, around_has, plugged_either, plugged_size}
-use Rattle.ac_tree.proofs.Writes.{Keeps, keeps_then, keeps_next, keeps_prev, keeps_value}
+use Rattle.ac_tree.proofs.Writes.{keeps_then, keeps_next, keeps_prev, keeps_value}
 use Rattle.ac_tree.proofs.Standing.{some_name, Stands-live, Stands-same, Framed-same, Open, opened, shut, closed-open, tied-open}
 
 module _ {X : Type 0} where

@@ -1,5 +1,5 @@
 -- Where new children go: the hole among the links is the place among the rows.
-use Rattle.std.proofs.Common.{◌≡◌, ◌≢◌, ℕ, suc, ◌+◌, ◌-◌, ◌≤◌, Bool, true, false, true≢false, not, ◌&&◌, ◌||◌, List, [], ◌∷◌, ◌++◌, length, replicate, Option, Some, None, Ok, Err, IsTrue, refl, sym, ap, ◌∙◌, subst, inl, inr, arith, eq-eqb, ne_eqb, eqb-true, append_assoc}
+use Rattle.std.proofs.Common.{◌≡◌, ℕ, suc, ◌+◌, Bool, true, false, true≢false, ◌||◌, List, [], ◌∷◌, ◌++◌, length, Option, Some, None, IsTrue, refl, sym, ap, ◌∙◌, subst, inl, inr, arith, eq-eqb, ne_eqb, eqb-true}
 use Rattle.std.specs.Prelude.{◌==◌, ◌↔◌}
 use Rattle.std.specs.Option.{ForSome}
 use Rattle.std.proofs.lemmas.Bool.{cond-true, cond-false, cases_Bool}
@@ -8,31 +8,30 @@ use Rattle.std.proofs.lemmas.List.{length-append, length-map}
 use Rattle.ac_base.specs.declared.name.Name.{Name}
 use Rattle.ac_base.specs.declared.cursor.Cursor.{Cursor}
 use Rattle.ac_base.specs.declared.cursor.Cursor.TheVariants.{NoElement, At}
-use Rattle.ac_base.specs.Rows.{Row, row, names}
+use Rattle.ac_base.specs.Rows.{Row, row}
 use Rattle.ac_pool.specs.Contents.{IsLive}
 use Rattle.ac_chain.specs.Rows as chain
-use Rattle.ac_chain.specs.ChainFields.{first_or, HasName, IsOnce}
+use Rattle.ac_chain.specs.ChainFields.{HasName, IsOnce}
 use Rattle.ac_chain.proofs.Marks.{among_has, has_among}
 use Rattle.ac_chain.proofs.Looks.{bool_is}
 use Rattle.ac_chain.proofs.Puts.{place_cut}
 use Rattle.ac_model.specs.Rows.{Node, node, place_of}
 use Rattle.ac_model.specs.Objects.{Object, plain, plains}
-use Rattle.ac_model.specs.Letters.{mark_at, name_of, is_among}
+use Rattle.ac_model.specs.Letters.{mark_at, name_of}
 use Rattle.ac_model.specs.Cursors.{IsNamed}
-use Rattle.ac_model.specs.Outline.{Spot, spot, spots, depth_of, run_of, run_start, children_of, is_in}
+use Rattle.ac_model.specs.Outline.{Spot, spot, depth_of, run_of, run_start, children_of, is_in}
 use Rattle.ac_model.specs.Trees.{tree_mark, needs_node, may_node}
 use Rattle.ac_tree.specs.declared.links.Links.{Links}
 use Rattle.ac_tree.specs.Forests.{Forest, bare, grove, Step, under, after, outline, size, first_in, plugged, parent_in, prev_in, depth_in, before_in, after_in}
 use Rattle.ac_tree.specs.TreeFields.{StandsFor, forest_in, IsForest, first_of, parent_of}
-use Rattle.ac_tree.specs.TreeRows.{rows_of}
 use Rattle.ac_tree.specs.TreeCursors.{node_in, serial_in}
 use Rattle.ac_tree.specs.Inserting.{Hole, depth_at, place_at}
 use Rattle.ac_tree.specs.Children.{IsPlace, place_among}
 use Rattle.ac_tree.proofs.Places.{plugged_has, outline_plugged, once_rows, size_is, to_end, plugged_end, parent_end, depth_end, named, has}
 use Rattle.ac_tree.proofs.Forests.{links_at, live_of, forest-is}
-use Rattle.ac_tree.proofs.Outlines.{seen, seen-append, at_depth, tops, elders, family, parent_spot, parent_depth, parent_position, position_children, position_depth, position_run, position_start, Position, root_position, node_position, root_start, node_start, family_tops, before_out, IsAlone}
-use Rattle.ac_tree.proofs.Judging.{At_node, at_node, needed, may_at}
-use Rattle.ac_tree.proofs.Looking.{alone_at, At_place, at_place, all_alone, parent_serial}
+use Rattle.ac_tree.proofs.Outlines.{seen, at_depth, tops, elders, family, parent_spot, parent_depth, parent_position, position_children, position_depth, position_run, Position, root_position, node_position, root_start, node_start, family_tops, before_out, IsAlone}
+use Rattle.ac_tree.proofs.Judging.{at_node, needed, may_at}
+use Rattle.ac_tree.proofs.Looking.{alone_at, At_place, at_place, parent_serial}
 
 in_middle : (xs : List Spot) (s : Spot) (ys : List Spot) → is_in s.name (xs ++ s ∷ ys) ≡ true
 in_middle [] s ys = ap (λ b. b || is_in s.name ys) (eq-eqb s.name s.name refl)

@@ -1,5 +1,5 @@
 -- A new node, without children, in a forest.
-use Rattle.std.proofs.Common.{◌≡◌, ◌≢◌, ℕ, suc, ◌+◌, ◌-◌, ◌<◌, ◌≤◌, List, [], ◌∷◌, ◌++◌, length, Option, Some, None, is_some, refl, sym, ap, ◌∙◌, subst, inl, inr, arith, append_assoc}
+use Rattle.std.proofs.Common.{◌≡◌, ◌≢◌, ℕ, ◌+◌, ◌-◌, List, [], ◌∷◌, ◌++◌, length, Option, Some, None, is_some, refl, sym, ap, ◌∙◌, subst, inl, inr}
 use Rattle.std.specs.List.{insert}
 use Rattle.std.proofs.lemmas.Bool.{cond-true, cond-false, cases_lt, le-leb, lt-leb}
 use Rattle.ac_base.specs.Growth.{pow8}
@@ -8,23 +8,23 @@ use Rattle.ac_base.specs.Rows.{Row, row}
 use Rattle.ac_pool.specs.Contents as pool
 use Rattle.ac_pool.specs.Contents.{Contents, value_of, added, live_count}
 use Rattle.ac_pool.proofs.ContentsLaws.{value_of-added_same, value_of-added_other, entries-reserved, reserved_kept, reserved_grown}
-use Rattle.ac_chain.specs.Link.{link_of, name_in}
-use Rattle.ac_chain.specs.Rows.{Chained, chained, place_of, inserted, reserved, IsFresh, IsSound}
-use Rattle.ac_chain.specs.ChainFields.{first_or, HasName, IsOnce}
+use Rattle.ac_chain.specs.Link.{name_in}
+use Rattle.ac_chain.specs.Rows.{Chained, chained, place_of, inserted, reserved, IsFresh}
+use Rattle.ac_chain.specs.ChainFields.{HasName, IsOnce}
 use Rattle.ac_chain.proofs.Cuts.{live_has, insert-cut}
 use Rattle.ac_chain.proofs.Puts.{place_cut}
 use Rattle.ac_chain.proofs.SlotNames.{linked_name}
 use Rattle.ac_model.specs.Rows.{Node, node}
 use Rattle.ac_tree.specs.declared.links.TreeNode.{TreeNode}
 use Rattle.ac_tree.specs.declared.links.Links.{Links}
-use Rattle.ac_tree.specs.Forests.{Forest, bare, grove, Step, under, after, outline, first_in, last_in, or_name, Has, plugged, parent_in, prev_in, depth_in, before_in, after_in}
-use Rattle.ac_tree.specs.TreeFields.{linked, node_with, links, StandsFor, Framed, IsForest, forest_in, last_link, prev_of, last_of, prev_before, tied, with_next, with_prev}
+use Rattle.ac_tree.specs.Forests.{Forest, bare, grove, Step, under, after, outline, first_in, or_name, plugged, parent_in, prev_in, depth_in, before_in, after_in}
+use Rattle.ac_tree.specs.TreeFields.{linked, links, StandsFor, Framed, last_link, last_of, prev_before, tied, with_next}
 use Rattle.ac_tree.specs.TreeRows.{rows_of}
-use Rattle.ac_tree.specs.Inserting.{Hole, depth_at, place_at, Inserted, Reserved}
-use Rattle.ac_tree.proofs.Places.{IsAround, plugged_has, around_has, outline_plugged, once_rows, has, size_is}
-use Rattle.ac_tree.proofs.Writes.{Keeps, keeps_then, keeps_next, keeps_prev}
+use Rattle.ac_tree.specs.Inserting.{Hole, place_at, Inserted, Reserved}
+use Rattle.ac_tree.proofs.Places.{around_has, outline_plugged, once_rows, has, size_is}
+use Rattle.ac_tree.proofs.Writes.{keeps_then, keeps_next, keeps_prev}
 use Rattle.ac_tree.proofs.Standing.{last_at, last_none, opened}
-use Rattle.ac_tree.proofs.Forests.{live_of, open_of, links_at, prev_has, inserted_stands, grown_stands, is_forest, forest-is}
+use Rattle.ac_tree.proofs.Forests.{live_of, open_of, links_at, prev_has, inserted_stands, grown_stands}
 use Rattle.ac_tree.proofs.Objects.{rows-are}
 
 module _ {X : Type 0} where

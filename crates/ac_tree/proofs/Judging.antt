@@ -1,7 +1,6 @@
 -- Cursors of a tree: which are refused, and at which node one is that isn't.
-use Rattle.std.proofs.Common.{◌≡◌, ◌≢◌, ℕ, ◌+◌, ◌<◌, Bool, true, false, true≢false, not, ◌&&◌, ◌||◌, List, [], ◌∷◌, ◌++◌, length, Option, Some, None, is_some, is_none, refl, sym, ap, ◌∙◌, subst, inl, inr, arith, eq-eqb, ne_eqb, eqb-true}
-use Rattle.std.specs.Prelude.{◌==◌, map, slice_get, if◌then◌else◌}
-use Rattle.std.specs.Option.{option_map}
+use Rattle.std.proofs.Common.{◌≡◌, ℕ, Bool, true, false, true≢false, not, ◌&&◌, ◌||◌, List, [], ◌∷◌, Option, Some, None, is_some, is_none, refl, sym, ap, ◌∙◌, subst, inl, inr, arith, eq-eqb, ne_eqb, eqb-true}
+use Rattle.std.specs.Prelude.{◌==◌, if◌then◌else◌}
 use Rattle.std.proofs.lemmas.Bool.{cond-true, cond-false, cases_Bool}
 use Rattle.std.proofs.lemmas.Option.{none-some}
 use Rattle.ac_base.specs.declared.name.Name.{Name}
@@ -11,19 +10,19 @@ use Rattle.ac_base.specs.declared.reason.Reason.{Reason}
 use Rattle.ac_base.specs.declared.reason.Reason.TheVariants.{RootNode, DeadCursor, ForeignCursor}
 use Rattle.ac_base.specs.FirstReason.{earlier}
 use Rattle.ac_base.proofs.FirstReason.{none_found}
-use Rattle.ac_base.specs.Rows.{Row, row, names}
+use Rattle.ac_base.specs.Rows.{Row, names}
 use Rattle.ac_pool.specs.Contents.{value_of, IsLive}
 use Rattle.ac_chain.specs.ChainFields.{HasName}
 use Rattle.ac_chain.proofs.Marks.{among_has, has_among, judged_none}
 use Rattle.ac_chain.proofs.Looks.{bool_is}
 use Rattle.ac_model.specs.Rows.{Node, is_named}
 use Rattle.ac_model.specs.Objects.{Object, plain, plains}
-use Rattle.ac_model.specs.Letters.{Mark, no_mark, mark_at, stale_mark, is_same_name, is_among, judged_in, reason_if, name_of, is_no_mark, designates}
+use Rattle.ac_model.specs.Letters.{Mark, no_mark, mark_at, stale_mark, is_same_name, is_among, judged_in, reason_if, designates}
 use Rattle.ac_model.specs.Cursors.{cursor_at, name_in}
 use Rattle.ac_model.specs.Outline.{Spot}
 use Rattle.ac_model.specs.Trees.{root_name, tree_mark, is_node, needs_node, may_node, needs_element, is_root, mark_of_spot}
 use Rattle.ac_tree.specs.declared.links.Links.{Links}
-use Rattle.ac_tree.specs.Forests.{outline, Has}
+use Rattle.ac_tree.specs.Forests.{outline}
 use Rattle.ac_tree.specs.TreeFields.{forest_in, IsForest}
 use Rattle.ac_tree.specs.TreeCursors.{node_of, node_in, cursor_of_node, is_root_cursor, serial_in}
 use Rattle.ac_tree.proofs.Places.{named, has}

@@ -1,8 +1,5 @@
 -- What a tree is after a leaf went.
-use Rattle.std.proofs.Common.{◌≡◌, ◌≢◌, ℕ, suc, ◌+◌, ◌-◌, ◌<◌, ◌≤◌, Bool, true, false, true≢false, not, List, [], ◌∷◌, ◌++◌, length, take, drop, Option, Some, None, is_some, is_none, IsTrue, refl, sym, ap, ◌∙◌, subst, inl, inr, arith, ne_eqb, eqb-true}
-use Rattle.std.specs.Prelude.{◌==◌}
-use Rattle.std.proofs.lemmas.Bool.{cases_Bool}
-use Rattle.std.proofs.lemmas.List.{length-append}
+use Rattle.std.proofs.Common.{◌≡◌, ℕ, ◌+◌, ◌<◌, true, false, true≢false, List, ◌∷◌, ◌++◌, length, Option, Some, None, is_some, is_none, IsTrue, refl, sym, ap, ◌∙◌, subst, inl, arith}
 use Rattle.std.proofs.Math.Seq.{take-append_seam, drop-append-add}
 use Rattle.ac_base.specs.declared.limit.Limit.{Limit}
 use Rattle.ac_base.specs.declared.limit.Limit.TheVariants.{Unbounded, Bounded}
@@ -20,7 +17,7 @@ use Rattle.ac_chain.proofs.Marks.{has_among}
 use Rattle.ac_model.specs.Containers.{HasSlots}
 use Rattle.ac_model.specs.Rows.{Node, node, cut, place_of}
 use Rattle.ac_model.specs.Objects.{Object, plain, plains, with_rows}
-use Rattle.ac_model.specs.Letters.{mark_at, name_of, is_among}
+use Rattle.ac_model.specs.Letters.{name_of, is_among}
 use Rattle.ac_model.specs.Cursors.{name_in}
 use Rattle.ac_model.specs.Calls.{IsAfter}
 use Rattle.ac_model.proofs.Plains.{plains-append, length-plains}
@@ -31,15 +28,15 @@ use Rattle.ac_tree.specs.declared.links.Links.{Links}
 use Rattle.ac_tree.specs.Forests.{Forest, bare, grove, Step, outline, size, first_in, plugged, parent_in, prev_in, depth_in, before_in, after_in}
 use Rattle.ac_tree.specs.TreeFields.{links, StandsFor, forest_in, IsForest, closed, with_next, first_of}
 use Rattle.ac_tree.specs.TreeRows.{rows_of, tree_object, IsTree}
-use Rattle.ac_tree.specs.TreeCursors.{node_in, serial_in}
+use Rattle.ac_tree.specs.TreeCursors.{node_in}
 use Rattle.ac_tree.specs.Removing.{Removed}
 use Rattle.ac_tree.proofs.Places.{outline_plugged, plugged_has, plugged_size, size_is}
 use Rattle.ac_tree.proofs.Writes.{keeps_then, keeps_next, keeps_prev}
-use Rattle.ac_tree.proofs.Forests.{live_of, removed_stands, forest-is, links_at}
-use Rattle.ac_tree.proofs.Objects.{tree_from, rows-are}
+use Rattle.ac_tree.proofs.Forests.{live_of, removed_stands, forest-is}
+use Rattle.ac_tree.proofs.Objects.{tree_from}
 use Rattle.ac_tree.proofs.Holes.{place_at_place}
-use Rattle.ac_tree.proofs.Judging.{At_element, at_element}
-use Rattle.ac_tree.proofs.Looking.{At_place, at_place, leaf_here}
+use Rattle.ac_tree.proofs.Judging.{at_element}
+use Rattle.ac_tree.proofs.Looking.{at_place, leaf_here}
 
 some_none : (o : Option Name) → is_none o ≡ true → is_some o ≡ false
 some_none None h = refl

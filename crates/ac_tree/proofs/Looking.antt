@@ -1,5 +1,5 @@
 -- What the questions about a node answer, from its links.
-use Rattle.std.proofs.Common.{◌≡◌, ◌≢◌, ℕ, suc, ◌+◌, ◌<◌, Bool, true, false, ◌||◌, List, [], ◌∷◌, ◌++◌, length, reverse, Option, Some, None, is_none, Ok, Bor, refl, sym, ap, ◌∙◌, subst, inl, inr, arith, eq-eqb, ne_eqb}
+use Rattle.std.proofs.Common.{◌≡◌, ℕ, suc, ◌+◌, Bool, true, false, ◌||◌, List, [], ◌∷◌, ◌++◌, length, reverse, Option, Some, None, is_none, Ok, Bor, refl, sym, ap, ◌∙◌, subst, inl, inr, arith, eq-eqb, ne_eqb}
 use Rattle.std.specs.Prelude.{◌==◌, slice_get}
 use Rattle.std.specs.Option.{option_map}
 use Rattle.std.proofs.lemmas.Bool.{cond-true, cond-false, cases_Bool}
@@ -7,14 +7,14 @@ use Rattle.ac_base.specs.declared.name.Name.{Name}
 use Rattle.ac_base.specs.declared.cursor.Cursor.{Cursor}
 use Rattle.ac_base.specs.declared.cursor.Cursor.TheVariants.{NoElement, At}
 use Rattle.ac_base.specs.FirstReason.{first_reason}
-use Rattle.ac_base.specs.Rows.{Row, row, names}
+use Rattle.ac_base.specs.Rows.{Row, row}
 use Rattle.ac_pool.specs.Contents.{value_of, IsLive}
-use Rattle.ac_model.specs.Rows.{Node, node, value_at, place_of}
+use Rattle.ac_model.specs.Rows.{Node, node, value_at}
 use Rattle.ac_model.specs.Objects.{Object, plain, plains}
-use Rattle.ac_model.specs.Letters.{Mark, no_mark, mark_at, name_of, is_no_mark}
+use Rattle.ac_model.specs.Letters.{no_mark, mark_at, name_of}
 use Rattle.ac_model.specs.Cursors.{cursor_at, name_in}
 use Rattle.ac_model.specs.Calls.{Looking, Same, Lends}
-use Rattle.ac_model.specs.Outline.{Spot, children_of, parent_of, siblings_of, siblings_by, next_after, last_before, depth_of, is_in}
+use Rattle.ac_model.specs.Outline.{children_of, parent_of, siblings_of, siblings_by, next_after, last_before, is_in}
 use Rattle.ac_model.specs.Trees as trees
 use Rattle.ac_model.specs.Trees.{tree_mark, needs_node, may_node, needs_element, is_root, mark_of_spot, unless_none}
 use Rattle.ac_tree.specs.declared.links.TreeNode.{TreeNode}
@@ -23,10 +23,10 @@ use Rattle.ac_tree.specs.Forests.{Forest, bare, grove, Step, under, after, outli
 use Rattle.ac_tree.specs.TreeFields as fields
 use Rattle.ac_tree.specs.TreeFields.{StandsFor, forest_in, IsForest, first_of, last_of}
 use Rattle.ac_tree.specs.TreeCursors.{node_in, cursor_of_node, serial_in, NodeMarks}
-use Rattle.ac_tree.proofs.Places.{IsAround, Place, placed, parted, plugged_has, around_has, outline_plugged}
+use Rattle.ac_tree.proofs.Places.{IsAround, placed, parted, plugged_has, around_has, outline_plugged}
 use Rattle.ac_tree.proofs.Forests.{live_of, Links_at, links_at, first_has, last_has, parent_has, prev_has}
-use Rattle.ac_tree.proofs.Outlines.{Position, root_position, node_position, position_children, root_parent, position_depth, IsAlone, AllAlone, parent_spot, parent_found, next_found, last_found, tops, first_top, last_top, elders, prev_elder, serial_of, spot_name, seen, before_out}
-use Rattle.ac_tree.proofs.Judging.{mark_named, spot_mark, At_node, at_node, At_element, at_element, may_needed, needed, may_at, named_mark, node_mark}
+use Rattle.ac_tree.proofs.Outlines.{Position, root_position, node_position, position_children, root_parent, IsAlone, AllAlone, parent_spot, parent_found, next_found, last_found, tops, first_top, last_top, elders, prev_elder, seen, before_out}
+use Rattle.ac_tree.proofs.Judging.{mark_named, spot_mark, at_node, At_element, at_element, may_needed, needed, may_at, named_mark, node_mark}
 
 module _ {X : Type 0} where
   pub alone_at : (l : Links X) (steps : List (Step X)) (x : Row Name X) (below rest : Forest X) → StandsFor l (plugged steps (grove x below rest)) → IsAlone steps x.name.serial

@@ -1,5 +1,5 @@
 -- A tree's fields as a sequence of rows: what holds of them after each change.
-use Rattle.std.proofs.Common.{◌≡◌, ℕ, suc, ◌+◌, ◌<◌, ◌≤◌, List, [], ◌∷◌, length, Option, Some, None, refl, sym, ap, ◌∙◌, subst, arith}
+use Rattle.std.proofs.Common.{◌≡◌, ℕ, ◌<◌, ◌≤◌, [], length, sym, ap, subst, arith}
 use Rattle.ac_base.specs.declared.limit.Limit.{Limit}
 use Rattle.ac_base.specs.declared.limit.Limit.TheVariants.{Unbounded, Bounded}
 use Rattle.ac_base.specs.declared.limit.TheConstants.{GREATEST_LENGTH}
@@ -10,11 +10,10 @@ use Rattle.ac_chain.specs.Rows.{chained, index_of, IsSound}
 use Rattle.ac_chain.specs.Sequence.{IsSequence}
 use Rattle.ac_chain.proofs.Cuts.{live_has, once_at}
 use Rattle.ac_model.specs.Containers.{HasSlots, first_spare}
-use Rattle.ac_model.specs.Rows.{Node}
 use Rattle.ac_tree.specs.declared.links.TreeNode.{TreeNode}
 use Rattle.ac_tree.specs.declared.links.Links.{Links}
 use Rattle.ac_tree.specs.Forests.{Forest, bare, outline, size}
-use Rattle.ac_tree.specs.TreeFields.{links, StandsFor, forest_in, IsEmptied}
+use Rattle.ac_tree.specs.TreeFields.{StandsFor, forest_in, IsEmptied}
 use Rattle.ac_tree.specs.TreeRows.{rows_of, IsTree}
 use Rattle.ac_tree.proofs.Places.{size_is, has, once_rows}
 use Rattle.ac_tree.proofs.Forests.{live_of, forest-is, is_forest, empty_stands}

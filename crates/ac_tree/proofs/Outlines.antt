@@ -1,19 +1,19 @@
 -- A forest's rows as an outline: where a node's run is, its depth, its children, its parent and its siblings.
-use Rattle.std.proofs.Common.{◌≡◌, ◌≢◌, ℕ, suc, ◌+◌, ◌<◌, ◌≤◌, Bool, true, false, ◌||◌, List, [], ◌∷◌, ◌++◌, length, reverse, filter, find, Option, Some, None, refl, sym, ap, ◌∙◌, subst, inl, inr, arith, eq-eqb, ne_eqb, append-nil, append_assoc}
+use Rattle.std.proofs.Common.{◌≡◌, ◌≢◌, ℕ, suc, ◌+◌, ◌<◌, ◌≤◌, true, false, ◌||◌, List, [], ◌∷◌, ◌++◌, length, reverse, filter, find, Option, Some, None, refl, sym, ap, ◌∙◌, subst, inl, inr, arith, eq-eqb, ne_eqb, append-nil, append_assoc}
 use Rattle.std.specs.Prelude.{◌==◌, map, slice_get}
 use Rattle.std.specs.Option.{option_map}
 use Rattle.std.proofs.lemmas.Bool.{cond-true}
-use Rattle.std.proofs.lemmas.List.{reverse-append, map-append, length-append, length-map}
+use Rattle.std.proofs.lemmas.List.{reverse-append, map-append, length-map}
 use Rattle.std.proofs.lemmas.List.Elements.{filter-append}
 use Rattle.ac_base.specs.declared.name.Name.{Name}
 use Rattle.ac_base.specs.Rows.{Row, row}
 use Rattle.ac_model.specs.Rows.{Node, node}
 use Rattle.ac_model.specs.Objects.{plains, plain_row}
-use Rattle.ac_model.specs.Outline.{Spot, root, spot, spots, spot_place, depth_of, run_of, children_of, parent_of, siblings_of, siblings_by, run_start, next_after, last_before, is_in, is_outline, follows, depths}
+use Rattle.ac_model.specs.Outline.{Spot, root, spot, spots, depth_of, run_of, children_of, parent_of, siblings_of, siblings_by, run_start, next_after, last_before, is_in, is_outline, follows, depths}
 use Rattle.ac_model.proofs.Depths.{follows_from, follows_both, ends, ends_from, AllFrom}
-use Rattle.ac_tree.specs.Forests.{Forest, bare, grove, Step, under, after, outline, first_in, last_in, or_name, Has, plugged, parent_in, prev_in, depth_in, before_in, after_in}
+use Rattle.ac_tree.specs.Forests.{Forest, bare, grove, Step, under, after, outline, first_in, last_in, or_name, Has, plugged, prev_in, depth_in, before_in, after_in}
 use Rattle.ac_tree.proofs.Places.{IsAround, outline_plugged}
-use Rattle.ac_tree.proofs.Spots.{Deep, Shallow, deep-append, deep_weaker, out-append, Spotted, spot_at, depth_is, run_is, children_are, parent_is, next_is, last_is, find_past, filter_deep}
+use Rattle.ac_tree.proofs.Spots.{Deep, Shallow, deep-append, out-append, Spotted, spot_at, depth_is, run_is, children_are, parent_is, next_is, last_is, find_past, filter_deep}
 
 abbrev pub at_depth : ℕ → ℕ → Spot
 at_depth depth name = record { depth = depth; name = name }

@@ -1,12 +1,12 @@
 -- Places in a forest: each name stands once, and which are round a place; the rows before it and after it.
-use Rattle.std.proofs.Common.{◌≡◌, ℕ, ◌+◌, ◌⊎◌, List, [], ◌∷◌, ◌++◌, length, Option, Some, None, refl, sym, ap, ◌∙◌, subst, inl, inr, arith, append-nil, append_assoc}
+use Rattle.std.proofs.Common.{◌≡◌, ℕ, ◌+◌, ◌⊎◌, List, [], ◌∷◌, ◌++◌, length, Some, None, refl, sym, ap, ◌∙◌, subst, inl, inr, arith, append-nil, append_assoc}
 use Rattle.std.proofs.lemmas.List.{length-append}
 use Rattle.ac_base.specs.declared.name.Name.{Name}
 use Rattle.ac_base.specs.Rows.{Row, row}
-use Rattle.ac_model.specs.Rows.{Node, node}
+use Rattle.ac_model.specs.Rows.{node}
 use Rattle.ac_chain.specs.ChainFields.{HasName, IsOnce}
 use Rattle.ac_chain.proofs.Cuts.{HasName-left, HasName-right, HasName-either, once-append}
-use Rattle.ac_tree.specs.Forests.{Forest, bare, grove, Step, under, after, outline, size, first_in, last_in, or_name, Has, Once, joined, plugged, parent_in, prev_in, name_of, side_of, depth_in, before_in, after_in}
+use Rattle.ac_tree.specs.Forests.{Forest, bare, grove, Step, under, after, outline, size, last_in, or_name, Has, Once, joined, plugged, parent_in, prev_in, name_of, side_of, depth_in, before_in, after_in}
 
 module _ {X : Type 0} where
   -- the names round a place

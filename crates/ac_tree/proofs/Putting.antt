@@ -1,5 +1,5 @@
 -- Values that are put into a forest one after another.
-use Rattle.std.proofs.Common.{◌≡◌, ℕ, zero, suc, ◌+◌, ◌-◌, ◌^◌, ◌<◌, ◌≤◌, List, [], ◌∷◌, ◌++◌, length, map, reverse, replicate, Option, Some, None, refl, sym, ap, ◌∙◌, subst, inl, inr, arith}
+use Rattle.std.proofs.Common.{◌≡◌, ℕ, zero, suc, ◌+◌, ◌-◌, ◌^◌, ◌<◌, ◌≤◌, List, [], ◌∷◌, ◌++◌, length, reverse, replicate, Option, Some, None, refl, sym, ap, ◌∙◌, subst, inl, inr, arith}
 use Rattle.std.specs.Prelude.{max}
 use Rattle.std.proofs.lemmas.Bool.{cases_eq}
 use Rattle.std.proofs.lemmas.List.{map-append, length-map, length-reverse, length-append, length-replicate}
@@ -7,17 +7,17 @@ use Rattle.ac_base.specs.declared.name.Name.{Name}
 use Rattle.ac_base.specs.Growth.{pow8}
 use Rattle.ac_base.specs.Rows.{Row, row}
 use Rattle.ac_pool.specs.Contents.{live_count}
-use Rattle.ac_chain.specs.Rows.{Chained, IsFresh, IsSound, inserted, reserved, IsLive, slots_in}
+use Rattle.ac_chain.specs.Rows.{Chained, IsSound, inserted, reserved, IsLive, slots_in}
 use Rattle.ac_chain.specs.ChainFields.{first_or, HasName}
 use Rattle.ac_chain.specs.Put.{IsPut, IsFirst, HasFirst}
 use Rattle.ac_chain.proofs.Cuts.{has_live, HasName-right}
-use Rattle.ac_chain.proofs.Puts.{Putting, putting_start, putting_more, putting_end, putting_count, putting_serials, put_live, put_none, first_start, first_more, copies_put, copies_slots, copies_grown, first_put, reserved_enough}
+use Rattle.ac_chain.proofs.Puts.{Putting, putting_start, putting_more, putting_end, putting_count, putting_serials, put_none, first_start, first_more, copies_put, copies_slots, copies_grown, first_put, reserved_enough}
 use Rattle.ac_model.specs.Rows.{Node, node}
 use Rattle.ac_tree.specs.declared.links.Links.{Links}
-use Rattle.ac_tree.specs.Forests.{Forest, outline, plugged, depth_in, before_in, after_in}
-use Rattle.ac_tree.specs.TreeFields.{IsForest, forest_in, StandsFor}
+use Rattle.ac_tree.specs.Forests.{outline, plugged, depth_in, before_in, after_in}
+use Rattle.ac_tree.specs.TreeFields.{IsForest, forest_in}
 use Rattle.ac_tree.specs.TreeRows.{rows_of}
-use Rattle.ac_tree.specs.Inserting.{Hole, depth_at, place_at, Inserted, Inserts, nodes_at, PutEach, Reserved, Reserves}
+use Rattle.ac_tree.specs.Inserting.{Hole, depth_at, place_at, Inserts, nodes_at, PutEach, Reserves}
 use Rattle.ac_tree.proofs.Places.{outline_plugged, size_is}
 use Rattle.ac_tree.proofs.Forests.{is_forest, forest-is}
 use Rattle.ac_tree.proofs.Objects.{sound_of}

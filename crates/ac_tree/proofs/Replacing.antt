@@ -1,6 +1,6 @@
 -- What a tree is after an element was set.
-use Rattle.std.proofs.Common.{◌≡◌, ◌≢◌, ℕ, suc, ◌+◌, ◌<◌, ◌≤◌, ◌⊎◌, Bool, true, false, true≢false, ◌||◌, List, [], ◌∷◌, ◌++◌, length, Option, Some, None, is_some, IsTrue, refl, sym, ap, ◌∙◌, subst, inl, inr, arith, eq-eqb, ne_eqb}
-use Rattle.std.specs.Prelude.{◌==◌, if◌then◌else◌}
+use Rattle.std.proofs.Common.{◌≡◌, ◌≢◌, ℕ, ◌+◌, ◌<◌, ◌⊎◌, false, true≢false, ◌||◌, List, [], ◌∷◌, ◌++◌, length, Some, None, IsTrue, refl, sym, ap, ◌∙◌, subst, inl, inr, arith, eq-eqb}
+use Rattle.std.specs.Prelude.{◌==◌}
 use Rattle.std.specs.Option.{option_map}
 use Rattle.std.proofs.lemmas.Bool.{cond-true, cond-false, cases_Bool}
 use Rattle.ac_base.specs.declared.limit.Limit.{Limit}
@@ -12,13 +12,12 @@ use Rattle.ac_pool.specs.Contents as pool
 use Rattle.ac_pool.specs.Contents.{Contents, value_of, IsLive}
 use Rattle.ac_pool.proofs.ContentsLaws.{live_value}
 use Rattle.ac_chain.specs.ChainFields.{HasName}
-use Rattle.ac_chain.proofs.Cuts.{HasName-either, HasName-left, HasName-right}
 use Rattle.ac_chain.proofs.Grows.{all_from}
 use Rattle.ac_chain.proofs.Marks.{has_among}
 use Rattle.ac_model.specs.Containers.{HasSlots}
 use Rattle.ac_model.specs.Rows.{Node, node, with_value, with_some_value}
-use Rattle.ac_model.specs.Objects.{Object, plain, plains, with_rows}
-use Rattle.ac_model.specs.Letters.{mark_at, name_of, is_among}
+use Rattle.ac_model.specs.Objects.{plain, plains, with_rows}
+use Rattle.ac_model.specs.Letters.{name_of, is_among}
 use Rattle.ac_model.specs.Cursors.{name_in}
 use Rattle.ac_model.specs.Calls.{IsAfter}
 use Rattle.ac_model.specs.Outline.{is_in}
@@ -26,8 +25,8 @@ use Rattle.ac_model.specs.Trees as trees
 use Rattle.ac_model.specs.Trees.{tree_mark, needs_element}
 use Rattle.ac_tree.specs.declared.links.TreeNode.{TreeNode}
 use Rattle.ac_tree.specs.declared.links.Links.{Links}
-use Rattle.ac_tree.specs.Forests.{Forest, bare, grove, Step, under, after, outline, size, Has, plugged, depth_in, before_in, after_in}
-use Rattle.ac_tree.specs.TreeFields.{links, StandsFor, forest_in, IsForest, written, written_at, value_put}
+use Rattle.ac_tree.specs.Forests.{Forest, grove, Step, under, after, outline, size, Has, plugged, depth_in, before_in, after_in}
+use Rattle.ac_tree.specs.TreeFields.{links, StandsFor, forest_in, written, written_at, value_put}
 use Rattle.ac_tree.specs.TreeRows.{rows_of, tree_object, IsTree}
 use Rattle.ac_tree.proofs.Places.{IsAround, outline_plugged, plugged_has, around_has, plugged_either, plugged_size, size_is, parted, has}
 use Rattle.ac_tree.proofs.Places as places
@@ -35,8 +34,8 @@ use Rattle.ac_tree.proofs.Forests.{live_of, revalued_stands, forest-is}
 use Rattle.ac_tree.proofs.Objects.{tree_from}
 use Rattle.ac_tree.proofs.Outlines.{seen, seen-append, before_out, forest_out, IsAlone}
 use Rattle.ac_tree.proofs.Spots.{out-append}
-use Rattle.ac_tree.proofs.Judging.{At_element, at_element}
-use Rattle.ac_tree.proofs.Looking.{At_place, at_place, value_at_place}
+use Rattle.ac_tree.proofs.Judging.{at_element}
+use Rattle.ac_tree.proofs.Looking.{at_place, value_at_place}
 
 module _ {X : Type 0} where
   written_is : (c : Contents (TreeNode X)) (a : Name) (w : TreeNode X → TreeNode X) (n : TreeNode X) → value_of c a ≡ Some n → written_at c a w ≡ pool.with_value c a (w n)

@@ -1,11 +1,11 @@
 -- The words of outlines, at a place that is known: lists of spots alone.
-use Rattle.std.proofs.Common.{◌≡◌, ◌≢◌, ℕ, suc, ◌+◌, ◌<◌, ◌≤◌, Bool, true, false, true≢false, ◌||◌, List, [], ◌∷◌, ◌++◌, length, take, drop, reverse, filter, find, Option, Some, None, refl, sym, ap, ◌∙◌, subst, inl, inr, arith, eq-eqb, ne_eqb, eqb-true, add-one, one-add}
+use Rattle.std.proofs.Common.{◌≡◌, ℕ, suc, ◌+◌, ◌<◌, ◌≤◌, false, true≢false, ◌||◌, List, [], ◌∷◌, ◌++◌, length, take, drop, reverse, filter, find, Some, refl, sym, ap, ◌∙◌, inl, inr, arith, eq-eqb, ne_eqb, add-one, one-add}
 use Rattle.std.specs.Prelude.{◌==◌, nat_lt, slice_get, take_while}
 use Rattle.std.specs.List.{prefix_len}
 use Rattle.std.specs.Option.{option_map, unwrap_or}
 use Rattle.std.proofs.lemmas.Bool.{cond-true, cond-false, cases_Bool, lt-ltb, le-ltb}
 use Rattle.std.proofs.lemmas.List.{reverse-append}
-use Rattle.std.proofs.Math.Seq.{take-append_seam, drop-append_seam, drop-append-add}
+use Rattle.std.proofs.Math.Seq.{take-append_seam, drop-append-add}
 use Rattle.ac_model.specs.Outline.{Spot, spot_place, depth_at, run_at, children_at, parent_at, is_in}
 
 -- all are deeper than this, and the first of these is no deeper

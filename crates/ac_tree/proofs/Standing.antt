@@ -1,13 +1,12 @@
 -- Links that stand for a forest: seen from a place in it, and after a change at that place.
-use Rattle.std.proofs.Common.{◌≡◌, ◌≢◌, ℕ, ◌+◌, List, [], ◌∷◌, Option, Some, None, is_some, IsSome, refl, sym, ap, ◌∙◌, subst, inl, inr, arith}
+use Rattle.std.proofs.Common.{◌≡◌, List, [], ◌∷◌, Option, Some, None, is_some, IsSome, refl, sym, ap, ◌∙◌, subst, inl, inr}
 use Rattle.std.specs.Option.{option_map}
 use Rattle.ac_base.specs.declared.name.Name.{Name}
 use Rattle.ac_base.specs.Rows.{Row}
-use Rattle.ac_pool.specs.Contents.{Contents, value_of, IsLive}
-use Rattle.ac_tree.specs.declared.links.TreeNode.{TreeNode}
+use Rattle.ac_pool.specs.Contents.{value_of}
 use Rattle.ac_tree.specs.declared.links.Links.{Links}
-use Rattle.ac_tree.specs.Forests.{Forest, bare, grove, Step, under, after, first_in, last_in, or_name, Has, Once, joined, plugged, parent_in, prev_in, name_of, side_of}
-use Rattle.ac_tree.specs.TreeFields.{linked, links, Stands, Framed, first_put, last_put, prev_put, next_put, written_at, with_next, with_prev, tied, closed}
+use Rattle.ac_tree.specs.Forests.{Forest, bare, grove, Step, under, after, first_in, last_in, or_name, Has, Once, plugged, parent_in, prev_in}
+use Rattle.ac_tree.specs.TreeFields.{linked, Stands, Framed, first_put, last_put, prev_put, next_put, written_at, with_next, with_prev, tied, closed}
 use Rattle.ac_tree.proofs.Places.{IsAround, OnceAround, Parted}
 use Rattle.ac_tree.proofs.Writes.{Nodes, Writes, writes}
 

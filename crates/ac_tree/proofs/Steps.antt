@@ -1,14 +1,12 @@
 -- Reasons of cursors and guards come before a tree's own conditions.
-use Rattle.std.proofs.Common.{◌≡◌, ◌≤◌, ◌<◌, ◌+◌, ℕ, ℤ, pos, negsuc, length, Bool, true, false, true≢false, not, List, [], ◌∷◌, Option, Some, None, is_some, refl, sym, ap, ◌∙◌, subst, arith}
+use Rattle.std.proofs.Common.{◌≡◌, ◌≤◌, ◌+◌, ℕ, ℤ, pos, negsuc, length, Bool, true, false, true≢false, not, [], ◌∷◌, Option, Some, None, is_some, refl, sym, ap, ◌∙◌, arith}
 use Rattle.std.specs.Prelude.{◌==◌, nat_lt, if◌then◌else◌, IfSome}
-use Rattle.std.proofs.lemmas.Bool.{cond-false, cases_Bool, le-ltb}
+use Rattle.std.proofs.lemmas.Bool.{cond-false, le-ltb}
 use Rattle.ac_base.specs.declared.reason.Reason.{Reason}
-use Rattle.ac_base.specs.declared.reason.Reason.TheVariants.{CursorTampering, ElementTampering, NoElement, ForeignCursor, DeadCursor, RootNode, NotChild, NotLeaf, LengthRange, CapacityFull, NamesSpent}
-use Rattle.ac_base.specs.declared.guard.Class.TheVariants as class
+use Rattle.ac_base.specs.declared.reason.Reason.TheVariants.{CursorTampering, ElementTampering, ForeignCursor, DeadCursor, RootNode, NotChild, NotLeaf, LengthRange, CapacityFull, NamesSpent}
 use Rattle.ac_base.specs.Limits.{is_past, numbers_end}
 use Rattle.ac_base.specs.declared.limit.TheConstants.{GREATEST_LENGTH}
 use Rattle.ac_base.specs.FirstReason.{first_reason, earlier, step_of}
-use Rattle.ac_base.specs.Tampering.{forbids}
 use Rattle.ac_model.specs.Objects.{Object, length_of}
 use Rattle.ac_model.specs.Letters.{Mark, no_mark, mark_at, stale_mark, judged_in, reason_if, in_range, room, count_of, tampers_cursors}
 use Rattle.ac_model.specs.Sequences.{room_for_copies}

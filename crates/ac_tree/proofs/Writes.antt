@@ -1,8 +1,8 @@
 -- What a write of one link leaves of the nodes.
-use Rattle.std.proofs.Common.{◌≡◌, ◌≢◌, ◌<◌, ◌^◌, ℕ, Option, Some, None, is_some, refl, sym, ap, ◌∙◌, subst, inl, inr, arith}
+use Rattle.std.proofs.Common.{◌≡◌, ◌≢◌, Option, Some, None, is_some, refl, sym, ap, ◌∙◌, inl, inr}
 use Rattle.std.specs.Option.{option_map}
 use Rattle.ac_base.specs.declared.name.Name.{Name}
-use Rattle.ac_pool.specs.Contents.{Contents, value_of, with_value, IsLive, live_count, IsSound}
+use Rattle.ac_pool.specs.Contents.{Contents, value_of, with_value, live_count, IsSound}
 use Rattle.ac_pool.proofs.NameLaws.{cases_name}
 use Rattle.ac_pool.proofs.ContentsLaws.{value_of-with_value_same, value_of-with_value_other, live_count-with_value, IsSound-with_value}
 use Rattle.ac_tree.specs.declared.links.TreeNode.{TreeNode}

@@ -1,5 +1,5 @@
 -- What the fields of a tree are seen as, and what holds of them.
-use Rattle.std.specs.Prelude.{◌≡◌, ℕ, None, refl}
+use Rattle.std.specs.Prelude.{ℕ, None, refl}
 use Rattle.std.specs.Coded.{Coded, code_by, coded×, coded_ℕ}
 use Rattle.ac_base.specs.declared.limit.Limit.{Limit}
 use Rattle.ac_base.specs.declared.name.Name.{Name}

@@ -1,9 +1,9 @@
-use Rattle.std.proofs.Common.{zero, suc, ◌∷◌, refl, sym, subst, arith}
+use Rattle.std.proofs.Common.{sym, subst, arith}
 use Rattle.ac_tree.specs.declared.links.Links.{Links}
 use Rattle.ac_tree.specs.TreeFields.{IsForest}
 use Rattle.ac_tree.proofs.Forests.{is_forest}
 use Rattle.ac_tree.specs.Forests.{plugged}
-use Rattle.ac_tree.proofs.Putting.{copied, enough, next_kept, none_put, no_first, row_count}
+use Rattle.ac_tree.proofs.Putting.{copied, enough, none_put, no_first, row_count}
 use Rattle.ac_tree.proofs.growing.put_copies.Goals as goal
 
 pub returns-then-n-eq0-clause-put : goal.returns-then-n-eq0-clause-put

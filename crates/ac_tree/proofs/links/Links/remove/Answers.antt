@@ -1,4 +1,4 @@
-use Rattle.std.proofs.Common.{sym, ap, ◌∙◌, subst}
+use Rattle.std.proofs.Common.{sym, ap, ◌∙◌}
 use Rattle.ac_pool.specs.Contents.{taken}
 use Rattle.ac_tree.specs.Forests.{bare}
 use Rattle.ac_tree.specs.TreeFields.{parent_of, prev_of, next_of}

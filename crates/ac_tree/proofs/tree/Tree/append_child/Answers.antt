@@ -1,5 +1,5 @@
 use Rattle.std.specs.Prelude.{◌==◌}
-use Rattle.std.proofs.Common.{◌≡◌, ◌&&◌, not, ◌∷◌, None, refl, sym, ap, ◌∙◌, subst, to_z-of_z, w64}
+use Rattle.std.proofs.Common.{◌&&◌, not, ◌∷◌, None, refl, sym, ap, ◌∙◌, subst, to_z-of_z, w64}
 use Rattle.ac_base.specs.declared.cursor.Cursor.TheVariants.{NoElement}
 use Rattle.ac_base.specs.FirstReason.{first_reason}
 use Rattle.ac_base.proofs.FirstReason.{none_found}

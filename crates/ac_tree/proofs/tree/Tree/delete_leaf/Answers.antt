@@ -1,4 +1,4 @@
-use Rattle.std.proofs.Common.{◌≡◌, ◌+◌, ◌∷◌, [], None, true, not, length, refl, sym, ap, ◌∙◌, subst}
+use Rattle.std.proofs.Common.{◌≡◌, ◌+◌, ◌∷◌, [], None, true, not, length, refl, sym, ap, subst}
 use Rattle.ac_base.specs.declared.reason.Reason.TheVariants.{NotLeaf}
 use Rattle.ac_base.proofs.FirstReason.{none_found}
 use Rattle.ac_model.specs.Calls.{IsAfter}

@@ -1,4 +1,4 @@
-use Rattle.std.proofs.Common.{sym, ap, ◌∙◌}
+use Rattle.std.proofs.Common.{ap, ◌∙◌}
 use Rattle.ac_base.specs.FirstReason.{earlier}
 use Rattle.ac_base.specs.declared.reason.Reason.TheVariants.{RootNode}
 use Rattle.ac_model.specs.Letters.{reason_if}

@@ -1,4 +1,4 @@
-use Rattle.std.proofs.Common.{◌∷◌, ap, ◌∙◌, to_z-of_z, w64}
+use Rattle.std.proofs.Common.{ap, ◌∙◌, to_z-of_z, w64}
 use Rattle.ac_base.specs.FirstReason.{first_reason, earlier}
 use Rattle.ac_base.specs.Tampering.{forbids}
 use Rattle.ac_base.specs.declared.guard.Class.TheVariants as class
