@@ -5,6 +5,8 @@
 #[cfg(test)]
 mod keyed;
 #[cfg(test)]
+mod long;
+#[cfg(test)]
 mod maps;
 #[cfg(test)]
 mod refusals;
