@@ -1,4 +1,5 @@
 pub mod Kept
+pub mod Likes
 pub mod Rooms
 pub mod Seeking
 pub mod Shifts

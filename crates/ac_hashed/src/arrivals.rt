@@ -1,22 +1,24 @@
 //! Rows in order of arrival.
-ghost use Rattle.std.specs.Prelude.{◌≡◌, true};
+ghost use Rattle.std.specs.Prelude.{◌≡◌, refl, true};
 ghost use Rattle.std.proofs.Common.{sym, ◌∙◌};
 ghost use Rattle.ac_model.specs.Keyed.{by_arrival};
 ghost use Rattle.ac_model.proofs.KeyedLaws.{closed_arrival};
 ghost use Rattle.ac_chain.specs.Rows.{IsLive, IsSound, with_value};
+ghost use Rattle.ac_hashed.specs.Likeness.{like_keys};
 ghost use Rattle.ac_hashed.specs.Ties.{seen_in};
 
+use crate::alike::Alike;
 use crate::find::find;
 use ac_base::{Elem, Hashed, Limit, Name, NoMemory};
 use ac_buckets::Buckets;
 use ac_chain::Chain;
-use ac_setwork::{Entry, Index, Keys, Mapped, OfEntries};
+use ac_setwork::{Entry, Index, Keyed, Mapped, OfEntries};
 use std::alloc::Global;
 use std::marker::Model;
 
 /// Rows in a chain, each with its name in the bucket of its key's hash.
 #[derive(Drop)]
-pub struct Arrivals<S: Keys>
+pub struct Arrivals<S: Alike>
 where
     S::Key: Hashed,
 {
@@ -24,7 +26,7 @@ where
     buckets: Buckets,
 }
 
-impl<S: Keys> Model for Arrivals<S>
+impl<S: Alike> Model for Arrivals<S>
 where
     S::Key: Hashed,
 {
@@ -50,7 +52,7 @@ fn write<T: Drop>(chain: &mut Chain<T>, name: Name, value: T)
     let _sound = chain.len();
 }
 
-impl<S: Keys> Index for Arrivals<S>
+impl<S: Alike> Index for Arrivals<S>
 where
     S::Key: Hashed,
 {
@@ -58,7 +60,7 @@ where
 
     type Key = S::Key;
 
-    ghost order = { by_arrival (λ v w. S.Key.is_alike (S.key_of v) (S.key_of w)) };
+    ghost order = { by_arrival S.is_alike };
 
     ghost matches = { λ key row. S.Key.is_alike (S.key_of row) key };
 
@@ -68,11 +70,7 @@ where
 
     ghost seen = { seen_in };
 
-    ghost closed = { closed_arrival (λ v w. S.Key.is_alike (S.key_of v) (S.key_of w)) (record {
-      refl = λ v. S.Key.equivalence.refl (S.key_of v);
-      symm = λ v w. S.Key.equivalence.symm (S.key_of v) (S.key_of w);
-      congr = λ v w x. S.Key.equivalence.congr (S.key_of v) (S.key_of w) (S.key_of x);
-    }) };
+    ghost closed = { closed_arrival S.is_alike (like_keys S.Key.equivalence S.key_of S.is_alike S.alike_by_key) };
 
     fn new(alloc: Global, limit: Limit) -> Result<Arrivals<S>, NoMemory> {
         let mut buckets = Buckets::new(alloc);
@@ -176,6 +174,27 @@ where
     fn clear(&mut self) {
         self.chain.clear();
         self.buckets.clear();
+    }
+}
+
+impl<S: Alike> Keyed for Arrivals<S>
+where
+    S::Key: Hashed,
+{
+    ghost key_of = { S.key_of };
+
+    ghost keys = { by_arrival S.Key.is_alike };
+
+    ghost order_by_key = { λ i. by_arrival (λ v w. S.alike_by_key v w i) };
+
+    ghost matches_key = { λ _. refl };
+
+    fn key(row: &S::Row) -> &S::Key {
+        S::key(row)
+    }
+
+    fn alike(row: &S::Row, other: &S::Row) -> bool {
+        S::key(row).alike(S::key(other))
     }
 }
 

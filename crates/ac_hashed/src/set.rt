@@ -16,21 +16,22 @@ ghost use Rattle.ac_model.specs.Sequences as sequences;
 ghost use Rattle.ac_setwork.specs.TableFields.{Places};
 
 mod algebra;
+mod by_key;
 
 use crate::arrivals::Arrivals;
-use ac_base::{Fault, Hashed, Limit};
+use ac_base::{Fault, KeyOf, Limit};
 use ac_cursor::{Class, Cursor, GuardKey, GuardKind, Guarded, Tag};
-use ac_setwork::{OfItems, Table};
+use ac_setwork::{OfKeyed, Table};
 use std::alloc::Global;
 use std::marker::Model;
 
-/// A hashed set (A.18.7, A.18.8), which is told its number by a tag.
+/// A hashed set (A.18.7, A.18.8), which is told its number by a tag. Its elements have keys, and are as equivalent as these.
 #[derive(Drop)]
-pub struct HashedSet<T: Hashed> {
-    table: Table<Arrivals<OfItems<T>>>,
+pub struct HashedSet<T: KeyOf> {
+    table: Table<Arrivals<OfKeyed<T>>>,
 }
 
-impl<T: Hashed> Model for HashedSet<T> {
+impl<T: KeyOf> Model for HashedSet<T> {
     ghost use Rattle.ac_model.specs.Containers.{Container, container_code};
 
     ghost Value = { Container T };
@@ -40,7 +41,7 @@ impl<T: Hashed> Model for HashedSet<T> {
     ghost view = { λ m. m.table };
 }
 
-impl<T: Hashed> HashedSet<T> {
+impl<T: KeyOf> HashedSet<T> {
     /// An empty set. A bounded one takes all its memory here, and an unbounded one takes none.
     pub fn new(alloc: Global, tag: Tag, limit: Limit) -> Result<HashedSet<T>, Fault>
         requires { IsLimit limit }
@@ -133,7 +134,7 @@ impl<T: Hashed> HashedSet<T> {
     }
 }
 
-impl<T: Hashed> HashedSet<T> {
+impl<T: KeyOf> HashedSet<T> {
     /// Has_Element (A.18.7): false for a cursor of another set, and for one whose element is gone.
     pub fn has_element(&self, c: Cursor) -> bool
         ensures { result ≡ common.has_element_call (plain self.now.object) (seen_by self.now c) }
@@ -152,14 +153,14 @@ impl<T: Hashed> HashedSet<T> {
     pub fn find(&self, e: &T) -> Cursor
         ensures { Marks self.now.object result (sets.find_call (by_arrival T.is_alike) (plain self.now.object) e.now) }
     {
-        self.table.find(e)
+        self.table.find(e.key())
     }
 
     /// Contains (A.18.7).
     pub fn contains(&self, e: &T) -> bool
         ensures { result ≡ sets.contains_call (by_arrival T.is_alike) (plain self.now.object) e.now }
     {
-        self.table.contains(e)
+        self.table.contains(e.key())
     }
 
     /// First (A.18.7).
@@ -191,7 +192,7 @@ impl<T: Hashed> HashedSet<T> {
     }
 }
 
-impl<T: Hashed> HashedSet<T> {
+impl<T: KeyOf> HashedSet<T> {
     /// Replace_Element (A.18.7).
     pub fn replace_element(&mut self, c: Cursor, e: T) -> Result<(), Fault>
         ensures changed { Does Same (λ o. keyed.replace_element_call (by_arrival T.is_alike) o (seen_by self.old c) e)
@@ -240,7 +241,7 @@ impl<T: Hashed> HashedSet<T> {
         ensures changed { Does Same (λ o. sets.exclude_call (by_arrival T.is_alike) o e.now) self.old self.new result }
         ensures slots { slots_of self.new ≡ slots_of self.old }
     {
-        self.table.exclude(e)
+        self.table.exclude(e.key())
     }
 
     /// Delete by an element (A.18.7).
@@ -248,7 +249,7 @@ impl<T: Hashed> HashedSet<T> {
         ensures changed { Does Same (λ o. sets.delete_item_call (by_arrival T.is_alike) o e.now) self.old self.new result }
         ensures slots { slots_of self.new ≡ slots_of self.old }
     {
-        self.table.delete_key(e)
+        self.table.delete_key(e.key())
     }
 
     /// Delete (A.18.7): the element at the cursor, which becomes No_Element.
@@ -260,7 +261,7 @@ impl<T: Hashed> HashedSet<T> {
     }
 }
 
-impl<T: Hashed> HashedSet<T> {
+impl<T: KeyOf> HashedSet<T> {
     /// Copy (A.18.8): a set of its own number with copies of the elements. A bounded one's limit is the capacity, or the length
     /// where that is 0.
     pub fn copy(&self, alloc: Global, tag: Tag, capacity: u64) -> Result<HashedSet<T>, Fault>
@@ -309,7 +310,7 @@ impl<T: Hashed> HashedSet<T> {
     }
 }
 
-impl<T: Hashed> Guarded for HashedSet<T> {
+impl<T: KeyOf> Guarded for HashedSet<T> {
     ghost is_set = { λ _. true };
 
     ghost guards = { guards_of };

@@ -1,2 +1,3 @@
 pub mod Ascents
 pub mod Becoming
+pub mod Levels

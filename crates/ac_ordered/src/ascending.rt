@@ -1,25 +1,26 @@
 //! Rows that ascend by their keys.
-ghost use Rattle.std.specs.Prelude.{◌≡◌, ◌∷◌, [], ◌+◌, ◌-◌, ◌^◌, ◌<◌, ◌≤◌, Bool, false, not, length};
+ghost use Rattle.std.specs.Prelude.{◌≡◌, ◌∷◌, [], ◌+◌, ◌-◌, ◌^◌, ◌<◌, ◌≤◌, Bool, false, not, length, refl};
 ghost use Rattle.ac_base.specs.Order.{are_level};
 ghost use Rattle.ac_balance.specs.Indexed.{FewSteps, first_where};
 ghost use Rattle.ac_model.specs.Keyed.{ascending};
 ghost use Rattle.ac_model.specs.Rows.{entry};
 ghost use Rattle.ac_model.proofs.KeyedLaws.{closed_ascending};
 ghost use Rattle.ac_ordered.specs.Ascents.{ascent};
-ghost use Rattle.ac_ordered.specs.Orders.{level_itself, weak_by_key};
+ghost use Rattle.ac_ordered.specs.Orders.{level_itself, weak_rows};
 
 use crate::changes::{Replacement, WithElement};
+use crate::ranked::Ranked;
 use crate::sorted::Sorted;
 use ac_balance::OrderIndex;
-use ac_base::{Elem, Limit, Name, NoMemory, Rank, Steps};
-use ac_setwork::{Index, Keys, Mapped, OfEntries, Ordered, Searched};
+use ac_base::{Elem, Limit, Name, NoMemory, Rank, Steps, precedes};
+use ac_setwork::{Index, Keyed, Mapped, OfEntries, Ordered, Searched};
 use std::alloc::Global;
 use std::marker::{Brand, Model};
 use std::sync::ledger::{Blank, Ledger};
 
 /// An index whose rows ascend by their keys, of which no two are equivalent.
 #[derive(Drop)]
-pub struct Ascending<S: Keys>
+pub struct Ascending<S: Ranked>
 where
     S::Row: Elem,
     S::Key: Rank,
@@ -27,7 +28,7 @@ where
     tree: OrderIndex<Sorted<S>, ()>,
 }
 
-impl<S: Keys> Model for Ascending<S>
+impl<S: Ranked> Model for Ascending<S>
 where
     S::Row: Elem,
     S::Key: Rank,
@@ -41,10 +42,10 @@ where
 
     ghost view = { λ a. a.tree };
 
-    ghost invariant = { λ a. IsSound (λ v w. S.Key.is_less (S.key_of v) (S.key_of w)) a.tree };
+    ghost invariant = { λ a. IsSound S.is_less a.tree };
 }
 
-impl<S: Keys> Index for Ascending<S>
+impl<S: Ranked> Index for Ascending<S>
 where
     S::Row: Elem,
     S::Key: Rank,
@@ -53,7 +54,7 @@ where
 
     type Key = S::Key;
 
-    ghost order = { ascending (λ v w. S.Key.is_less (S.key_of v) (S.key_of w)) };
+    ghost order = { ascending S.is_less };
 
     ghost matches = { λ k v. are_level S.Key.is_less (S.key_of v) k };
 
@@ -63,7 +64,7 @@ where
 
     ghost seen = { λ a. ascent a };
 
-    ghost closed = { closed_ascending (λ v w. S.Key.is_less (S.key_of v) (S.key_of w)) (weak_by_key S.key_of S.Key.is_less S.Key.ordered) };
+    ghost closed = { closed_ascending S.is_less (weak_rows S.key_of S.Key.is_less S.Key.ordered S.is_less S.less_by_key) };
 
     fn new(alloc: Global, limit: Limit) -> Result<Ascending<S>, NoMemory> {
         match limit {
@@ -162,7 +163,7 @@ where
     }
 }
 
-impl<S: Keys> Searched for Ascending<S>
+impl<S: Ranked> Searched for Ascending<S>
 where
     S::Row: Elem,
     S::Key: Rank,
@@ -174,7 +175,7 @@ where
     }
 }
 
-impl<S: Keys> Ordered for Ascending<S>
+impl<S: Ranked> Ordered for Ascending<S>
 where
     S::Row: Elem,
     S::Key: Rank,
@@ -192,6 +193,28 @@ where
     }
 }
 
+impl<S: Ranked> Keyed for Ascending<S>
+where
+    S::Row: Elem,
+    S::Key: Rank,
+{
+    ghost key_of = { S.key_of };
+
+    ghost keys = { ascending S.Key.is_less };
+
+    ghost order_by_key = { λ i. ascending (λ v w. S.less_by_key v w i) };
+
+    ghost matches_key = { λ _. refl };
+
+    fn key(row: &S::Row) -> &S::Key {
+        S::key(row)
+    }
+
+    fn alike(row: &S::Row, other: &S::Row) -> bool {
+        are_level(S::key(row), S::key(other))
+    }
+}
+
 impl<K: Rank, V: Elem> Mapped for Ascending<OfEntries<K, V>> {
     type Element = V;
 
@@ -205,7 +228,7 @@ impl<K: Rank, V: Elem> Mapped for Ascending<OfEntries<K, V>> {
 }
 
 /// A look-up that counts nothing.
-fn sought<S: Keys, L: Ledger>(
+fn sought<S: Ranked, L: Ledger>(
     tree: &OrderIndex<Sorted<S>, ()>,
     key: &S::Key,
     blank: Blank,
@@ -219,4 +242,11 @@ where
     ensures { result ≡ first_where (λ v. are_level S.Key.is_less (S.key_of v) key.now) tree.now }
 {
     tree.find_key(key, &mut Steps::<L>::new(blank))
+}
+
+/// Neither key is less than the other.
+fn are_level<K: Rank>(key: &K, other: &K) -> bool
+    ensures { result ≡ are_level K.is_less key.now other.now }
+{
+    !precedes(key, other) && !precedes(other, key)
 }

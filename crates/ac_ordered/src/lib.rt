@@ -4,6 +4,7 @@
 mod ascending;
 mod changes;
 mod map;
+mod ranked;
 mod set;
 mod sorted;
 

@@ -17,22 +17,24 @@ ghost use Rattle.ac_model.specs.Sets as sets;
 ghost use Rattle.ac_setwork.specs.TableFields.{Places};
 
 mod algebra;
+mod by_key;
 
 use crate::ascending::Ascending;
-use ac_base::{Fault, Limit, Rank, Steps};
+use ac_base::{Fault, KeyOf, Limit, Steps};
 use ac_cursor::{Class, Cursor, GuardKey, GuardKind, Guarded, Tag};
-use ac_setwork::{OfItems, Table};
+use ac_setwork::{OfKeyed, Table};
 use std::alloc::Global;
 use std::marker::Model;
 use std::sync::ledger::Ledger;
 
-/// An ordered set (A.18.9), which is told its number by a tag. No two of its elements are equivalent.
+/// An ordered set (A.18.9), which is told its number by a tag. No two of its elements are equivalent. They have keys, and are
+/// in the order of these.
 #[derive(Drop)]
-pub struct OrderedSet<T: Rank> {
-    table: Table<Ascending<OfItems<T>>>,
+pub struct OrderedSet<T: KeyOf> {
+    table: Table<Ascending<OfKeyed<T>>>,
 }
 
-impl<T: Rank> Model for OrderedSet<T> {
+impl<T: KeyOf> Model for OrderedSet<T> {
     ghost use Rattle.ac_model.specs.Containers.{Container, container_code};
 
     ghost Value = { Container T };
@@ -42,7 +44,7 @@ impl<T: Rank> Model for OrderedSet<T> {
     ghost view = { λ s. s.table };
 }
 
-impl<T: Rank> OrderedSet<T> {
+impl<T: KeyOf> OrderedSet<T> {
     /// An empty set. A bounded one takes all its memory here, and an unbounded one takes none.
     pub fn new(alloc: Global, tag: Tag, limit: Limit) -> Result<OrderedSet<T>, Fault>
         requires { IsLimit limit }
@@ -105,7 +107,7 @@ impl<T: Rank> OrderedSet<T> {
     }
 }
 
-impl<T: Rank> OrderedSet<T> {
+impl<T: KeyOf> OrderedSet<T> {
     /// Has_Element (A.18.7): false for a cursor of another set, and for one whose element is gone.
     pub fn has_element(&self, c: Cursor) -> bool
         ensures { result ≡ common.has_element_call (plain self.now.object) (seen_by self.now c) }
@@ -175,7 +177,7 @@ impl<T: Rank> OrderedSet<T> {
         ensures found { Marks self.now.object result (sets.find_call (ascending T.is_less) (plain self.now.object) element.now) }
         ensures few { FewSteps (length_of self.now.object) steps.old steps.new }
     {
-        self.table.find_counted(element, steps)
+        self.table.find_counted(element.key(), steps)
     }
 
     /// Contains (A.18.7).
@@ -183,7 +185,7 @@ impl<T: Rank> OrderedSet<T> {
         ensures found { result ≡ sets.contains_call (ascending T.is_less) (plain self.now.object) element.now }
         ensures few { FewSteps (length_of self.now.object) steps.old steps.new }
     {
-        self.table.contains_counted(element, steps)
+        self.table.contains_counted(element.key(), steps)
     }
 
     /// Floor (A.18.9): the last element that isn't greater.
@@ -191,7 +193,7 @@ impl<T: Rank> OrderedSet<T> {
         ensures found { Marks self.now.object result (sets.floor_call (ascending T.is_less) (plain self.now.object) element.now) }
         ensures few { FewSteps (length_of self.now.object) steps.old steps.new }
     {
-        self.table.floor(element, steps)
+        self.table.floor(element.key(), steps)
     }
 
     /// Ceiling (A.18.9): the first element that isn't less.
@@ -199,11 +201,11 @@ impl<T: Rank> OrderedSet<T> {
         ensures found { Marks self.now.object result (sets.ceiling_call (ascending T.is_less) (plain self.now.object) element.now) }
         ensures few { FewSteps (length_of self.now.object) steps.old steps.new }
     {
-        self.table.ceiling(element, steps)
+        self.table.ceiling(element.key(), steps)
     }
 }
 
-impl<T: Rank> OrderedSet<T> {
+impl<T: KeyOf> OrderedSet<T> {
     /// Insert (A.18.7).
     pub fn insert(&mut self, element: T) -> Result<(), Fault>
         ensures changed { Does Same (λ o. keyed.insert_call (ascending T.is_less) o element) self.old self.new result }
@@ -252,7 +254,7 @@ impl<T: Rank> OrderedSet<T> {
         ensures changed { Does Same (λ o. sets.exclude_call (ascending T.is_less) o element.now) self.old self.new result }
         ensures slots { slots_of self.new ≡ slots_of self.old }
     {
-        self.table.exclude(element)
+        self.table.exclude(element.key())
     }
 
     /// Delete by an item (A.18.7).
@@ -260,7 +262,7 @@ impl<T: Rank> OrderedSet<T> {
         ensures changed { Does Same (λ o. sets.delete_item_call (ascending T.is_less) o element.now) self.old self.new result }
         ensures slots { slots_of self.new ≡ slots_of self.old }
     {
-        self.table.delete_key(element)
+        self.table.delete_key(element.key())
     }
 
     /// Delete (A.18.7): the element at the cursor, which becomes No_Element.
@@ -296,7 +298,7 @@ impl<T: Rank> OrderedSet<T> {
     }
 }
 
-impl<T: Rank> OrderedSet<T> {
+impl<T: KeyOf> OrderedSet<T> {
     /// Copy (A.18.9): a set of its own number with copies of the elements. A bounded one's limit is the capacity, or the length
     /// where that is 0.
     pub fn copy(&self, alloc: Global, tag: Tag, capacity: u64) -> Result<OrderedSet<T>, Fault>
@@ -345,7 +347,7 @@ impl<T: Rank> OrderedSet<T> {
     }
 }
 
-impl<T: Rank> Guarded for OrderedSet<T> {
+impl<T: KeyOf> Guarded for OrderedSet<T> {
     ghost is_set = { λ _. true };
 
     ghost guards = { guards_of };

@@ -1,7 +1,8 @@
 //! A row in the order of its key.
-ghost use Rattle.std.specs.Prelude.{◌≡◌, refl};
-ghost use Rattle.ac_ordered.specs.Orders.{weak_by_key};
+ghost use Rattle.std.specs.Prelude.{◌≡◌};
+ghost use Rattle.ac_ordered.specs.Orders.{weak_rows};
 
+use crate::ranked::Ranked;
 use ac_balance::Keyed;
 use ac_base::{Elem, NoMemory, Rank, Steps};
 use ac_setwork::Keys;
@@ -53,21 +54,21 @@ where
     }
 }
 
-impl<S: Keys> Rank for Sorted<S>
+impl<S: Ranked> Rank for Sorted<S>
 where
     S::Row: Elem,
     S::Key: Rank,
 {
-    ghost is_less = { λ v w. S.Key.is_less (S.key_of v) (S.key_of w) };
+    ghost is_less = { S.is_less };
 
-    ghost ordered = { weak_by_key S.key_of S.Key.is_less S.Key.ordered };
+    ghost ordered = { weak_rows S.key_of S.Key.is_less S.Key.ordered S.is_less S.less_by_key };
 
     fn less<L: Ledger>(&self, other: &Sorted<S>, steps: &mut Steps<L>) -> bool {
         S::key(&self.row).less(S::key(&other.row), steps)
     }
 }
 
-impl<S: Keys> Keyed for Sorted<S>
+impl<S: Ranked> Keyed for Sorted<S>
 where
     S::Row: Elem,
     S::Key: Rank,
@@ -76,7 +77,7 @@ where
 
     ghost key_of = { S.key_of };
 
-    ghost less_by_key = { λ x y. refl };
+    ghost less_by_key = { S.less_by_key };
 
     fn key(&self) -> &S::Key {
         S::key(&self.row)

@@ -13,5 +13,6 @@ pub mod Sifts
 pub mod Tables
 pub mod Unguarded
 pub mod Unions
+pub mod Updates
 pub mod Walking
 pub mod Widening

@@ -3,6 +3,7 @@ pub mod Entries
 pub mod EntryLaws
 pub mod Filling
 pub mod Indexed
+pub mod KeyCalls
 pub mod Refilling
 pub mod SetSeen
 pub mod TableCalls

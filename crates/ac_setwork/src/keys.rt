@@ -55,35 +55,7 @@ impl<K: Elem, V: Elem> Keys for OfEntries<K, V> {
     }
 }
 
-/// A set's element is its own key.
-#[derive(Drop)]
-pub struct OfItems<T> {
-    of: PhantomData<T>,
-}
-
-impl<T: Elem> Keys for OfItems<T> {
-    type Row = T;
-
-    type Key = T;
-
-    ghost key_of = { λ e. e };
-
-    ghost is_equal = { T.is_same };
-
-    fn key(row: &T) -> &T {
-        row
-    }
-
-    fn copied(row: &T, alloc: Global) -> Result<T, NoMemory> {
-        row.copy(alloc)
-    }
-
-    fn equal(left: &T, right: &T) -> bool {
-        left.same(right)
-    }
-}
-
-/// A keyed set's element has a key.
+/// A set's element has a key, which may be the element itself.
 #[derive(Drop)]
 pub struct OfKeyed<T> {
     of: PhantomData<T>,

@@ -6,6 +6,7 @@ mod entry;
 mod entry_element;
 mod filling;
 mod index;
+mod keyed;
 mod keys;
 mod mapped;
 mod ordered;
@@ -16,7 +17,8 @@ mod table;
 
 pub use entry::Entry;
 pub use index::Index;
-pub use keys::{Keys, OfEntries, OfItems, OfKeyed};
+pub use keyed::Keyed;
+pub use keys::{Keys, OfEntries, OfKeyed};
 pub use mapped::Mapped;
 pub use ordered::Ordered;
 pub use searched::Searched;

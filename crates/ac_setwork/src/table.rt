@@ -11,6 +11,7 @@ ghost use Rattle.ac_setwork.specs.TableFields.{named_like};
 
 mod algebra;
 mod as_set;
+mod by_key;
 mod capacities;
 mod copies;
 mod counted;

@@ -8,9 +8,9 @@ ghost use Rattle.ac_model.specs.Objects.{plain};
 ghost use Rattle.ac_model.specs.Sets as sets;
 
 use super::HashedSet;
-use ac_base::{Fault, Hashed};
+use ac_base::{Fault, KeyOf};
 
-impl<T: Hashed> HashedSet<T> {
+impl<T: KeyOf> HashedSet<T> {
     /// Union (A.18.7): copies of the source's elements that have no equivalent here, in the source's order.
     pub fn union(&mut self, source: &HashedSet<T>) -> Result<(), Fault>
         ensures changed { Does Same (λ o. sets.union_call (by_arrival T.is_alike) o (plain source.now.object)) self.old self.new result }

@@ -8,9 +8,9 @@ ghost use Rattle.ac_model.specs.Objects.{plain};
 ghost use Rattle.ac_model.specs.Sets as sets;
 
 use super::OrderedSet;
-use ac_base::{Fault, Rank};
+use ac_base::{Fault, KeyOf};
 
-impl<T: Rank> OrderedSet<T> {
+impl<T: KeyOf> OrderedSet<T> {
     /// Union (A.18.7): copies of the source's elements that have no equivalent here, in the source's order.
     pub fn union(&mut self, source: &OrderedSet<T>) -> Result<(), Fault>
         ensures changed { Does Same (λ o. sets.union_call (ascending T.is_less) o (plain source.now.object)) self.old self.new result }

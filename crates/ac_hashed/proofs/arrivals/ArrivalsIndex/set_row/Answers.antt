@@ -1,4 +1,4 @@
-use Rattle.std.proofs.Common.{◌≡◌, Contains, false, IsTrue, ap, sym, ◌∙◌, subst, arith}
+use Rattle.std.proofs.Common.{◌≡◌, Bool, Contains, false, IsTrue, ap, sym, ◌∙◌, subst, arith}
 use Rattle.ac_base.specs.Rows.{row}
 use Rattle.ac_chain.specs.Rows.{Chained}
 use Rattle.ac_setwork.specs.Indexed.{is_there, Becomes, plain_rows}
@@ -10,6 +10,7 @@ use Rattle.ac_hashed.specs.Ties.{AreTied}
 use Rattle.ac_hashed.proofs.Standing.{there_live}
 use Rattle.ac_hashed.proofs.Shifts.{reordered_is}
 use Rattle.ac_hashed.proofs.Kept.{IsDropped, alike_keys, dropped, gone_absent, pair_in, reordered_differ, tied_anew}
+use Rattle.ac_hashed.proofs.Likes.{by_keys}
 use Rattle.ac_hashed.proofs.arrivals.ArrivalsIndex.set_row.Goals as goal
 
 pub at-requires : goal.at-requires
@@ -51,10 +52,11 @@ invariant_of-self g c =
     (tied_anew (λ v. g.S.Key.Hashed.hash_of (g.S.Keys.key_of v)) (λ v w. g.S.Key.Hashed.is_alike (g.S.Keys.key_of v) (g.S.Keys.key_of w)) c.self.inside.chain c.self.inside.buckets c.self.invariant d.new.self c.add.new.self c.args.name c.at.result.now c.args.row live c.at.ensures.value gone
     (c.add.ensures.added ∙ ap (λ h. added d.new.self (row c.args.name h)) new) (subst IsSound c.write.ensures.written c.write.ensures.sound)
     (reordered_differ (λ v. g.S.Key.Hashed.hash_of (g.S.Keys.key_of v)) (λ v w. g.S.Key.Hashed.is_alike (g.S.Keys.key_of v) (g.S.Keys.key_of w)) c.self.inside.chain c.self.inside.buckets (alike_keys g.met.S.Key.Hashed.equivalence g.S.Keys.key_of) c.self.invariant c.args.name c.args.row live
-    (subst (λ (k : Chained _). another_is_like (by_arrival (λ v w. g.S.Key.Hashed.is_alike (g.S.Keys.key_of v) (g.S.Keys.key_of w))) (plain_rows (seen_in k)) c.args.name.serial c.args.row ≡ false) (sym c.self.view_is) c.requires.only)))
+    (subst (λ (alike : g.row.S-Row.Denot → g.row.S-Row.Denot → Bool). another_is_like (by_arrival alike) (plain_rows (seen_in c.self.inside.chain)) c.args.name.serial c.args.row ≡ false) (by_keys g.S.Key.Hashed.is_alike g.S.Keys.key_of g.S.Alike.is_alike g.met.S.Alike.alike_by_key)
+    (subst (λ (k : Chained _). another_is_like (by_arrival g.S.Alike.is_alike) (plain_rows (seen_in k)) c.args.name.serial c.args.row ≡ false) (sym c.self.view_is) c.requires.only))))
 
 pub returns : goal.returns
 returns g c =
     let live = there_live c.self.inside.chain c.args.name (subst (λ (d : Chained _). IsTrue (is_there (seen_in d) c.args.name)) (sym c.self.view_is) c.requires.there) in
-    subst (λ (d : Chained _). Becomes (seen_in d) (seen_in c.write.new.chain) (with_reordered (by_arrival (λ v w. g.S.Key.Hashed.is_alike (g.S.Keys.key_of v) (g.S.Keys.key_of w))) (plain_rows (seen_in d)) c.args.name.serial c.args.row) d.next_serial d.spare) c.self.view_is
-    (reordered_is (λ v w. g.S.Key.Hashed.is_alike (g.S.Keys.key_of v) (g.S.Keys.key_of w)) c.self.inside.chain c.write.new.chain c.args.name c.args.row c.self.invariant.sound live c.write.ensures.written)
+    subst (λ (d : Chained _). Becomes (seen_in d) (seen_in c.write.new.chain) (with_reordered (by_arrival g.S.Alike.is_alike) (plain_rows (seen_in d)) c.args.name.serial c.args.row) d.next_serial d.spare) c.self.view_is
+    (reordered_is g.S.Alike.is_alike c.self.inside.chain c.write.new.chain c.args.name c.args.row c.self.invariant.sound live c.write.ensures.written)

@@ -14,13 +14,13 @@ set_row-requires-clause-there g c = there_live c.self.inside.tree c.args.name (s
 pub set_row-requires-clause-only : goal.set_row-requires-clause-only
 set_row-requires-clause-only g c =
     let x = c.self.inside.tree in let a = c.args.name in let live = there_live x a (subst (λ x. is_there (ascent x) a ≡ true) (sym c.self.view_is) c.requires.there) in
-    let test : g.row.S-Row.Denot → Bool = λ w. are_level g.S.Key.Rank.is_less (g.S.Keys.key_of w) (g.S.Keys.key_of c.args.row) in
+    let test : g.row.S-Row.Denot → Bool = λ w. are_level g.S.Ranked.is_less w c.args.row in
     none_left a test x.rows (alone _ x a c.self.invariant live) (once_in _ x c.self.invariant) (live_has a x.rows live)
-    (subst (λ x. another_is_like (ascending (λ (v w : g.row.S-Row.Denot). g.S.Key.Rank.is_less (g.S.Keys.key_of v) (g.S.Keys.key_of w))) (plain_rows (ascent x)) a.serial c.args.row ≡ false) (sym c.self.view_is) c.requires.only)
+    (subst (λ x. another_is_like (ascending g.S.Ranked.is_less) (plain_rows (ascent x)) a.serial c.args.row ≡ false) (sym c.self.view_is) c.requires.only)
 
 pub returns : goal.returns
 returns g c =
     let x = c.self.inside.tree in let a = c.args.name in let live = there_live x a (subst (λ x. is_there (ascent x) a ≡ true) (sym c.self.view_is) c.requires.there) in
-    let less : g.row.S-Row.Denot → g.row.S-Row.Denot → Bool = λ v w. g.S.Key.Rank.is_less (g.S.Keys.key_of v) (g.S.Keys.key_of w) in
+    let less = g.S.Ranked.is_less in
     subst (λ x. Becomes (ascent x) (ascent c.set_row.new.self) (with_reordered (ascending less) (plain_rows (ascent x)) a.serial c.args.row) x.next_serial x.spare) c.self.view_is
     (reordered_becomes less x c.self.invariant a live c.set_row.new.self c.args.row c.set_row.ensures.row)

@@ -1,0 +1,90 @@
+//! The calls by key of hashed sets (Generic_Keys, A.18.8).
+ghost use Rattle.std.specs.Prelude.{◌≡◌, ◌<◌, None};
+ghost use Rattle.ac_model.specs.Calls.{Lends, Marks, Same};
+ghost use Rattle.ac_model.specs.Containers.{slots_of};
+ghost use Rattle.ac_model.specs.Cursors.{needs_cursor};
+ghost use Rattle.ac_model.specs.Forms.{Does, Looks, seen_by};
+ghost use Rattle.ac_model.specs.Keyed.{by_arrival};
+ghost use Rattle.ac_model.specs.KeyedSets as by_key;
+ghost use Rattle.ac_model.specs.Objects.{plain};
+ghost use Rattle.ac_setwork.specs.KeyCalls.{DoesAlways, Starts, cursor_guard_of};
+
+use super::HashedSet;
+use ac_base::{Fault, KeyOf};
+use ac_cursor::{Cursor, GuardKey};
+
+impl<T: KeyOf> HashedSet<T> {
+    /// Key (A.18.8).
+    pub fn key(&self, c: Cursor) -> Result<&T::Key, Fault>
+        ensures { Looks Lends (λ o. by_key.key_call T.key_of o (seen_by self.now c)) self.now result }
+    {
+        self.table.key(c)
+    }
+
+    /// Element by a key (A.18.8).
+    pub fn key_element(&self, k: &T::Key) -> Result<&T, Fault>
+        ensures { Looks Lends (λ o. by_key.key_element_call T.key_of (by_arrival T.Key.is_alike) o k.now) self.now result }
+    {
+        self.table.row_by(k)
+    }
+
+    /// Find by a key (A.18.8).
+    pub fn key_find(&self, k: &T::Key) -> Cursor
+        ensures { Marks self.now.object result
+            (by_key.key_find_call T.key_of (by_arrival T.Key.is_alike) (plain self.now.object) k.now) }
+    {
+        self.table.find(k)
+    }
+
+    /// Contains by a key (A.18.8).
+    pub fn key_contains(&self, k: &T::Key) -> bool
+        ensures { result ≡ by_key.key_contains_call T.key_of (by_arrival T.Key.is_alike) (plain self.now.object) k.now }
+    {
+        self.table.contains(k)
+    }
+
+    /// Exclude by a key (A.18.8).
+    pub fn key_exclude(&mut self, k: &T::Key) -> Result<(), Fault>
+        ensures changed { Does Same (λ o. by_key.key_exclude_call T.key_of (by_arrival T.Key.is_alike) o k.now) self.old self.new result }
+        ensures slots { slots_of self.new ≡ slots_of self.old }
+    {
+        self.table.exclude(k)
+    }
+
+    /// Delete by a key (A.18.8).
+    pub fn key_delete(&mut self, k: &T::Key) -> Result<(), Fault>
+        ensures changed { Does Same (λ o. by_key.key_delete_call T.key_of (by_arrival T.Key.is_alike) o k.now) self.old self.new result }
+        ensures slots { slots_of self.new ≡ slots_of self.old }
+    {
+        self.table.delete_key(k)
+    }
+
+    /// Replace by a key (A.18.8): the element that has it becomes another one, with a key that may be another.
+    pub fn key_replace(&mut self, k: &T::Key, e: T) -> Result<(), Fault>
+        ensures changed { Does Same (λ o. by_key.key_replace_call T.key_of (by_arrival T.Key.is_alike) o k.now e)
+            self.old self.new result }
+        ensures slots { slots_of self.new ≡ slots_of self.old }
+    {
+        self.table.replace_by(k, e)
+    }
+
+    /// Starts Update_Element_Preserving_Key (A.18.8): holds a guard, and gives its key with a copy of the element.
+    pub fn start_update_key(&mut self, c: Cursor) -> Result<(GuardKey, T), Fault>
+        ensures changed { Does Starts (λ o. by_key.start_update_key_call o (seen_by self.old c)) self.old self.new result }
+        ensures slots { slots_of self.new ≡ slots_of self.old }
+    {
+        self.table.start_update_key(c)
+    }
+
+    /// Ends Update_Element_Preserving_Key (A.18.8) with the copy. The guard is released also where the call is refused.
+    pub fn end_update_key(&mut self, c: Cursor, key: GuardKey, e: T) -> Result<(), Fault>
+        requires there { needs_cursor self.old.object c ≡ None }
+        requires own { key ≡ cursor_guard_of self.old.object.number }
+        requires held { 0 < self.old.object.cursor_guards }
+        ensures changed { DoesAlways Same (λ o. by_key.end_update_key_call T.key_of (by_arrival T.Key.is_alike) o (seen_by self.old c) e)
+            self.old self.new result }
+        ensures slots { slots_of self.new ≡ slots_of self.old }
+    {
+        self.table.end_update_key(c, key, e)
+    }
+}
