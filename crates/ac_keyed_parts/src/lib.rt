@@ -6,6 +6,8 @@ mod balance;
 #[cfg(test)]
 mod hashed;
 #[cfg(test)]
+mod keyed_sets;
+#[cfg(test)]
 mod ordered;
 #[cfg(test)]
 mod set_algebra;

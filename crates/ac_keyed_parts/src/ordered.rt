@@ -1,7 +1,7 @@
 ghost use Rattle.std.specs.Prelude.{◌≡◌, ◌<◌};
 ghost use Rattle.ac_base.specs.Limits.{IsLimit};
 
-use ac_base::{Elem, Fault, Limit, Rank, Reason, Steps, Text};
+use ac_base::{Elem, Fault, KeyOf, Limit, Rank, Reason, Steps, Text};
 use ac_cursor::{Cursor, GuardKind, Guarded, Tag, TagMint};
 use ac_ordered::{OrderedMap, OrderedSet};
 use std::alloc::Global;
@@ -17,7 +17,7 @@ pub fn tag(rt: &impl Abort, number: u64) -> Tag {
     }
 }
 
-pub fn set<T: Rank>(rt: &impl Abort, alloc: Global, number: u64, limit: Limit) -> OrderedSet<T>
+pub fn set<T: KeyOf>(rt: &impl Abort, alloc: Global, number: u64, limit: Limit) -> OrderedSet<T>
     requires { IsLimit limit }
 {
     match OrderedSet::new(alloc, tag(rt, number), limit) {
@@ -34,7 +34,7 @@ fn map<K: Rank, V: Elem>(rt: &impl Abort, alloc: Global, number: u64) -> Ordered
 }
 
 /// What the set answers of an element: whether it has it, and where it, its floor and its ceiling are.
-fn looked<T: Rank, L: Ledger>(set: &OrderedSet<T>, element: &T, blank: Blank) -> (bool, [Cursor; 3])
+fn looked<T: KeyOf, L: Ledger>(set: &OrderedSet<T>, element: &T, blank: Blank) -> (bool, [Cursor; 3])
     requires name { blank.name ≡ L.name }
     requires parts { blank.parts ≡ L.parts }
     requires some { 0 < blank.parts }
@@ -47,7 +47,7 @@ fn looked<T: Rank, L: Ledger>(set: &OrderedSet<T>, element: &T, blank: Blank) ->
     (has, [at, floor, ceiling])
 }
 
-fn look<T: Rank>(set: &OrderedSet<T>, element: &T) -> (bool, [Cursor; 3]) {
+fn look<T: KeyOf>(set: &OrderedSet<T>, element: &T) -> (bool, [Cursor; 3]) {
     looked::<T, Brand>(set, element, Blank::new(1))
 }
 

@@ -7,13 +7,13 @@ ghost use Rattle.ac_syntax.specs.declared.kind.ElemKind.TheVariants.{Integer, St
 ghost use Rattle.ac_meaning.specs.Elements as elements;
 
 use crate::literal::add_quoted;
-use ac_base::{Elem, Hashed, NoMemory, Rank, Text, Value};
+use ac_base::{Elem, KeyOf, NoMemory, Text, Value};
 use ac_io::{Sink, WriteFault, add};
 use itoa::Buffer;
 use std::alloc::Global;
 
 /// Elements that a script's values become.
-pub trait ScriptElement: Rank + Hashed {
+pub trait ScriptElement: KeyOf {
     ghost use Rattle.ac_meaning.specs.Elements.{Tools};
     ghost use Rattle.ac_syntax.specs.declared.kind.ElemKind.{ElemKind};
 

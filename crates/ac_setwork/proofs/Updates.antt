@@ -1,12 +1,13 @@
 -- The calls by key and the update of a key, in the words of the definitions.
 use Rattle.std.proofs.Common.{◌≡◌, ◌==◌, ◌&&◌, ◌||◌, ◌+◌, ◌-◌, ◌<◌, ◌≤◌, ℕ, zero, suc, Bool, true, false, not, true≢false, List, [], ◌∷◌, length, Option, Some, None, Result, Ok, Err, IsTrue, refl, sym, ap, ◌∙◌, subst, inl, inr, arith, eq-eqb, if◌then◌else◌}
-use Rattle.std.specs.Prelude.{find, is_some, option_map}
+use Rattle.std.specs.Prelude.{IfOk, find, is_some, option_map}
 use Rattle.std.specs.Borrow.{Bor}
 use Rattle.std.proofs.lemmas.Bool.{cases_Bool}
 use Rattle.std.proofs.lemmas.Option.{none-some}
 use Rattle.ac_base.specs.declared.cursor.Cursor.{Cursor}
 use Rattle.ac_base.specs.declared.fault.Fault.{Fault}
 use Rattle.ac_base.specs.declared.fault.Fault.TheVariants as fault
+use Rattle.ac_base.specs.declared.fault.NoMemory.{NoMemory}
 use Rattle.ac_base.specs.declared.guard.Class.TheVariants as class
 use Rattle.ac_base.specs.declared.guard.GuardKind.TheVariants.{Cursors}
 use Rattle.ac_base.specs.declared.limit.Limit.{Limit}
@@ -18,7 +19,7 @@ use Rattle.ac_base.specs.Guards.{GuardCounts, HeldGuard, one_less, one_more}
 use Rattle.ac_base.specs.Rows.{Row, names, row}
 use Rattle.ac_base.specs.Tampering.{forbids}
 use Rattle.ac_model.specs.Calls.{Call, Changing, ChangingAlways, Done, IsAfter, KeepsSlots, Lends, Looking, Same, call, takes_none}
-use Rattle.ac_model.specs.Containers.{Container, guards_of, slots_of, with_guards}
+use Rattle.ac_model.specs.Containers.{Container, container, guards_of, with_guards}
 use Rattle.ac_model.specs.Cursors.{cursor_at, mark, name_in, needs_cursor}
 use Rattle.ac_model.specs.Keyed as keyed
 use Rattle.ac_model.specs.Keyed.{Order, another_is_like, on_key, with_reordered}
@@ -30,7 +31,7 @@ use Rattle.ac_model.specs.Rows.{cut, place_of, named, row_by, value_at, with_val
 use Rattle.ac_model.specs.Sequences as sequences
 use Rattle.ac_model.proofs.Counts.{count, count-cons}
 use Rattle.ac_model.proofs.Moves.{times-named}
-use Rattle.ac_model.proofs.Reasons.{none_first}
+use Rattle.ac_model.proofs.Reasons.{none_first, none_others}
 use Rattle.ac_setwork.specs.Indexed.{Becomes, Indexed, found_in, plain_rows, value_of}
 use Rattle.ac_setwork.specs.KeyCalls.{Starts, cursor_guard_of, settle_call}
 use Rattle.ac_setwork.specs.TableFields.{IsTable, object_of}
@@ -151,6 +152,17 @@ module _ {V : Type 0} where
   pub none_held : (o : Object ℕ V) (m : Mark) → by_key.update_key_reason o m ≡ None → o.cursor_guards ≡ 0
   none_held o m h = unguarded o.cursor_guards o.element_guards (none_first (tampers_cursors o) (needs o m ∷ []) h)
 
+  pub update_stands : (o : Object Name V) (c : Cursor) → by_key.update_key_reason (plain o) (mark o c) ≡ None → needs_cursor o c ≡ None
+  update_stands o c h = none_first (needs_cursor o c) [] (none_others (tampers_cursors (plain o)) (needs_cursor o c ∷ []) h)
+
+  -- a copy of the row at a cursor that isn't refused
+  pub copied_at : (now : Container V) (g : GuardCounts) (l : Limit) (s : Indexed V) (c : Cursor) (name : Name) (v : V) (made : Result V NoMemory) → container (object_of g l s) s.spare ≡ now → needs_cursor now.object c ≡ None → name ≡ name_in c
+      → value_of s name ≡ Some v → IfOk made (λ copy. copy ≡ v) → IfOk made (λ copy. value_at (plain now.object).rows (name_of (mark now.object c)) ≡ Some copy)
+  copied_at now g l s c name v (Ok copy) is none at under same =
+      let serial : name_of (mark now.object c) ≡ name.serial = ap name_of (stands now.object c none).is_mark ∙ ap (λ (n : Name). n.serial) (sym at) in
+      ap (value_at (plain now.object).rows) serial ∙ ap (λ (x : Container V). value_at (plain x.object).rows name.serial) (sym is) ∙ under ∙ ap Some (sym same)
+  copied_at now g l s c name v (Err e) is none at under same = same
+
   started_after : (old : Container V) → IsAfter old.object (with_guards old (one_more Cursors (guards_of old))).object (record (plain old.object) { cursor_guards = old.object.cursor_guards + 1 })
   started_after old = record {
     plainly = refl;
@@ -166,6 +178,16 @@ module _ {V : Type 0} where
     (λ i. record { object = object i; kind = kind i }),
     at,
   )
+
+  -- the cursor still designates its element, and the guard is held
+  pub record Underway (now : Container V) (c : Cursor) (held : HeldGuard) : Type 0 where
+    pub there : needs_cursor now.object c ≡ None
+    pub own : held ≡ cursor_guard_of now.object.number
+    pub held : 0 < now.object.cursor_guards
+
+  pub underway : (old new : Container V) (c : Cursor) (held : HeldGuard) → by_key.update_key_reason (plain old.object) (mark old.object c) ≡ None → held ≡ cursor_guard_of old.object.number
+      → new ≡ with_guards old (one_more Cursors (guards_of old)) → Underway new c held
+  underway old new c held none own is = subst (λ (x : Container V). Underway x c held) (sym is) (record { there = update_stands old.object c none; own = own; held = omega arith })
 
   -- a call's own reason after that no element has the key
   absent_first : (b : Bool) → first_reason (Some KeyAbsent ∷ reason_if b Duplicate ∷ []) ≡ Some KeyAbsent

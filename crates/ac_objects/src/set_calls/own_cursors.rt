@@ -12,7 +12,7 @@ ghost use Rattle.ac_objects.specs.Sets.{items_of, set_kind_of, set_order};
 
 use crate::element::ScriptElement;
 use crate::set::{Set, uncounted};
-use ac_base::{Fault, Rank};
+use ac_base::{Fault, KeyOf};
 use ac_cursor::Cursor;
 use ac_ordered::OrderedSet;
 
@@ -23,13 +23,13 @@ pub fn find<T: ScriptElement>(set: &Set<T>, element: &T) -> Cursor
     set.find(element)
 }
 
-pub fn floor<T: Rank>(set: &OrderedSet<T>, element: &T) -> Cursor
+pub fn floor<T: KeyOf>(set: &OrderedSet<T>, element: &T) -> Cursor
     ensures { IsAnswer set.now.object result (sets.floor_call (ascending T.is_less) (plain set.now.object) element.now) }
 {
     uncounted::floor(set, element)
 }
 
-pub fn ceiling<T: Rank>(set: &OrderedSet<T>, element: &T) -> Cursor
+pub fn ceiling<T: KeyOf>(set: &OrderedSet<T>, element: &T) -> Cursor
     ensures { IsAnswer set.now.object result (sets.ceiling_call (ascending T.is_less) (plain set.now.object) element.now) }
 {
     uncounted::ceiling(set, element)

@@ -1,8 +1,9 @@
 //! The calls by key of ordered sets (Generic_Keys, A.18.9).
-ghost use Rattle.std.specs.Prelude.{◌≡◌, ◌<◌, None};
+ghost use Rattle.std.specs.Prelude.{◌≡◌, ◌<◌, None, OnOk};
 ghost use Rattle.ac_balance.specs.Indexed.{FewSteps};
+ghost use Rattle.ac_base.specs.Guards.{one_more};
 ghost use Rattle.ac_model.specs.Calls.{Lends, Marks, Same};
-ghost use Rattle.ac_model.specs.Containers.{slots_of};
+ghost use Rattle.ac_model.specs.Containers.{guards_of, slots_of, with_guards};
 ghost use Rattle.ac_model.specs.Cursors.{needs_cursor};
 ghost use Rattle.ac_model.specs.Forms.{Does, Looks, seen_by};
 ghost use Rattle.ac_model.specs.Keyed.{ascending};
@@ -95,6 +96,7 @@ impl<T: KeyOf> OrderedSet<T> {
     /// Starts Update_Element_Preserving_Key (A.18.9): holds a guard, and gives its key with a copy of the element.
     pub fn start_update_key(&mut self, c: Cursor) -> Result<(GuardKey, T), Fault>
         ensures changed { Does Starts (λ o. by_key.start_update_key_call o (seen_by self.old c)) self.old self.new result }
+        ensures rest { OnOk result (self.new ≡ with_guards self.old (one_more GuardKind.Cursors (guards_of self.old))) }
         ensures slots { slots_of self.new ≡ slots_of self.old }
     {
         self.table.start_update_key(c)

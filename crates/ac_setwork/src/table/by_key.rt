@@ -1,7 +1,8 @@
 //! The calls of sets with keys (Generic_Keys of A.18.8 and A.18.9) that no look-up of a table is.
-ghost use Rattle.std.specs.Prelude.{◌≡◌, ◌<◌, None, IfOk, Some};
+ghost use Rattle.std.specs.Prelude.{◌≡◌, ◌<◌, IfOk, None, OnOk, Some};
+ghost use Rattle.ac_base.specs.Guards.{one_more};
 ghost use Rattle.ac_model.specs.Calls.{Lends, Same};
-ghost use Rattle.ac_model.specs.Containers.{slots_of};
+ghost use Rattle.ac_model.specs.Containers.{guards_of, slots_of, with_guards};
 ghost use Rattle.ac_model.specs.Cursors.{IsNamed, needs_cursor};
 ghost use Rattle.ac_model.specs.Forms.{Does, Looks, seen_by};
 ghost use Rattle.ac_model.specs.KeyedSets as by_key;
@@ -76,6 +77,7 @@ impl<I: Index> Table<I> {
     /// Starts Update_Element_Preserving_Key (A.18.8, A.18.9): holds a guard, and gives its key with a copy of the element.
     pub fn start_update_key(&mut self, c: Cursor) -> Result<(GuardKey, I::Row), Fault>
         ensures changed { Does Starts (λ o. by_key.start_update_key_call o (seen_by self.old c)) self.old self.new result }
+        ensures rest { OnOk result (self.new ≡ with_guards self.old (one_more GuardKind.Cursors (guards_of self.old))) }
         ensures slots { slots_of self.new ≡ slots_of self.old }
     {
         allowed(self.refuses_update(c))?;
