@@ -1,8 +1,9 @@
 -- The calls by key and the update of a key, in the words of the definitions.
 use Rattle.std.proofs.Common.{◌≡◌, ◌==◌, ◌&&◌, ◌||◌, ◌+◌, ◌-◌, ◌<◌, ◌≤◌, ℕ, zero, suc, Bool, true, false, not, true≢false, List, [], ◌∷◌, length, Option, Some, None, Result, Ok, Err, IsTrue, refl, sym, ap, ◌∙◌, subst, inl, inr, arith, eq-eqb, if◌then◌else◌}
-use Rattle.std.specs.Prelude.{IfOk, find, is_some, option_map}
+use Rattle.std.specs.Prelude.{IfOk, find, is_some, nat_lt, option_map}
 use Rattle.std.specs.Borrow.{Bor}
 use Rattle.std.proofs.lemmas.Bool.{cases_Bool}
+use Rattle.std.proofs.lemmas.Bool.Decides.{nat_tests}
 use Rattle.std.proofs.lemmas.Option.{none-some}
 use Rattle.ac_base.specs.declared.cursor.Cursor.{Cursor}
 use Rattle.ac_base.specs.declared.fault.Fault.{Fault}
@@ -13,7 +14,7 @@ use Rattle.ac_base.specs.declared.guard.GuardKind.TheVariants.{Cursors}
 use Rattle.ac_base.specs.declared.limit.Limit.{Limit}
 use Rattle.ac_base.specs.declared.name.Name.{Name}
 use Rattle.ac_base.specs.declared.reason.Reason.{Reason}
-use Rattle.ac_base.specs.declared.reason.Reason.TheVariants.{Duplicate, KeyAbsent, KeyChanged}
+use Rattle.ac_base.specs.declared.reason.Reason.TheVariants.{CursorTampering, Duplicate, KeyAbsent, KeyChanged}
 use Rattle.ac_base.specs.FirstReason.{earlier, first_reason}
 use Rattle.ac_base.specs.Guards.{GuardCounts, HeldGuard, one_less, one_more}
 use Rattle.ac_base.specs.Rows.{Row, names, row}
@@ -146,8 +147,10 @@ module _ {V : Type 0} where
   released_is old mid held own is = is ∙ ap (λ (k : HeldGuard). with_guards old (one_less k.kind (guards_of old))) own
 
   unguarded : (cursor_guards element_guards : ℕ) → forbids class.Cursors cursor_guards element_guards ≡ None → cursor_guards ≡ 0
-  unguarded zero element_guards h = refl
-  unguarded (suc n) element_guards h = absurd (none-some _ (sym h))
+  unguarded cursor_guards element_guards h = elim (cases_Bool (nat_lt 0 cursor_guards)) [
+    | inl t ↦ absurd (let k = simp t at h in none-some CursorTampering (sym k))
+    | inr f ↦ grind (arith, nat_tests)
+  ]
 
   pub none_held : (o : Object ℕ V) (m : Mark) → by_key.update_key_reason o m ≡ None → o.cursor_guards ≡ 0
   none_held o m h = unguarded o.cursor_guards o.element_guards (none_first (tampers_cursors o) (needs o m ∷ []) h)
@@ -175,8 +178,7 @@ module _ {V : Type 0} where
   started old new m copy held none at object kind is = (
     none,
     subst (λ (x : Container V). IsAfter old.object x.object (record (plain old.object) { cursor_guards = old.object.cursor_guards + 1 })) (sym (is ∙ ap (λ k. with_guards old (one_more k (guards_of old))) kind)) (started_after old),
-    (λ i. record { object = object i; kind = kind i }),
-    at,
+    ((λ i. record { object = object i; kind = kind i }), at),
   )
 
   -- the cursor still designates its element, and the guard is held
