@@ -12,7 +12,7 @@ ghost use Rattle.ac_setwork.specs.KeyCalls.{DoesAlways, Starts, cursor_guard_of}
 
 use super::HashedSet;
 use ac_base::{Fault, KeyOf};
-use ac_cursor::{Cursor, GuardKey};
+use ac_cursor::{Cursor, GuardKey, GuardKind};
 
 impl<T: KeyOf> HashedSet<T> {
     /// Key (A.18.8).

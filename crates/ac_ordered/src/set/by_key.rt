@@ -13,7 +13,7 @@ ghost use Rattle.ac_setwork.specs.KeyCalls.{DoesAlways, Starts, cursor_guard_of}
 
 use super::OrderedSet;
 use ac_base::{Fault, KeyOf, Steps};
-use ac_cursor::{Cursor, GuardKey};
+use ac_cursor::{Cursor, GuardKey, GuardKind};
 use std::sync::ledger::Ledger;
 
 impl<T: KeyOf> OrderedSet<T> {
