@@ -47,6 +47,20 @@ none_counted : (b : Bool) (n m : ℕ) → n ≡ (if b then 1 else 0) + m → b �
 none_counted true n m e h = absurd (true≢false h)
 none_counted false n m e h = omega (arith, e)
 
+unguarded : (cursor_guards element_guards : ℕ) → forbids class.Cursors cursor_guards element_guards ≡ None → cursor_guards ≡ 0
+unguarded cursor_guards element_guards h = elim (cases_Bool (nat_lt 0 cursor_guards)) [
+  | inl t ↦ absurd (let k = simp t at h in none-some CursorTampering (sym k))
+  | inr f ↦ grind (arith, nat_tests)
+]
+
+-- a call's own reason after that no element has the key
+absent_first : (b : Bool) → first_reason (Some KeyAbsent ∷ reason_if b Duplicate ∷ []) ≡ Some KeyAbsent
+absent_first true = refl
+absent_first false = refl
+
+needs_none : (number : ℕ) (is_there : Bool) → is_there ≡ true → judged_in number number is_there ≡ None
+needs_none number is_there t = let e = eq-eqb number number refl in simp (e, t)
+
 module _ {V : Type 0} (test : V → Bool) where
   head_value : (r : Row ℕ V) (rows : List (Row ℕ V)) (name : ℕ) (v : V) → (r.name == name) ≡ true → value_at (r ∷ rows) name ≡ Some v → r.value ≡ v
   head_value r rows name v e is =
@@ -97,8 +111,8 @@ module _ {K V : Type 0} (order : Order V) (key : V → K) (keys : Order K) (by_k
   -- the row under the name stays what is found, as long as its key stays
   pub kept_found : (g : GuardCounts) (l : Limit) (s : Indexed V) (name : Name) (v copy : V) (b : Bool) → IsTable order g l s → is_among (names s.rows) name ≡ true → value_of s name ≡ Some v → b ≡ keys.alike (key v) (key copy) → b ≡ true
       → found_in (λ w. order.alike w copy) s.rows ≡ Some name
-  kept_found g l s name v copy b t there is like yes =
-      found_alone (λ w. order.alike w copy) s.rows name v (t.valid.keys_differ copy) (t.valid.as_object.names_differ name.serial) there is (ap (λ (o : Order V). o.alike v copy) by_key_is ∙ sym like ∙ yes)
+  kept_found g l s name v copy b t there is like true_now =
+      found_alone (λ w. order.alike w copy) s.rows name v (t.valid.keys_differ copy) (t.valid.as_object.names_differ name.serial) there is (ap (λ (o : Order V). o.alike v copy) by_key_is ∙ sym like ∙ true_now)
 
 module _ {K V : Type 0} (key : V → K) (keys : Order K) where
   keeps_is : (value : Option V) (v copy : V) (b : Bool) → value ≡ Some v → b ≡ keys.alike (key v) (key copy) → keeps_key key keys value copy ≡ b
@@ -115,12 +129,12 @@ module _ {K V : Type 0} (key : V → K) (keys : Order K) where
 
   pub settled_kept : (old new : Object Name V) (name : ℕ) (v copy : V) (b : Bool) → value_at (plain old).rows name ≡ Some v → b ≡ keys.alike (key v) (key copy) → b ≡ true
       → IsAfter old new (with_rows (plain old) (with_value (plain old).rows name copy)) → ChangingAlways Same (settle_call key keys name copy (plain old)) old new (Ok tt)
-  settled_kept old new name v copy b is like yes after = let both = settled old new name v copy b true is like yes after in (both.0, both.1, refl)
+  settled_kept old new name v copy b is like true_now after = let both = settled old new name v copy b true is like true_now after in (both.0, both.1, refl)
 
   pub settled_gone : (old new : Object Name V) (name : ℕ) (v copy : V) (b : Bool) → value_at (plain old).rows name ≡ Some v → b ≡ keys.alike (key v) (key copy) → b ≡ false
       → IsAfter old new (with_rows (plain old) (cut (plain old).rows (place_of (plain old).rows name) 1))
       → ((settle_call key keys name copy (plain old)).reason ≡ Some KeyChanged) × IsAfter old new (settle_call key keys name copy (plain old)).after
-  settled_gone old new name v copy b is like no after = settled old new name v copy b false is like no after
+  settled_gone old new name v copy b is like false_now after = settled old new name v copy b false is like false_now after
 
   -- the container once a guard is released
   abbrev pub released : Container V → Container V
@@ -145,12 +159,6 @@ module _ {V : Type 0} where
   -- the guard of an update is one that a set is left with
   pub released_is : (old mid : Container V) (held : HeldGuard) → held ≡ cursor_guard_of old.object.number → mid ≡ with_guards old (one_less held.kind (guards_of old)) → mid ≡ with_guards old (one_less Cursors (guards_of old))
   released_is old mid held own is = is ∙ ap (λ (k : HeldGuard). with_guards old (one_less k.kind (guards_of old))) own
-
-  unguarded : (cursor_guards element_guards : ℕ) → forbids class.Cursors cursor_guards element_guards ≡ None → cursor_guards ≡ 0
-  unguarded cursor_guards element_guards h = elim (cases_Bool (nat_lt 0 cursor_guards)) [
-    | inl t ↦ absurd (let k = simp t at h in none-some CursorTampering (sym k))
-    | inr f ↦ grind (arith, nat_tests)
-  ]
 
   pub none_held : (o : Object ℕ V) (m : Mark) → by_key.update_key_reason o m ≡ None → o.cursor_guards ≡ 0
   none_held o m h = unguarded o.cursor_guards o.element_guards (none_first (tampers_cursors o) (needs o m ∷ []) h)
@@ -182,28 +190,20 @@ module _ {V : Type 0} where
   )
 
   -- the cursor still designates its element, and the guard is held
-  pub record Underway (now : Container V) (c : Cursor) (held : HeldGuard) : Type 0 where
+  pub record Underway (now : Container V) (c : Cursor) (key : HeldGuard) : Type 0 where
     pub there : needs_cursor now.object c ≡ None
-    pub own : held ≡ cursor_guard_of now.object.number
+    pub own : key ≡ cursor_guard_of now.object.number
     pub held : 0 < now.object.cursor_guards
 
   pub underway : (old new : Container V) (c : Cursor) (held : HeldGuard) → by_key.update_key_reason (plain old.object) (mark old.object c) ≡ None → held ≡ cursor_guard_of old.object.number
       → new ≡ with_guards old (one_more Cursors (guards_of old)) → Underway new c held
   underway old new c held none own is = subst (λ (x : Container V). Underway x c held) (sym is) (record { there = update_stands old.object c none; own = own; held = omega arith })
 
-  -- a call's own reason after that no element has the key
-  absent_first : (b : Bool) → first_reason (Some KeyAbsent ∷ reason_if b Duplicate ∷ []) ≡ Some KeyAbsent
-  absent_first true = refl
-  absent_first false = refl
-
-  needs_none : (number : ℕ) (is_there : Bool) → is_there ≡ true → judged_in number number is_there ≡ None
-  needs_none number is_there t = let e = eq-eqb number number refl in simp (e, t)
-
 module _ {K V : Type 0} (order : Order V) (key : V → K) (keys : Order K) (by_key_is : order ≡ on_key key keys) (matches : V → Bool) (k : K) (matches_is : matches ≡ has_key key keys k) (o : Object Name V) (v : V) where
   abbrev replaced_at : Option (Row ℕ V) → Call (Object ℕ V) Done
   replaced_at present = call takes_none
-  (first_reason (tampers_cursors (plain o) ∷ reason_if (not (is_some present)) KeyAbsent ∷ reason_if (another_is_like (on_key key keys) (plain o).rows (name_found present) v) Duplicate ∷ []))
-  (reordered_where_found (on_key key keys) (plain o) present v) tt
+      (first_reason (tampers_cursors (plain o) ∷ reason_if (not (is_some present)) KeyAbsent ∷ reason_if (another_is_like (on_key key keys) (plain o).rows (name_found present) v) Duplicate ∷ []))
+      (reordered_where_found (on_key key keys) (plain o) present v) tt
 
   -- no element has the key
   pub replace_absent : found_in matches o.rows ≡ None → tampers_cursors (plain o) ≡ None → (by_key.key_replace_call key keys (plain o) k v).reason ≡ Some KeyAbsent
@@ -232,5 +232,5 @@ pub key_lent : {K V : Type 0} (key : V → K) (o : Object ℕ V) (m : Mark) (len
 key_lent key o m lent part h is = (h.0, ap (option_map key) h.1 ∙ ap Some (sym is))
 
 -- tests by keys as tests of rows
-pub as_test : {K V : Type 0} (same : K → K → Bool) (key : V → K) (like : V → V → Bool) → ((v w : V) → like v w ≡ same (key v) (key w)) → (e : V) (k : K) → k ≡ key e → (λ v. same (key v) k) ≡ (λ v. like v e)
+pub as_test : {K V : Type 0} (same : K → K → Bool) (key : V → K) (like : V → V → Bool) → ((v w : V) → like v w ≡ same (key v) (key w)) → (e : V) (k : K) → k ≡ key e → ◌≡◌ {A = V → Bool} (λ v. same (key v) k) (λ v. like v e)
 as_test same key like law e k is = λ i v. (ap (same (key v)) is ∙ sym (law v e)) i

@@ -20,8 +20,8 @@ replace-requires g c =
     let i = c.self.inside in let there = subst (λ (x : Container _). IsNamed x.object c.args.name) (sym c.self.view_is) c.requires in
     kept_found g.I.Index.order g.I.Keyed.key_of g.I.Keyed.keys g.met.I.Keyed.order_by_key i.guards i.limit (g.I.Index.seen i.index) c.args.name c.at.result.now c.args.copy c.alike.result c.self.invariant there c.at.ensures c.alike.ensures c.if-alike.true
 
-pub invariant_of-self-then-alike : goal.invariant_of-self-then-alike
-invariant_of-self-then-alike g c =
+pub invariant_of-self : goal.invariant_of-self
+invariant_of-self g c =
     let i = c.self.inside in let there = subst (λ (x : Container _). IsNamed x.object c.args.name) (sym c.self.view_is) c.requires in let s = g.I.Index.seen i.index in
     replaced_table g.I.Index.order i.guards i.limit g.met.I.Index.closed s (g.I.Index.seen c.replace.new.self) c.args.copy c.args.name c.self.invariant
     (kept_found g.I.Index.order g.I.Keyed.key_of g.I.Keyed.keys g.met.I.Keyed.order_by_key i.guards i.limit s c.args.name c.at.result.now c.args.copy c.alike.result c.self.invariant there c.at.ensures c.alike.ensures c.if-alike.true) c.replace.ensures
@@ -41,8 +41,8 @@ returns-then-alike-clause-slots g c =
 pub remove-row-requires : goal.remove-row-requires
 remove-row-requires g c = subst (λ (x : Container _). IsNamed x.object c.args.name) (sym c.self.view_is) c.requires
 
-pub invariant_of-self : goal.invariant_of-self
-invariant_of-self g c =
+pub invariant_of-self-2 : goal.invariant_of-self-2
+invariant_of-self-2 g c =
     let i = c.self.inside in let there = subst (λ (x : Container _). IsNamed x.object c.args.name) (sym c.self.view_is) c.requires in
     taken_table g.I.Index.order i.guards i.limit g.met.I.Index.closed (g.I.Index.seen i.index) (g.I.Index.seen c.remove-row.new.self) c.args.name c.self.invariant there c.remove-row.ensures.removed
 
