@@ -1,5 +1,5 @@
 -- The calls by key and the update of a key, in the words of the definitions.
-use Rattle.std.proofs.Common.{◌≡◌, ◌==◌, ◌&&◌, ◌||◌, ◌+◌, ◌-◌, ◌<◌, ◌≤◌, ℕ, zero, suc, Bool, true, false, not, true≢false, List, [], ◌∷◌, length, Option, Some, None, Result, Ok, Err, IsTrue, refl, sym, ap, ◌∙◌, subst, inl, inr, arith, eq-eqb, if◌then◌else◌}
+use Rattle.std.proofs.Common.{◌≡◌, ◌==◌, ◌||◌, ◌+◌, ◌<◌, ◌≤◌, ℕ, Bool, true, false, not, true≢false, List, [], ◌∷◌, Option, Some, None, Result, Ok, Err, IsTrue, refl, sym, ap, ◌∙◌, subst, inl, inr, arith, eq-eqb, if◌then◌else◌}
 use Rattle.std.specs.Prelude.{IfOk, find, is_some, nat_lt, option_map}
 use Rattle.std.specs.Borrow.{Bor}
 use Rattle.std.proofs.lemmas.Bool.{cases_Bool}
@@ -13,13 +13,12 @@ use Rattle.ac_base.specs.declared.guard.Class.TheVariants as class
 use Rattle.ac_base.specs.declared.guard.GuardKind.TheVariants.{Cursors}
 use Rattle.ac_base.specs.declared.limit.Limit.{Limit}
 use Rattle.ac_base.specs.declared.name.Name.{Name}
-use Rattle.ac_base.specs.declared.reason.Reason.{Reason}
 use Rattle.ac_base.specs.declared.reason.Reason.TheVariants.{CursorTampering, Duplicate, KeyAbsent, KeyChanged}
 use Rattle.ac_base.specs.FirstReason.{earlier, first_reason}
 use Rattle.ac_base.specs.Guards.{GuardCounts, HeldGuard, one_less, one_more}
-use Rattle.ac_base.specs.Rows.{Row, names, row}
+use Rattle.ac_base.specs.Rows.{Row, names}
 use Rattle.ac_base.specs.Tampering.{forbids}
-use Rattle.ac_model.specs.Calls.{Call, Changing, ChangingAlways, Done, IsAfter, KeepsSlots, Lends, Looking, Same, call, takes_none}
+use Rattle.ac_model.specs.Calls.{Call, Changing, ChangingAlways, Done, IsAfter, Lends, Looking, Same, call, takes_none}
 use Rattle.ac_model.specs.Containers.{Container, container, guards_of, with_guards}
 use Rattle.ac_model.specs.Cursors.{cursor_at, mark, name_in, needs_cursor}
 use Rattle.ac_model.specs.Keyed as keyed
@@ -28,16 +27,16 @@ use Rattle.ac_model.specs.KeyedSets as by_key
 use Rattle.ac_model.specs.KeyedSets.{Started, has_key, keeps_key, name_found, reordered_where_found}
 use Rattle.ac_model.specs.Letters.{Mark, is_among, is_same_name, judged_in, mark_at, mark_of, name_of, needs, reason_if, tampers_cursors}
 use Rattle.ac_model.specs.Objects.{Object, plain, plain_row, plains, times, with_rows}
-use Rattle.ac_model.specs.Rows.{cut, place_of, named, row_by, value_at, with_value}
+use Rattle.ac_model.specs.Rows.{cut, place_of, named, value_at, with_value}
 use Rattle.ac_model.specs.Sequences as sequences
 use Rattle.ac_model.proofs.Counts.{count, count-cons}
 use Rattle.ac_model.proofs.Moves.{times-named}
 use Rattle.ac_model.proofs.Reasons.{none_first, none_others}
-use Rattle.ac_setwork.specs.Indexed.{Becomes, Indexed, found_in, plain_rows, value_of}
+use Rattle.ac_setwork.specs.Indexed.{Indexed, found_in, value_of}
 use Rattle.ac_setwork.specs.KeyCalls.{Starts, cursor_guard_of, settle_call}
 use Rattle.ac_setwork.specs.TableFields.{IsTable, object_of}
 use Rattle.ac_setwork.proofs.Found.{among_found, marked, named_among, none_found, row_named, same_is, stands}
-use Rattle.ac_setwork.proofs.Tables.{IsReplaced, IsTaken, all_from, becomes_after, taken_after}
+use Rattle.ac_setwork.proofs.Tables.{all_from}
 
 one_counted : (b : Bool) (n m : ℕ) → n ≡ (if b then 1 else 0) + m → b ≡ true → n ≡ 1 + m
 one_counted true n m e h = e

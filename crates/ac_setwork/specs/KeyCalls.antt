@@ -1,7 +1,6 @@
 -- The calls of sets with keys, as a table makes them.
-use Rattle.std.specs.Prelude.{◌≡◌, ℕ, not, [], ◌∷◌, Option, Some, None, Result, if◌then◌else◌}
+use Rattle.std.specs.Prelude.{◌≡◌, ℕ, not, [], ◌∷◌, Some, Result, if◌then◌else◌}
 use Rattle.ac_base.specs.declared.fault.Fault.{Fault}
-use Rattle.ac_base.specs.declared.name.Name.{Name}
 use Rattle.ac_base.specs.declared.guard.GuardKind.TheVariants as guard
 use Rattle.ac_base.specs.declared.reason.Reason.TheVariants.{KeyChanged}
 use Rattle.ac_base.specs.FirstReason.{first_reason}
