@@ -160,15 +160,16 @@ fn an_update_keeps_the_key_of_an_ordered_set(rt: HostRuntime) {
 }
 
 #[test]
-fn a_guard_forbids_an_update(rt: HostRuntime) {
+fn a_guard_forbids_a_deletion_by_a_key(rt: HostRuntime) {
     let alloc = rt.alloc();
     let mut set = arrived(&rt, alloc, &[b"a=1"]);
-    let c = set.first();
+    let a = text(&rt, alloc, b"a");
+    assert!(rt; set.held(GuardKind::Cursors) == 0);
     let key = set.hold(GuardKind::Cursors);
-    let refused = update_hashed(&mut set, c, item(&rt, alloc, b"a=3"));
+    let refused = set.key_delete(&a);
     set.release(key);
     assert!(rt; refused == Err(Fault::Raised(Reason::CursorTampering)));
-    assert!(rt; is(set.element(c), b"a=1"));
+    assert!(rt; set.key_delete(&a).is_ok());
 }
 
 #[test]
