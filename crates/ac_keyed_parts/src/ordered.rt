@@ -34,7 +34,11 @@ fn map<K: Rank, V: Elem>(rt: &impl Abort, alloc: Global, number: u64) -> Ordered
 }
 
 /// What the set answers of an element: whether it has it, and where it, its floor and its ceiling are.
-fn looked<T: KeyOf, L: Ledger>(set: &OrderedSet<T>, element: &T, blank: Blank) -> (bool, [Cursor; 3])
+fn looked<T: KeyOf, L: Ledger>(
+    set: &OrderedSet<T>,
+    element: &T,
+    blank: Blank,
+) -> (bool, [Cursor; 3])
     requires name { blank.name ≡ L.name }
     requires parts { blank.parts ≡ L.parts }
     requires some { 0 < blank.parts }
