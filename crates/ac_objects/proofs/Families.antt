@@ -50,7 +50,7 @@ same_sequence (List l) (Vector w) kind rows = absurd (vector_is_none kind)
 same_sequence (Vector v) (List m) kind rows = absurd (list_is_none kind)
 same_sequence (Vector v) (Vector w) kind rows = ap Vector rows
 
-same_set : {T : Type 0} (old new : Set T) → set_kind_of new ≡ set_kind_of old → items_of new ≡ items_of old → new ≡ old
+same_set : {T K : Type 0} (old new : Set T K) → set_kind_of new ≡ set_kind_of old → items_of new ≡ items_of old → new ≡ old
 same_set (set.Hashed s) (set.Hashed t) kind rows = ap set.Hashed rows
 same_set (set.Hashed s) (set.Ordered t) kind rows = absurd (ordered_is_none kind)
 same_set (set.Ordered s) (set.Hashed t) kind rows = absurd (hashed_is_none kind)
@@ -70,8 +70,8 @@ module _ (e : ElemKind) (wrap : Sequence (ElementOf e) → Object) (wrapped : (s
   pub sequence_same : rows_of new ≡ rows_of old → wrap new ≡ wrap old
   sequence_same rows = ap wrap (same_sequence old new (ap sequence_in kept) rows)
 
-module _ (e : ElemKind) (wrap : Set (ElementOf e) → Object) (wrapped : (s : Set (ElementOf e)) → memory_of (wrap s) ≡ in_rows (a_set (set_kind_of s) e) (items_of s))
-    (old new : Set (ElementOf e)) (kept : a_set (set_kind_of new) e ≡ a_set (set_kind_of old) e) where
+module _ (e : ElemKind) (wrap : Set (ElementOf e) (ElementOf e) → Object) (wrapped : (s : Set (ElementOf e) (ElementOf e)) → memory_of (wrap s) ≡ in_rows (a_set (set_kind_of s) e) (items_of s))
+    (old new : Set (ElementOf e) (ElementOf e)) (kept : a_set (set_kind_of new) e ≡ a_set (set_kind_of old) e) where
   pub set_now : memory_of (wrap new) ≡ in_rows (a_set (set_kind_of old) e) (items_of new)
   set_now = wrapped new ∙ ap (λ which. in_rows (a_set which e) (items_of new)) (ap keyed_in kept)
 
@@ -96,11 +96,11 @@ pub texts : (s : Sequence Text) → memory_of (Texts s) ≡ in_rows (a_sequence 
 unfolding memory_of
 texts s = refl
 
-pub integer_set : (s : Set ℤ) → memory_of (IntegerSet s) ≡ in_rows (a_set (set_kind_of s) Integer) (items_of s)
+pub integer_set : (s : Set ℤ ℤ) → memory_of (IntegerSet s) ≡ in_rows (a_set (set_kind_of s) Integer) (items_of s)
 unfolding memory_of
 integer_set s = refl
 
-pub text_set : (s : Set Text) → memory_of (TextSet s) ≡ in_rows (a_set (set_kind_of s) Str) (items_of s)
+pub text_set : (s : Set Text Text) → memory_of (TextSet s) ≡ in_rows (a_set (set_kind_of s) Str) (items_of s)
 unfolding memory_of
 text_set s = refl
 

@@ -24,7 +24,7 @@ abbrev pub sequence_with : {T : Type 0} → Sequence T → GuardCounts → Seque
 sequence_with (List l) counts = List (with_guards l counts)
 sequence_with (Vector v) counts = Vector (with_guards v counts)
 
-abbrev pub set_with : {T : Type 0} → Set T → GuardCounts → Set T
+abbrev pub set_with : {T K : Type 0} → Set T K → GuardCounts → Set T K
 set_with (set.Hashed s) counts = set.Hashed (with_guards s counts)
 set_with (set.Ordered s) counts = set.Ordered (with_guards s counts)
 
@@ -56,15 +56,15 @@ pub sequence_rest : {T : Type 0} (s : Sequence T) (counts others : GuardCounts) 
 sequence_rest (List l) counts others = refl
 sequence_rest (Vector v) counts others = refl
 
-pub set_given : {T : Type 0} (s : Set T) (counts : GuardCounts) → guards_of (items_of (set_with s counts)) ≡ counts
+pub set_given : {T K : Type 0} (s : Set T K) (counts : GuardCounts) → guards_of (items_of (set_with s counts)) ≡ counts
 set_given (set.Hashed s) counts = refl
 set_given (set.Ordered s) counts = refl
 
-pub set_own : {T : Type 0} (s : Set T) → set_with s (guards_of (items_of s)) ≡ s
+pub set_own : {T K : Type 0} (s : Set T K) → set_with s (guards_of (items_of s)) ≡ s
 set_own (set.Hashed s) = refl
 set_own (set.Ordered s) = refl
 
-pub set_rest : {T : Type 0} (s : Set T) (counts others : GuardCounts) → set_with (set_with s counts) others ≡ set_with s others
+pub set_rest : {T K : Type 0} (s : Set T K) (counts others : GuardCounts) → set_with (set_with s counts) others ≡ set_with s others
 set_rest (set.Hashed s) counts others = refl
 set_rest (set.Ordered s) counts others = refl
 

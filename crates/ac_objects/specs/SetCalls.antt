@@ -25,17 +25,17 @@ tools_by tools alike less = record tools { alike = alike; less = less }
 
 module _ {T : Type 0} (tools : Tools T) where
   -- a call of sets alone
-  abbrev pub SetReplied : SetCall → Arguments → (old new : Set T) → Result Reply Fault → Type 0
+  abbrev pub SetReplied : {K : Type 0} → SetCall → Arguments → (old new : Set T K) → Result Reply Fault → Type 0
   SetReplied call args old new result =
       RowsReplied (λ o seen. set_alone_reply tools (set_kind_of old) o seen call) args (items_of old) (items_of new) result
 
   -- one of two sets, with the set itself as the source
-  abbrev pub SetPairReplied : SetPairCall → (old new : Set T) → Result Reply Fault → Type 0
+  abbrev pub SetPairReplied : {K : Type 0} → SetPairCall → (old new : Set T K) → Result Reply Fault → Type 0
   SetPairReplied call old new result =
       Replied (set_pair_reply tools (set_kind_of old) (plain (items_of old).object) itself call) (items_of old) (items_of new) result
 
   -- and with another one, which stays as it is, whatever its arguments are
-  abbrev pub SetPairRepliedWith : SetPairCall → (old source new : Set T) → Result Reply Fault → Type 0
+  abbrev pub SetPairRepliedWith : {K : Type 0} → SetPairCall → (old source new : Set T K) → Result Reply Fault → Type 0
   SetPairRepliedWith call old source new result =
       (seen : replies.Arguments)
       → RepliedWith (set_pair_reply tools (set_kind_of old) (plain (items_of old).object) (another (plain (items_of source).object) seen) call)
@@ -46,6 +46,6 @@ module _ {T : Type 0} (tools : Tools T) where
   OrderedSetReplied call args old new result = RowsReplied (λ o seen. ordered_set_reply tools of_ordered o seen call) args old new result
 
   -- any operation
-  abbrev pub SetOperated : Operation → Arguments → (old new : Set T) → Result Reply Fault → Type 0
+  abbrev pub SetOperated : {K : Type 0} → Operation → Arguments → (old new : Set T K) → Result Reply Fault → Type 0
   SetOperated operation args old new result =
       RowsReplied (λ o seen. set_reply tools o itself seen (set_kind_of old) operation) args (items_of old) (items_of new) result

@@ -6,14 +6,14 @@ use Rattle.ac_meaning.specs.KeyedReplies.{KeyedKind, of_hashed, of_ordered, keye
 use Rattle.ac_objects.specs.declared.set.Set.{Set}
 use Rattle.ac_objects.specs.declared.set.Set.TheVariants.{Hashed, Ordered}
 
-abbrev pub items_of : {T : Type 0} → Set T → Container T
+abbrev pub items_of : {T K : Type 0} → Set T K → Container T
 items_of (Hashed s) = s
 items_of (Ordered s) = s
 
-abbrev pub set_kind_of : {T : Type 0} → Set T → KeyedKind
+abbrev pub set_kind_of : {T K : Type 0} → Set T K → KeyedKind
 set_kind_of (Hashed s) = of_hashed
 set_kind_of (Ordered s) = of_ordered
 
 -- how its items are told apart and ordered, by these tests
-abbrev pub set_order : {T : Type 0} → (alike less : T → T → Bool) → Set T → Order T
+abbrev pub set_order : {T K : Type 0} → (alike less : T → T → Bool) → Set T K → Order T
 set_order alike less s = keyed_order alike less (set_kind_of s)

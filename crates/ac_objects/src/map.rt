@@ -19,14 +19,14 @@ mod sources;
 pub mod uncounted;
 
 use crate::element::ScriptElement;
-use ac_base::Fault;
+use ac_base::{Elem, Fault, Hashed, Rank};
 use ac_cursor::Cursor;
 use ac_hashed::HashedMap;
 use ac_ordered::OrderedMap;
 
 /// A hashed map (A.18.5) or an ordered one (A.18.6) of a script.
 #[derive(Drop)]
-pub enum Map<K: ScriptElement, V: ScriptElement> {
+pub enum Map<K: Rank + Hashed, V: Elem> {
     Hashed(HashedMap<K, V>),
     Ordered(OrderedMap<K, V>),
 }
