@@ -8,6 +8,7 @@ pub mod VectorReplies
 pub mod KeyedReplies
 pub mod MapReplies
 pub mod SetReplies
+pub mod KeyedSetReplies
 pub mod Holdings
 pub mod Environment
 pub mod Commands
