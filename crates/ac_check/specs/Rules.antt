@@ -35,12 +35,13 @@ abbrev are_alike : Bool → Bool → Bool
 are_alike true b = b
 are_alike false b = not b
 
--- a map has two elements and others one, a queue's are integers, and no type is keyed yet
+-- a map has two elements and others one, a queue's are integers, and sets of strings alone can be keyed
 abbrev pub is_type : TypeDef → Bool
 is_type def =
     is_built def.kind
     && (are_alike (is_some def.second) (is_map def.kind)
-    && ((not (is_queue def.kind) || is_elem Integer def.first) && not def.keyed))
+    && ((not (is_queue def.kind) || is_elem Integer def.first)
+    && (not def.keyed || (is_set def.kind && is_elem Str def.first))))
 
 -- an object has a capacity just where its type is bounded
 abbrev pub is_object_of : Option TypeDef → Option ℕ → Bool

@@ -80,6 +80,13 @@ fn is_queue_right(def: TypeDef) -> bool
     !is_queue(def.kind) || def.first == ElemKind::Integer
 }
 
+/// Whether what has keys is a set of strings.
+fn is_keyed_right(def: TypeDef) -> bool
+    ensures { result ≡ (not def.keyed || (kinds.is_set def.kind && rules.is_elem Str def.first)) }
+{
+    !def.keyed || (is_set(def.kind) && def.first == ElemKind::Str)
+}
+
 /// Whether a type can be declared so.
 pub fn is_type(def: TypeDef) -> bool
     ensures { result ≡ rules.is_type def }
@@ -87,5 +94,5 @@ pub fn is_type(def: TypeDef) -> bool
     is_built(def.kind)
         && def.second.is_some() == is_map(def.kind)
         && is_queue_right(def)
-        && !def.keyed
+        && is_keyed_right(def)
 }

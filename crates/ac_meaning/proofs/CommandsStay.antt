@@ -12,13 +12,13 @@ use Rattle.ac_check.specs.Resolved.{ResolvedSimple, calls_at, sets_at, sums_at}
 use Rattle.ac_meaning.specs.Elements.{tools_of, integer_in}
 use Rattle.ac_meaning.specs.Answers.{Answer, answers_ok, answers_value, answers_truth, answers_place, answers_list, answers_raised, answers_stalled, answers_integer}
 use Rattle.ac_meaning.specs.Replies.{Arguments, Source, itself, another, seen_by, source_in, Reply, Placed}
-use Rattle.ac_meaning.specs.Holdings.{RowKind, a_sequence, a_map, a_set, RowOf, Held, of_rows, same_kind, rows_in, rows_reply, own_calls, write, reply_of}
+use Rattle.ac_meaning.specs.Holdings.{RowKind, a_sequence, a_map, a_set, a_keyed_set, RowOf, Held, of_rows, same_kind, rows_in, rows_reply, own_calls, write, reply_of}
 use Rattle.ac_meaning.specs.Environment.{Bound, binds_type, binds_object, binds_cursor, binds_value, binds_element, State, bound_at, with_bound, object_at, value_at}
 use Rattle.ac_meaning.specs.Commands.{Assigned, value_set, mark_set, assigned, element_written, place_in, variable_to, variable_set, source_place, source_of, source_set, after_call, unless_refused, waits_or_goes, replied, call_on, arguments, answer_from, assigned_from, is_integer, sum_of, sum_assigned, performed}
 use Rattle.ac_meaning.specs.Stays.{Stays, SourceStays, ReplyStays, HeldStays, StateStays}
 use Rattle.ac_meaning.proofs.CallsStay.{none_some, same, renamed, names-with_value, names-with_some_value}
 use Rattle.ac_meaning.proofs.VectorsStay.{replies_stay}
-use Rattle.ac_meaning.proofs.KeyedStay.{map_stays, set_stays}
+use Rattle.ac_meaning.proofs.KeyedStay.{map_stays, set_stays, keyed_set_stays}
 use Rattle.ac_meaning.proofs.BoundsStay.{passed, state_same, state_then, state_set, object_there}
 
 -- Assignments
@@ -27,6 +27,7 @@ pub own_write_stays : (kind : RowKind) (o : Object ℕ (RowOf kind)) (at : Mark)
 own_write_stays (a_sequence which e) o at v = renamed o None _ (names-with_value o.rows (name_of at) ((tools_of e).from_value v))
 own_write_stays (a_map which k e) o at v = renamed o None _ (names-with_some_value o.rows _ _)
 own_write_stays (a_set which e) o at v = same o None
+own_write_stays (a_keyed_set which) o at v = same o None
 
 write_stays : (h : Held) (at : Mark) (v : Value) → HeldStays h (write h at v).after
 write_stays (of_rows kind o) at v = (((own_calls kind o).write (seen o at) v).after, refl, own_write_stays kind o (seen o at) v)
@@ -118,6 +119,7 @@ pub rows_stay : (kind : RowKind) (o : Object ℕ (RowOf kind)) (source : Source 
 rows_stay (a_sequence which e) o source args op = replies_stay which (tools_of e) o source args op
 rows_stay (a_map which k e) o source args op = map_stays (tools_of k) (tools_of e) o source args which op
 rows_stay (a_set which e) o source args op = set_stays (tools_of e) o source args which op
+rows_stay (a_keyed_set which) o source args op = keyed_set_stays o source args which op
 
 pub held_reply : (h : Held) (source : Option Held) (operation : Operation) (args : Arguments) →
     HeldReply h source (reply_of h source operation args)

@@ -22,16 +22,19 @@ use Rattle.ac_check.specs.declared.operation.MapCall.{MapCall}
 use Rattle.ac_check.specs.declared.operation.MapCall.TheVariants as map_call
 use Rattle.ac_check.specs.declared.operation.OrderedMapCall.{OrderedMapCall}
 use Rattle.ac_check.specs.declared.operation.OrderedMapCall.TheVariants as ordered_map_call
+use Rattle.ac_check.specs.declared.operation.KeyedCall.{KeyedCall}
+use Rattle.ac_check.specs.declared.operation.KeyedCall.TheVariants as keyed_call
 use Rattle.ac_check.specs.declared.operation.SetCall.{SetCall}
 use Rattle.ac_check.specs.declared.operation.SetCall.TheVariants as set_call
 use Rattle.ac_check.specs.declared.operation.SetPairCall.{SetPairCall}
 use Rattle.ac_check.specs.declared.operation.SetPairCall.TheVariants as set_pair_call
 use Rattle.ac_check.specs.declared.operation.OrderedSetCall.{OrderedSetCall}
 use Rattle.ac_check.specs.declared.operation.OrderedSetCall.TheVariants as ordered_set_call
-use Rattle.ac_meaning.specs.Elements.{Tools}
+use Rattle.ac_meaning.specs.Elements.{Tools, Text, keyed_texts}
 use Rattle.ac_meaning.specs.KeyedReplies.{KeyedKind, of_hashed, of_ordered, order_by, walk_reply, ordered_reply}
 use Rattle.ac_meaning.specs.MapReplies.{map_own, map_alone_reply, ordered_map_reply, map_reply}
 use Rattle.ac_meaning.specs.SetReplies.{set_own, set_alone_reply, set_pair_reply, ordered_set_reply, set_reply}
+use Rattle.ac_meaning.specs.KeyedSetReplies.{key_reply, keyed_set_reply}
 use Rattle.ac_meaning.specs.Replies.{Arguments, Source, another, Reply}
 use Rattle.ac_meaning.specs.Stays.{Stays, ReplyStays}
 use Rattle.ac_meaning.proofs.CallsStay.{alone, by_source_stays, same, renamed, changed, grows, grows_unless, first_check, earlier_check, names-with_value, names-with_some_value}
@@ -159,3 +162,23 @@ set_stays tools o source args of_ordered (operation.Ordered c) =
     ordered_stays o source args _ _ (alone o source _ refl (same o _)) (alone o source _ refl (same o _)) c
 set_stays tools o source args of_ordered (operation.OrderedSet c) = ordered_set_stays tools o source args of_ordered c
 set_stays tools o source args _ _ = alone o source _ refl (same o _)
+
+keyed_call_stays : (o : Object ℕ Text) (source : Source (Object ℕ Text)) (args : Arguments) (which : KeyedKind) (c : KeyedCall) →
+    ReplyStays o source (key_reply which o args c)
+keyed_call_stays o source args which keyed_call.Key = alone o source _ refl (same o _)
+keyed_call_stays o source args which keyed_call.KeyElement = alone o source _ refl (same o _)
+keyed_call_stays o source args which keyed_call.KeyFind = alone o source _ refl (same o _)
+keyed_call_stays o source args which keyed_call.KeyContains = alone o source _ refl (same o _)
+keyed_call_stays o source args which keyed_call.KeyExclude = alone o source _ refl (exclude_stays o _)
+keyed_call_stays o source args which keyed_call.KeyDelete = alone o source _ refl (delete_match_stays o _)
+keyed_call_stays o source args which keyed_call.KeyReplace = alone o source _ refl (changed o _ _ (first_check o _))
+keyed_call_stays o source args which keyed_call.KeyFloor = alone o source _ refl (same o _)
+keyed_call_stays o source args which keyed_call.KeyCeiling = alone o source _ refl (same o _)
+
+pub keyed_set_stays : (o : Object ℕ Text) (source : Source (Object ℕ Text)) (args : Arguments) (which : KeyedKind) (op : Operation) →
+    ReplyStays o source (keyed_set_reply o source args which op)
+keyed_set_stays o source args of_hashed (operation.Keyed keyed_call.KeyFloor) = alone o source _ refl (same o _)
+keyed_set_stays o source args of_hashed (operation.Keyed keyed_call.KeyCeiling) = alone o source _ refl (same o _)
+keyed_set_stays o source args of_hashed (operation.Keyed c) = keyed_call_stays o source args of_hashed c
+keyed_set_stays o source args of_ordered (operation.Keyed c) = keyed_call_stays o source args of_ordered c
+keyed_set_stays o source args which op = set_stays keyed_texts o source args which op

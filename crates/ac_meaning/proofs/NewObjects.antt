@@ -59,7 +59,7 @@ decl_under guards e decl.TypeDecl is below = blocks_keep_counts.named guards e b
 decl_under guards e (decl.Object line def capacity) is below =
     either_under guards (nat_lt e.next numbers_end) _ _
     (object_under guards e (new_held def e.next capacity) is
-    (new_unguarded guards (kind_by def.kind def.first def.second) e.next (limit_by capacity)
+    (new_unguarded guards (kind_by def.kind def.first def.second def.keyed) e.next (limit_by capacity)
     (λ kind. below.none_from_next e.next kind (omega arith))))
     is
 decl_under guards e decl.Cursor is below = blocks_keep_counts.named guards e (binds_cursor no_mark) is refl

@@ -27,6 +27,8 @@ use Rattle.ac_check.specs.declared.operation.MapCall.{MapCall}
 use Rattle.ac_check.specs.declared.operation.MapCall.TheVariants as map_call
 use Rattle.ac_check.specs.declared.operation.OrderedMapCall.{OrderedMapCall}
 use Rattle.ac_check.specs.declared.operation.OrderedMapCall.TheVariants as ordered_map_call
+use Rattle.ac_check.specs.declared.operation.KeyedCall.{KeyedCall}
+use Rattle.ac_check.specs.declared.operation.KeyedCall.TheVariants as keyed_call
 use Rattle.ac_check.specs.declared.operation.SetCall.{SetCall}
 use Rattle.ac_check.specs.declared.operation.SetCall.TheVariants as set_call
 use Rattle.ac_check.specs.declared.operation.SetPairCall.{SetPairCall}
@@ -36,7 +38,7 @@ use Rattle.ac_check.specs.declared.operation.OrderedSetCall.TheVariants as order
 use Rattle.ac_check.specs.declared.resolved.ResolvedArg.{ResolvedArg}
 use Rattle.ac_check.specs.declared.resolved.ResolvedArg.TheVariants.{Lit, NoElement, At}
 use Rattle.ac_check.specs.Resolved.{calls_at, sets_at, sums_at}
-use Rattle.ac_meaning.specs.Elements.{Tools, tools_of, integer_in}
+use Rattle.ac_meaning.specs.Elements.{Tools, Text, tools_of, keyed_texts, integer_in}
 use Rattle.ac_meaning.specs.Answers.{Answer, answers_integer}
 use Rattle.ac_meaning.specs.Replies.{Arguments, Source, without, itself, another, by_source, seen_by, source_in, Reply, value_answer}
 use Rattle.ac_meaning.specs.SequenceReplies.{OwnCalls, sequence_own, common_reply, sequence_reply, capacity_reply}
@@ -45,7 +47,8 @@ use Rattle.ac_meaning.specs.VectorReplies.{vector_alone_reply, vector_reply}
 use Rattle.ac_meaning.specs.KeyedReplies.{KeyedKind, of_hashed, of_ordered, walk_reply, ordered_reply}
 use Rattle.ac_meaning.specs.MapReplies.{map_own, map_alone_reply, ordered_map_reply, map_reply}
 use Rattle.ac_meaning.specs.SetReplies.{set_own, set_alone_reply, set_pair_reply, ordered_set_reply, set_reply}
-use Rattle.ac_meaning.specs.Holdings.{SequenceKind, of_list, of_vector, RowKind, a_sequence, a_map, a_set, RowOf, Held, of_rows, rows_in, reply_by, rows_reply, reply_of}
+use Rattle.ac_meaning.specs.KeyedSetReplies.{key_reply, keyed_set_reply}
+use Rattle.ac_meaning.specs.Holdings.{SequenceKind, of_list, of_vector, RowKind, a_sequence, a_map, a_set, a_keyed_set, RowOf, Held, of_rows, rows_in, reply_by, rows_reply, reply_of}
 use Rattle.ac_meaning.specs.Environment.{Bound, binds_type, binds_object, binds_cursor, binds_value, binds_element, State, bound_at, object_at, value_at}
 use Rattle.ac_meaning.specs.Commands.{Performed, Assigned, source_place, source_of, after_call, assigned, unless_refused, waits_or_goes, replied, call_on, arguments, answer_in, answer_from, assigned_from, is_integer, sum_of, sum_assigned}
 use Rattle.ac_meaning.specs.Laws.{IsRefusal, RefusalsLeave}
@@ -179,11 +182,31 @@ set_plain tools o source args of_ordered (operation.OrderedSet c) h = go c h
     go ordered_set_call.Ceiling h = h
 set_plain tools o source args _ _ h = h
 
+key_plain : (o : Object ℕ Text) (args : Arguments) (which : KeyedKind) (c : KeyedCall) → Plain (key_reply which o args c).answer
+key_plain o args which keyed_call.Key h = value_plain _ h
+key_plain o args which keyed_call.KeyElement h = value_plain _ h
+key_plain o args which keyed_call.KeyFind h = h
+key_plain o args which keyed_call.KeyContains h = h
+key_plain o args which keyed_call.KeyExclude h = h
+key_plain o args which keyed_call.KeyDelete h = h
+key_plain o args which keyed_call.KeyReplace h = h
+key_plain o args which keyed_call.KeyFloor h = h
+key_plain o args which keyed_call.KeyCeiling h = h
+
+keyed_set_plain : (o : Object ℕ Text) (source : Source (Object ℕ Text)) (args : Arguments) (which : KeyedKind) (op : Operation) →
+    Plain (keyed_set_reply o source args which op).answer
+keyed_set_plain o source args of_hashed (operation.Keyed keyed_call.KeyFloor) h = h
+keyed_set_plain o source args of_hashed (operation.Keyed keyed_call.KeyCeiling) h = h
+keyed_set_plain o source args of_hashed (operation.Keyed c) h = key_plain o args of_hashed c h
+keyed_set_plain o source args of_ordered (operation.Keyed c) h = key_plain o args of_ordered c h
+keyed_set_plain o source args which op h = set_plain keyed_texts o source args which op h
+
 rows_plain : (kind : RowKind) (o : Object ℕ (RowOf kind)) (source : Source (Object ℕ (RowOf kind))) (args : Arguments) (op : Operation) →
     Plain (rows_reply kind o source args op).answer
 rows_plain (a_sequence which e) o source args op h = reply_plain (tools_of e) o source args which op h
 rows_plain (a_map which k e) o source args op h = map_plain (tools_of k) (tools_of e) o source args which op h
 rows_plain (a_set which e) o source args op h = set_plain (tools_of e) o source args which op h
+rows_plain (a_keyed_set which) o source args op h = keyed_set_plain o source args which op h
 
 held_plain : (h : Held) (source : Option Held) (op : Operation) (args : Arguments) → Plain (reply_of h source op args).answer
 held_plain (of_rows kind o) source op args r = rows_plain kind o (source_in o (rows_in kind source) args) (seen_by o args) op r

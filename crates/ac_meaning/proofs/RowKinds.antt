@@ -6,7 +6,7 @@ use Rattle.ac_model.specs.Letters.{Mark, needs}
 use Rattle.ac_syntax.specs.declared.kind.ElemKind.{ElemKind}
 use Rattle.ac_syntax.specs.declared.kind.ElemKind.TheVariants.{Integer, Str}
 use Rattle.ac_meaning.specs.KeyedReplies.{KeyedKind, of_hashed, of_ordered}
-use Rattle.ac_meaning.specs.Holdings.{SequenceKind, of_list, of_vector, RowKind, a_sequence, a_map, a_set, RowOf, of_rows, both_same, all_same, same_element, same_sequence, same_keyed, same_kind, rows_in, own_calls}
+use Rattle.ac_meaning.specs.Holdings.{SequenceKind, of_list, of_vector, RowKind, a_sequence, a_map, a_set, a_keyed_set, RowOf, of_rows, both_same, all_same, same_element, same_sequence, same_keyed, same_kind, rows_in, own_calls}
 
 element_is : (e : ElemKind) → same_element e e ≡ Some refl
 element_is Integer = refl
@@ -24,6 +24,7 @@ kind_is : (kind : RowKind) → same_kind kind kind ≡ Some refl
 kind_is (a_sequence which e) = λ i. both_same (λ p q j. a_sequence (q j) (p j)) (element_is e i) (sequence_is which i)
 kind_is (a_map which k e) = λ i. all_same (λ p q r j. a_map (r j) (p j) (q j)) (element_is k i) (element_is e i) (keyed_is which i)
 kind_is (a_set which e) = λ i. both_same (λ p q j. a_set (q j) (p j)) (element_is e i) (keyed_is which i)
+kind_is (a_keyed_set which) = λ i. option_map (λ p j. a_keyed_set (p j)) (keyed_is which i)
 
 -- an object is of its own kind
 pub rows_own : (kind : RowKind) (o : Object ℕ (RowOf kind)) → rows_in kind (Some (of_rows kind o)) ≡ Some o
@@ -35,3 +36,4 @@ pub element_needs : (kind : RowKind) (o : Object ℕ (RowOf kind)) (c : Mark) �
 element_needs (a_sequence which e) o c = refl
 element_needs (a_map which k e) o c = refl
 element_needs (a_set which e) o c = refl
+element_needs (a_keyed_set which) o c = refl

@@ -1,15 +1,16 @@
 -- What statements keep while guards are held: what kind of thing each name in scope holds, an object's number, and where a guard is held on it the names in its rows, in their order.
-use Rattle.std.specs.Prelude.{◌≡◌, ◌==◌, ℕ, Bool, true, List, [], ◌++◌, map, Some, if◌then◌else◌}
+use Rattle.std.specs.Prelude.{◌≡◌, ◌==◌, ℕ, Bool, true, false, List, [], ◌++◌, map, Some, None, if◌then◌else◌}
 use Rattle.std.specs.List.{list_any}
 use Rattle.ac_base.specs.Guards.{HeldGuard}
 use Rattle.ac_model.specs.Letters.{Mark}
 use Rattle.ac_syntax.specs.Code.{Code}
 use Rattle.ac_syntax.specs.declared.view_kind.ViewKind.{ViewKind}
+use Rattle.ac_syntax.specs.declared.view_kind.ViewKind.TheVariants.{UpdateKey}
 use Rattle.ac_check.specs.Scopes.{Scope}
 use Rattle.ac_check.specs.Resolved.{ResolvedCode}
-use Rattle.ac_meaning.specs.Holdings.{Held, Guards, number_of, names_of}
-use Rattle.ac_meaning.specs.Environment.{Bound, binds_type, binds_object, binds_cursor, binds_value, binds_element, State, object_at, with_name}
-use Rattle.ac_meaning.specs.Execution.{scoped, exec, exec_resolved, guards_of_loop, guards_of_stable, guards_of_view}
+use Rattle.ac_meaning.specs.Holdings.{Held, Guards, number_of, names_of, held_under}
+use Rattle.ac_meaning.specs.Environment.{Bound, binds_type, binds_object, binds_cursor, binds_value, binds_element, State, under, object_at, with_name}
+use Rattle.ac_meaning.specs.Execution.{scoped, exec, exec_resolved, guards_of_loop, guards_of_stable, guards_of_view, head_reason}
 
 abbrev pub is_guarded : Guards → ℕ → Bool
 is_guarded guards number = list_any (λ (g : HeldGuard). g.object == number) guards
@@ -64,3 +65,10 @@ abbrev pub TurnsKeepNames : Type 0
 TurnsKeepNames = (code : ResolvedCode) (elements : Bool) (guards : Guards) (e : State) (place : ℕ) (h : Held) (b : Bound) →
     object_at e place ≡ Some h →
     GuardedGoesOn h (scoped e (exec_resolved code (guards_of_loop elements h ++ guards)) (with_name e b)).after place
+
+-- an update of a key begins only where no other guard is held on its set, so that its end may take the element out
+pub record UpdatesAreAlone : Type 0 where
+  pub held : (guards : Guards) (h : Held) (at : Mark) → held_under guards h ≡ h → head_reason UpdateKey h at ≡ None →
+      is_guarded guards (number_of h) ≡ false
+  pub found : (guards : Guards) (e : State) (place : ℕ) (h : Held) (at : Mark) → object_at (under guards e) place ≡ Some h →
+      head_reason UpdateKey h at ≡ None → is_guarded guards (number_of h) ≡ false

@@ -1,5 +1,6 @@
 -- The objects of a script, of every kind and element type in one type, and the guards on them.
 use Rattle.std.specs.Prelude.{◌≡◌, ℕ, ◌+◌, Bool, true, false, ◌&&◌, ◌==◌, if◌then◌else◌, List, [], ◌∷◌, Option, Some, None, option_map, refl}
+use Rattle.ac_base.specs.Key.{key_of_text}
 use Rattle.ac_base.specs.declared.limit.Limit.{Limit}
 use Rattle.ac_base.specs.declared.limit.Limit.TheVariants.{Unbounded, Bounded}
 use Rattle.ac_base.specs.declared.value.Value.{Value}
@@ -14,6 +15,7 @@ use Rattle.ac_model.specs.Objects.{Object, empty_object, length_of}
 use Rattle.ac_model.specs.Letters.{Mark}
 use Rattle.ac_model.specs.Calls.{Call, Look}
 use Rattle.ac_model.specs.Common.{under_guards}
+use Rattle.ac_model.specs.KeyedSets as by_key
 use Rattle.ac_model.specs.Cursors.{seen}
 use Rattle.ac_syntax.specs.declared.kind.ElemKind.{ElemKind}
 use Rattle.ac_syntax.specs.declared.kind.ElemKind.TheVariants.{Integer, Str}
@@ -21,12 +23,13 @@ use Rattle.ac_syntax.specs.declared.kind.Kind.{Kind}
 use Rattle.ac_syntax.specs.declared.kind.Kind.TheVariants as kinds
 use Rattle.ac_syntax.specs.declared.type_def.TypeDef.{TypeDef}
 use Rattle.ac_check.specs.declared.operation.Operation.{Operation}
-use Rattle.ac_meaning.specs.Elements.{Tools, ElementOf, tools_of}
+use Rattle.ac_meaning.specs.Elements.{Tools, ElementOf, tools_of, Text, text_in, texts, keyed_texts}
 use Rattle.ac_meaning.specs.Replies.{Arguments, Source, seen_by, source_in, Reply, carried}
 use Rattle.ac_meaning.specs.SequenceReplies.{OwnCalls, sequence_own}
 use Rattle.ac_meaning.specs.ListReplies.{list_reply}
 use Rattle.ac_meaning.specs.VectorReplies.{vector_reply}
-use Rattle.ac_meaning.specs.KeyedReplies.{KeyedKind, of_hashed, of_ordered}
+use Rattle.ac_meaning.specs.KeyedReplies.{KeyedKind, of_hashed, of_ordered, order_by}
+use Rattle.ac_meaning.specs.KeyedSetReplies.{keyed_set_reply}
 use Rattle.ac_meaning.specs.MapReplies.{map_own, map_reply}
 use Rattle.ac_meaning.specs.SetReplies.{set_own, set_reply}
 
@@ -40,12 +43,15 @@ pub data RowKind : Type 0 where
   a_sequence : SequenceKind → ElemKind → RowKind
   a_map : KeyedKind → (key element : ElemKind) → RowKind
   a_set : KeyedKind → ElemKind → RowKind
+  -- of texts with keys
+  a_keyed_set : KeyedKind → RowKind
 
 -- what a row holds
 abbrev pub RowOf : RowKind → Type 0
 RowOf (a_sequence _ e) = ElementOf e
 RowOf (a_map _ k e) = Entry (ElementOf k) (ElementOf e)
 RowOf (a_set _ e) = ElementOf e
+RowOf (a_keyed_set _) = Text
 
 -- of any kind
 pub data Held : Type 0 where
@@ -77,6 +83,7 @@ abbrev pub are_sets : RowKind → Bool
 are_sets (a_sequence _ _) = false
 are_sets (a_map _ _ _) = false
 are_sets (a_set _ _) = true
+are_sets (a_keyed_set _) = true
 
 -- a set has cursor guards alone
 abbrev pub is_a_set : Held → Bool
@@ -160,6 +167,7 @@ same_kind (a_sequence which e) (a_sequence other f) =
 same_kind (a_map which k e) (a_map other l f) =
     all_same (λ p q r i. a_map (r i) (p i) (q i)) (same_element k l) (same_element e f) (same_keyed which other)
 same_kind (a_set which e) (a_set other f) = both_same (λ p q i. a_set (q i) (p i)) (same_element e f) (same_keyed which other)
+same_kind (a_keyed_set which) (a_keyed_set other) = option_map (λ p i. a_keyed_set (p i)) (same_keyed which other)
 same_kind _ _ = None
 
 -- a held object as one of this kind
@@ -179,6 +187,7 @@ abbrev pub rows_reply : (kind : RowKind) → Object ℕ (RowOf kind) → Source 
 rows_reply (a_sequence which e) o source args operation = reply_by (tools_of e) o source args which operation
 rows_reply (a_map which k e) o source args operation = map_reply (tools_of k) (tools_of e) o source args which operation
 rows_reply (a_set which e) o source args operation = set_reply (tools_of e) o source args which operation
+rows_reply (a_keyed_set which) o source args operation = keyed_set_reply o source args which operation
 
 -- and of any kind, with the object among the arguments, if there is one
 abbrev pub reply_of : Held → Option Held → Operation → Arguments → Reply Held
@@ -192,6 +201,7 @@ abbrev pub own_calls : (kind : RowKind) → Object ℕ (RowOf kind) → OwnCalls
 own_calls (a_sequence which e) o = sequence_own (tools_of e) o
 own_calls (a_map which k e) o = map_own (tools_of k) (tools_of e) which o
 own_calls (a_set which e) o = set_own (tools_of e) which o
+own_calls (a_keyed_set which) o = set_own keyed_texts which o
 
 module _ {A : Type 0} (f : (V : Type 0) → (Object ℕ V → Held) → Object ℕ V → OwnCalls V → A) where
   abbrev pub by_own : Held → A
@@ -218,10 +228,13 @@ listing_of h = by_own (λ V hold o own. own.listing) h
 
 -- The update of a key: why its head is refused, and its end, with the copy. Only a keyed set has one
 abbrev pub key_update_reason : Held → Mark → Option Reason
-key_update_reason h c = Some NoElement
+key_update_reason (of_rows (a_keyed_set which) o) c = by_key.update_key_reason o (seen o c)
+key_update_reason (of_rows _ o) c = Some NoElement
 
 abbrev pub key_updated : Held → Mark → Value → Written
-key_updated h c v = record { reason = None; after = h }
+key_updated (of_rows (a_keyed_set which) o) c v =
+    written (of_rows (a_keyed_set which)) (by_key.end_update_key_call key_of_text (order_by texts which) o (seen o c) (text_in v))
+key_updated (of_rows kind o) c v = record { reason = None; after = of_rows kind o }
 
 -- A new object
 
@@ -242,20 +255,25 @@ abbrev pub have_capacity : RowKind → Bool
 have_capacity (a_sequence which e) = is_vector which
 have_capacity (a_map which k e) = is_hashed which
 have_capacity (a_set which e) = is_hashed which
+have_capacity (a_keyed_set which) = is_hashed which
 
 abbrev pub element_or : ElemKind → Option ElemKind → ElemKind
 element_or first None = first
 element_or first (Some second) = second
 
+abbrev pub set_by : KeyedKind → ElemKind → (keyed : Bool) → RowKind
+set_by which first false = a_set which first
+set_by which first true = a_keyed_set which
+
 -- of the kinds whose objects scripts can have
-abbrev pub kind_by : Kind → (first : ElemKind) → (second : Option ElemKind) → RowKind
-kind_by kinds.Vector first second = a_sequence of_vector first
-kind_by kinds.HashedMap first second = a_map of_hashed first (element_or first second)
-kind_by kinds.OrderedMap first second = a_map of_ordered first (element_or first second)
-kind_by kinds.HashedSet first second = a_set of_hashed first
-kind_by kinds.OrderedSet first second = a_set of_ordered first
-kind_by _ first second = a_sequence of_list first
+abbrev pub kind_by : Kind → (first : ElemKind) → (second : Option ElemKind) → (keyed : Bool) → RowKind
+kind_by kinds.Vector first second keyed = a_sequence of_vector first
+kind_by kinds.HashedMap first second keyed = a_map of_hashed first (element_or first second)
+kind_by kinds.OrderedMap first second keyed = a_map of_ordered first (element_or first second)
+kind_by kinds.HashedSet first second keyed = set_by of_hashed first keyed
+kind_by kinds.OrderedSet first second keyed = set_by of_ordered first keyed
+kind_by _ first second keyed = a_sequence of_list first
 
 abbrev pub new_held : TypeDef → ℕ → Option ℕ → Held
 new_held def number capacity =
-    let kind = kind_by def.kind def.first def.second in of_rows kind (empty_object (have_capacity kind) number (limit_by capacity))
+    let kind = kind_by def.kind def.first def.second def.keyed in of_rows kind (empty_object (have_capacity kind) number (limit_by capacity))

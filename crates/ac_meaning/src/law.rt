@@ -2,7 +2,7 @@
 ghost use Rattle.ac_meaning.specs.Laws.{RunsResolved, ScriptRunsResolved, RepliesStay, CommandsStay};
 ghost use Rattle.ac_meaning.specs.Laws.{ObjectsGoOn, NamesStayInScope, RefusalsLeave};
 ghost use Rattle.ac_meaning.specs.Stays.{NamesComeAndGo};
-ghost use Rattle.ac_meaning.specs.GuardedNames.{ResolvedKeepsGuarded, KeepsGuarded, GuardedStays, BlocksGuard, TurnsKeepNames};
+ghost use Rattle.ac_meaning.specs.GuardedNames.{ResolvedKeepsGuarded, KeepsGuarded, GuardedStays, BlocksGuard, TurnsKeepNames, UpdatesAreAlone};
 ghost use Rattle.ac_meaning.specs.Walks.{WalksInOrder};
 ghost use Rattle.ac_meaning.specs.FitsScope.{NamesFound, DeclaredFits, HeadsFit, GoesOnFitting};
 ghost use Rattle.ac_meaning.specs.Numbers.{NumbersTell, NumbersGoOnDiffering, NextRises};
@@ -42,6 +42,7 @@ pub fn guarded_names_stay()
     ensures objects { GuardedStays }
     ensures blocks { BlocksGuard }
     ensures turns { TurnsKeepNames }
+    ensures updates { UpdatesAreAlone }
 {}
 
 /// A walk by Next meets each of the names that a loop goes over, in its order, and one by Previous those of a loop backwards: so do
