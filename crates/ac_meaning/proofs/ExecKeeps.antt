@@ -3,21 +3,20 @@ use Rattle.std.proofs.Common.{◌≡◌, ◌++◌, ℕ, Bool, true, false, List,
 use Rattle.std.proofs.lemmas.List.{append-nil}
 use Rattle.ac_base.specs.Limits.{numbers_end}
 use Rattle.ac_base.specs.declared.reason.Reason.{Reason}
-use Rattle.ac_base.specs.declared.reason.Reason.TheVariants.{NoElement}
 use Rattle.ac_model.specs.Letters.{Mark, mark_at as mark_of_name}
 use Rattle.ac_syntax.specs.declared.view_kind.ViewKind.{ViewKind}
 use Rattle.ac_syntax.specs.declared.view_kind.ViewKind.TheVariants.{Query, Update, Reference, UpdateKey}
 use Rattle.ac_check.specs.declared.resolved.ResolvedDecl.{ResolvedDecl}
 use Rattle.ac_check.specs.declared.resolved.ResolvedDecl.TheVariants as decl
 use Rattle.ac_check.specs.Resolved.{ResolvedHead, loops_at, views_at, stables_at, declares_at, no_statement, a_command, a_block, resolve}
-use Rattle.ac_meaning.specs.Holdings.{Held, Guards, names_of, number_of}
-use Rattle.ac_meaning.specs.Environment.{Bound, binds_element, State, under, object_at, mark_at, with_name, leaving, Declared, unless_spent, after_decl, after_decls}
-use Rattle.ac_meaning.specs.Execution.{Outcome, scoped, commanded, guards_of_loop, guards_of_stable, guards_of_view, in_order, turn_bound, head_reason, turns, viewed, view_on, on_object, after_declared, block_on, exec_resolved}
+use Rattle.ac_meaning.specs.Holdings.{Held, Guards, names_of, number_of, element_value}
+use Rattle.ac_meaning.specs.Environment.{Bound, binds_element, binds_value, State, under, object_at, mark_at, value_at, value_or_zero, with_name, leaving, Declared, unless_spent, after_decl, after_decls}
+use Rattle.ac_meaning.specs.Execution.{Outcome, scoped, commanded, guards_of_loop, guards_of_stable, guards_of_view, in_order, turn_bound, head_reason, turns, key_body, viewed, view_on, on_object, after_declared, block_on, exec_resolved}
 use Rattle.ac_meaning.specs.GuardedNames.{kept, ResolvedKeepsGuarded, KeepsGuarded}
-use Rattle.ac_meaning.proofs.CallsStay.{none_some}
 use Rattle.ac_meaning.proofs.Resolved.{runs_resolved}
 use Rattle.ac_meaning.proofs.Frames.{kept_weaker, kept_back}
 use Rattle.ac_meaning.proofs.Guarded.{commanded_keeps}
+use Rattle.ac_meaning.proofs.UpdatesAlone.{updates_are_alone, key_end_keeps}
 
 -- the environment has these names, and more behind them
 pub record Extends (e now : State) : Type 0 where
@@ -80,24 +79,43 @@ module _ (body : Guards → State → Outcome) (keeps : KeepsAll body) (guards :
       let more = guards_of_loop elements h in
       turns_keep elements object h names (scoped e (body (more ++ guards)) (with_name e b)).after ∙ scoped_keeps more e b
 
-  viewed_keeps : (number : ℕ) (view : ViewKind) (object : ℕ) (at : Mark) (h : Held) (e : State) → head_reason view h at ≡ None →
-      kept guards (viewed body guards number view object at h e).after ≡ kept guards e
-  viewed_keeps number Query object at h e none = scoped_keeps (guards_of_view Query h) e (binds_element object at)
-  viewed_keeps number Update object at h e none = scoped_keeps (guards_of_view Update h) e (binds_element object at)
-  viewed_keeps number Reference object at h e none = scoped_keeps (guards_of_view Reference h) e (binds_element object at)
-  viewed_keeps number UpdateKey object at h e none = none_some NoElement (sym none)
+  key_keeps : (number object : ℕ) (at : Mark) (h : Held) (e : State) → object_at (under guards e) object ≡ Some h →
+      head_reason UpdateKey h at ≡ None → kept guards (key_body body guards number object at h e).after ≡ kept guards e
+  key_keeps number object at h e there none =
+      let held = guards_of_view UpdateKey h ++ guards in
+      let b = binds_value (value_or_zero (element_value h at).answer) in
+      let r = body held (with_name e b) in
+      let left = leaving (length e.bounds) r.after in
+      key_end_keeps guards held number object e left at (value_at r.after (length e.bounds)) h there
+      (updates_are_alone.found guards e object h at there none)
+      (scoped_keeps (guards_of_view UpdateKey h) e b) (object_at (under held left) object) refl
 
-  view_keeps : (number : ℕ) (view : ViewKind) (object : ℕ) (at : Mark) (h : Held) (e : State) (reason : Option Reason) →
-      head_reason view h at ≡ reason → kept guards (view_on body guards number view object at h e).after ≡ kept guards e
-  view_keeps number view object at h e None f = rw (f, view_on) (viewed_keeps number view object at h e f)
-  view_keeps number view object at h e (Some reason) f = rw (f, view_on) refl
+  viewed_keeps : (number : ℕ) (view : ViewKind) (object : ℕ) (at : Mark) (h : Held) (e : State) → object_at (under guards e) object ≡ Some h →
+      head_reason view h at ≡ None → kept guards (viewed body guards number view object at h e).after ≡ kept guards e
+  viewed_keeps number Query object at h e there none = scoped_keeps (guards_of_view Query h) e (binds_element object at)
+  viewed_keeps number Update object at h e there none = scoped_keeps (guards_of_view Update h) e (binds_element object at)
+  viewed_keeps number Reference object at h e there none = scoped_keeps (guards_of_view Reference h) e (binds_element object at)
+  viewed_keeps number UpdateKey object at h e there none = key_keeps number object at h e there none
 
-  object_keeps : (head : ResolvedHead) (found : Option Held) (e : State) → kept guards (on_object body guards head found e).after ≡ kept guards e
-  object_keeps head None e = refl
-  object_keeps (loops_at number elements backward object) (Some h) e = turns_keep elements object h (in_order backward (names_of h)) e
-  object_keeps (views_at number view object at) (Some h) e = view_keeps number view object (mark_at e at) h e _ refl
-  object_keeps (stables_at number object) (Some h) e = under_more (guards_of_stable h) e
-  object_keeps (declares_at number decls) (Some h) e = refl
+  view_keeps : (number : ℕ) (view : ViewKind) (object : ℕ) (at : Mark) (h : Held) (e : State) → object_at (under guards e) object ≡ Some h →
+      (reason : Option Reason) → head_reason view h at ≡ reason → kept guards (view_on body guards number view object at h e).after ≡ kept guards e
+  view_keeps number view object at h e there None f = rw (f, view_on) (viewed_keeps number view object at h e there f)
+  view_keeps number view object at h e there (Some reason) f = rw (f, view_on) refl
+
+  loop_keeps : (number : ℕ) (elements backward : Bool) (object : ℕ) (found : Option Held) (e : State) →
+      kept guards (on_object body guards (loops_at number elements backward object) found e).after ≡ kept guards e
+  loop_keeps number elements backward object None e = refl
+  loop_keeps number elements backward object (Some h) e = turns_keep elements object h (in_order backward (names_of h)) e
+
+  placed_keeps : (number : ℕ) (view : ViewKind) (object : ℕ) (at : Option ℕ) (e : State) (found : Option Held) →
+      object_at (under guards e) object ≡ found → kept guards (on_object body guards (views_at number view object at) found e).after ≡ kept guards e
+  placed_keeps number view object at e None there = refl
+  placed_keeps number view object at e (Some h) there = view_keeps number view object (mark_at e at) h e there _ refl
+
+  stable_keeps : (number object : ℕ) (found : Option Held) (e : State) →
+      kept guards (on_object body guards (stables_at number object) found e).after ≡ kept guards e
+  stable_keeps number object None e = refl
+  stable_keeps number object (Some h) e = under_more (guards_of_stable h) e
 
   declared_keeps : (e : State) (d : Declared) (spent : Option ℕ) → d.spent ≡ spent → Extends e d.after →
       kept guards (after_declared body guards e d).after ≡ kept guards e
@@ -105,9 +123,9 @@ module _ (body : Guards → State → Outcome) (keeps : KeepsAll body) (guards :
   declared_keeps e d (Some number) f ext = rw (f, after_declared) (back e d.after d.after ext refl)
 
   block_keeps : (e : State) (head : ResolvedHead) → kept guards (block_on body guards e head).after ≡ kept guards e
-  block_keeps e (loops_at number elements backward object) = object_keeps (loops_at number elements backward object) (object_at (under guards e) object) e
-  block_keeps e (views_at number view object at) = object_keeps (views_at number view object at) (object_at (under guards e) object) e
-  block_keeps e (stables_at number object) = object_keeps (stables_at number object) (object_at (under guards e) object) e
+  block_keeps e (loops_at number elements backward object) = loop_keeps number elements backward object (object_at (under guards e) object) e
+  block_keeps e (views_at number view object at) = placed_keeps number view object at e (object_at (under guards e) object) refl
+  block_keeps e (stables_at number object) = stable_keeps number object (object_at (under guards e) object) e
   block_keeps e (declares_at number decls) = declared_keeps e (after_decls decls e) _ refl (decls_extend decls e)
 
 pub resolved_keeps : ResolvedKeepsGuarded

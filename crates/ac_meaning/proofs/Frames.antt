@@ -1,16 +1,16 @@
 -- What is kept of what the names hold: lists alone.
-use Rattle.std.proofs.Common.{◌≡◌, ◌==◌, ◌||◌, ◌++◌, ℕ, Bool, true, false, List, [], ◌∷◌, map, take, length, slice_get, refl, sym, ap, ◌∙◌, option_map, Option, Some, None}
+use Rattle.std.proofs.Common.{◌≡◌, ◌==◌, ◌||◌, ◌++◌, ℕ, zero, suc, Bool, true, false, List, [], ◌∷◌, map, take, length, slice_get, slice_set, refl, sym, ap, ◌∙◌, option_map, Option, Some, None}
 use Rattle.std.proofs.lemmas.List.{take-map}
 use Rattle.std.proofs.lemmas.List.Folds.{list_any-append}
 use Rattle.std.proofs.lemmas.Option.{slice_get-map}
 use Rattle.std.proofs.Math.Seq.{take-append_seam}
 use Rattle.ac_base.specs.Guards.{HeldGuard}
 use Rattle.ac_meaning.specs.Holdings.{of_rows, Guards, held_under, number_of, names_of}
-use Rattle.ac_meaning.specs.Environment.{Bound, binds_type, binds_object, binds_cursor, binds_value, binds_element, bound_by, bound_in, State, under, at_rest, bound_at, leaving}
+use Rattle.ac_meaning.specs.Environment.{Bound, binds_type, binds_object, binds_cursor, binds_value, binds_element, bound_by, bound_in, State, under, at_rest, bound_at, with_bound, leaving}
 use Rattle.ac_meaning.specs.GuardedNames.{is_guarded, Frame, of_type, of_object, of_cursor, of_value, of_element, names_if, frame, kept}
 
 -- guards on the objects themselves change nothing of what is kept
-frame_under : (guards held : Guards) (b : Bound) → frame guards (bound_by (held_under held) b) ≡ frame guards b
+pub frame_under : (guards held : Guards) (b : Bound) → frame guards (bound_by (held_under held) b) ≡ frame guards b
 frame_under guards held binds_type = refl
 frame_under guards held (binds_object (of_rows kind o)) = refl
 frame_under guards held (binds_cursor mark) = refl
@@ -45,6 +45,17 @@ pub frame_stays : (guards : Guards) (e now : State) (place : ℕ) → kept guard
     frame guards (bound_at now place) ≡ frame guards (bound_at e place)
 frame_stays guards e now place h =
     frame_at guards now place ∙ (ap (λ fs. found_frame (slice_get fs place)) h ∙ sym (frame_at guards e place))
+
+-- what keeps the same stands at a place
+frames_set : (guards : Guards) (bs : List Bound) (place : ℕ) (b : Bound) → frame guards b ≡ frame guards (bound_in (slice_get bs place)) →
+    map (frame guards) (slice_set bs place b) ≡ map (frame guards) bs
+frames_set guards [] place b h = refl
+frames_set guards (x ∷ bs) zero b h = λ i. h i ∷ map (frame guards) bs
+frames_set guards (x ∷ bs) (suc place) b h = λ i. frame guards x ∷ frames_set guards bs place b h i
+
+pub kept-with_bound : (guards : Guards) (e : State) (place : ℕ) (b : Bound) → frame guards b ≡ frame guards (bound_at e place) →
+    kept guards (with_bound e place b) ≡ kept guards e
+kept-with_bound guards e place b h = frames_set guards e.bounds place b h
 
 -- more guards keep more
 forget : Guards → Frame → Frame
@@ -89,3 +100,11 @@ kept_back guards e now more h =
     kept-take guards (length e.bounds) now.bounds
     ∙ (ap (take (length e.bounds)) h
     ∙ (sym (kept-take guards (length e.bounds) (e.bounds ++ more)) ∙ ap (map (frame guards)) (take-append_seam e.bounds more)))
+
+-- the number of an object
+pub number_in_frame : Frame → ℕ
+number_in_frame of_type = 0
+number_in_frame (of_object number names) = number
+number_in_frame of_cursor = 0
+number_in_frame of_value = 0
+number_in_frame (of_element object at) = 0

@@ -22,9 +22,9 @@ use Rattle.ac_meaning.proofs.CountsStay.{cursors_of, elements_of, held_anew}
 use Rattle.ac_meaning.proofs.Frames.{kept-under, kept-at_rest}
 
 -- an object with a guard is forbidden to change its names
-record Forbidden (cursor_guards element_guards : ℕ) : Type 0 where
-  reason : Reason
-  is : forbids class.Cursors cursor_guards element_guards ≡ Some reason
+pub record Forbidden (cursor_guards element_guards : ℕ) : Type 0 where
+  pub reason : Reason
+  pub is : forbids class.Cursors cursor_guards element_guards ≡ Some reason
 
 some_forbid : (c e : ℕ) → 0 < c + e → Forbidden c e
 some_forbid c e h = go (nat_lt 0 c) refl (nat_lt 0 e) refl
@@ -51,7 +51,17 @@ pub held_some : (guards : Guards) (n : ℕ) → is_guarded guards n ≡ true →
 held_some [] n h = cc
 held_some (g ∷ guards) n h = held_step g guards n (g.object == n) refl h (held_some guards n)
 
--- an object as its guards make it keeps its names where one is held
+-- so it is of an object as its guards make it, where one is held on it
+pub guarded_forbids : {V : Type 0} (guards : Guards) (o : Object ℕ V) → held_on guards o.number guard.Cursors ≡ o.cursor_guards →
+    held_on guards o.number guard.Elements ≡ o.element_guards → is_guarded guards o.number ≡ true → Forbidden o.cursor_guards o.element_guards
+guarded_forbids guards o c e f =
+    let forbidden = some_forbid _ _ (held_some guards o.number f) in
+    let is : tampers_cursors o ≡ Some forbidden.reason =
+    ap (λ n. forbids class.Cursors n o.element_guards) (sym c)
+    ∙ (ap (λ n. forbids class.Cursors (held_on guards o.number guard.Cursors) n) (sym e) ∙ forbidden.is) in
+    record { reason = forbidden.reason; is = is }
+
+-- which then keeps its names
 object_names : {V : Type 0} (guards : Guards) (o after : Object ℕ V) → held_on guards o.number guard.Cursors ≡ o.cursor_guards →
     held_on guards o.number guard.Elements ≡ o.element_guards → Stays o None after →
     names_if (is_guarded guards after.number) (names after.rows) ≡ names_if (is_guarded guards o.number) (names o.rows)
@@ -60,12 +70,7 @@ object_names guards o after c e stays =
   where
     go : (b : Bool) → is_guarded guards o.number ≡ b → names_if b (names after.rows) ≡ names_if b (names o.rows)
     go false f = refl
-    go true f =
-        let forbidden = some_forbid _ _ (held_some guards o.number f) in
-        let is : tampers_cursors o ≡ Some forbidden.reason =
-        ap (λ n. forbids class.Cursors n o.element_guards) (sym c)
-        ∙ (ap (λ n. forbids class.Cursors (held_on guards o.number guard.Cursors) n) (sym e) ∙ forbidden.is) in
-        stays.names refl forbidden.reason is
+    go true f = let forbidden = guarded_forbids guards o c e f in stays.names refl forbidden.reason forbidden.is
 
 held_frame : (guards : Guards) (h after : Held) → HeldStays h after → held_under guards h ≡ h →
     frame guards (binds_object after) ≡ frame guards (binds_object h)

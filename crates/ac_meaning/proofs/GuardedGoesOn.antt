@@ -7,15 +7,8 @@ use Rattle.ac_meaning.specs.Environment.{Bound, binds_type, binds_object, binds_
 use Rattle.ac_meaning.specs.Execution.{exec_resolved, guards_of_loop, guards_of_view}
 use Rattle.ac_meaning.specs.GuardedNames.{is_guarded, Frame, of_type, of_object, of_cursor, of_value, of_element, names_if, frame, GuardedGoesOn, GuardedStays, BlocksGuard, TurnsKeepNames}
 use Rattle.ac_meaning.proofs.BoundsStay.{object_there}
-use Rattle.ac_meaning.proofs.Frames.{frame_stays, kept_back}
+use Rattle.ac_meaning.proofs.Frames.{frame_stays, kept_back, number_in_frame}
 use Rattle.ac_meaning.proofs.ExecKeeps.{resolved_keeps}
-
-number_in_frame : Frame → ℕ
-number_in_frame of_type = 0
-number_in_frame (of_object number names) = number
-number_in_frame of_cursor = 0
-number_in_frame of_value = 0
-number_in_frame (of_element object at) = 0
 
 names_in_frame : Frame → List ℕ
 names_in_frame of_type = []

@@ -10,6 +10,7 @@ pub mod CountsStay
 pub mod ObjectsGoOn
 pub mod Frames
 pub mod Guarded
+pub mod UpdatesAlone
 pub mod ExecKeeps
 pub mod GuardedGoesOn
 pub mod Walks

@@ -1,6 +1,6 @@
--- Worked scripts over maps and sets: what they write, to the byte.
+-- Worked scripts over maps and sets, with keys and without: what they write, to the byte.
 use Rattle.std.specs.Prelude.{◌≡◌, ℕ, codes, false, true, List, [], ◌∷◌, Option, Some, None}
-use Rattle.ac_syntax.specs.Code.{loop_at, stable_at, stop, one, block}
+use Rattle.ac_syntax.specs.Code.{set_at, loop_at, view_at, stable_at, stop, one, block}
 use Rattle.ac_syntax.specs.declared.arg.Arg.TheVariants.{Var}
 use Rattle.ac_syntax.specs.declared.decl.Decl.{Decl}
 use Rattle.ac_syntax.specs.declared.decl.Decl.TheVariants as decl
@@ -8,12 +8,16 @@ use Rattle.ac_syntax.specs.declared.kind.Kind.{Kind}
 use Rattle.ac_syntax.specs.declared.kind.Kind.TheVariants as kind
 use Rattle.ac_syntax.specs.declared.kind.ElemKind.{ElemKind}
 use Rattle.ac_syntax.specs.declared.kind.ElemKind.TheVariants.{Integer, Str}
+use Rattle.ac_syntax.specs.declared.view_kind.ViewKind.TheVariants.{UpdateKey}
 use Rattle.ac_meaning.specs.Examples.{lines, number, string, called, gets, script}
 use Rattle.ac_meaning.specs.Execution.{text_of}
 
 abbrev pub type_of : Kind → ElemKind → Option ElemKind → Decl
 type_of which first second =
     decl.TypeDecl 1 (codes "t") (record { bounded = false; kind = which; first = first; second = second; keyed = false })
+
+abbrev pub keyed_type_of : Kind → Decl
+keyed_type_of which = decl.TypeDecl 1 (codes "t") (record { bounded = false; kind = which; first = Str; second = None; keyed = true })
 
 abbrev pub object : ℕ → List ℕ → Decl
 object line name = decl.Object line name (codes "t") None
@@ -114,3 +118,76 @@ SetsAreJoined =
     (one (called 15 (codes "b") (codes "print") []) stop)))))))))))))
     ≡ lines (codes "4: ok" ∷ codes "5: ok" ∷ codes "6: ok" ∷ codes "7: true" ∷ codes "8: false" ∷ codes "9: ok" ∷ codes "10: [1, 2]"
     ∷ codes "11: ok" ∷ codes "12: false" ∷ codes "13: ok" ∷ codes "14: true" ∷ codes "15: [2, 1]" ∷ [])
+
+-- a set meets itself: what is in both, in either alone
+abbrev pub SetsMeetThemselves : Type 0
+SetsMeetThemselves =
+    text_of (script (type_of kind.OrderedSet Integer None ∷ object 2 (codes "a") ∷ [])
+    (one (called 3 (codes "a") (codes "insert") (number 2 ∷ []))
+    (one (called 4 (codes "a") (codes "insert") (number 1 ∷ []))
+    (one (called 5 (codes "a") (codes "is_subset") (Var (codes "a") ∷ []))
+    (one (called 6 (codes "a") (codes "symmetric_difference") (Var (codes "a") ∷ []))
+    (one (called 7 (codes "a") (codes "print") [])
+    (one (called 8 (codes "a") (codes "overlap") (Var (codes "a") ∷ []))
+    (one (called 9 (codes "a") (codes "equivalent_sets") (Var (codes "a") ∷ [])) stop))))))))
+    ≡ lines (codes "3: ok" ∷ codes "4: ok" ∷ codes "5: true" ∷ codes "6: ok" ∷ codes "7: []" ∷ codes "8: false" ∷ codes "9: true" ∷ [])
+
+-- a copy with the element's key takes its place, and with another key the element goes, which the block's line says
+abbrev pub KeysAreUpdated : Type 0
+KeysAreUpdated =
+    text_of (script (keyed_type_of kind.OrderedSet ∷ object 2 (codes "a") ∷ position 3 (codes "c") ∷ [])
+    (one (called 4 (codes "a") (codes "insert") (string (codes "a=1") ∷ []))
+    (one (gets 5 (codes "c") (codes "a") (codes "key_find") (string (codes "a") ∷ []))
+    (block (view_at 6 UpdateKey (codes "a") (Some (codes "c")) (codes "x"))
+    (one (set_at 7 (codes "x") (string (codes "a=2")))
+    (one (called 8 (codes "a") (codes "insert") (string (codes "q") ∷ [])) stop))
+    (one (called 10 (codes "a") (codes "print") [])
+    (block (view_at 11 UpdateKey (codes "a") (Some (codes "c")) (codes "x"))
+    (one (set_at 12 (codes "x") (string (codes "b=2"))) stop)
+    (one (called 14 (codes "a") (codes "length") [])
+    (one (called 15 (codes "a") (codes "element") (Var (codes "c") ∷ [])) stop))))))))
+    ≡ lines (codes "4: ok" ∷ codes "5: cursor" ∷ codes "7: \"a=2\"" ∷ codes "8: raised PROGRAM_ERROR (cursor tampering)"
+    ∷ codes "10: [\"a=2\"]" ∷ codes "12: \"b=2\"" ∷ codes "11: raised PROGRAM_ERROR (key changed)" ∷ codes "14: 0"
+    ∷ codes "15: raised PROGRAM_ERROR (dead cursor)" ∷ [])
+
+-- elements are equivalent by their keys, and under a loop no key is updated
+abbrev pub KeysTellElements : Type 0
+KeysTellElements =
+    text_of (script (keyed_type_of kind.HashedSet ∷ object 2 (codes "a") ∷ [])
+    (one (called 3 (codes "a") (codes "insert") (string (codes "a=1") ∷ []))
+    (one (called 4 (codes "a") (codes "insert") (string (codes "a=7") ∷ []))
+    (block (loop_at 5 (codes "c") false false (codes "a"))
+    (block (view_at 6 UpdateKey (codes "a") (Some (codes "c")) (codes "x")) (one (set_at 7 (codes "x") (string (codes "a=3"))) stop) stop)
+    (one (called 10 (codes "a") (codes "contains") (string (codes "a=9") ∷ []))
+    (one (called 11 (codes "a") (codes "print") []) stop))))))
+    ≡ lines (codes "3: ok" ∷ codes "4: raised CONSTRAINT_ERROR (key present)" ∷ codes "6: raised PROGRAM_ERROR (cursor tampering)"
+    ∷ codes "10: true" ∷ codes "11: [\"a=1\"]" ∷ [])
+
+-- so are those of two sets
+abbrev pub KeysAreJoined : Type 0
+KeysAreJoined =
+    text_of (script (keyed_type_of kind.HashedSet ∷ object 2 (codes "a") ∷ object 3 (codes "b") ∷ [])
+    (one (called 4 (codes "a") (codes "insert") (string (codes "a=1") ∷ []))
+    (one (called 5 (codes "a") (codes "insert") (string (codes "b=1") ∷ []))
+    (one (called 6 (codes "b") (codes "insert") (string (codes "b=2") ∷ []))
+    (one (called 7 (codes "b") (codes "insert") (string (codes "c=2") ∷ []))
+    (one (called 8 (codes "a") (codes "union") (Var (codes "b") ∷ []))
+    (one (called 9 (codes "a") (codes "print") [])
+    (one (called 10 (codes "a") (codes "symmetric_difference") (Var (codes "b") ∷ []))
+    (one (called 11 (codes "a") (codes "print") [])
+    (one (called 12 (codes "a") (codes "overlap") (Var (codes "b") ∷ [])) stop))))))))))
+    ≡ lines (codes "4: ok" ∷ codes "5: ok" ∷ codes "6: ok" ∷ codes "7: ok" ∷ codes "8: ok" ∷ codes "9: [\"a=1\", \"b=1\", \"c=2\"]"
+    ∷ codes "10: ok" ∷ codes "11: [\"a=1\"]" ∷ codes "12: false" ∷ [])
+
+-- an element is replaced by its key, also by one of another key, which no other has
+abbrev pub KeysAreReplaced : Type 0
+KeysAreReplaced =
+    text_of (script (keyed_type_of kind.OrderedSet ∷ object 2 (codes "a") ∷ [])
+    (one (called 3 (codes "a") (codes "insert") (string (codes "b=1") ∷ []))
+    (one (called 4 (codes "a") (codes "insert") (string (codes "a=1") ∷ []))
+    (one (called 5 (codes "a") (codes "key_replace") (string (codes "b") ∷ string (codes "a=3") ∷ []))
+    (one (called 6 (codes "a") (codes "key_replace") (string (codes "b") ∷ string (codes "c=3") ∷ []))
+    (one (called 7 (codes "a") (codes "print") [])
+    (one (called 8 (codes "a") (codes "key_delete") (string (codes "b") ∷ [])) stop)))))))
+    ≡ lines (codes "3: ok" ∷ codes "4: ok" ∷ codes "5: raised PROGRAM_ERROR (duplicate)" ∷ codes "6: ok" ∷ codes "7: [\"a=1\", \"c=3\"]"
+    ∷ codes "8: raised CONSTRAINT_ERROR (key absent)" ∷ [])

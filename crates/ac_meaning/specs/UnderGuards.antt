@@ -1,10 +1,15 @@
 -- Environments while guards are held: the counts of the objects are those of the guards, and what commands and blocks owe to that.
 use Rattle.std.specs.Prelude.{◌≡◌, ◌==◌, ℕ, false, ◌∷◌, None, option_map, if◌then◌else◌}
+use Rattle.ac_base.specs.declared.guard.GuardKind.TheVariants as guard
+use Rattle.ac_base.specs.declared.value.Value.{Value}
 use Rattle.ac_base.specs.Guards.{HeldGuard}
 use Rattle.ac_model.specs.Objects.{Object}
+use Rattle.ac_model.specs.Letters.{Mark}
 use Rattle.ac_model.specs.Common.{hold_call, release_call}
 use Rattle.ac_check.specs.Resolved.{ResolvedSimple}
-use Rattle.ac_meaning.specs.Holdings.{Held, Guards, with_rows_by, held_under}
+use Rattle.ac_meaning.specs.Elements.{Text}
+use Rattle.ac_meaning.specs.KeyedReplies.{KeyedKind}
+use Rattle.ac_meaning.specs.Holdings.{a_keyed_set, Held, of_rows, Guards, with_rows_by, held_under, guard_on, key_updated}
 use Rattle.ac_meaning.specs.Environment.{Bound, bound_by, object_in, State, objects_by, under, at_rest, object_at, bound_at, with_bound, with_name, leaving}
 use Rattle.ac_meaning.specs.Commands.{performed}
 
@@ -57,3 +62,10 @@ pub record BlocksKeepCounts : Type 0 where
   pub named : (guards : Guards) (e : State) (b : Bound) → under guards e ≡ e → object_in b ≡ None →
       under guards (with_name e b) ≡ with_name e b
   pub left : (guards : Guards) (count : ℕ) (e : State) → under guards e ≡ e → under guards (leaving count e) ≡ leaving count e
+
+-- and the end of an update of a key, which releases its guard
+abbrev pub UpdatesKeepCounts : Type 0
+UpdatesKeepCounts = (guards : Guards) (which : KeyedKind) (o : Object ℕ Text) (at : Mark) (copy : Value) →
+    let h = of_rows (a_keyed_set which) o in
+    let now = (key_updated h at copy).after in
+    held_under (guard_on h guard.Cursors ∷ guards) h ≡ h → held_under guards now ≡ now

@@ -6,6 +6,7 @@ ghost use Rattle.ac_meaning.specs.Examples.{ElementsComeAndGo, ElementsMove, Lis
 ghost use Rattle.ac_meaning.specs.Examples.{VectorLoopsHoldTheirGuards, IndexesAreInRange, CursorsKeepElements, BoundedVectorIsFull};
 ghost use Rattle.ac_meaning.specs.Examples.{ElementsHaveIndexes, VectorsTakeCopies};
 ghost use Rattle.ac_meaning.specs.KeyedExamples.{MapsKeepArrival, SetsStandAscending, OrderedMapsHaveEnds, SetsAreGuardedWhole, SetsAreJoined};
+ghost use Rattle.ac_meaning.specs.KeyedExamples.{SetsMeetThemselves, KeysAreUpdated, KeysTellElements, KeysAreJoined, KeysAreReplaced};
 ghost use Rattle.ac_meaning.specs.Examples.{MapIsListed, NoNodesAreListed, TreeIsListed, DeepTreeIsListed};
 
 /// What small scripts write, to the byte.
@@ -55,6 +56,15 @@ pub fn map_and_set_scripts()
     ensures ordered_maps_have_ends { OrderedMapsHaveEnds }
     ensures sets_are_guarded_whole { SetsAreGuardedWhole }
     ensures sets_are_joined { SetsAreJoined }
+    ensures sets_meet_themselves { SetsMeetThemselves }
+{}
+
+/// The same of sets of strings with keys.
+pub fn keyed_set_scripts()
+    ensures keys_are_updated { KeysAreUpdated }
+    ensures keys_tell_elements { KeysTellElements }
+    ensures keys_are_joined { KeysAreJoined }
+    ensures keys_are_replaced { KeysAreReplaced }
 {}
 
 /// How maps and trees are listed.

@@ -2,12 +2,14 @@
 ghost use Rattle.ac_meaning.specs.Laws.{RunsResolved, ScriptRunsResolved, RepliesStay, CommandsStay};
 ghost use Rattle.ac_meaning.specs.Laws.{ObjectsGoOn, NamesStayInScope, RefusalsLeave};
 ghost use Rattle.ac_meaning.specs.Stays.{NamesComeAndGo};
-ghost use Rattle.ac_meaning.specs.GuardedNames.{ResolvedKeepsGuarded, KeepsGuarded, GuardedStays, BlocksGuard, TurnsKeepNames, UpdatesAreAlone};
+ghost use Rattle.ac_meaning.specs.GuardedNames.{ResolvedKeepsGuarded, KeepsGuarded, GuardedStays, BlocksGuard, TurnsKeepNames};
+ghost use Rattle.ac_meaning.specs.GuardedNames.{UpdatesAreAlone};
 ghost use Rattle.ac_meaning.specs.Walks.{WalksInOrder};
 ghost use Rattle.ac_meaning.specs.FitsScope.{NamesFound, DeclaredFits, HeadsFit, GoesOnFitting};
 ghost use Rattle.ac_meaning.specs.Numbers.{NumbersTell, NumbersGoOnDiffering, NextRises};
 ghost use Rattle.ac_meaning.specs.Numbers.{NewObjectsAreUnguarded, GuardsAreOnOneObject};
-ghost use Rattle.ac_meaning.specs.UnderGuards.{GuardsComeAndGo, CountsAreTheGuards, PartsUnder, CommandsKeepCounts, BlocksKeepCounts};
+ghost use Rattle.ac_meaning.specs.UnderGuards.{GuardsComeAndGo, CountsAreTheGuards, PartsUnder};
+ghost use Rattle.ac_meaning.specs.UnderGuards.{CommandsKeepCounts, BlocksKeepCounts, UpdatesKeepCounts};
 
 /// Statements run as what they are resolved to, and so does a script.
 pub fn resolved_statements()
@@ -32,10 +34,12 @@ pub fn counts_stay()
     ensures parts { PartsUnder }
     ensures commands { CommandsKeepCounts }
     ensures blocks { BlocksKeepCounts }
+    ensures updates { UpdatesKeepCounts }
 {}
 
 /// While a guard is held on an object, no statement changes the names in its rows or their order, and each name in scope goes on to
-/// hold what it held: an object with its number, a cursor, a value, or the same element.
+/// hold what it held: an object with its number, a cursor, a value, or the same element. A key is updated where no other guard is held
+/// on its set, whose element may go at the end.
 pub fn guarded_names_stay()
     ensures resolved { ResolvedKeepsGuarded }
     ensures statements { KeepsGuarded }

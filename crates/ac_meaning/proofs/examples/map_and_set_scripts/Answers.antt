@@ -25,3 +25,7 @@ returns-clause-sets_are_guarded_whole c = refl
 pub returns-clause-sets_are_joined : goal.returns-clause-sets_are_joined
 unfolding digits pow8 rows_of common_rows counted_rows capacity_rows keyed_walk_rows set_rows resolve_simple run text_of
 returns-clause-sets_are_joined c = refl
+
+pub returns-clause-sets_meet_themselves : goal.returns-clause-sets_meet_themselves
+unfolding digits rows_of common_rows counted_rows keyed_walk_rows set_rows ordered_rows ordered_set_rows resolve_simple run text_of
+returns-clause-sets_meet_themselves c = refl

@@ -1,4 +1,5 @@
 use Rattle.ac_meaning.proofs.CountsStay.{guards_come_and_go, counts_are_the_guards, parts_under, commands_keep_counts, blocks_keep_counts}
+use Rattle.ac_meaning.proofs.UpdatesAlone.{updates_keep_counts}
 use Rattle.ac_meaning.proofs.law.counts_stay.Goals as goal
 
 pub returns-clause-guards : goal.returns-clause-guards
@@ -15,3 +16,6 @@ returns-clause-commands c = commands_keep_counts
 
 pub returns-clause-blocks : goal.returns-clause-blocks
 returns-clause-blocks c = blocks_keep_counts
+
+pub returns-clause-updates : goal.returns-clause-updates
+returns-clause-updates c = updates_keep_counts

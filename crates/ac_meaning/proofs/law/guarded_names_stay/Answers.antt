@@ -1,3 +1,4 @@
+use Rattle.ac_meaning.proofs.UpdatesAlone.{updates_are_alone}
 use Rattle.ac_meaning.proofs.ExecKeeps.{resolved_keeps, exec_keeps}
 use Rattle.ac_meaning.proofs.GuardedGoesOn.{guarded_stays, blocks_guard, turns_keep_names}
 use Rattle.ac_meaning.proofs.law.guarded_names_stay.Goals as goal
@@ -16,3 +17,6 @@ returns-clause-blocks c = blocks_guard
 
 pub returns-clause-turns : goal.returns-clause-turns
 returns-clause-turns c = turns_keep_names
+
+pub returns-clause-updates : goal.returns-clause-updates
+returns-clause-updates c = updates_are_alone
