@@ -102,7 +102,7 @@ kept_back guards e now more h =
     ∙ (sym (kept-take guards (length e.bounds) (e.bounds ++ more)) ∙ ap (map (frame guards)) (take-append_seam e.bounds more)))
 
 -- the number of an object
-pub number_in_frame : Frame → ℕ
+unfoldable pub number_in_frame : Frame → ℕ
 number_in_frame of_type = 0
 number_in_frame (of_object number names) = number
 number_in_frame of_cursor = 0

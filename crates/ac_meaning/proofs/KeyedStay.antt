@@ -3,13 +3,15 @@ use Rattle.std.proofs.Common.{◌≡◌, ℕ, Bool, List, [], ◌∷◌, not, is
 use Rattle.std.specs.Prelude.{pos}
 use Rattle.ac_base.specs.declared.reason.Reason.{Reason}
 use Rattle.ac_base.specs.declared.reason.Reason.TheVariants.{KeyPresent, KeyAbsent, Duplicate}
+use Rattle.ac_base.specs.Key.{key_of_text}
 use Rattle.ac_base.specs.Rows.{Row, names}
 use Rattle.ac_model.specs.Rows.{Entry, row_by}
 use Rattle.ac_model.specs.Objects.{Object}
 use Rattle.ac_model.specs.Letters.{Mark, name_of, needs, in_range, reason_if, room_for_one}
 use Rattle.ac_model.specs.Calls.{Call}
 use Rattle.ac_model.specs.Keyed as keyed
-use Rattle.ac_model.specs.Keyed.{Order, row_like, replaced_rows, room_where_absent, another_is_like}
+use Rattle.ac_model.specs.Keyed.{Order, row_like, replaced_rows, on_key, room_where_absent, another_is_like}
+use Rattle.ac_model.specs.KeyedSets as by_key
 use Rattle.ac_model.specs.Maps as map
 use Rattle.ac_model.specs.Sets.{unchecked_union, unchecked_symmetric_difference}
 use Rattle.ac_check.specs.declared.operation.Operation.{Operation}
@@ -30,7 +32,7 @@ use Rattle.ac_check.specs.declared.operation.SetPairCall.{SetPairCall}
 use Rattle.ac_check.specs.declared.operation.SetPairCall.TheVariants as set_pair_call
 use Rattle.ac_check.specs.declared.operation.OrderedSetCall.{OrderedSetCall}
 use Rattle.ac_check.specs.declared.operation.OrderedSetCall.TheVariants as ordered_set_call
-use Rattle.ac_meaning.specs.Elements.{Tools, Text, keyed_texts}
+use Rattle.ac_meaning.specs.Elements.{Tools, Text, texts, keyed_texts}
 use Rattle.ac_meaning.specs.KeyedReplies.{KeyedKind, of_hashed, of_ordered, order_by, walk_reply, ordered_reply}
 use Rattle.ac_meaning.specs.MapReplies.{map_own, map_alone_reply, ordered_map_reply, map_reply}
 use Rattle.ac_meaning.specs.SetReplies.{set_own, set_alone_reply, set_pair_reply, ordered_set_reply, set_reply}
@@ -71,6 +73,15 @@ module _ {V : Type 0} (o : Object ℕ V) (matches : V → Bool) where
 
   delete_match_stays : CallStays o (keyed.delete_match_call matches o)
   delete_match_stays = changed o _ _ (first_check o (reason_if (not (is_some (row_by matches o.rows))) KeyAbsent ∷ []))
+
+key_replace_stays : {K T : Type 0} (key : T → K) (keys : Order K) (o : Object ℕ T) (k : K) (v : T) →
+    CallStays o (by_key.key_replace_call key keys o k v)
+key_replace_stays key keys o k v =
+    let present = row_by (by_key.has_key key keys k) o.rows in
+    changed o _ _
+    (first_check o
+    (reason_if (not (is_some present)) KeyAbsent
+    ∷ reason_if (another_is_like (on_key key keys) o.rows (by_key.name_found present) v) Duplicate ∷ []))
 
 module _ {V : Type 0} (o : Object ℕ V) (source : Source (Object ℕ V)) (args : Arguments) where
   walk_stays : (c : WalkCall) → ReplyStays o source (walk_reply o args c)
@@ -171,7 +182,7 @@ keyed_call_stays o source args which keyed_call.KeyFind = alone o source _ refl 
 keyed_call_stays o source args which keyed_call.KeyContains = alone o source _ refl (same o _)
 keyed_call_stays o source args which keyed_call.KeyExclude = alone o source _ refl (exclude_stays o _)
 keyed_call_stays o source args which keyed_call.KeyDelete = alone o source _ refl (delete_match_stays o _)
-keyed_call_stays o source args which keyed_call.KeyReplace = alone o source _ refl (changed o _ _ (first_check o _))
+keyed_call_stays o source args which keyed_call.KeyReplace = alone o source _ refl (key_replace_stays key_of_text (order_by texts which) o _ _)
 keyed_call_stays o source args which keyed_call.KeyFloor = alone o source _ refl (same o _)
 keyed_call_stays o source args which keyed_call.KeyCeiling = alone o source _ refl (same o _)
 

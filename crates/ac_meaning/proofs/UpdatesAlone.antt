@@ -104,17 +104,17 @@ set_released guards o rows true own c e =
     λ i. record now { cursor_guards = cursors i; element_guards = elements i }
 set_released guards o rows false own c e = absurd (cc)
 
-no_other : (b : Bool) → (if b && false then 1 else 0) ≡ 0
-no_other true = refl
-no_other false = refl
+no_other : (b : Bool) (n : ℕ) → 0 + n ≡ (if b && false then 1 else 0) + n
+no_other true n = refl
+no_other false n = refl
 
-itself_alone : (b : Bool) → (if b && true then 1 else 0) ≡ (if b then 1 else 0)
-itself_alone true = refl
-itself_alone false = refl
+itself_alone : (b : Bool) (n : ℕ) → (if b then 1 else 0) + n ≡ (if b && true then 1 else 0) + n
+itself_alone true n = refl
+itself_alone false n = refl
 
 pub updates_keep_counts : UpdatesKeepCounts
 updates_keep_counts guards which o at copy same =
     ap (of_rows (a_keyed_set which))
     (set_released guards o _ (o.number == o.number) (grind (arith))
-    (ap (λ n. n + held_on guards o.number guard.Cursors) (sym (itself_alone (o.number == o.number))) ∙ ap cursors_of same)
-    (ap (λ n. n + held_on guards o.number guard.Elements) (sym (no_other (o.number == o.number))) ∙ ap elements_of same))
+    (itself_alone (o.number == o.number) (held_on guards o.number guard.Cursors) ∙ ap cursors_of same)
+    (no_other (o.number == o.number) (held_on guards o.number guard.Elements) ∙ ap elements_of same))
