@@ -10,7 +10,7 @@ use Rattle.ac_model.specs.KeyedSets.{update_key_reason}
 use Rattle.ac_model.specs.Cursors.{seen}
 use Rattle.ac_syntax.specs.declared.view_kind.ViewKind.TheVariants.{UpdateKey}
 use Rattle.ac_meaning.specs.Holdings.{a_sequence, a_map, a_set, a_keyed_set, Held, of_rows, Guards, held_on, guarded, held_under, number_of, names_of, key_updated}
-use Rattle.ac_meaning.specs.Environment.{Bound, binds_object, bound_by, object_in, State, under, bound_at, with_bound, object_at}
+use Rattle.ac_meaning.specs.Environment.{binds_object, State, under, bound_at, with_bound, object_at}
 use Rattle.ac_meaning.specs.Execution.{head_reason, key_end_on}
 use Rattle.ac_meaning.specs.UnderGuards.{UpdatesKeepCounts}
 use Rattle.ac_meaning.specs.GuardedNames.{is_guarded, of_object, names_if, frame, kept, UpdatesAreAlone}

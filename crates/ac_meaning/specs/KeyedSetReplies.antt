@@ -9,7 +9,7 @@ use Rattle.ac_check.specs.declared.operation.KeyedCall.{KeyedCall}
 use Rattle.ac_check.specs.declared.operation.KeyedCall.TheVariants as keyed_call
 use Rattle.ac_meaning.specs.Elements.{Text, text_in, texts, keyed_texts}
 use Rattle.ac_meaning.specs.Answers.{answers_ok, answers_truth, answers_place}
-use Rattle.ac_meaning.specs.KeyedReplies.{KeyedKind, of_hashed, of_ordered, order_by}
+use Rattle.ac_meaning.specs.KeyedReplies.{KeyedKind, of_hashed, order_by}
 use Rattle.ac_meaning.specs.Replies.{Arguments, Source, Reply, changes_ok, looks, tells, value_answer, as_value}
 use Rattle.ac_meaning.specs.SetReplies.{set_reply}
 
