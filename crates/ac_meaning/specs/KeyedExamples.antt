@@ -191,3 +191,27 @@ KeysAreReplaced =
     (one (called 8 (codes "a") (codes "key_delete") (string (codes "b") ∷ [])) stop)))))))
     ≡ lines (codes "3: ok" ∷ codes "4: ok" ∷ codes "5: raised PROGRAM_ERROR (duplicate)" ∷ codes "6: ok" ∷ codes "7: [\"a=1\", \"c=3\"]"
     ∷ codes "8: raised CONSTRAINT_ERROR (key absent)" ∷ [])
+
+-- a key is looked up as a whole text
+abbrev pub KeysAreLookedUp : Type 0
+KeysAreLookedUp =
+    text_of (script (keyed_type_of kind.OrderedSet ∷ object 2 (codes "a") ∷ position 3 (codes "c") ∷ [])
+    (one (called 4 (codes "a") (codes "insert") (string (codes "d=2") ∷ []))
+    (one (called 5 (codes "a") (codes "insert") (string (codes "b=1") ∷ []))
+    (one (gets 6 (codes "c") (codes "a") (codes "key_find") (string (codes "b") ∷ []))
+    (one (called 7 (codes "a") (codes "key") (Var (codes "c") ∷ []))
+    (one (called 8 (codes "a") (codes "key_element") (string (codes "d") ∷ []))
+    (one (called 9 (codes "a") (codes "key_element") (string (codes "b=1") ∷ []))
+    (one (called 10 (codes "a") (codes "key_contains") (string (codes "d") ∷ []))
+    (one (gets 11 (codes "c") (codes "a") (codes "key_floor") (string (codes "c") ∷ []))
+    (one (called 12 (codes "a") (codes "element") (Var (codes "c") ∷ []))
+    (one (gets 13 (codes "c") (codes "a") (codes "key_ceiling") (string (codes "c") ∷ []))
+    (one (called 14 (codes "a") (codes "element") (Var (codes "c") ∷ []))
+    (one (gets 15 (codes "c") (codes "a") (codes "key_floor") (string (codes "a") ∷ []))
+    (one (called 16 (codes "a") (codes "key_exclude") (string (codes "z") ∷ []))
+    (one (called 17 (codes "a") (codes "key_exclude") (string (codes "b") ∷ []))
+    (one (called 18 (codes "a") (codes "key_delete") (string (codes "d") ∷ []))
+    (one (called 19 (codes "a") (codes "length") []) stop)))))))))))))))))
+    ≡ lines (codes "4: ok" ∷ codes "5: ok" ∷ codes "6: cursor" ∷ codes "7: \"b\"" ∷ codes "8: \"d=2\""
+    ∷ codes "9: raised CONSTRAINT_ERROR (key absent)" ∷ codes "10: true" ∷ codes "11: cursor" ∷ codes "12: \"b=1\"" ∷ codes "13: cursor"
+    ∷ codes "14: \"d=2\"" ∷ codes "15: no_element" ∷ codes "16: ok" ∷ codes "17: ok" ∷ codes "18: ok" ∷ codes "19: 0" ∷ [])

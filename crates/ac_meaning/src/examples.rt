@@ -7,6 +7,7 @@ ghost use Rattle.ac_meaning.specs.Examples.{VectorLoopsHoldTheirGuards, IndexesA
 ghost use Rattle.ac_meaning.specs.Examples.{ElementsHaveIndexes, VectorsTakeCopies};
 ghost use Rattle.ac_meaning.specs.KeyedExamples.{MapsKeepArrival, SetsStandAscending, OrderedMapsHaveEnds, SetsAreGuardedWhole, SetsAreJoined};
 ghost use Rattle.ac_meaning.specs.KeyedExamples.{SetsMeetThemselves, KeysAreUpdated, KeysTellElements, KeysAreJoined, KeysAreReplaced};
+ghost use Rattle.ac_meaning.specs.KeyedExamples.{KeysAreLookedUp};
 ghost use Rattle.ac_meaning.specs.Examples.{MapIsListed, NoNodesAreListed, TreeIsListed, DeepTreeIsListed};
 
 /// What small scripts write, to the byte.
@@ -65,6 +66,7 @@ pub fn keyed_set_scripts()
     ensures keys_tell_elements { KeysTellElements }
     ensures keys_are_joined { KeysAreJoined }
     ensures keys_are_replaced { KeysAreReplaced }
+    ensures keys_are_looked_up { KeysAreLookedUp }
 {}
 
 /// How maps and trees are listed.

@@ -21,3 +21,7 @@ returns-clause-keys_are_joined c = refl
 pub returns-clause-keys_are_replaced : goal.returns-clause-keys_are_replaced
 unfolding digits rows_of common_rows counted_rows keyed_walk_rows set_rows keyed_rows ordered_keyed_rows ordered_rows ordered_set_rows resolve_simple run text_of
 returns-clause-keys_are_replaced c = refl
+
+pub returns-clause-keys_are_looked_up : goal.returns-clause-keys_are_looked_up
+unfolding digits rows_of common_rows counted_rows keyed_walk_rows set_rows keyed_rows ordered_keyed_rows ordered_rows ordered_set_rows resolve_simple run text_of
+returns-clause-keys_are_looked_up c = refl
