@@ -51,6 +51,7 @@ impl Objects {
     }
 
     /// Makes a call on the object at this place, and gives its answer to the target.
+    #[inline(always)]
     pub fn call(
         &mut self,
         target: Option<usize>,
@@ -104,6 +105,7 @@ impl Objects {
     }
 
     /// Assigns a value, a cursor or what a name holds.
+    #[inline(always)]
     pub fn set(&mut self, target: usize, from: &ResolvedArg) -> Result<Answer, Fault>
         requires stand { ElementsStand (state_of self.old) }
         ensures performed { Performs (set_from (state_of self.old) target from.now) self.old self.new result }
@@ -117,6 +119,7 @@ impl Objects {
     }
 
     /// Assigns the sum of a variable and a number, or with `minus` the difference.
+    #[inline(always)]
     pub fn sum(
         &mut self,
         target: usize,
