@@ -7,13 +7,13 @@ use Rattle.ac_base.specs.Rows.{Row}
 use Rattle.ac_pool.specs.Contents.{Contents, value_of}
 use Rattle.ac_balance.specs.declared.links.Node.{Node}
 use Rattle.ac_balance.specs.declared.links.Links.{Links}
-use Rattle.ac_balance.specs.Link.{name_in}
+use Rattle.ac_pool.specs.Link.{name_in}
 use Rattle.ac_balance.specs.Trees.{Tree, node, in_order, height, Balanced, balanced, on_right, plugged, before, after}
 use Rattle.ac_balance.specs.TreeFields.{root, linked, left_of, right_of, parent_of, parent_link, is_left_in, balanced_in, place_in, links}
 use Rattle.ac_balance.specs.Climbing.{Has, HasName, Once, Hangs, above_in, Framed, IsSide, IsRooted, Climbing, Closed, Closes, Relinks, Keeps}
 use Rattle.ac_balance.specs.Indexed.{without}
 use Rattle.ac_balance.specs.Detaching.{CutOff, Beside, Joined, Detached}
-use Rattle.ac_balance.proofs.SlotNames.{linked_name}
+use Rattle.ac_pool.proofs.SlotNames.{linked_name}
 use Rattle.ac_balance.proofs.Standing.{Hangs-same}
 use Rattle.ac_balance.proofs.Keeping.{sound_still}
 use Rattle.ac_balance.proofs.Names.{IsOnce, HasName-left, HasName-right, HasName-either, once-append, once_from, once_rows, named, has, plugged_once, height_le}

@@ -15,7 +15,6 @@ pub mod Rising
 pub mod Searched
 pub mod Searches
 pub mod Sides
-pub mod SlotNames
 pub mod Standing
 pub mod StepBounds
 pub mod Taking

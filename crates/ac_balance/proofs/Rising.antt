@@ -8,9 +8,9 @@ use Rattle.ac_balance.specs.declared.places.Place.{Place}
 use Rattle.ac_base.specs.Rows.{Row}
 use Rattle.ac_balance.specs.Trees.{Tree, leaf, node, in_order, height, Level, Balanced, balanced, Step, on_left, on_right, side_of, joined, settled, plugged, tall, Fits}
 use Rattle.ac_balance.specs.TreeFields.{root, left_link, right_link, parent_link, left_of, right_of, height_of, high, balanced_in, parent_of, same_names, is_left_in, settled_in, risen}
-use Rattle.ac_balance.specs.Link.{name_in}
+use Rattle.ac_pool.specs.Link.{name_in}
 use Rattle.ac_balance.specs.Climbing.{Has, Once, Hangs, name_of, above_in, Framed, IsSide, IsRooted, Open, Climbing, Climbed, HasName, Relinks}
-use Rattle.ac_balance.proofs.SlotNames.{linked_name}
+use Rattle.ac_pool.proofs.SlotNames.{linked_name}
 use Rattle.ac_balance.proofs.Keeping.{keeps_itself, keeps_then, sound_still}
 use Rattle.ac_balance.proofs.Standing.{Nodes, some_name, Stands-same, high-is, linked_root}
 use Rattle.ac_balance.proofs.Names.{IsAround, once_order, plugged_once, height_le, plugged_le, named, part_has}

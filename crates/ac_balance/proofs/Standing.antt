@@ -9,9 +9,9 @@ use Rattle.ac_balance.specs.declared.links.Node.{Node}
 use Rattle.ac_base.specs.Rows.{Row}
 use Rattle.ac_balance.specs.Trees.{Tree, leaf, node, height}
 use Rattle.ac_balance.specs.TreeFields.{node_with, linked, left_link, right_link, left_of, right_of, root, Stands, height_of, high, parent_written, sides_written, with_parent, with_sides, above, fastened}
-use Rattle.ac_balance.specs.Link.{link_of, name_in}
+use Rattle.ac_pool.specs.Link.{link_of, name_in}
 use Rattle.ac_balance.specs.Climbing.{Has, Once, Hangs, Keeps}
-use Rattle.ac_balance.proofs.SlotNames.{linked_name}
+use Rattle.ac_pool.proofs.SlotNames.{linked_name}
 use Rattle.ac_balance.proofs.Keeping.{keeps_fastened}
 
 abbrev pub Nodes : Type 0 → Type 0

@@ -4,14 +4,14 @@ use Rattle.ac_base.specs.declared.name.Name.{Name}
 use Rattle.ac_base.specs.Rows.{Row}
 use Rattle.ac_pool.specs.Contents.{Contents, value_of, IsSound}
 use Rattle.ac_balance.specs.declared.links.Node.{Node}
-use Rattle.ac_balance.specs.Link.{name_in}
+use Rattle.ac_pool.specs.Link.{name_in}
 use Rattle.ac_balance.specs.Trees.{Tree, leaf, node, in_order, height, Step, on_left, on_right, joined, before, after}
 use Rattle.ac_balance.specs.TreeFields.{root, parent_link, parent_of, left_of, right_of, high, Stands, is_left_in}
 use Rattle.ac_balance.specs.Climbing.{Hangs, name_of, above_in, IsSide}
 use Rattle.ac_balance.specs.Seeking.{Stood}
 use Rattle.ac_balance.specs.Walking.{first_name, last_name, Placed, AtNode}
 use Rattle.ac_balance.proofs.Standing.{some_name, high-is, left-is, right-is, root_has}
-use Rattle.ac_balance.proofs.SlotNames.{linked_name}
+use Rattle.ac_pool.proofs.SlotNames.{linked_name}
 use Rattle.ac_balance.proofs.Names.{plugged_once, height_le, plugged_le}
 use Rattle.ac_balance.proofs.Rising.{left_to, side-is, above-live, falls}
 use Rattle.ac_balance.proofs.Opening.{cut, root-joined}

@@ -4,7 +4,6 @@ pub mod Detaching
 pub mod IndexFields
 pub mod IndexLends
 pub mod Indexed
-pub mod Link
 pub mod Present
 pub mod Seeking
 pub mod TreeFields

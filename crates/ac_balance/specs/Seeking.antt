@@ -72,7 +72,3 @@ module _ {X : Type 0} where
   -- the search in a standing tree has come to a place
   abbrev pub Leads : Contents (Node X) → Option Name → (X → Bool) → (X → Bool) → Spot → Type 0
   Leads c o low high s = (t : Tree X) → Stood c o t → Seeks c t low high s
-
--- what holds of the key in the name's node
-abbrev pub OfKey : {K V : Type 0} → Contents (Node (Entry K V)) → Name → (K → Type 0) → Type 0
-OfKey {K} {V} c a P = (n : Node (Entry K V)) → value_of c a ≡ Some n → P n.value.key

@@ -1,13 +1,12 @@
 -- How far a search is, told by links.
 use Rattle.std.specs.Prelude.{ℕ, Bool, true, false, Option, None}
 use Rattle.ac_base.specs.declared.name.Name.{Name}
-use Rattle.ac_pool.specs.Contents.{Contents, value_of}
+use Rattle.ac_pool.specs.Contents.{Contents}
 use Rattle.ac_balance.specs.declared.links.Node.{Node}
 use Rattle.ac_balance.specs.declared.search.Spot.{Spot}
 use Rattle.ac_balance.specs.declared.search.Trail.{Trail}
-use Rattle.ac_balance.specs.Link.{link_of, name_in}
+use Rattle.ac_pool.specs.Link.{link_of, name_in}
 use Rattle.ac_balance.specs.Seeking.{spot}
-use Rattle.ac_balance.specs.TreeFields.{left_link, right_link}
 
 abbrev pub trail : ℕ → ℕ → Bool → ℕ → ℕ → Trail
 trail part parent b below above = record { part = part; parent = parent; is_left = b; below = below; above = above }
@@ -20,6 +19,7 @@ module _ {X : Type 0} where
   abbrev pub spot_at : Contents (Node X) → Trail → Spot
   spot_at c r = spot (name_in c r.part) (name_in c r.parent) r.is_left (name_in c r.below) (name_in c r.above)
 
-  abbrev pub trail_lowered : Contents (Node X) → Trail → Name → Bool → Trail
-  trail_lowered c r a true = trail (left_link (value_of c a)) a.slot true r.below a.slot
-  trail_lowered c r a false = trail (right_link (value_of c a)) a.slot false a.slot r.above
+  -- one step down, from the node to which the links lead
+  abbrev pub trail_lowered : Node X → Trail → Bool → Trail
+  trail_lowered n r true = trail n.left r.part true r.below r.part
+  trail_lowered n r false = trail n.right r.part false r.part r.above

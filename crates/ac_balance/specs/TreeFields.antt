@@ -8,7 +8,7 @@ use Rattle.ac_pool.specs.Contents.{Contents, value_of, with_value, live_count}
 use Rattle.ac_balance.specs.declared.links.Node.{Node}
 use Rattle.ac_balance.specs.declared.links.Links.{Links}
 use Rattle.ac_balance.specs.declared.places.Place.{Place}
-use Rattle.ac_balance.specs.Link.{link_of, name_in}
+use Rattle.ac_pool.specs.Link.{link_of, name_in}
 use Rattle.ac_balance.specs.Trees.{Tree, leaf, node, height}
 
 -- the two are the same name, or both none

@@ -7,13 +7,14 @@ ghost use Rattle.ac_balance.specs.Walking.{first_name, last_name, or_else};
 ghost use Rattle.ac_balance.specs.Indexed.{IsThere, IsFresh, IsSound, FewSteps, first_where, last_where, next_name, prev_name};
 ghost use Rattle.ac_balance.specs.Indexed.{key_of, value_of, row_of, without_row, no_rows, reserved, cleared, added, taken, with_changed, with_new_row};
 ghost use Rattle.ac_balance.specs.Present.{IsPresent};
+ghost use Rattle.ac_pool.specs.Link.{name_in};
 
 use crate::change::Change;
 use crate::detaching::detach;
 use crate::entry::Entry;
 use crate::keyed::Keyed;
 use crate::keyed_search::seek_key;
-use crate::links::{Links, alone, renew};
+use crate::links::{Links, Node, alone, name_in, renew};
 use crate::places::{Place, mend};
 use crate::search::{place_for, seek};
 use crate::walk::{leftmost, predecessor, rightmost, successor};
@@ -237,7 +238,7 @@ impl<K: Rank, V> OrderIndex<K, V> {
         ensures few { FewSteps (length self.now.rows) steps.old steps.new }
     {
         let found = seek(&self.links.nodes, self.links.root, k, steps);
-        found.part
+        name_in(&self.links.nodes, found.part)
     }
 
     /// The name of the last row whose key isn't greater.
@@ -246,7 +247,7 @@ impl<K: Rank, V> OrderIndex<K, V> {
         ensures few { FewSteps (length self.now.rows) steps.old steps.new }
     {
         let place = seek(&self.links.nodes, self.links.root, k, steps);
-        either(place.part, place.below)
+        either(&self.links.nodes, place.part, place.below)
     }
 
     /// The name of the first row whose key isn't less.
@@ -255,7 +256,7 @@ impl<K: Rank, V> OrderIndex<K, V> {
         ensures few { FewSteps (length self.now.rows) steps.old steps.new }
     {
         let spot = seek(&self.links.nodes, self.links.root, k, steps);
-        either(spot.part, spot.above)
+        either(&self.links.nodes, spot.part, spot.above)
     }
 }
 
@@ -266,7 +267,7 @@ impl<K: Keyed, V> OrderIndex<K, V> {
         ensures few { FewSteps (length self.now.rows) steps.old steps.new }
     {
         let spot = seek_key(&self.links.nodes, self.links.root, k, steps);
-        spot.part
+        name_in(&self.links.nodes, spot.part)
     }
 
     /// The name of the last row whose key's key isn't greater.
@@ -275,7 +276,7 @@ impl<K: Keyed, V> OrderIndex<K, V> {
         ensures few { FewSteps (length self.now.rows) steps.old steps.new }
     {
         let spot = seek_key(&self.links.nodes, self.links.root, k, steps);
-        either(spot.part, spot.below)
+        either(&self.links.nodes, spot.part, spot.below)
     }
 
     /// The name of the first row whose key's key isn't less.
@@ -284,7 +285,7 @@ impl<K: Keyed, V> OrderIndex<K, V> {
         ensures few { FewSteps (length self.now.rows) steps.old steps.new }
     {
         let spot = seek_key(&self.links.nodes, self.links.root, k, steps);
-        either(spot.part, spot.above)
+        either(&self.links.nodes, spot.part, spot.above)
     }
 }
 
@@ -333,12 +334,14 @@ impl<K: Rank, V: Drop> OrderIndex<K, V> {
     }
 }
 
-/// The first of the two names that there is.
-fn either(name: Option<Name>, other: Option<Name>) -> Option<Name>
-    ensures { result ≡ or_else name other }
+/// The first of the two names to which the links lead that there is.
+#[inline(always)]
+fn either<T>(nodes: &Pool<Node<T>>, link: u32, other: u32) -> Option<Name>
+    ensures { result ≡ or_else (name_in nodes.now link) (name_in nodes.now other) }
 {
+    let name = name_in(nodes, link);
     match name {
         Some(_) => name,
-        None => other,
+        None => name_in(nodes, other),
     }
 }

@@ -1,25 +1,12 @@
 //! Nodes in a pool, each with links to its parent and to its two sides. The reads and writes of single links.
 //! A link is a slot, and leads to the live name of the slot: the serial stands in the pool alone.
-ghost use Rattle.std.specs.Prelude.{◌≡◌};
+ghost use Rattle.std.specs.Prelude.{◌≡◌, option_copied};
 ghost use Rattle.ac_pool.specs.Contents.{value_of, with_value, IsLive};
-ghost use Rattle.ac_balance.specs.Link.{link_of, name_in};
+ghost use Rattle.ac_pool.specs.Link.{name_in, value_in};
 ghost use Rattle.ac_balance.specs.TreeFields.{alone, left_of, right_of, parent_of, left_link, right_link, parent_link, high, with_parent, with_sides, with_side};
 
 use ac_base::Name;
-use ac_pool::Pool;
-
-/// A link to no node: no pool has so many slots.
-pub(crate) const NO_SLOT: u32 = u32::MAX;
-
-/// The link to a live name.
-pub(crate) fn link_to(to: Option<Name>) -> u32
-    ensures { result ≡ link_of to }
-{
-    match to {
-        Some(name) => name.slot,
-        None => NO_SLOT,
-    }
-}
+use ac_pool::{NO_SLOT, Pool, link_to};
 
 #[derive(Drop)]
 pub struct Node<T> {
@@ -63,6 +50,14 @@ pub(crate) fn name_in<T>(nodes: &Pool<Node<T>>, slot: u32) -> Option<Name>
     ensures { result ≡ name_in nodes.now slot }
 {
     nodes.name_in(slot)
+}
+
+/// The node to which a link leads.
+#[inline(always)]
+pub(crate) fn node_in<T>(nodes: &Pool<Node<T>>, slot: u32) -> Option<&Node<T>>
+    ensures { option_copied result ≡ value_in nodes.now slot }
+{
+    nodes.value_in(slot)
 }
 
 pub(crate) fn left_link<T>(nodes: &Pool<Node<T>>, name: Name) -> u32

@@ -1,15 +1,14 @@
 //! The counted search from the root down.
 ghost use Rattle.std.specs.Prelude.{◌≡◌, ◌<◌, ◌≤◌, ◌+◌, ◌*◌};
-ghost use Rattle.ac_pool.specs.Contents.{IsLive};
 ghost use Rattle.ac_balance.specs.declared.entry.Entry.{Entry};
 ghost use Rattle.ac_balance.specs.Trees.{Tree, height};
-ghost use Rattle.ac_balance.specs.Seeking.{IsTree, Stood, Leads, OfKey};
+ghost use Rattle.ac_balance.specs.Seeking.{IsTree, Stood, Leads};
 ghost use Rattle.ac_balance.specs.Trails.{spot_at, trail_from, trail_lowered};
 
 use crate::entry::Entry;
-use crate::links::{NO_SLOT, Node, left_link, link_to, name_in, right_link};
+use crate::links::{Node, name_in, node_in};
 use ac_base::{Name, Rank, Steps};
-use ac_pool::Pool;
+use ac_pool::{NO_SLOT, Pool, link_to};
 use std::marker::Brand;
 use std::sync::ledger::{Blank, Ledger};
 
@@ -46,6 +45,7 @@ pub(crate) fn start(root: Option<Name>) -> Trail
 }
 
 /// The spot to which the links lead.
+#[inline(always)]
 pub(crate) fn spot_at<T>(nodes: &Pool<Node<T>>, trail: Trail) -> Spot
     ensures { result ≡ spot_at nodes.now trail }
 {
@@ -58,52 +58,27 @@ pub(crate) fn spot_at<T>(nodes: &Pool<Node<T>>, trail: Trail) -> Spot
     }
 }
 
+/// One step down, from the node to which the trail leads.
 #[inline(always)]
-pub(crate) fn lower<T>(nodes: &Pool<Node<T>>, trail: Trail, name: Name, is_left: bool) -> Trail
-    ensures { result ≡ trail_lowered nodes.now trail name is_left }
+pub(crate) fn lower<T>(node: &Node<T>, trail: Trail, is_left: bool) -> Trail
+    ensures { result ≡ trail_lowered node.now trail is_left }
 {
     if is_left {
         return Trail {
-            part: left_link(nodes, name),
-            parent: name.slot,
+            part: node.left,
+            parent: trail.part,
             is_left: true,
             below: trail.below,
-            above: name.slot,
+            above: trail.part,
         };
     }
     Trail {
-        part: right_link(nodes, name),
-        parent: name.slot,
+        part: node.right,
+        parent: trail.part,
         is_left: false,
-        below: name.slot,
+        below: trail.part,
         above: trail.above,
     }
-}
-
-fn is_before<K: Rank, V, L: Ledger>(
-    k: &K,
-    nodes: &Pool<Node<Entry<K, V>>>,
-    name: Name,
-    steps: &mut Steps<L>,
-) -> bool
-    requires { IsLive nodes.now name }
-    ensures answer { OfKey nodes.now name (λ key. result ≡ K.is_less k.now key) }
-    ensures one_step { steps.new ≡ steps.old + 1 }
-{
-    k.less(&nodes.get(name).unwrap().value.key, steps)
-}
-
-fn is_after<K: Rank, V, L: Ledger>(
-    k: &K,
-    nodes: &Pool<Node<Entry<K, V>>>,
-    name: Name,
-    steps: &mut Steps<L>,
-) -> bool
-    requires { IsLive nodes.now name }
-    ensures answer { OfKey nodes.now name (λ key. result ≡ K.is_less key k.now) }
-    ensures one_step { steps.new ≡ steps.old + 1 }
-{
-    nodes.get(name).unwrap().value.key.less(k, steps)
 }
 
 /// The place of the key, with at most two steps for each level of the tree.
@@ -112,23 +87,23 @@ pub(crate) fn seek<K: Rank, V, L: Ledger>(
     root: Option<Name>,
     k: &K,
     steps: &mut Steps<L>,
-) -> Spot
+) -> Trail
     requires { IsTree nodes.now root }
-    ensures found { Leads nodes.now root (λ e. K.is_less e.key k.now) (λ e. K.is_less k.now e.key) result }
+    ensures found { Leads nodes.now root (λ e. K.is_less e.key k.now) (λ e. K.is_less k.now e.key) (spot_at nodes.now result) }
     ensures few { (t : Tree (Entry K V)) → Stood nodes.now root t → steps.new ≤ steps.old + 2 * height t }
     ensures counted { steps.old ≤ steps.new }
 {
     let mut trail = start(root);
-    while let Some(name) = name_in(nodes, trail.part) {
-        if is_before(k, nodes, name, steps) {
-            trail = lower(nodes, trail, name, true);
-        } else if is_after(k, nodes, name, steps) {
-            trail = lower(nodes, trail, name, false);
+    while let Some(node) = node_in(nodes, trail.part) {
+        if k.less(&node.value.key, steps) {
+            trail = lower(node, trail, true);
+        } else if node.value.key.less(k, steps) {
+            trail = lower(node, trail, false);
         } else {
-            return spot_at(nodes, trail);
+            return trail;
         }
     }
-    spot_at(nodes, trail)
+    trail
 }
 
 fn sought<K: Rank, V, L: Ledger>(
@@ -136,12 +111,12 @@ fn sought<K: Rank, V, L: Ledger>(
     root: Option<Name>,
     k: &K,
     blank: Blank,
-) -> Spot
+) -> Trail
     requires name { blank.name ≡ L.name }
     requires parts { blank.parts ≡ L.parts }
     requires some { 0 < blank.parts }
     requires tree { IsTree nodes.now root }
-    ensures { Leads nodes.now root (λ e. K.is_less e.key k.now) (λ e. K.is_less k.now e.key) result }
+    ensures { Leads nodes.now root (λ e. K.is_less e.key k.now) (λ e. K.is_less k.now e.key) (spot_at nodes.now result) }
 {
     seek(nodes, root, k, &mut Steps::<L>::new(blank))
 }
@@ -155,5 +130,6 @@ pub(crate) fn place_for<K: Rank, V>(
     requires { IsTree nodes.now root }
     ensures { Leads nodes.now root (λ e. K.is_less e.key k.now) (λ e. K.is_less k.now e.key) result }
 {
-    sought::<K, V, Brand>(nodes, root, k, Blank::new(1))
+    let trail = sought::<K, V, Brand>(nodes, root, k, Blank::new(1));
+    spot_at(nodes, trail)
 }

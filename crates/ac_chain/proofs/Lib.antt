@@ -30,7 +30,6 @@ pub mod SequenceSplices
 pub mod SequenceStanding
 pub mod SequenceSwaps
 pub mod SequenceValid
-pub mod SlotNames
 pub mod Sorts
 pub mod Standing
 pub mod Swaps

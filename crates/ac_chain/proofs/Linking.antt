@@ -6,10 +6,10 @@ use Rattle.ac_pool.specs.Contents.{Contents, value_of, IsSound}
 use Rattle.ac_pool.specs.PoolFields.{name_at}
 use Rattle.ac_chain.specs.declared.links.Node.{Node}
 use Rattle.ac_base.specs.Rows.{Row}
-use Rattle.ac_chain.specs.Link.{link_of}
+use Rattle.ac_pool.specs.Link.{link_of}
 use Rattle.ac_chain.specs.ChainFields.{node, node_with, first_or, last_or, HasName, IsOnce, Linked, walked, walked_on, next_of, prev_of}
 use Rattle.ac_chain.proofs.Cuts.{HasName-left, HasName-right, once_left, once_right, apart}
-use Rattle.ac_chain.proofs.SlotNames.{linked_name}
+use Rattle.ac_pool.proofs.SlotNames.{linked_name}
 
 abbrev pub Nodes : Type 0 → Type 0
 Nodes X = Name → Option (Node X)

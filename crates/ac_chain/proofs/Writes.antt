@@ -7,7 +7,7 @@ use Rattle.ac_pool.proofs.NameLaws.{cases_name, same_names}
 use Rattle.ac_pool.proofs.ContentsLaws.{value_of-with_value_same, value_of-with_value_other, with_value-same}
 use Rattle.ac_chain.specs.declared.links.Node.{Node}
 use Rattle.ac_chain.specs.declared.links.Links.{Links}
-use Rattle.ac_chain.specs.Link.{link_of, name_in}
+use Rattle.ac_pool.specs.Link.{link_of, name_in}
 use Rattle.ac_chain.specs.ChainFields.{node, node_with, links, prev_written, next_written, links_written, with_next, with_prev, with_links, joined, before_in, linked_before, attached}
 
 module _ {X : Type 0} where

@@ -2,7 +2,7 @@
 use Rattle.std.specs.Prelude.{◌≡◌, ℕ, zero, suc, ◌⊎◌, List, [], ◌∷◌, length, Option, Some, None}
 use Rattle.ac_base.specs.declared.name.Name.{Name}
 use Rattle.ac_pool.specs.Contents.{Contents, value_of, IsLive, live_count, with_value, swapped, IsSound}
-use Rattle.ac_chain.specs.Link.{link_of, name_in}
+use Rattle.ac_pool.specs.Link.{link_of, name_in}
 use Rattle.ac_chain.specs.declared.links.Node.{Node}
 use Rattle.ac_chain.specs.declared.links.Links.{Links}
 use Rattle.ac_base.specs.Rows.{Row, row}

@@ -1,6 +1,5 @@
 pub mod ChainFields
 pub mod ChainLends
-pub mod Link
 pub mod LinksLends
 pub mod Rows
 pub mod Sequence

@@ -5,9 +5,9 @@ ghost use Rattle.std.specs.Borrow.{sem};
 ghost use Rattle.ac_base.specs.Rows.{row, names};
 ghost use Rattle.ac_chain.specs.Rows.{Chained, index_of, IsLive, value_of, name_at, name_before, next_name, prev_name, no_rows, reserved, inserted, removed, cleared, values_swapped, links_swapped, moved, reversed, WalksInOrder, IsOrderOf, Reorders, IsFresh, IsSound};
 
-use crate::links::{Links, Node, link_to};
+use crate::links::{Links, Node};
 use ac_base::{Name, NoMemory};
-use ac_pool::Pool;
+use ac_pool::{Pool, link_to};
 use std::alloc::Global;
 use std::marker::Model;
 

@@ -2,26 +2,13 @@
 //! A link is a slot, and leads to the live name of the slot: the serial stands in the pool alone.
 ghost use Rattle.std.specs.Prelude.{◌≡◌};
 ghost use Rattle.ac_pool.specs.Contents.{value_of, IsLive};
-ghost use Rattle.ac_chain.specs.Link.{link_of, name_in};
+ghost use Rattle.ac_pool.specs.Link.{link_of, name_in};
 ghost use Rattle.ac_chain.specs.ChainFields.{next_of, prev_of, before_in, link_before, with_next, with_prev, joined, linked_before, attached, closed, unlinked, next_link, prev_link, with_links, exchanged_in};
 ghost use Rattle.std.specs.Option.{option_map};
 ghost use Rattle.std.specs.Borrow.{sem};
 
 use ac_base::Name;
-use ac_pool::Pool;
-
-/// A link to no node: no pool has so many slots.
-pub(crate) const NO_SLOT: u32 = u32::MAX;
-
-/// The link to a live name.
-pub(crate) fn link_to(to: Option<Name>) -> u32
-    ensures { result ≡ link_of to }
-{
-    match to {
-        Some(name) => name.slot,
-        None => NO_SLOT,
-    }
-}
+use ac_pool::{NO_SLOT, Pool, link_to};
 
 #[derive(Drop)]
 pub struct Node<T> {

@@ -4,3 +4,4 @@ pub mod Entries
 pub mod Laid
 pub mod NameLaws
 pub mod Pooled
+pub mod SlotNames

@@ -1,15 +1,17 @@
 -- What holds of a pool's fields is kept by each change, and gives what holds of its contents.
-use Rattle.std.proofs.Common.{◌≡◌, ◌≢◌, ℕ, zero, suc, ◌+◌, ◌-◌, ◌<◌, ◌≤◌, ◌^◌, ◌⊎◌, List, [], ◌∷◌, ◌++◌, length, set, get_or, replicate, Option, Some, None, is_some, IsSome, refl, sym, ap, ◌∙◌, subst, inl, inr, arith, length-append, length-set, get_or-set_same, get_or-set_other}
+use Rattle.std.proofs.Common.{◌≡◌, ◌≢◌, ℕ, zero, suc, ◌+◌, ◌-◌, ◌<◌, ◌≤◌, ◌^◌, ◌⊎◌, List, [], ◌∷◌, ◌++◌, length, set, get_or, replicate, Option, Some, None, is_some, IsSome, IfSome, IfNone, option_map, refl, sym, ap, ◌∙◌, subst, inl, inr, arith, length-append, length-set, get_or-set_same, get_or-set_other}
 use Rattle.std.proofs.lemmas.Bool.{cases_eq, cases_lt}
 use Rattle.std.proofs.lemmas.List.{length-replicate, get_or_past, get_or_read, set-set, set_comm}
 use Rattle.std.proofs.lemmas.Option.{same_Some}
 use Rattle.std.specs.FinMap as map
 use Rattle.ac_base.specs.declared.name.Name.{Name}
-use Rattle.ac_pool.specs.Cell.{serial_of}
+use Rattle.ac_pool.specs.Cell.{serial_of, serial_at}
 use Rattle.ac_pool.specs.Contents.{contents, IsLive, live_count, slot_count, IsFresh, IsSound}
+use Rattle.ac_pool.specs.Link.{name_in, value_at, value_in as linked_value}
 use Rattle.ac_pool.specs.PoolFields.{name_at, entries_in, empty_count, IsPool}
 use Rattle.ac_pool.proofs.Cells.{within}
 use Rattle.ac_pool.proofs.NameLaws.{same_name}
+use Rattle.ac_pool.proofs.SlotNames.{name_in_live, name_in_none}
 use Rattle.ac_pool.proofs.Entries.{value_in, value_in_same, kept_of_value, get-entries_in, len-entries_in, entries_in-some, get_grown}
 
 empty_count-replicate : (X : Type 0) (m : ℕ) → let none : Option (ℕ × X) = None in empty_count (replicate m none) ≡ m
@@ -246,6 +248,25 @@ module _ {X : Type 0} where
           next = h.next;
           few = omega (arith, slot_count-cells, h.few);
         }
+
+        -- what the cell of a slot says of the slot's live name
+        pub name_found : (s i : ℕ) → serial_of (get_or cells i None) ≡ Some s → Some (name_at i s) ≡ name_in (contents (entries_in cells) next n) i
+        name_found s i is = sym (name_in_live (contents (entries_in cells) next n) sound (name_at i s) (live_from (name_at i s) is))
+
+        pub no_name : (i : ℕ) → serial_of (get_or cells i None) ≡ None → None ≡ name_in (contents (entries_in cells) next n) i
+        no_name i is = sym (name_in_none (contents (entries_in cells) next n) i (none_live i is))
+
+        value_found : (s i : ℕ) (x : X) → get_or cells i None ≡ Some (s, x) → linked_value (contents (entries_in cells) next n) i ≡ Some x
+        value_found s i x is =
+            ap (value_at (contents (entries_in cells) next n)) (sym (name_found s i (ap serial_of is)))
+            ∙ (get-entries_in cells (name_at i s) ∙ ap (λ k. value_in k s) is ∙ value_in_same (s, x) s refl)
+
+        no_value : (i : ℕ) → get_or cells i None ≡ None → linked_value (contents (entries_in cells) next n) i ≡ None
+        no_value i is = ap (value_at (contents (entries_in cells) next n)) (sym (no_name i (ap serial_of is)))
+
+        pub value_is : {A : Type 0} (now : A → X) (o : Option A) (i : ℕ) → IfSome o (λ v. get_or cells i None ≡ Some (serial_at cells i, now v)) → IfNone o (get_or cells i None ≡ None) → option_map now o ≡ linked_value (contents (entries_in cells) next n) i
+        value_is now None i found none = sym (no_value i none)
+        value_is now (Some v) i found none = sym (value_found (serial_at cells i) i (now v) found)
 
         -- a slot that keeps nothing has no live name
         pub fresh : (i : ℕ) → get_or cells i None ≡ None → IsFresh (contents (entries_in cells) next n) (name_at i next)

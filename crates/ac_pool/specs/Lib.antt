@@ -2,6 +2,7 @@ pub mod Cell
 pub mod CellLends
 pub mod ChunkLends
 pub mod Contents
+pub mod Link
 pub mod Names
 pub mod PoolFields
 pub mod PoolLends

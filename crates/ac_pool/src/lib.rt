@@ -3,11 +3,13 @@
 
 mod chunk;
 mod growth;
+mod link;
 mod pool;
 mod slots;
 
 #[doc(hidden)]
 pub use chunk::Chunk;
+pub use link::{NO_SLOT, link_to};
 pub use pool::{Pool, PutFault};
 #[doc(hidden)]
 pub use slots::Slots;

@@ -1,8 +1,9 @@
 //! The pool. A contract sees a finite map from names to values, with the next serial and the number of spare slots.
-ghost use Rattle.std.specs.Prelude.{◌≡◌, ◌≢◌, ℕ, ◌+◌, ◌-◌, ◌^◌, ◌<◌, ◌≤◌, ◌↔◌, IsTrue, IsOk, IfSome, IfNone, IfOk, IfErr, OnOk, OnErr, option_copied};
+ghost use Rattle.std.specs.Prelude.{◌≡◌, ◌≢◌, ℕ, ◌+◌, ◌-◌, ◌^◌, ◌<◌, ◌≤◌, ◌↔◌, IsTrue, IsOk, IfOk, IfErr, OnOk, OnErr, option_copied};
 ghost use Rattle.std.specs.Option.{option_copied_mut};
 ghost use Rattle.std.specs.Borrow.{sem};
 ghost use Rattle.ac_pool.specs.Contents.{contents, value_of, IsLive, live_count, slot_count, no_values, added, taken, swapped, reserved, cleared, IsFresh, IsSound, Vacates};
+ghost use Rattle.ac_pool.specs.Link.{name_in, value_in};
 ghost use Rattle.ac_base.specs.declared.name.Name.{Name};
 
 use crate::growth::{least_slots, list_free};
@@ -150,12 +151,21 @@ impl<T> Pool<T> {
 
     /// The live name of the slot, or `None` where the slot keeps nothing or isn't there.
     pub fn name_in(&self, slot: u32) -> Option<Name>
-        ensures found { IfSome result (λ name. (name.slot ≡ slot) × IsLive self.now name) }
-        ensures none { IfNone result ((name : Name) → IsLive self.now name → name.slot ≢ slot) }
+        ensures name { result ≡ name_in self.now slot }
         ensures sound { IsSound self.now }
     {
-        let serial = self.slots.serial(slot as usize)?;
-        Some(Name { slot, serial })
+        match self.slots.serial(slot as usize) {
+            Some(serial) => Some(Name { slot, serial }),
+            None => None,
+        }
+    }
+
+    /// The value under the live name of the slot, or `None` where there is none.
+    #[inline(always)]
+    pub fn value_in(&self, slot: u32) -> Option<&T>
+        ensures { option_copied result ≡ value_in self.now slot }
+    {
+        self.slots.value(slot as usize)
     }
 
     /// The value under the name, or `None` where the name is not live.

@@ -1,5 +1,5 @@
 //! The slots of a pool: chunks that never move, to which a growth adds more. A contract sees their cells as one list.
-ghost use Rattle.std.specs.Prelude.{◌≡◌, ℕ, ◌+◌, ◌*◌, ◌^◌, ◌<◌, ◌≤◌, get_or, List, [], ◌++◌, Option, Some, None, length, replicate, slice_set, OnOk, OnErr};
+ghost use Rattle.std.specs.Prelude.{◌≡◌, ℕ, ◌+◌, ◌*◌, ◌^◌, ◌<◌, ◌≤◌, get_or, List, [], ◌++◌, Option, Some, None, length, replicate, slice_set, OnOk, OnErr, IfSome, IfNone};
 ghost use Rattle.std.specs.Borrow.{sem};
 ghost use Rattle.ac_pool.specs.Cell.{serial_in, serial_of, serial_at, IsFull, IsKept};
 ghost use Rattle.ac_pool.specs.CellLends.{lends_kept};
@@ -130,6 +130,21 @@ impl<T> Slots<T> {
     {
         let chunk = &mut self.chunks[chunk_of(slot)];
         chunk.cell_mut(slot % CELLS)
+    }
+
+    /// The value in the slot, if there is such a slot and it keeps one.
+    #[inline(always)]
+    pub(crate) fn value(&self, slot: usize) -> Option<&T>
+        ensures found { IfSome result (λ value. get_or self.now slot None ≡ Some (serial_at self.now slot, value.now)) }
+        ensures none { IfNone result (get_or self.now slot None ≡ None) }
+    {
+        if slot >= self.len() {
+            return None;
+        }
+        match self.cell(slot) {
+            Some((_, value)) => Some(value),
+            None => None,
+        }
     }
 
     /// The serial of the value in the slot, if there is such a slot and it keeps one.

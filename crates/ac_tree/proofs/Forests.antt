@@ -7,8 +7,8 @@ use Rattle.ac_pool.specs.Names.{name_cmp}
 use Rattle.ac_pool.specs.Contents.{Contents, value_of, with_value, IsLive, live_count, added, taken, IsFresh, IsSound}
 use Rattle.ac_pool.proofs.NameLaws.{cases_name}
 use Rattle.ac_pool.proofs.ContentsLaws.{value_of-added_same, value_of-added_other, value_of-taken_same, value_of-taken_other, live_count-added, live_count-taken, fresh_is_dead, value_of-with_value_same, value_of-with_value_other}
-use Rattle.ac_chain.specs.Link.{name_in}
-use Rattle.ac_chain.proofs.SlotNames.{linked_name}
+use Rattle.ac_pool.specs.Link.{name_in}
+use Rattle.ac_pool.proofs.SlotNames.{linked_name}
 use Rattle.ac_tree.specs.declared.links.TreeNode.{TreeNode}
 use Rattle.ac_tree.specs.declared.links.Links.{Links}
 use Rattle.ac_tree.specs.Forests.{Forest, bare, grove, Step, under, after, size, first_in, last_in, Has, plugged, parent_in, prev_in}

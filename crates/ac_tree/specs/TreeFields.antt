@@ -3,7 +3,7 @@ use Rattle.std.specs.Prelude.{◌≡◌, ℕ, zero, suc, List, [], ◌∷◌, Op
 use Rattle.ac_base.specs.declared.name.Name.{Name}
 use Rattle.ac_base.specs.Rows.{row}
 use Rattle.ac_pool.specs.Contents.{Contents, value_of, with_value, no_values, IsLive, live_count, IsSound}
-use Rattle.ac_chain.specs.Link.{link_of, name_in}
+use Rattle.ac_pool.specs.Link.{link_of, name_in}
 use Rattle.ac_tree.specs.declared.links.TreeNode.{TreeNode}
 use Rattle.ac_tree.specs.declared.links.Links.{Links}
 use Rattle.ac_tree.specs.Forests.{Forest, bare, grove, size, first_in, or_name, last_in, Has, Once, Step, under, after, parent_in, prev_in}

@@ -5,27 +5,14 @@ ghost use Rattle.std.specs.Option.{option_map};
 ghost use Rattle.ac_pool.specs.Contents.{value_of, IsLive, live_count};
 ghost use Rattle.ac_base.specs.Limits.{IsLimit};
 ghost use Rattle.ac_model.specs.Containers.{first_spare};
-ghost use Rattle.ac_chain.specs.Link.{link_of, name_in};
+ghost use Rattle.ac_pool.specs.Link.{link_of, name_in};
 ghost use Rattle.ac_tree.specs.Inserting.{Inserts, Reserves};
 ghost use Rattle.ac_tree.specs.Removing.{Removes};
 ghost use Rattle.ac_tree.specs.TreeFields.{parent_link, first_link, last_link, prev_link, next_link, parent_of, first_of, last_of, prev_of, next_of, prev_before, first_put, last_put, prev_put, next_put, written_at, with_next, with_prev, tied, closed, links, value_put, IsEmptied};
 
 use ac_base::{Limit, Name, NoMemory};
-use ac_pool::Pool;
+use ac_pool::{NO_SLOT, Pool, link_to};
 use std::alloc::Global;
-
-/// A link to no node: no pool has so many slots.
-pub(crate) const NO_SLOT: u32 = u32::MAX;
-
-/// The link to a live name.
-pub(crate) fn link_to(to: Option<Name>) -> u32
-    ensures { result ≡ link_of to }
-{
-    match to {
-        Some(name) => name.slot,
-        None => NO_SLOT,
-    }
-}
 
 #[derive(Drop)]
 pub struct TreeNode<T> {

@@ -1,65 +1,60 @@
-use Rattle.std.proofs.Common.{sym, ap, ◌∙◌, arith}
+use Rattle.std.proofs.Common.{option_copied, sym, ap, ◌∙◌, arith}
 use Rattle.ac_balance.specs.Trails.{spot_at}
-use Rattle.ac_balance.proofs.Lowering.{starts_at, lies, live, goes_left, goes_right, meets, misses, shrinks_left, shrinks_right, few_left}
-use Rattle.ac_balance.proofs.Trails.{starts_from, lowers_left, lowers_right, at_spot}
+use Rattle.ac_balance.proofs.Lowering.{starts_at, lies, goes_left, goes_right, meets, misses, shrinks_left, shrinks_right, few_left}
+use Rattle.ac_balance.proofs.Trails.{starts_from, met, unmet, answers_at, lowers_left, lowers_right}
 use Rattle.ac_balance.proofs.keyed_search.seek_key.Goals as goal
 
-pub loop-name-init : goal.loop-name-init
-loop-name-init g c = λ t h. starts_at _ _ _ _ _ _ _ (ap (spot_at _) c.start-trail.ensures ∙ starts_from _ _ _ h) h
+pub loop-node-init : goal.loop-node-init
+loop-node-init g c = λ t h. starts_at _ _ _ _ _ _ _ (ap (spot_at _) c.start-trail.ensures ∙ starts_from _ _ _ h) h
 
-pub is_before-requires : goal.is_before-requires
-is_before-requires g c = live _ _ _ _ _ _ _ _ (lies _ _ _ _ _ _ _ _ (sym c.name_in.ensures ∙ c.in-Some.is) (c.loop-name.invariant c.requires.tree c.requires.stood))
+pub loop-node-smaller-then-less : goal.loop-node-smaller-then-less
+loop-node-smaller-then-less g c =
+    let m = met _ _ _ (sym c.node_in.ensures ∙ ap option_copied c.in-Some.is) in let k = lies _ _ _ _ _ _ _ _ m.leads (c.loop-node.invariant c.requires.tree c.requires.stood) in
+    shrinks_left _ c.requires.stood.sound _ _ _ _ _ _ _ _ k (lowers_left _ c.loop-node.trail c.lower-trail.result _ m c.lower-trail.ensures)
 
-pub loop-name-smaller-then-is_before : goal.loop-name-smaller-then-is_before
-loop-name-smaller-then-is_before g c =
-    let k = lies _ _ _ _ _ _ _ _ (sym c.name_in.ensures ∙ c.in-Some.is) (c.loop-name.invariant c.requires.tree c.requires.stood) in
-    shrinks_left _ c.requires.stood.sound _ _ _ _ _ _ _ _ k (lowers_left _ c.requires.stood.sound c.loop-name.trail c.lower-trail.result _ (live _ _ _ _ _ _ _ _ k) c.lower-trail.ensures)
+pub loop-node-preserved-then-less : goal.loop-node-preserved-then-less
+loop-node-preserved-then-less g c = λ t h.
+    let m = met _ _ _ (sym c.node_in.ensures ∙ ap option_copied c.in-Some.is) in let k = lies _ _ _ _ _ _ _ _ m.leads (c.loop-node.invariant t h) in
+    let one = c.less.ensures.one_step in
+    goes_left _ h.sound _ _ _ _ _ _ _ _ _ k (ap (λ n. g.K.Key.Rank.is_less c.args.k.now (g.K.Keyed.key_of n.value.key)) (answers_at _ _ _ m k.node k.found) ∙ (ap (λ y. g.K.Key.Rank.is_less c.args.k.now y) (sym c.key-key.ensures) ∙ (sym c.less.ensures.answer ∙ c.if-less.true))) (omega arith) (omega arith)
+    (lowers_left _ c.loop-node.trail c.lower-trail.result _ m c.lower-trail.ensures)
 
-pub loop-name-preserved-then-is_before : goal.loop-name-preserved-then-is_before
-loop-name-preserved-then-is_before g c = λ t h.
-    let k = lies _ _ _ _ _ _ _ _ (sym c.name_in.ensures ∙ c.in-Some.is) (c.loop-name.invariant t h) in
-    let one = c.is_before.ensures.one_step in
-    goes_left _ h.sound _ _ _ _ _ _ _ _ _ k (sym (c.is_before.ensures.answer k.node k.found) ∙ c.if-is_before.true) (omega arith) (omega arith)
-    (lowers_left _ h.sound c.loop-name.trail c.lower-trail.result _ (live _ _ _ _ _ _ _ _ k) c.lower-trail.ensures)
+pub loop-node-smaller : goal.loop-node-smaller
+loop-node-smaller g c =
+    let m = met _ _ _ (sym c.node_in.ensures ∙ ap option_copied c.in-Some.is) in let k = lies _ _ _ _ _ _ _ _ m.leads (c.loop-node.invariant c.requires.tree c.requires.stood) in
+    shrinks_right _ c.requires.stood.sound _ _ _ _ _ _ _ _ k (lowers_right _ c.loop-node.trail c.lower-trail-then-less-2.result _ m c.lower-trail-then-less-2.ensures)
 
-pub is_after-requires : goal.is_after-requires
-is_after-requires g c = live _ _ _ _ _ _ _ _ (lies _ _ _ _ _ _ _ _ (sym c.name_in.ensures ∙ c.in-Some.is) (c.loop-name.invariant c.requires.tree c.requires.stood))
+pub loop-node-preserved : goal.loop-node-preserved
+loop-node-preserved g c = λ t h.
+    let m = met _ _ _ (sym c.node_in.ensures ∙ ap option_copied c.in-Some.is) in let k = lies _ _ _ _ _ _ _ _ m.leads (c.loop-node.invariant t h) in
+    let one = c.less.ensures.one_step in let two = c.less-else-less.ensures.one_step in
+    goes_right _ h.sound _ _ _ _ _ _ _ _ _ k (ap (λ n. g.K.Key.Rank.is_less (g.K.Keyed.key_of n.value.key) c.args.k.now) (answers_at _ _ _ m k.node k.found) ∙ (ap (λ y. g.K.Key.Rank.is_less y c.args.k.now) (sym c.key-key.ensures) ∙ (sym c.less-else-less.ensures.answer ∙ c.if-less-2.true))) (omega arith) (omega arith)
+    (lowers_right _ c.loop-node.trail c.lower-trail-then-less-2.result _ m c.lower-trail-then-less-2.ensures)
 
-pub loop-name-smaller : goal.loop-name-smaller
-loop-name-smaller g c =
-    let k = lies _ _ _ _ _ _ _ _ (sym c.name_in.ensures ∙ c.in-Some.is) (c.loop-name.invariant c.requires.tree c.requires.stood) in
-    shrinks_right _ c.requires.stood.sound _ _ _ _ _ _ _ _ k (lowers_right _ c.requires.stood.sound c.loop-name.trail c.lower-trail-then-is_after.result _ (live _ _ _ _ _ _ _ _ k) c.lower-trail-then-is_after.ensures)
+pub returns-else-less-2-clause-found : goal.returns-else-less-2-clause-found
+returns-else-less-2-clause-found g c = λ t h.
+    let m = met _ _ _ (sym c.node_in.ensures ∙ ap option_copied c.in-Some.is) in let k = lies _ _ _ _ _ _ _ _ m.leads (c.loop-node.invariant t h) in
+    let same = answers_at _ _ _ m k.node k.found in
+    meets _ _ _ _ _ _ _ _ k (ap (λ n. g.K.Key.Rank.is_less (g.K.Keyed.key_of n.value.key) c.args.k.now) same ∙ (ap (λ y. g.K.Key.Rank.is_less y c.args.k.now) (sym c.key-key.ensures) ∙ (sym c.less-else-less.ensures.answer ∙ c.if-less-2.false))) (ap (λ n. g.K.Key.Rank.is_less c.args.k.now (g.K.Keyed.key_of n.value.key)) same ∙ (ap (λ y. g.K.Key.Rank.is_less c.args.k.now y) (sym c.key-key.ensures) ∙ (sym c.less.ensures.answer ∙ c.if-less.false)))
 
-pub loop-name-preserved : goal.loop-name-preserved
-loop-name-preserved g c = λ t h.
-    let k = lies _ _ _ _ _ _ _ _ (sym c.name_in.ensures ∙ c.in-Some.is) (c.loop-name.invariant t h) in
-    let one = c.is_before.ensures.one_step in let two = c.is_after.ensures.one_step in
-    goes_right _ h.sound _ _ _ _ _ _ _ _ _ k (sym (c.is_after.ensures.answer k.node k.found) ∙ c.if-is_after.true) (omega arith) (omega arith)
-    (lowers_right _ h.sound c.loop-name.trail c.lower-trail-then-is_after.result _ (live _ _ _ _ _ _ _ _ k) c.lower-trail-then-is_after.ensures)
-
-pub returns-else-is_after-clause-found : goal.returns-else-is_after-clause-found
-returns-else-is_after-clause-found g c = λ t h.
-    let k = lies _ _ _ _ _ _ _ _ (sym c.name_in.ensures ∙ c.in-Some.is) (c.loop-name.invariant t h) in
-    at_spot _ _ _ _ _ _ c.spot_at.ensures
-    (meets _ _ _ _ _ _ _ _ k (sym (c.is_after.ensures.answer k.node k.found) ∙ c.if-is_after.false) (sym (c.is_before.ensures.answer k.node k.found) ∙ c.if-is_before.false))
-
-pub returns-else-is_after-clause-few : goal.returns-else-is_after-clause-few
-returns-else-is_after-clause-few g c = λ t h.
-    let k = lies _ _ _ _ _ _ _ _ (sym c.name_in.ensures ∙ c.in-Some.is) (c.loop-name.invariant t h) in
-    let one = c.is_before.ensures.one_step in let two = c.is_after.ensures.one_step in
+pub returns-else-less-2-clause-few : goal.returns-else-less-2-clause-few
+returns-else-less-2-clause-few g c = λ t h.
+    let m = met _ _ _ (sym c.node_in.ensures ∙ ap option_copied c.in-Some.is) in let k = lies _ _ _ _ _ _ _ _ m.leads (c.loop-node.invariant t h) in
+    let one = c.less.ensures.one_step in let two = c.less-else-less.ensures.one_step in
     few_left _ _ _ _ _ _ _ _ _ k (omega arith)
+
+pub returns-else-less-2-clause-counted : goal.returns-else-less-2-clause-counted
+returns-else-less-2-clause-counted g c =
+    let d = c.loop-node.invariant c.requires.tree c.requires.stood in let were = d.counted in
+    let one = c.less.ensures.one_step in let two = c.less-else-less.ensures.one_step in omega (arith, were, one, two)
 
 pub returns-clause-found : goal.returns-clause-found
 returns-clause-found g c = λ t h.
-    at_spot _ _ _ _ _ _ c.spot_at-2.ensures (misses _ _ _ _ _ _ _ (sym c.name_in.ensures ∙ c.in_default.is) (c.loop-name.invariant t h))
+    let d = c.loop-node.invariant t h in
+    misses _ _ _ _ _ _ _ (unmet _ _ _ _ c.loop-node.trail _ _ d (sym c.node_in.ensures ∙ ap option_copied c.in_default.is)) d
 
 pub returns-clause-few : goal.returns-clause-few
-returns-clause-few g c = λ t h. let d = c.loop-name.invariant t h in let f = d.few in omega arith
-
-pub returns-else-is_after-clause-counted : goal.returns-else-is_after-clause-counted
-returns-else-is_after-clause-counted g c =
-    let k = lies _ _ _ _ _ _ _ _ (sym c.name_in.ensures ∙ c.in-Some.is) (c.loop-name.invariant c.requires.tree c.requires.stood) in let were = k.counted in
-    let one = c.is_before.ensures.one_step in let two = c.is_after.ensures.one_step in omega (arith, were, one, two)
+returns-clause-few g c = λ t h. let d = c.loop-node.invariant t h in let f = d.few in omega arith
 
 pub returns-clause-counted : goal.returns-clause-counted
-returns-clause-counted g c = let d = c.loop-name.invariant c.requires.tree c.requires.stood in d.counted
+returns-clause-counted g c = let d = c.loop-node.invariant c.requires.tree c.requires.stood in d.counted

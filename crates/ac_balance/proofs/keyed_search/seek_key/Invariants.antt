@@ -5,8 +5,8 @@ use Rattle.ac_balance.specs.Trails.{spot_at}
 use Rattle.ac_balance.proofs.Lowering.{Descends}
 use Rattle.ac_balance.proofs.keyed_search.seek_key.Given as goal
 
-abbrev pub invariant-loop-name : goal.invariant-loop-name
-invariant-loop-name g l = (t : Tree _) → Stood l.nodes l.fn.root t → Descends l.nodes t (λ e. g.K.Key.Rank.is_less (g.K.Keyed.key_of e.key) l.k) (λ e. g.K.Key.Rank.is_less l.k (g.K.Keyed.key_of e.key)) (spot_at l.nodes l.trail) l.fn.steps l.steps
+abbrev pub invariant-loop-node : goal.invariant-loop-node
+invariant-loop-node g l = (t : Tree _) → Stood l.nodes l.fn.root t → Descends l.nodes t (λ e. g.K.Key.Rank.is_less (g.K.Keyed.key_of e.key) l.k) (λ e. g.K.Key.Rank.is_less l.k (g.K.Keyed.key_of e.key)) (spot_at l.nodes l.trail) l.fn.steps l.steps
 
-abbrev pub decreases-loop-name : goal.decreases-loop-name
-decreases-loop-name g l = high l.nodes (spot_at l.nodes l.trail).part
+abbrev pub decreases-loop-node : goal.decreases-loop-node
+decreases-loop-node g l = high l.nodes (spot_at l.nodes l.trail).part

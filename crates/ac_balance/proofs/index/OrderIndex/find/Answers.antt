@@ -1,6 +1,7 @@
-use Rattle.std.proofs.Common.{◌≡◌, length, refl, subst}
+use Rattle.std.proofs.Common.{◌≡◌, length, refl, ◌∙◌, subst}
 use Rattle.ac_base.specs.Order.{are_level}
 use Rattle.ac_balance.specs.Indexed.{first_where, FewSteps}
+use Rattle.ac_balance.specs.Trails.{spot_at}
 use Rattle.ac_balance.proofs.Indexes.{stood_root}
 use Rattle.ac_balance.proofs.Searched.{sought, few_sought}
 use Rattle.ac_balance.proofs.index.OrderIndex.find.Goals as goal
@@ -11,8 +12,8 @@ seek-found-requires g c = record { tree = c.self.invariant.closed.tree; stood = 
 pub returns-clause-name : goal.returns-clause-name
 returns-clause-name g c =
     let s = c.self.invariant in let l = c.self.inside.links in
-    subst (λ x. c.seek-found.result.part ≡ first_where (λ y. are_level g.K.Rank.is_less y c.args.k.now) x) c.self.view_is
-    (sought g.K.Rank.is_less l s (λ y. y) g.K.Rank.is_less (λ x y. refl) g.met.K.Rank.ordered c.args.k.now c.seek-found.result (c.seek-found.ensures.found s.closed.tree (stood_root g.K.Rank.is_less l s))).found
+    subst (λ x. c.name_in.result ≡ first_where (λ y. are_level g.K.Rank.is_less y c.args.k.now) x) c.self.view_is
+    (c.name_in.ensures ∙ (sought g.K.Rank.is_less l s (λ y. y) g.K.Rank.is_less (λ x y. refl) g.met.K.Rank.ordered c.args.k.now (spot_at l.nodes c.seek-found.result) (c.seek-found.ensures.found s.closed.tree (stood_root g.K.Rank.is_less l s))).found)
 
 pub returns-clause-few : goal.returns-clause-few
 returns-clause-few g c =

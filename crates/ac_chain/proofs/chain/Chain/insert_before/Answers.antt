@@ -3,7 +3,7 @@ use Rattle.std.specs.Option.{ForSome}
 use Rattle.ac_pool.specs.Contents.{added}
 use Rattle.ac_chain.specs.declared.links.Links.{Links}
 use Rattle.ac_base.specs.Rows.{row}
-use Rattle.ac_chain.specs.Link.{link_of}
+use Rattle.ac_pool.specs.Link.{link_of}
 use Rattle.ac_chain.specs.Rows.{IsLive, inserted, IsFresh}
 use Rattle.ac_chain.specs.ChainFields.{node_with, links, link_before, attached, IsChain}
 use Rattle.ac_chain.proofs.Chains.{view_of, inserted_chain, fresh_name, chain_sound}

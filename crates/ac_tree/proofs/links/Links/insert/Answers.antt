@@ -1,6 +1,6 @@
 use Rattle.std.proofs.Common.{◌≡◌, None, ap, subst, sym, ◌∙◌}
 use Rattle.ac_pool.specs.Contents.{added}
-use Rattle.ac_chain.specs.Link.{link_of}
+use Rattle.ac_pool.specs.Link.{link_of}
 use Rattle.ac_tree.specs.declared.links.Links.{Links}
 use Rattle.ac_tree.specs.Inserting.{Inserted}
 use Rattle.ac_tree.specs.TreeFields.{links, linked, node_with, prev_before, tied}

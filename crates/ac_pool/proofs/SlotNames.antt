@@ -4,7 +4,7 @@ use Rattle.std.proofs.lemmas.Bool.{cond-true, cond-false}
 use Rattle.ac_base.specs.declared.name.Name.{Name}
 use Rattle.ac_pool.specs.Contents.{Contents, value_of, IsLive, IsSound}
 use Rattle.ac_pool.specs.PoolFields.{name_at}
-use Rattle.ac_balance.specs.Link.{link_of, name_below, name_in}
+use Rattle.ac_pool.specs.Link.{link_of, name_below, name_in}
 
 module _ {Y : Type 0} where
   below_live : (n : ℕ) (c : Contents Y) (a : Name) → ((b : Name) → IsLive c b → b.slot ≡ a.slot → b ≡ a) → IsLive c a → a.serial < n → name_below n c a.slot ≡ Some a

@@ -1,4 +1,4 @@
--- What a link to a node is: the slot in which it stands. The live name of the slot tells the node from those that were there before.
+-- What a link is: the slot of the value to which it leads. The live name of the slot tells it from those that were there before.
 use Rattle.std.specs.Prelude.{ℕ, zero, suc, ◌-◌, ◌^◌, Option, Some, None, is_some, if◌then◌else◌}
 use Rattle.ac_base.specs.declared.name.Name.{Name}
 use Rattle.ac_pool.specs.Contents.{Contents, value_of}
@@ -18,3 +18,12 @@ module _ {Y : Type 0} where
   -- the live name of the slot
   unfoldable pub name_in : Contents Y → ℕ → Option Name
   name_in c slot = name_below c.next_serial c slot
+
+  -- the value under the name, if there is one
+  abbrev pub value_at : Contents Y → Option Name → Option Y
+  value_at c None = None
+  value_at c (Some a) = value_of c a
+
+  -- the value under the live name of the slot
+  abbrev pub value_in : Contents Y → ℕ → Option Y
+  value_in c slot = value_at c (name_in c slot)

@@ -1,5 +1,0 @@
-use Rattle.ac_balance.proofs.SlotNames.{found_is}
-use Rattle.ac_balance.proofs.links.name_in.Goals as goal
-
-pub returns : goal.returns
-returns g c = found_is c.args.nodes.now c.name_in.ensures.sound c.args.slot c.name_in.result c.name_in.ensures.found c.name_in.ensures.none
