@@ -3,18 +3,21 @@ use Rattle.std.specs.Prelude.{◌≡◌, refl}
 use Rattle.std.proofs.Common.{ap, ◌∙◌}
 use Rattle.ac_base.specs.Guards.{GuardCounts}
 use Rattle.ac_model.specs.Containers.{with_guards, guards_of}
-use Rattle.ac_meaning.specs.Holdings.{is_a_set}
+use Rattle.ac_meaning.specs.Elements.{Text}
+use Rattle.ac_meaning.specs.Holdings.{is_a_set, a_keyed_set}
 use Rattle.ac_objects.specs.declared.object.Object.{Object}
-use Rattle.ac_objects.specs.declared.object.Object.TheVariants.{Integers, Texts, IntegerSet, TextSet, IntegersByInteger, IntegersByText, TextsByInteger, TextsByText}
+use Rattle.ac_objects.specs.declared.object.Object.TheVariants.{Integers, Texts, IntegerSet, TextSet, KeyedSet, IntegersByInteger, IntegersByText, TextsByInteger, TextsByText}
+use Rattle.ac_objects.specs.declared.keyed_set.KeyedSet.{KeyedSet as KeyedTexts}
 use Rattle.ac_objects.specs.declared.map.Map.{Map}
 use Rattle.ac_objects.specs.declared.map.Map.TheVariants as map
 use Rattle.ac_objects.specs.declared.sequence.Sequence.{Sequence}
 use Rattle.ac_objects.specs.declared.sequence.Sequence.TheVariants.{List, Vector}
 use Rattle.ac_objects.specs.declared.set.Set.{Set}
 use Rattle.ac_objects.specs.declared.set.Set.TheVariants as set
+use Rattle.ac_objects.specs.KeyedSets.{keyed_items}
 use Rattle.ac_objects.specs.Maps.{entries_of}
 use Rattle.ac_objects.specs.Sequences.{rows_of}
-use Rattle.ac_objects.specs.Sets.{items_of}
+use Rattle.ac_objects.specs.Sets.{items_of, set_kind_of}
 use Rattle.ac_objects.specs.Standing.{counts_in_held}
 use Rattle.ac_objects.specs.World.{InMemory, in_rows, memory_of, held_in, held_of}
 
@@ -28,6 +31,9 @@ abbrev pub set_with : {T K : Type 0} → Set T K → GuardCounts → Set T K
 set_with (set.Hashed s) counts = set.Hashed (with_guards s counts)
 set_with (set.Ordered s) counts = set.Ordered (with_guards s counts)
 
+abbrev pub keyed_set_with : KeyedTexts → GuardCounts → KeyedTexts
+keyed_set_with s counts = record s { set = set_with s.set counts }
+
 abbrev pub map_with : {K V : Type 0} → Map K V → GuardCounts → Map K V
 map_with (map.Hashed m) counts = map.Hashed (with_guards m counts)
 map_with (map.Ordered m) counts = map.Ordered (with_guards m counts)
@@ -37,6 +43,7 @@ with_counts (Integers s) counts = Integers (sequence_with s counts)
 with_counts (Texts s) counts = Texts (sequence_with s counts)
 with_counts (IntegerSet s) counts = IntegerSet (set_with s counts)
 with_counts (TextSet s) counts = TextSet (set_with s counts)
+with_counts (KeyedSet s) counts = KeyedSet (keyed_set_with s counts)
 with_counts (IntegersByInteger m) counts = IntegersByInteger (map_with m counts)
 with_counts (IntegersByText m) counts = IntegersByText (map_with m counts)
 with_counts (TextsByInteger m) counts = TextsByInteger (map_with m counts)
@@ -68,6 +75,15 @@ pub set_rest : {T K : Type 0} (s : Set T K) (counts others : GuardCounts) → se
 set_rest (set.Hashed s) counts others = refl
 set_rest (set.Ordered s) counts others = refl
 
+pub keyed_set_given : (s : KeyedTexts) (counts : GuardCounts) → guards_of (keyed_items (keyed_set_with s counts)) ≡ counts
+keyed_set_given s counts = set_given s.set counts
+
+pub keyed_set_own : (s : KeyedTexts) → keyed_set_with s (guards_of (keyed_items s)) ≡ s
+keyed_set_own s = λ i. record s { set = set_own s.set i }
+
+pub keyed_set_rest : (s : KeyedTexts) (counts others : GuardCounts) → keyed_set_with (keyed_set_with s counts) others ≡ keyed_set_with s others
+keyed_set_rest s counts others = λ i. record s { set = set_rest s.set counts others i }
+
 pub map_given : {K V : Type 0} (m : Map K V) (counts : GuardCounts) → guards_of (entries_of (map_with m counts)) ≡ counts
 map_given (map.Hashed m) counts = refl
 map_given (map.Ordered m) counts = refl
@@ -85,6 +101,11 @@ map_rest (map.Ordered m) counts others = refl
 abbrev pub counted_in : InMemory → GuardCounts → InMemory
 counted_in (in_rows kind l) counts = in_rows kind (with_guards l counts)
 
+keyed_counted : (s : Set Text Text) (counts : GuardCounts) →
+    in_rows (a_keyed_set (set_kind_of (set_with s counts))) (items_of (set_with s counts)) ≡ in_rows (a_keyed_set (set_kind_of s)) (with_guards (items_of s) counts)
+keyed_counted (set.Hashed s) counts = refl
+keyed_counted (set.Ordered s) counts = refl
+
 pub memory_counted : (o : Object) (counts : GuardCounts) → memory_of (with_counts o counts) ≡ counted_in (memory_of o) counts
 unfolding memory_of
 memory_counted (Integers (List l)) counts = refl
@@ -95,6 +116,7 @@ memory_counted (IntegerSet (set.Hashed s)) counts = refl
 memory_counted (IntegerSet (set.Ordered s)) counts = refl
 memory_counted (TextSet (set.Hashed s)) counts = refl
 memory_counted (TextSet (set.Ordered s)) counts = refl
+memory_counted (KeyedSet s) counts = keyed_counted s.set counts
 memory_counted (IntegersByInteger (map.Hashed m)) counts = refl
 memory_counted (IntegersByInteger (map.Ordered m)) counts = refl
 memory_counted (IntegersByText (map.Hashed m)) counts = refl
@@ -122,6 +144,7 @@ counts_own (Integers s) = ap Integers (sequence_own s)
 counts_own (Texts s) = ap Texts (sequence_own s)
 counts_own (IntegerSet s) = ap IntegerSet (set_own s)
 counts_own (TextSet s) = ap TextSet (set_own s)
+counts_own (KeyedSet s) = ap KeyedSet (keyed_set_own s)
 counts_own (IntegersByInteger m) = ap IntegersByInteger (map_own m)
 counts_own (IntegersByText m) = ap IntegersByText (map_own m)
 counts_own (TextsByInteger m) = ap TextsByInteger (map_own m)
@@ -132,6 +155,7 @@ rest_kept (Integers s) counts others = ap Integers (sequence_rest s counts other
 rest_kept (Texts s) counts others = ap Texts (sequence_rest s counts others)
 rest_kept (IntegerSet s) counts others = ap IntegerSet (set_rest s counts others)
 rest_kept (TextSet s) counts others = ap TextSet (set_rest s counts others)
+rest_kept (KeyedSet s) counts others = ap KeyedSet (keyed_set_rest s counts others)
 rest_kept (IntegersByInteger m) counts others = ap IntegersByInteger (map_rest m counts others)
 rest_kept (IntegersByText m) counts others = ap IntegersByText (map_rest m counts others)
 rest_kept (TextsByInteger m) counts others = ap TextsByInteger (map_rest m counts others)

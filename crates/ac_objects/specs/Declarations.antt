@@ -10,7 +10,7 @@ use Rattle.ac_meaning.specs.Environment.{binds_object, State, with_name, Declare
 -- an object without elements of the type that is declared, of this number and within this limit
 abbrev pub new_within : TypeDef → ℕ → Limit → Held
 new_within def number limit =
-    let kind = kind_by def.kind def.first def.second in of_rows kind (empty_object (have_capacity kind) number limit)
+    let kind = kind_by def.kind def.first def.second def.keyed in of_rows kind (empty_object (have_capacity kind) number limit)
 
 -- no number was left for the object that is declared on this line
 abbrev pub spent_at : ℕ → State → Declared

@@ -3,8 +3,10 @@ pub mod Listed
 pub mod Sequences
 pub mod Maps
 pub mod Sets
+pub mod KeyedSets
 pub mod SequenceCalls
 pub mod SetCalls
+pub mod KeyCalls
 pub mod RowCalls
 pub mod MapCalls
 pub mod Replied

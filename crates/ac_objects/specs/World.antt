@@ -6,13 +6,14 @@ use Rattle.ac_model.specs.Containers.{Container}
 use Rattle.ac_model.specs.Objects.{plain}
 use Rattle.ac_model.specs.Cursors.{plain_mark, Agrees}
 use Rattle.ac_syntax.specs.declared.kind.ElemKind.TheVariants.{Integer, Str}
-use Rattle.ac_meaning.specs.Holdings.{RowKind, RowOf, Held, of_rows, a_sequence, a_map, a_set}
+use Rattle.ac_meaning.specs.Holdings.{RowKind, RowOf, Held, of_rows, a_sequence, a_map, a_set, a_keyed_set}
 use Rattle.ac_meaning.specs.Environment as meant
 use Rattle.ac_meaning.specs.Numbers.{NumbersDiffer}
 use Rattle.ac_objects.specs.declared.object.Object.{Object}
-use Rattle.ac_objects.specs.declared.object.Object.TheVariants.{Integers, Texts, IntegerSet, TextSet, IntegersByInteger, IntegersByText, TextsByInteger, TextsByText}
+use Rattle.ac_objects.specs.declared.object.Object.TheVariants.{Integers, Texts, IntegerSet, TextSet, KeyedSet, IntegersByInteger, IntegersByText, TextsByInteger, TextsByText}
 use Rattle.ac_objects.specs.Sequences.{rows_of, kind_of}
 use Rattle.ac_objects.specs.Sets.{items_of, set_kind_of}
+use Rattle.ac_objects.specs.KeyedSets.{keyed_items, keyed_kind}
 use Rattle.ac_objects.specs.Maps.{entries_of, map_kind_of}
 use Rattle.ac_objects.specs.declared.bound.Bound.{Bound}
 use Rattle.ac_objects.specs.declared.bound.Bound.TheVariants as bound
@@ -34,6 +35,7 @@ memory_of (Integers s) = in_rows (a_sequence (kind_of s) Integer) (rows_of s)
 memory_of (Texts s) = in_rows (a_sequence (kind_of s) Str) (rows_of s)
 memory_of (IntegerSet s) = in_rows (a_set (set_kind_of s) Integer) (items_of s)
 memory_of (TextSet s) = in_rows (a_set (set_kind_of s) Str) (items_of s)
+memory_of (KeyedSet s) = in_rows (a_keyed_set (keyed_kind s)) (keyed_items s)
 memory_of (IntegersByInteger m) = in_rows (a_map (map_kind_of m) Integer Integer) (entries_of m)
 memory_of (IntegersByText m) = in_rows (a_map (map_kind_of m) Str Integer) (entries_of m)
 memory_of (TextsByInteger m) = in_rows (a_map (map_kind_of m) Integer Str) (entries_of m)

@@ -27,3 +27,12 @@ pub struct ViewKey {
     pub(crate) names: usize,
     pub(crate) guard: GuardKey,
 }
+
+/// An open update of a key: its object, where the element stands, and the guard that it holds. The block's name holds the copy.
+#[derive(Debug)]
+pub struct UpdateKey {
+    pub(crate) object: usize,
+    pub(crate) names: usize,
+    pub(crate) at: Cursor,
+    pub(crate) guard: GuardKey,
+}

@@ -1,4 +1,4 @@
-//! The two types of elements in scripts.
+//! The types of elements in scripts.
 ghost use Rattle.std.specs.Prelude.{◌≡◌, ◌≤◌, IfOk, length, refl};
 ghost use Rattle.ac_io.specs.declared.pieces.TheConstants.{MOST_WAITING};
 ghost use Rattle.ac_io.specs.Pieces.{Adds};
@@ -7,7 +7,7 @@ ghost use Rattle.ac_syntax.specs.declared.kind.ElemKind.TheVariants.{Integer, St
 ghost use Rattle.ac_meaning.specs.Elements as elements;
 
 use crate::literal::add_quoted;
-use ac_base::{Elem, KeyOf, NoMemory, Text, Value};
+use ac_base::{Elem, KeyOf, KeyedText, NoMemory, Text, Value};
 use ac_io::{Sink, WriteFault, add};
 use itoa::Buffer;
 use std::alloc::Global;
@@ -100,5 +100,35 @@ impl ScriptElement for Text {
 
     fn add_literal<K: Sink>(&self, text: &mut Vec<u8>, sink: &mut K) -> Result<(), WriteFault> {
         add_quoted(self.bytes(), text, sink)
+    }
+}
+
+/// A text with its key, which counts as a string in scripts.
+impl ScriptElement for KeyedText {
+    ghost tools = { elements.keyed_texts };
+
+    ghost elem = { Str };
+
+    ghost same_is = { refl };
+
+    ghost alike_is = { refl };
+
+    ghost less_is = { refl };
+
+    ghost blank_is = { refl };
+
+    fn from_value(alloc: Global, value: Value) -> Result<KeyedText, NoMemory> {
+        match value {
+            Value::Int(_) => KeyedText::blank(alloc),
+            Value::Text(text) => KeyedText::new(alloc, text),
+        }
+    }
+
+    fn to_value(&self, alloc: Global) -> Result<Value, NoMemory> {
+        Ok(Value::Text(self.text().copy(alloc)?))
+    }
+
+    fn add_literal<K: Sink>(&self, text: &mut Vec<u8>, sink: &mut K) -> Result<(), WriteFault> {
+        add_quoted(self.text().bytes(), text, sink)
     }
 }

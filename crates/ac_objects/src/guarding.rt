@@ -8,6 +8,7 @@ ghost use Rattle.ac_meaning.specs.Environment.{object_at, objects_by};
 ghost use Rattle.ac_meaning.specs.UnderGuards.{held_with, held_without};
 ghost use Rattle.ac_objects.specs.Blocks.{HasRoom, HasRoomForTwo, IsHeldAt};
 ghost use Rattle.ac_objects.specs.Counts as counts;
+ghost use Rattle.ac_objects.specs.KeyedSets.{keyed_items};
 ghost use Rattle.ac_objects.specs.Maps.{entries_of};
 ghost use Rattle.ac_objects.specs.Sequences.{rows_of};
 ghost use Rattle.ac_objects.specs.Sets.{items_of};
@@ -16,6 +17,7 @@ ghost use Rattle.ac_objects.specs.World.{held_of, state_of, Persists};
 
 use crate::bound::Bound;
 use crate::element::ScriptElement;
+use crate::keyed_set::KeyedSet;
 use crate::map::Map;
 use crate::object::Object;
 use crate::objects::Objects;
@@ -97,6 +99,34 @@ impl<T: ScriptElement> Guarded for Set<T> {
     }
 }
 
+impl Guarded for KeyedSet {
+    ghost is_set = { λ _. true };
+
+    ghost guards = { λ s. guards_of (keyed_items s) };
+
+    ghost with_guards = { counts.keyed_set_with };
+
+    ghost guards_given = { counts.keyed_set_given };
+
+    ghost guards_own = { counts.keyed_set_own };
+
+    ghost rest_kept = { counts.keyed_set_rest };
+
+    ghost set_kept = { λ _ _. refl };
+
+    fn hold(&mut self, kind: GuardKind) -> GuardKey {
+        self.set.hold(kind)
+    }
+
+    fn release(&mut self, key: GuardKey) {
+        self.set.release(key)
+    }
+
+    fn held(&self, kind: GuardKind) -> u64 {
+        self.set.held(kind)
+    }
+}
+
 impl<K: ScriptElement, V: ScriptElement> Guarded for Map<K, V> {
     ghost is_set = { λ _. false };
 
@@ -156,6 +186,7 @@ impl Guarded for Object {
             Object::Texts(sequence) => sequence.hold(kind),
             Object::IntegerSet(set) => set.hold(kind),
             Object::TextSet(set) => set.hold(kind),
+            Object::KeyedSet(set) => set.hold(kind),
             Object::IntegersByInteger(map) => map.hold(kind),
             Object::IntegersByText(map) => map.hold(kind),
             Object::TextsByInteger(map) => map.hold(kind),
@@ -170,6 +201,7 @@ impl Guarded for Object {
             Object::Texts(sequence) => sequence.release(key),
             Object::IntegerSet(set) => set.release(key),
             Object::TextSet(set) => set.release(key),
+            Object::KeyedSet(set) => set.release(key),
             Object::IntegersByInteger(map) => map.release(key),
             Object::IntegersByText(map) => map.release(key),
             Object::TextsByInteger(map) => map.release(key),
@@ -184,6 +216,7 @@ impl Guarded for Object {
             Object::Texts(sequence) => sequence.held(kind),
             Object::IntegerSet(set) => set.held(kind),
             Object::TextSet(set) => set.held(kind),
+            Object::KeyedSet(set) => set.held(kind),
             Object::IntegersByInteger(map) => map.held(kind),
             Object::IntegersByText(map) => map.held(kind),
             Object::TextsByInteger(map) => map.held(kind),
@@ -199,7 +232,7 @@ impl Object {
         ensures { result ≡ raised_kind (is_a_set (held_of self.now)) kind }
     {
         match self {
-            Object::IntegerSet(_) | Object::TextSet(_) => GuardKind::Cursors,
+            Object::IntegerSet(_) | Object::TextSet(_) | Object::KeyedSet(_) => GuardKind::Cursors,
             _ => kind,
         }
     }

@@ -40,6 +40,7 @@ pub fn call_object(
         Object::Texts(sequence) => call_own(sequence, alloc, operation, args, reply),
         Object::IntegerSet(set) => call_own(set, alloc, operation, args, reply),
         Object::TextSet(set) => call_own(set, alloc, operation, args, reply),
+        Object::KeyedSet(set) => call_own(set, alloc, operation, args, reply),
         Object::IntegersByInteger(map) => call_own(map, alloc, operation, args, reply),
         Object::IntegersByText(map) => call_own(map, alloc, operation, args, reply),
         Object::TextsByInteger(map) => call_own(map, alloc, operation, args, reply),
@@ -80,6 +81,10 @@ pub fn call_objects(
         },
         Object::TextSet(set) => match source {
             Object::TextSet(other) => call_two(set, other, alloc, operation, args, reply),
+            _ => call_own(set, alloc, operation, args, reply),
+        },
+        Object::KeyedSet(set) => match source {
+            Object::KeyedSet(other) => call_two(set, other, alloc, operation, args, reply),
             _ => call_own(set, alloc, operation, args, reply),
         },
         Object::IntegersByInteger(map) => match source {
@@ -194,6 +199,7 @@ pub fn element_of(object: &Object, alloc: Global, at: Cursor) -> Result<Value, N
         Object::Texts(sequence) => sequence.element_value(alloc, at),
         Object::IntegerSet(set) => set.element_value(alloc, at),
         Object::TextSet(set) => set.element_value(alloc, at),
+        Object::KeyedSet(set) => set.element_value(alloc, at),
         Object::IntegersByInteger(map) => map.element_value(alloc, at),
         Object::IntegersByText(map) => map.element_value(alloc, at),
         Object::TextsByInteger(map) => map.element_value(alloc, at),
@@ -218,6 +224,7 @@ pub fn write_element(
         Object::Texts(sequence) => written(sequence, alloc, at, value),
         Object::IntegerSet(set) => written(set, alloc, at, value),
         Object::TextSet(set) => written(set, alloc, at, value),
+        Object::KeyedSet(set) => written(set, alloc, at, value),
         Object::IntegersByInteger(map) => written(map, alloc, at, value),
         Object::IntegersByText(map) => written(map, alloc, at, value),
         Object::TextsByInteger(map) => written(map, alloc, at, value),

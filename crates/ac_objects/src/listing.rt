@@ -93,6 +93,7 @@ fn write_object<K: Sink>(
         Object::Texts(sequence) => write_rows(sequence, text, sink),
         Object::IntegerSet(set) => write_rows(set, text, sink),
         Object::TextSet(set) => write_rows(set, text, sink),
+        Object::KeyedSet(set) => write_rows(set, text, sink),
         Object::IntegersByInteger(map) => write_rows(map, text, sink),
         Object::IntegersByText(map) => write_rows(map, text, sink),
         Object::TextsByInteger(map) => write_rows(map, text, sink),

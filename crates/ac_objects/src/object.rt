@@ -1,4 +1,5 @@
 //! An object of a script, of any kind and element type.
+use crate::keyed_set::KeyedSet;
 use crate::map::Map;
 use crate::sequence::Sequence;
 use crate::set::Set;
@@ -11,6 +12,7 @@ pub enum Object {
     Texts(Sequence<Text>),
     IntegerSet(Set<i64>),
     TextSet(Set<Text>),
+    KeyedSet(KeyedSet),
     IntegersByInteger(Map<i64, i64>),
     IntegersByText(Map<Text, i64>),
     TextsByInteger(Map<i64, Text>),

@@ -30,6 +30,7 @@ impl Object {
             Object::Texts(sequence) => sequence.live_nodes(),
             Object::IntegerSet(set) => set.live_nodes(),
             Object::TextSet(set) => set.live_nodes(),
+            Object::KeyedSet(set) => set.live_nodes(),
             Object::IntegersByInteger(map) => map.live_nodes(),
             Object::IntegersByText(map) => map.live_nodes(),
             Object::TextsByInteger(map) => map.live_nodes(),
