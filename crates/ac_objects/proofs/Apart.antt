@@ -1,10 +1,10 @@
 -- An object of one type is found as no rows of another's kinds.
 use Rattle.std.proofs.Common.{◌≡◌, refl, Some, None}
 use Rattle.ac_syntax.specs.declared.kind.ElemKind.TheVariants.{Integer, Str}
-use Rattle.ac_meaning.specs.Holdings.{SequenceKind, a_sequence, a_map, a_set, rows_in}
+use Rattle.ac_meaning.specs.Holdings.{SequenceKind, a_sequence, a_map, a_set, a_keyed_set, rows_in}
 use Rattle.ac_meaning.specs.KeyedReplies.{KeyedKind}
 use Rattle.ac_objects.specs.declared.object.Object.{Object}
-use Rattle.ac_objects.specs.declared.object.Object.TheVariants.{Integers, Texts, IntegerSet, TextSet, IntegersByInteger, IntegersByText, TextsByInteger, TextsByText}
+use Rattle.ac_objects.specs.declared.object.Object.TheVariants.{Integers, Texts, IntegerSet, TextSet, KeyedSet, IntegersByInteger, IntegersByText, TextsByInteger, TextsByText}
 use Rattle.ac_objects.specs.World.{memory_of, held_of}
 
 pub no_integers : (which : SequenceKind) (s : Object) → ((x : _) → s ≡ Integers x → ⊥) → rows_in (a_sequence which Integer) (Some (held_of s)) ≡ None
@@ -13,6 +13,7 @@ no_integers which (Integers x) none = absurd (none x refl)
 no_integers which (Texts x) none = refl
 no_integers which (IntegerSet x) none = refl
 no_integers which (TextSet x) none = refl
+no_integers which (KeyedSet x) none = refl
 no_integers which (IntegersByInteger x) none = refl
 no_integers which (IntegersByText x) none = refl
 no_integers which (TextsByInteger x) none = refl
@@ -24,6 +25,7 @@ no_texts which (Integers x) none = refl
 no_texts which (Texts x) none = absurd (none x refl)
 no_texts which (IntegerSet x) none = refl
 no_texts which (TextSet x) none = refl
+no_texts which (KeyedSet x) none = refl
 no_texts which (IntegersByInteger x) none = refl
 no_texts which (IntegersByText x) none = refl
 no_texts which (TextsByInteger x) none = refl
@@ -35,6 +37,7 @@ no_integer_set which (Integers x) none = refl
 no_integer_set which (Texts x) none = refl
 no_integer_set which (IntegerSet x) none = absurd (none x refl)
 no_integer_set which (TextSet x) none = refl
+no_integer_set which (KeyedSet x) none = refl
 no_integer_set which (IntegersByInteger x) none = refl
 no_integer_set which (IntegersByText x) none = refl
 no_integer_set which (TextsByInteger x) none = refl
@@ -46,6 +49,7 @@ no_text_set which (Integers x) none = refl
 no_text_set which (Texts x) none = refl
 no_text_set which (IntegerSet x) none = refl
 no_text_set which (TextSet x) none = absurd (none x refl)
+no_text_set which (KeyedSet x) none = refl
 no_text_set which (IntegersByInteger x) none = refl
 no_text_set which (IntegersByText x) none = refl
 no_text_set which (TextsByInteger x) none = refl
@@ -57,6 +61,7 @@ no_integers_by_integer which (Integers x) none = refl
 no_integers_by_integer which (Texts x) none = refl
 no_integers_by_integer which (IntegerSet x) none = refl
 no_integers_by_integer which (TextSet x) none = refl
+no_integers_by_integer which (KeyedSet x) none = refl
 no_integers_by_integer which (IntegersByInteger x) none = absurd (none x refl)
 no_integers_by_integer which (IntegersByText x) none = refl
 no_integers_by_integer which (TextsByInteger x) none = refl
@@ -68,6 +73,7 @@ no_integers_by_text which (Integers x) none = refl
 no_integers_by_text which (Texts x) none = refl
 no_integers_by_text which (IntegerSet x) none = refl
 no_integers_by_text which (TextSet x) none = refl
+no_integers_by_text which (KeyedSet x) none = refl
 no_integers_by_text which (IntegersByInteger x) none = refl
 no_integers_by_text which (IntegersByText x) none = absurd (none x refl)
 no_integers_by_text which (TextsByInteger x) none = refl
@@ -79,6 +85,7 @@ no_texts_by_integer which (Integers x) none = refl
 no_texts_by_integer which (Texts x) none = refl
 no_texts_by_integer which (IntegerSet x) none = refl
 no_texts_by_integer which (TextSet x) none = refl
+no_texts_by_integer which (KeyedSet x) none = refl
 no_texts_by_integer which (IntegersByInteger x) none = refl
 no_texts_by_integer which (IntegersByText x) none = refl
 no_texts_by_integer which (TextsByInteger x) none = absurd (none x refl)
@@ -90,7 +97,20 @@ no_texts_by_text which (Integers x) none = refl
 no_texts_by_text which (Texts x) none = refl
 no_texts_by_text which (IntegerSet x) none = refl
 no_texts_by_text which (TextSet x) none = refl
+no_texts_by_text which (KeyedSet x) none = refl
 no_texts_by_text which (IntegersByInteger x) none = refl
 no_texts_by_text which (IntegersByText x) none = refl
 no_texts_by_text which (TextsByInteger x) none = refl
 no_texts_by_text which (TextsByText x) none = absurd (none x refl)
+
+pub no_keyed_set : (which : KeyedKind) (s : Object) → ((x : _) → s ≡ KeyedSet x → ⊥) → rows_in (a_keyed_set which) (Some (held_of s)) ≡ None
+unfolding memory_of
+no_keyed_set which (Integers x) none = refl
+no_keyed_set which (Texts x) none = refl
+no_keyed_set which (IntegerSet x) none = refl
+no_keyed_set which (TextSet x) none = refl
+no_keyed_set which (KeyedSet x) none = absurd (none x refl)
+no_keyed_set which (IntegersByInteger x) none = refl
+no_keyed_set which (IntegersByText x) none = refl
+no_keyed_set which (TextsByInteger x) none = refl
+no_keyed_set which (TextsByText x) none = refl

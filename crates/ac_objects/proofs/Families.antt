@@ -3,16 +3,18 @@ use Rattle.std.proofs.Common.{◌≡◌, ℤ, refl, ap, ◌∙◌}
 use Rattle.ac_syntax.specs.declared.kind.ElemKind.{ElemKind}
 use Rattle.ac_syntax.specs.declared.kind.ElemKind.TheVariants.{Integer, Str}
 use Rattle.ac_meaning.specs.Elements.{ElementOf, Text}
-use Rattle.ac_meaning.specs.Holdings.{SequenceKind, of_list, of_vector, RowKind, a_sequence, a_map, a_set}
+use Rattle.ac_meaning.specs.Holdings.{SequenceKind, of_list, of_vector, RowKind, a_sequence, a_map, a_set, a_keyed_set}
 use Rattle.ac_meaning.specs.KeyedReplies.{KeyedKind, of_hashed, of_ordered}
 use Rattle.ac_objects.specs.declared.object.Object.{Object}
-use Rattle.ac_objects.specs.declared.object.Object.TheVariants.{Integers, Texts, IntegerSet, TextSet, IntegersByInteger, IntegersByText, TextsByInteger, TextsByText}
+use Rattle.ac_objects.specs.declared.object.Object.TheVariants.{Integers, Texts, IntegerSet, TextSet, KeyedSet, IntegersByInteger, IntegersByText, TextsByInteger, TextsByText}
+use Rattle.ac_objects.specs.declared.keyed_set.KeyedSet.{KeyedSet as KeyedTexts}
 use Rattle.ac_objects.specs.declared.map.Map.{Map}
 use Rattle.ac_objects.specs.declared.map.Map.TheVariants as map
 use Rattle.ac_objects.specs.declared.sequence.Sequence.{Sequence}
 use Rattle.ac_objects.specs.declared.sequence.Sequence.TheVariants.{List, Vector}
 use Rattle.ac_objects.specs.declared.set.Set.{Set}
 use Rattle.ac_objects.specs.declared.set.Set.TheVariants as set
+use Rattle.ac_objects.specs.KeyedSets.{keyed_items, keyed_kind}
 use Rattle.ac_objects.specs.Maps.{entries_of, map_kind_of}
 use Rattle.ac_objects.specs.Sequences.{rows_of, kind_of}
 use Rattle.ac_objects.specs.Sets.{items_of, set_kind_of}
@@ -24,11 +26,13 @@ abbrev sequence_in : RowKind → SequenceKind
 sequence_in (a_sequence which e) = which
 sequence_in (a_map which k e) = of_list
 sequence_in (a_set which e) = of_list
+sequence_in (a_keyed_set which) = of_list
 
-abbrev keyed_in : RowKind → KeyedKind
+abbrev pub keyed_in : RowKind → KeyedKind
 keyed_in (a_sequence which e) = of_hashed
 keyed_in (a_map which k e) = which
 keyed_in (a_set which e) = which
+keyed_in (a_keyed_set which) = which
 
 list_is_none : of_list ≡ of_vector → ⊥
 list_is_none e = cc
@@ -77,6 +81,17 @@ module _ (e : ElemKind) (wrap : Set (ElementOf e) (ElementOf e) → Object) (wra
 
   pub set_same : items_of new ≡ items_of old → wrap new ≡ wrap old
   set_same rows = ap wrap (same_set old new (ap keyed_in kept) rows)
+
+pub keyed_set : (s : KeyedTexts) → memory_of (KeyedSet s) ≡ in_rows (a_keyed_set (keyed_kind s)) (keyed_items s)
+unfolding memory_of
+keyed_set s = refl
+
+module _ (old new : KeyedTexts) (kept : a_keyed_set (keyed_kind new) ≡ a_keyed_set (keyed_kind old)) where
+  pub keyed_set_now : memory_of (KeyedSet new) ≡ in_rows (a_keyed_set (keyed_kind old)) (keyed_items new)
+  keyed_set_now = keyed_set new ∙ ap (λ which. in_rows (a_keyed_set which) (keyed_items new)) (ap keyed_in kept)
+
+  pub keyed_set_same : keyed_items new ≡ keyed_items old → KeyedSet new ≡ KeyedSet old
+  keyed_set_same rows = λ i. KeyedSet (record { set = same_set old.set new.set (ap keyed_in kept) rows i })
 
 module _ (k e : ElemKind) (wrap : Map (ElementOf k) (ElementOf e) → Object) (wrapped : (s : Map (ElementOf k) (ElementOf e)) → memory_of (wrap s) ≡ in_rows (a_map (map_kind_of s) k e) (entries_of s))
     (old new : Map (ElementOf k) (ElementOf e)) (kept : a_map (map_kind_of new) k e ≡ a_map (map_kind_of old) k e) where

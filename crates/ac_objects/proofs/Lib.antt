@@ -7,6 +7,7 @@ pub mod Operations
 pub mod SequenceOperations
 pub mod SetKinds
 pub mod SetOperations
+pub mod KeyedOperations
 pub mod Own
 pub mod Entries
 pub mod PutEntries

@@ -13,7 +13,7 @@ use Rattle.ac_model.specs.Letters.{Mark, no_mark}
 use Rattle.ac_meaning.specs.Commands.{argument_in, answer_in, assigned_to, element_written, mark_set, value_set}
 use Rattle.ac_meaning.specs.Environment as meant
 use Rattle.ac_meaning.specs.Environment.{State, value_in, value_or_zero, element_in, mark_in, bound_at, object_at, binds_object, with_bound}
-use Rattle.ac_meaning.specs.Holdings.{a_sequence, a_map, a_set, Held, Written, of_rows, element_value, write}
+use Rattle.ac_meaning.specs.Holdings.{a_sequence, a_map, a_set, a_keyed_set, Held, Written, of_rows, element_value, write}
 use Rattle.ac_meaning.proofs.CallsStay.{none_some}
 use Rattle.ac_objects.specs.declared.bound.Bound.{Bound}
 use Rattle.ac_objects.specs.declared.bound.Bound.TheVariants as bound
@@ -171,6 +171,7 @@ pub write_reason : (h : Held) (m : Mark) (v : Value) → (element_value h m).rea
 write_reason (of_rows (a_sequence which e) o) m v none = none
 write_reason (of_rows (a_map which k e) o) m v none = none
 write_reason (of_rows (a_set which e) o) m v none = refl
+write_reason (of_rows (a_keyed_set which) o) m v none = refl
 
 -- an element that is written in its place
 

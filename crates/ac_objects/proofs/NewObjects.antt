@@ -45,7 +45,7 @@ empty kind number limit = of_rows kind (empty_object (have_capacity kind) number
 
 -- one of this kind, of the type that was declared
 pub of_type : (kind : RowKind) (o : model.Object ℕ (RowOf kind)) (def : TypeDef) (number : ℕ) (limit : Limit) →
-    kind_by def.kind def.first def.second ≡ kind → o ≡ empty_object (have_capacity kind) number limit → of_rows kind o ≡ new_within def number limit
+    kind_by def.kind def.first def.second def.keyed ≡ kind → o ≡ empty_object (have_capacity kind) number limit → of_rows kind o ≡ new_within def number limit
 of_type kind o def number limit kind_is is = ap (of_rows kind) is ∙ ap (λ k. empty k number limit) (sym kind_is)
 
 new_number : (def : TypeDef) (number : ℕ) (capacity : Option ℕ) → number_of (new_held def number capacity) ≡ number

@@ -30,10 +30,12 @@ use Rattle.ac_check.specs.declared.operation.SetCall.{SetCall}
 use Rattle.ac_check.specs.declared.operation.SetCall.TheVariants as set_call
 use Rattle.ac_check.specs.declared.operation.SetPairCall.{SetPairCall}
 use Rattle.ac_check.specs.declared.operation.SetPairCall.TheVariants as set_pair_call
+use Rattle.ac_check.specs.declared.operation.KeyedCall.{KeyedCall}
+use Rattle.ac_check.specs.declared.operation.KeyedCall.TheVariants as keyed_call
 use Rattle.ac_check.specs.declared.operation.OrderedSetCall.{OrderedSetCall}
 use Rattle.ac_check.specs.declared.operation.OrderedSetCall.TheVariants as ordered_set_call
 use Rattle.ac_model.specs.Rows.{Entry}
-use Rattle.ac_meaning.specs.Elements.{Tools, tools_of}
+use Rattle.ac_meaning.specs.Elements.{Tools, tools_of, Text, keyed_texts}
 use Rattle.ac_meaning.specs.Answers.{Answer, answers_ok, answers_value, answers_truth, answers_place, answers_list, answers_raised, answers_stalled}
 use Rattle.ac_meaning.specs.Replies.{Arguments, Source, without, itself, another, by_source, seen_by, source_in, Reply, value_answer, carried}
 use Rattle.ac_meaning.specs.SequenceReplies.{OwnCalls, sequence_own, common_reply, sequence_reply, capacity_reply}
@@ -41,9 +43,11 @@ use Rattle.ac_meaning.specs.ListReplies.{list_alone_reply, list_reply}
 use Rattle.ac_meaning.specs.VectorReplies.{vector_alone_reply, vector_reply}
 use Rattle.ac_meaning.specs.KeyedReplies.{KeyedKind, of_hashed, of_ordered, walk_reply, ordered_reply}
 use Rattle.ac_meaning.specs.MapReplies.{map_own, map_alone_reply, ordered_map_reply, map_reply}
+use Rattle.ac_meaning.specs.KeyedSetReplies.{keyed_set_reply}
 use Rattle.ac_meaning.specs.SetReplies.{set_own, set_alone_reply, set_pair_reply, ordered_set_reply, set_reply}
-use Rattle.ac_meaning.specs.Holdings.{SequenceKind, of_list, of_vector, RowKind, a_sequence, a_map, a_set, RowOf, Held, of_rows, own_calls, reply_by, rows_reply, reply_of}
+use Rattle.ac_meaning.specs.Holdings.{SequenceKind, of_list, of_vector, RowKind, a_sequence, a_map, a_set, a_keyed_set, RowOf, Held, of_rows, own_calls, reply_by, rows_reply, reply_of}
 use Rattle.ac_meaning.proofs.RowKinds.{rows_own}
+use Rattle.ac_objects.proofs.KeyedOperations.{key_alone}
 
 -- None and itself
 
@@ -160,11 +164,23 @@ module _ {T : Type 0} (tools : Tools T) (o : Object ℕ T) (args : Arguments) wh
   set_alone of_hashed _ = refl
   set_alone of_ordered _ = refl
 
+module _ (o : Object ℕ Text) (args : Arguments) where
+  keyed_alone : (which : KeyedKind) (op : Operation) → keyed_set_reply o without args which op ≡ keyed_set_reply o itself args which op
+  keyed_alone of_hashed (operation.Common c) = common_own o args (set_own keyed_texts of_hashed o) c
+  keyed_alone of_hashed (operation.SetPair c) = pair_alone keyed_texts o args of_hashed c
+  keyed_alone of_hashed (operation.Keyed c) = key_alone o without itself args of_hashed c
+  keyed_alone of_hashed _ = refl
+  keyed_alone of_ordered (operation.Common c) = common_own o args (set_own keyed_texts of_ordered o) c
+  keyed_alone of_ordered (operation.SetPair c) = pair_alone keyed_texts o args of_ordered c
+  keyed_alone of_ordered (operation.Keyed c) = key_alone o without itself args of_ordered c
+  keyed_alone of_ordered _ = refl
+
 pub rows_alone : (kind : RowKind) (o : Object ℕ (RowOf kind)) (op : Operation) (args : Arguments) →
     rows_reply kind o without args op ≡ rows_reply kind o itself args op
 rows_alone (a_sequence which e) o op args = reply_alone (tools_of e) o args which op
 rows_alone (a_map which k e) o op args = map_alone (tools_of k) (tools_of e) o args which op
 rows_alone (a_set which e) o op args = set_alone (tools_of e) o args which op
+rows_alone (a_keyed_set which) o op args = keyed_alone o args which op
 
 pub itself_alone : (h : Held) (op : Operation) (args : Arguments) → reply_of h (Some h) op args ≡ reply_of h None op args
 itself_alone (of_rows kind o) op args =
@@ -324,11 +340,38 @@ module _ {T : Type 0} (tools : Tools T) (o : Object ℕ T) (source : Source (Obj
   set_lists of_hashed _ = tt
   set_lists of_ordered _ = tt
 
+module _ (o : Object ℕ Text) (source : Source (Object ℕ Text)) (args : Arguments) where
+  key_lists : (which : KeyedKind) (listing : List ℕ) (c : KeyedCall) → ReplyLists listing o (keyed_set_reply o source args which (operation.Keyed c))
+  key_lists of_hashed listing keyed_call.Key = value_lists listing o o _
+  key_lists of_hashed listing keyed_call.KeyElement = value_lists listing o o _
+  key_lists of_hashed listing _ = tt
+  key_lists of_ordered listing keyed_call.Key = value_lists listing o o _
+  key_lists of_ordered listing keyed_call.KeyElement = value_lists listing o o _
+  key_lists of_ordered listing _ = tt
+
+  keyed_lists : (which : KeyedKind) (op : Operation) → ReplyLists (set_own keyed_texts which o).listing o (keyed_set_reply o source args which op)
+  keyed_lists of_hashed (operation.Common c) = set_lists keyed_texts o source args of_hashed (operation.Common c)
+  keyed_lists of_hashed (operation.Walk c) = set_lists keyed_texts o source args of_hashed (operation.Walk c)
+  keyed_lists of_hashed (operation.Set c) = set_lists keyed_texts o source args of_hashed (operation.Set c)
+  keyed_lists of_hashed (operation.SetPair c) = set_lists keyed_texts o source args of_hashed (operation.SetPair c)
+  keyed_lists of_hashed (operation.Capacity c) = set_lists keyed_texts o source args of_hashed (operation.Capacity c)
+  keyed_lists of_hashed (operation.Keyed c) = key_lists of_hashed (set_own keyed_texts of_hashed o).listing c
+  keyed_lists of_hashed _ = tt
+  keyed_lists of_ordered (operation.Common c) = set_lists keyed_texts o source args of_ordered (operation.Common c)
+  keyed_lists of_ordered (operation.Walk c) = set_lists keyed_texts o source args of_ordered (operation.Walk c)
+  keyed_lists of_ordered (operation.Set c) = set_lists keyed_texts o source args of_ordered (operation.Set c)
+  keyed_lists of_ordered (operation.SetPair c) = set_lists keyed_texts o source args of_ordered (operation.SetPair c)
+  keyed_lists of_ordered (operation.Ordered c) = set_lists keyed_texts o source args of_ordered (operation.Ordered c)
+  keyed_lists of_ordered (operation.OrderedSet c) = set_lists keyed_texts o source args of_ordered (operation.OrderedSet c)
+  keyed_lists of_ordered (operation.Keyed c) = key_lists of_ordered (set_own keyed_texts of_ordered o).listing c
+  keyed_lists of_ordered _ = tt
+
 rows_lists : (kind : RowKind) (o : Object ℕ (RowOf kind)) (source : Source (Object ℕ (RowOf kind))) (args : Arguments) (op : Operation) →
     ReplyLists (own_calls kind o).listing o (rows_reply kind o source args op)
 rows_lists (a_sequence which e) o source args op = each_lists (tools_of e) o source args which op
 rows_lists (a_map which k e) o source args op = map_lists (tools_of k) (tools_of e) o source args which op
 rows_lists (a_set which e) o source args op = set_lists (tools_of e) o source args which op
+rows_lists (a_keyed_set which) o source args op = keyed_lists o source args which op
 
 pub listed : (kind : RowKind) (o : Object ℕ (RowOf kind)) (source : Source (Object ℕ (RowOf kind))) (args : Arguments) (op : Operation) (text : List ℕ) →
     (rows_reply kind o source args op).answer ≡ answers_list text → (text ≡ (own_calls kind o).listing) × ((rows_reply kind o source args op).after ≡ o)

@@ -6,6 +6,7 @@ use Rattle.ac_meaning.specs.Holdings.{Held, Guards, number_of, is_a_set}
 use Rattle.ac_meaning.specs.Environment.{State, objects_by, object_at}
 use Rattle.ac_meaning.specs.UnderGuards.{held_with, held_without}
 use Rattle.ac_objects.specs.declared.blocks.LoopKey.{LoopKey}
+use Rattle.ac_objects.specs.declared.blocks.UpdateKey.{UpdateKey}
 use Rattle.ac_objects.specs.declared.blocks.ViewKey.{ViewKey}
 use Rattle.ac_objects.specs.Standing.{counts_in_held}
 
@@ -30,6 +31,9 @@ guards_of_loop_key key = key.cursors ∷ guard_if key.elements
 
 abbrev pub guards_of_view_key : ViewKey → Guards
 guards_of_view_key key = key.guard ∷ []
+
+abbrev pub guards_of_update_key : UpdateKey → Guards
+guards_of_update_key key = key.guard ∷ []
 
 -- the guard is held on the object at the place
 pub record IsHeldAt (e : State) (place : ℕ) (g : HeldGuard) : Type 0 where

@@ -1,7 +1,7 @@
 //! New objects without elements, of every kind and element type.
-ghost use Rattle.std.specs.Prelude.{◌≡◌, Option, IfOk};
+ghost use Rattle.std.specs.Prelude.{◌≡◌, Bool, true, false, Option, IfOk};
 ghost use Rattle.ac_base.specs.Limits.{IsLimit};
-ghost use Rattle.ac_meaning.specs.Holdings.{a_sequence, a_set, a_map, kind_by, element_or, limit_by, new_held, is_vector, is_hashed};
+ghost use Rattle.ac_meaning.specs.Holdings.{a_sequence, a_set, a_keyed_set, a_map, kind_by, element_or, limit_by, new_held, is_vector, is_hashed};
 ghost use Rattle.ac_model.specs.Objects.{plain, empty_object};
 ghost use Rattle.ac_syntax.specs.declared.kind.ElemKind.{ElemKind as Elements};
 ghost use Rattle.ac_objects.specs.Declarations.{new_within};
@@ -11,6 +11,7 @@ ghost use Rattle.ac_objects.specs.Sets.{items_of, set_kind_of};
 ghost use Rattle.ac_objects.specs.World.{held_of};
 
 use crate::element::ScriptElement;
+use crate::keyed_set::KeyedSet;
 use crate::map::Map;
 use crate::object::Object;
 use crate::sequence::Sequence;
@@ -67,6 +68,23 @@ fn new_set_object(alloc: Global, def: &TypeDef, tag: Tag, limit: Limit) -> Resul
     requires { IsLimit limit }
     ensures { IfOk result (λ made. held_of made ≡ new_within def.now tag limit) }
 {
+    if def.keyed {
+        new_keyed_set_object(alloc, def, tag, limit)
+    } else {
+        new_plain_set_object(alloc, def, tag, limit)
+    }
+}
+
+fn new_plain_set_object(
+    alloc: Global,
+    def: &TypeDef,
+    tag: Tag,
+    limit: Limit,
+) -> Result<Object, NoMemory>
+    requires plain { def.now.keyed ≡ false }
+    requires limit { IsLimit limit }
+    ensures { IfOk result (λ made. held_of made ≡ new_within def.now tag limit) }
+{
     match def.first {
         ElemKind::Integer => {
             let made = new_set(alloc, def.kind, tag, limit)?;
@@ -77,6 +95,20 @@ fn new_set_object(alloc: Global, def: &TypeDef, tag: Tag, limit: Limit) -> Resul
             Ok(Object::TextSet(made))
         }
     }
+}
+
+fn new_keyed_set_object(
+    alloc: Global,
+    def: &TypeDef,
+    tag: Tag,
+    limit: Limit,
+) -> Result<Object, NoMemory>
+    requires keyed { def.now.keyed ≡ true }
+    requires limit { IsLimit limit }
+    ensures { IfOk result (λ made. held_of made ≡ new_within def.now tag limit) }
+{
+    let set = new_set(alloc, def.kind, tag, limit)?;
+    Ok(Object::KeyedSet(KeyedSet { set }))
 }
 
 fn new_map_object(alloc: Global, def: &TypeDef, tag: Tag, limit: Limit) -> Result<Object, NoMemory>
@@ -125,8 +157,8 @@ fn new_sequence<T: Drop>(
     limit: Limit,
 ) -> Result<Sequence<T>, NoMemory>
     requires { IsLimit limit }
-    ensures kind { (first : Elements) (second : Option Elements) →
-        IfOk result (λ made. kind_by kind first second ≡ a_sequence (kind_of made) first) }
+    ensures kind { (first : Elements) (second : Option Elements) (keyed : Bool) →
+        IfOk result (λ made. kind_by kind first second keyed ≡ a_sequence (kind_of made) first) }
     ensures empty { IfOk result (λ made. plain (rows_of made).object ≡ empty_object (is_vector (kind_of made)) tag limit) }
 {
     match kind {
@@ -151,7 +183,8 @@ fn new_set<T: ScriptElement>(
 ) -> Result<Set<T>, NoMemory>
     requires { IsLimit limit }
     ensures kind { (first : Elements) (second : Option Elements) →
-        IfOk result (λ made. kind_by kind first second ≡ a_set (set_kind_of made) first) }
+        IfOk result (λ made. (kind_by kind first second false ≡ a_set (set_kind_of made) first)
+        × (kind_by kind first second true ≡ a_keyed_set (set_kind_of made))) }
     ensures empty { IfOk result (λ made. plain (items_of made).object ≡ empty_object (is_hashed (set_kind_of made)) tag limit) }
 {
     match kind {
@@ -175,8 +208,8 @@ fn new_map<K: ScriptElement, V: ScriptElement>(
     limit: Limit,
 ) -> Result<Map<K, V>, NoMemory>
     requires { IsLimit limit }
-    ensures kind { (first : Elements) (second : Option Elements) →
-        IfOk result (λ made. kind_by kind first second ≡ a_map (map_kind_of made) first (element_or first second)) }
+    ensures kind { (first : Elements) (second : Option Elements) (keyed : Bool) →
+        IfOk result (λ made. kind_by kind first second keyed ≡ a_map (map_kind_of made) first (element_or first second)) }
     ensures empty { IfOk result (λ made. plain (entries_of made).object ≡ empty_object (is_hashed (map_kind_of made)) tag limit) }
 {
     match kind {

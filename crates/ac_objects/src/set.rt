@@ -12,7 +12,7 @@ mod common_rows;
 mod keyed_rows;
 mod looks;
 mod operated_rows;
-mod operating;
+pub(crate) mod operating;
 mod row_object;
 pub mod uncounted;
 

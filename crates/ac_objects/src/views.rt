@@ -25,6 +25,7 @@ impl Objects {
         object: usize,
         at: Option<usize>,
     ) -> Result<ViewKey, Fault>
+        requires view { kind ≡ ViewKind.UpdateKey → ⊥ }
         requires object { IsObject (state_of self.old) object }
         ensures key { IfOk result (λ key. (key.object ≡ object) × (key.names ≡ length self.old.bounds)) }
         ensures opened { (h : Held) → object_at (state_of self.old) object ≡ Some h → IfOk result (λ key.
@@ -104,7 +105,7 @@ fn guarded_kind(kind: ViewKind) -> GuardKind
 
 impl Objects {
     /// The cursor that a name holds, and No_Element where there is none.
-    fn cursor_at(&self, place: Option<usize>) -> Cursor
+    pub(crate) fn cursor_at(&self, place: Option<usize>) -> Cursor
         ensures mark { plain_mark result ≡ mark_at (state_of self.now) place }
         ensures known { IsKnown self.now result }
     {
@@ -125,13 +126,11 @@ impl Objects {
     }
 
     /// Why the head of a view is refused.
-    fn refuses_view(&self, kind: ViewKind, place: usize, at: Cursor) -> Option<Reason>
-        requires { IsKnown self.now at }
-        ensures { (h : Held) → object_at (state_of self.now) place ≡ Some h → result ≡ head_reason kind h (plain_mark at) }
+    fn refuses_view(&self, _kind: ViewKind, place: usize, at: Cursor) -> Option<Reason>
+        requires view { _kind ≡ ViewKind.UpdateKey → ⊥ }
+        requires known { IsKnown self.now at }
+        ensures { (h : Held) → object_at (state_of self.now) place ≡ Some h → result ≡ head_reason _kind h (plain_mark at) }
     {
-        if kind == ViewKind::UpdateKey {
-            return Some(Reason::NoElement);
-        }
         match self.object_at(place) {
             Some(object) => object.refused_view(at),
             None => None,

@@ -1,16 +1,17 @@
 use Rattle.std.proofs.Common.{refl, sym, ap, ◌∙◌}
 use Rattle.ac_syntax.specs.declared.kind.ElemKind.TheVariants.{Integer, Str}
 use Rattle.ac_model.specs.Objects.{plain}
-use Rattle.ac_meaning.specs.Holdings.{a_sequence, a_map, a_set}
-use Rattle.ac_objects.specs.declared.object.Object.TheVariants.{Integers, Texts, IntegerSet, TextSet, IntegersByInteger, IntegersByText, TextsByInteger, TextsByText}
+use Rattle.ac_meaning.specs.Holdings.{a_sequence, a_map, a_set, a_keyed_set}
+use Rattle.ac_objects.specs.declared.object.Object.TheVariants.{Integers, Texts, IntegerSet, TextSet, KeyedSet, IntegersByInteger, IntegersByText, TextsByInteger, TextsByText}
 use Rattle.ac_objects.specs.Arguments.{arguments_of}
+use Rattle.ac_objects.specs.KeyedSets.{keyed_items, keyed_kind}
 use Rattle.ac_objects.specs.Maps.{entries_of, map_kind_of}
 use Rattle.ac_objects.specs.Replied.{told}
 use Rattle.ac_objects.specs.Sequences.{rows_of, kind_of}
 use Rattle.ac_objects.specs.Sets.{items_of, set_kind_of}
 use Rattle.ac_objects.specs.World.{memory_of, held_in, held_of}
-use Rattle.ac_objects.proofs.Families.{sequence_now, sequence_same, set_now, set_same, map_now, map_same, integers, texts, integer_set, text_set, integers_by_integer, integers_by_text, texts_by_integer, texts_by_text}
-use Rattle.ac_objects.proofs.Apart.{no_integers, no_texts, no_integer_set, no_text_set, no_integers_by_integer, no_integers_by_text, no_texts_by_integer, no_texts_by_text}
+use Rattle.ac_objects.proofs.Families.{sequence_now, sequence_same, set_now, set_same, keyed_set_now, keyed_set_same, map_now, map_same, integers, texts, integer_set, text_set, keyed_set, integers_by_integer, integers_by_text, texts_by_integer, texts_by_text}
+use Rattle.ac_objects.proofs.Apart.{no_integers, no_texts, no_integer_set, no_text_set, no_keyed_set, no_integers_by_integer, no_integers_by_text, no_texts_by_integer, no_texts_by_text}
 use Rattle.ac_objects.proofs.CalledRows.{own_lasts, unlike_called, two_called, two_lasts}
 use Rattle.ac_objects.proofs.held.call_objects.Goals as goal
 
@@ -238,6 +239,62 @@ returns-in_default-source-3 c =
       source_lasts = record { cursors = λ at agrees. agrees; counts = refl };
     }
 
+pub returns-in-KeyedSet-source-clause-called : goal.returns-in-KeyedSet-source-clause-called
+returns-in-KeyedSet-source-clause-called c =
+    let call = c.call_two-in-KeyedSet-source in
+    let old = c.in-KeyedSet.set in
+    let source = c.in-KeyedSet-source.other in
+    two_called (a_keyed_set (keyed_kind old)) (a_keyed_set (keyed_kind source)) (plain (keyed_items source).object) (keyed_items old) (keyed_items call.new.object) (keyed_items source) (keyed_items call.new.source)
+    c.args.object.now (KeyedSet call.new.object) c.args.source.now (KeyedSet call.new.source) c.args.operation (arguments_of c.args.args.now) (told call.new.reply call.result)
+    (ap memory_of c.in-KeyedSet.is ∙ keyed_set old) (keyed_set_now old call.new.object call.ensures.kind) (ap held_of c.in-KeyedSet-source.is ∙ ap held_in (keyed_set source))
+    (λ like. ap memory_of c.in-KeyedSet-source.is ∙ keyed_set_now old source like)
+    (λ like. keyed_set_now old call.new.source (call.ensures.source_kind ∙ like)) call.ensures.valid call.ensures.alike
+    (λ differ. let u = call.ensures.unlike differ in (u.0, ap KeyedSet u.1 ∙ sym c.in-KeyedSet-source.is))
+    (λ rows. keyed_set_same old call.new.object call.ensures.kind rows ∙ sym c.in-KeyedSet.is)
+    (λ rows. keyed_set_same source call.new.source call.ensures.source_kind rows ∙ sym c.in-KeyedSet-source.is) c.requires.apart
+
+pub returns-in-KeyedSet-source-clause-lasts : goal.returns-in-KeyedSet-source-clause-lasts
+returns-in-KeyedSet-source-clause-lasts c =
+    let call = c.call_two-in-KeyedSet-source in
+    let old = c.in-KeyedSet.set in
+    let source = c.in-KeyedSet-source.other in
+    (two_lasts (a_keyed_set (keyed_kind old)) (a_keyed_set (keyed_kind source)) (plain (keyed_items source).object) (keyed_items old) (keyed_items call.new.object) (keyed_items source) (keyed_items call.new.source)
+    c.args.object.now (KeyedSet call.new.object) c.args.source.now (KeyedSet call.new.source) c.args.operation (arguments_of c.args.args.now) (told call.new.reply call.result)
+    (ap memory_of c.in-KeyedSet.is ∙ keyed_set old) (keyed_set_now old call.new.object call.ensures.kind) (ap held_of c.in-KeyedSet-source.is ∙ ap held_in (keyed_set source))
+    (λ like. ap memory_of c.in-KeyedSet-source.is ∙ keyed_set_now old source like)
+    (λ like. keyed_set_now old call.new.source (call.ensures.source_kind ∙ like)) call.ensures.valid call.ensures.alike
+    (λ differ. let u = call.ensures.unlike differ in (u.0, ap KeyedSet u.1 ∙ sym c.in-KeyedSet-source.is))
+    call.ensures.source_valid).0
+
+pub returns-in-KeyedSet-source-clause-source_lasts : goal.returns-in-KeyedSet-source-clause-source_lasts
+returns-in-KeyedSet-source-clause-source_lasts c =
+    let call = c.call_two-in-KeyedSet-source in
+    let old = c.in-KeyedSet.set in
+    let source = c.in-KeyedSet-source.other in
+    (two_lasts (a_keyed_set (keyed_kind old)) (a_keyed_set (keyed_kind source)) (plain (keyed_items source).object) (keyed_items old) (keyed_items call.new.object) (keyed_items source) (keyed_items call.new.source)
+    c.args.object.now (KeyedSet call.new.object) c.args.source.now (KeyedSet call.new.source) c.args.operation (arguments_of c.args.args.now) (told call.new.reply call.result)
+    (ap memory_of c.in-KeyedSet.is ∙ keyed_set old) (keyed_set_now old call.new.object call.ensures.kind) (ap held_of c.in-KeyedSet-source.is ∙ ap held_in (keyed_set source))
+    (λ like. ap memory_of c.in-KeyedSet-source.is ∙ keyed_set_now old source like)
+    (λ like. keyed_set_now old call.new.source (call.ensures.source_kind ∙ like)) call.ensures.valid call.ensures.alike
+    (λ differ. let u = call.ensures.unlike differ in (u.0, ap KeyedSet u.1 ∙ sym c.in-KeyedSet-source.is))
+    call.ensures.source_valid).1
+
+pub returns-in_default-source-4 : goal.returns-in_default-source-4
+returns-in_default-source-4 c =
+    let call = c.call_own-in_default-source-4 in
+    let old = c.in-KeyedSet.set in
+    let kind = a_keyed_set (keyed_kind old) in
+    let now = keyed_set_now old call.new.object call.ensures.kind in
+    record {
+      called = unlike_called kind (keyed_items old) (keyed_items call.new.object) c.args.object.now (KeyedSet call.new.object) c.args.source.now c.args.source.now c.args.operation
+          (arguments_of c.args.args.now) (told call.new.reply call.result) (ap memory_of c.in-KeyedSet.is ∙ keyed_set old) now
+          (λ rows. keyed_set_same old call.new.object call.ensures.kind rows ∙ sym c.in-KeyedSet.is) refl
+          (no_keyed_set (keyed_kind old) c.args.source.now c.in_default-source-4.not-KeyedSet) call.ensures.valid call.ensures.replied;
+      lasts = own_lasts kind (keyed_items old) (keyed_items call.new.object) c.args.object.now (KeyedSet call.new.object) c.args.operation (arguments_of c.args.args.now)
+          (told call.new.reply call.result) (ap memory_of c.in-KeyedSet.is ∙ keyed_set old) now call.ensures.valid call.ensures.replied;
+      source_lasts = record { cursors = λ at agrees. agrees; counts = refl };
+    }
+
 pub returns-in-IntegersByInteger-source-clause-called : goal.returns-in-IntegersByInteger-source-clause-called
 returns-in-IntegersByInteger-source-clause-called c =
     let call = c.call_two-in-IntegersByInteger-source in
@@ -278,9 +335,9 @@ returns-in-IntegersByInteger-source-clause-source_lasts c =
     (λ differ. let u = call.ensures.unlike differ in (u.0, ap IntegersByInteger u.1 ∙ sym c.in-IntegersByInteger-source.is))
     call.ensures.source_valid).1
 
-pub returns-in_default-source-4 : goal.returns-in_default-source-4
-returns-in_default-source-4 c =
-    let call = c.call_own-in_default-source-4 in
+pub returns-in_default-source-5 : goal.returns-in_default-source-5
+returns-in_default-source-5 c =
+    let call = c.call_own-in_default-source-5 in
     let old = c.in-IntegersByInteger.map in
     let kind = a_map (map_kind_of old) Integer Integer in
     let now = map_now Integer Integer IntegersByInteger integers_by_integer old call.new.object call.ensures.kind in
@@ -288,7 +345,7 @@ returns-in_default-source-4 c =
       called = unlike_called kind (entries_of old) (entries_of call.new.object) c.args.object.now (IntegersByInteger call.new.object) c.args.source.now c.args.source.now c.args.operation
           (arguments_of c.args.args.now) (told call.new.reply call.result) (ap memory_of c.in-IntegersByInteger.is ∙ integers_by_integer old) now
           (λ rows. map_same Integer Integer IntegersByInteger integers_by_integer old call.new.object call.ensures.kind rows ∙ sym c.in-IntegersByInteger.is) refl
-          (no_integers_by_integer (map_kind_of old) c.args.source.now c.in_default-source-4.not-IntegersByInteger) call.ensures.valid call.ensures.replied;
+          (no_integers_by_integer (map_kind_of old) c.args.source.now c.in_default-source-5.not-IntegersByInteger) call.ensures.valid call.ensures.replied;
       lasts = own_lasts kind (entries_of old) (entries_of call.new.object) c.args.object.now (IntegersByInteger call.new.object) c.args.operation (arguments_of c.args.args.now)
           (told call.new.reply call.result) (ap memory_of c.in-IntegersByInteger.is ∙ integers_by_integer old) now call.ensures.valid call.ensures.replied;
       source_lasts = record { cursors = λ at agrees. agrees; counts = refl };
@@ -334,9 +391,9 @@ returns-in-IntegersByText-source-clause-source_lasts c =
     (λ differ. let u = call.ensures.unlike differ in (u.0, ap IntegersByText u.1 ∙ sym c.in-IntegersByText-source.is))
     call.ensures.source_valid).1
 
-pub returns-in_default-source-5 : goal.returns-in_default-source-5
-returns-in_default-source-5 c =
-    let call = c.call_own-in_default-source-5 in
+pub returns-in_default-source-6 : goal.returns-in_default-source-6
+returns-in_default-source-6 c =
+    let call = c.call_own-in_default-source-6 in
     let old = c.in-IntegersByText.map in
     let kind = a_map (map_kind_of old) Str Integer in
     let now = map_now Str Integer IntegersByText integers_by_text old call.new.object call.ensures.kind in
@@ -344,7 +401,7 @@ returns-in_default-source-5 c =
       called = unlike_called kind (entries_of old) (entries_of call.new.object) c.args.object.now (IntegersByText call.new.object) c.args.source.now c.args.source.now c.args.operation
           (arguments_of c.args.args.now) (told call.new.reply call.result) (ap memory_of c.in-IntegersByText.is ∙ integers_by_text old) now
           (λ rows. map_same Str Integer IntegersByText integers_by_text old call.new.object call.ensures.kind rows ∙ sym c.in-IntegersByText.is) refl
-          (no_integers_by_text (map_kind_of old) c.args.source.now c.in_default-source-5.not-IntegersByText) call.ensures.valid call.ensures.replied;
+          (no_integers_by_text (map_kind_of old) c.args.source.now c.in_default-source-6.not-IntegersByText) call.ensures.valid call.ensures.replied;
       lasts = own_lasts kind (entries_of old) (entries_of call.new.object) c.args.object.now (IntegersByText call.new.object) c.args.operation (arguments_of c.args.args.now)
           (told call.new.reply call.result) (ap memory_of c.in-IntegersByText.is ∙ integers_by_text old) now call.ensures.valid call.ensures.replied;
       source_lasts = record { cursors = λ at agrees. agrees; counts = refl };
@@ -390,9 +447,9 @@ returns-in-TextsByInteger-source-clause-source_lasts c =
     (λ differ. let u = call.ensures.unlike differ in (u.0, ap TextsByInteger u.1 ∙ sym c.in-TextsByInteger-source.is))
     call.ensures.source_valid).1
 
-pub returns-in_default-source-6 : goal.returns-in_default-source-6
-returns-in_default-source-6 c =
-    let call = c.call_own-in_default-source-6 in
+pub returns-in_default-source-7 : goal.returns-in_default-source-7
+returns-in_default-source-7 c =
+    let call = c.call_own-in_default-source-7 in
     let old = c.in-TextsByInteger.map in
     let kind = a_map (map_kind_of old) Integer Str in
     let now = map_now Integer Str TextsByInteger texts_by_integer old call.new.object call.ensures.kind in
@@ -400,7 +457,7 @@ returns-in_default-source-6 c =
       called = unlike_called kind (entries_of old) (entries_of call.new.object) c.args.object.now (TextsByInteger call.new.object) c.args.source.now c.args.source.now c.args.operation
           (arguments_of c.args.args.now) (told call.new.reply call.result) (ap memory_of c.in-TextsByInteger.is ∙ texts_by_integer old) now
           (λ rows. map_same Integer Str TextsByInteger texts_by_integer old call.new.object call.ensures.kind rows ∙ sym c.in-TextsByInteger.is) refl
-          (no_texts_by_integer (map_kind_of old) c.args.source.now c.in_default-source-6.not-TextsByInteger) call.ensures.valid call.ensures.replied;
+          (no_texts_by_integer (map_kind_of old) c.args.source.now c.in_default-source-7.not-TextsByInteger) call.ensures.valid call.ensures.replied;
       lasts = own_lasts kind (entries_of old) (entries_of call.new.object) c.args.object.now (TextsByInteger call.new.object) c.args.operation (arguments_of c.args.args.now)
           (told call.new.reply call.result) (ap memory_of c.in-TextsByInteger.is ∙ texts_by_integer old) now call.ensures.valid call.ensures.replied;
       source_lasts = record { cursors = λ at agrees. agrees; counts = refl };
@@ -446,9 +503,9 @@ returns-in-TextsByText-source-clause-source_lasts c =
     (λ differ. let u = call.ensures.unlike differ in (u.0, ap TextsByText u.1 ∙ sym c.in-TextsByText-source.is))
     call.ensures.source_valid).1
 
-pub returns-in_default-source-7 : goal.returns-in_default-source-7
-returns-in_default-source-7 c =
-    let call = c.call_own-in_default-source-7 in
+pub returns-in_default-source-8 : goal.returns-in_default-source-8
+returns-in_default-source-8 c =
+    let call = c.call_own-in_default-source-8 in
     let old = c.in-TextsByText.map in
     let kind = a_map (map_kind_of old) Str Str in
     let now = map_now Str Str TextsByText texts_by_text old call.new.object call.ensures.kind in
@@ -456,7 +513,7 @@ returns-in_default-source-7 c =
       called = unlike_called kind (entries_of old) (entries_of call.new.object) c.args.object.now (TextsByText call.new.object) c.args.source.now c.args.source.now c.args.operation
           (arguments_of c.args.args.now) (told call.new.reply call.result) (ap memory_of c.in-TextsByText.is ∙ texts_by_text old) now
           (λ rows. map_same Str Str TextsByText texts_by_text old call.new.object call.ensures.kind rows ∙ sym c.in-TextsByText.is) refl
-          (no_texts_by_text (map_kind_of old) c.args.source.now c.in_default-source-7.not-TextsByText) call.ensures.valid call.ensures.replied;
+          (no_texts_by_text (map_kind_of old) c.args.source.now c.in_default-source-8.not-TextsByText) call.ensures.valid call.ensures.replied;
       lasts = own_lasts kind (entries_of old) (entries_of call.new.object) c.args.object.now (TextsByText call.new.object) c.args.operation (arguments_of c.args.args.now)
           (told call.new.reply call.result) (ap memory_of c.in-TextsByText.is ∙ texts_by_text old) now call.ensures.valid call.ensures.replied;
       source_lasts = record { cursors = λ at agrees. agrees; counts = refl };

@@ -1,13 +1,14 @@
 use Rattle.std.proofs.Common.{refl, sym, ap, ◌∙◌}
 use Rattle.ac_model.specs.Forms.{seen_by}
 use Rattle.ac_syntax.specs.declared.kind.ElemKind.TheVariants.{Integer, Str}
-use Rattle.ac_meaning.specs.Holdings.{a_sequence, a_map, a_set}
-use Rattle.ac_objects.specs.declared.object.Object.TheVariants.{Integers, Texts, IntegerSet, TextSet, IntegersByInteger, IntegersByText, TextsByInteger, TextsByText}
+use Rattle.ac_meaning.specs.Holdings.{a_sequence, a_map, a_set, a_keyed_set}
+use Rattle.ac_objects.specs.declared.object.Object.TheVariants.{Integers, Texts, IntegerSet, TextSet, KeyedSet, IntegersByInteger, IntegersByText, TextsByInteger, TextsByText}
+use Rattle.ac_objects.specs.KeyedSets.{keyed_items, keyed_kind}
 use Rattle.ac_objects.specs.Maps.{entries_of, map_kind_of}
 use Rattle.ac_objects.specs.Sequences.{rows_of, kind_of}
 use Rattle.ac_objects.specs.Sets.{items_of, set_kind_of}
 use Rattle.ac_objects.specs.World.{memory_of}
-use Rattle.ac_objects.proofs.Families.{sequence_now, sequence_same, set_now, set_same, map_now, map_same, integers, texts, integer_set, text_set, integers_by_integer, integers_by_text, texts_by_integer, texts_by_text}
+use Rattle.ac_objects.proofs.Families.{sequence_now, sequence_same, set_now, set_same, keyed_set_now, keyed_set_same, map_now, map_same, integers, texts, integer_set, text_set, keyed_set, integers_by_integer, integers_by_text, texts_by_integer, texts_by_text}
 use Rattle.ac_objects.proofs.CalledRows.{wrote_to, wrote_lasts}
 use Rattle.ac_objects.proofs.held.write_element.Goals as goal
 
@@ -70,6 +71,21 @@ returns-in-TextSet-clause-lasts c =
     let old = c.in-TextSet.set in
     wrote_lasts (a_set (set_kind_of old) Str) (items_of old) (items_of call.new.object) c.args.object.now (TextSet call.new.object) (seen_by (items_of old) c.args.at) c.args.value
     call.result (ap memory_of c.in-TextSet.is ∙ text_set old) (set_now Str TextSet text_set old call.new.object call.ensures.kind) call.ensures.valid call.ensures.written
+
+pub returns-in-KeyedSet-clause-written : goal.returns-in-KeyedSet-clause-written
+returns-in-KeyedSet-clause-written c =
+    let call = c.written-in-KeyedSet in
+    let old = c.in-KeyedSet.set in
+    wrote_to (a_keyed_set (keyed_kind old)) (keyed_items old) (keyed_items call.new.object) c.args.object.now (KeyedSet call.new.object) c.args.at c.args.value call.result
+    (ap memory_of c.in-KeyedSet.is ∙ keyed_set old) (keyed_set_now old call.new.object call.ensures.kind)
+    (λ rows. keyed_set_same old call.new.object call.ensures.kind rows ∙ sym c.in-KeyedSet.is) c.requires.agree call.ensures.written
+
+pub returns-in-KeyedSet-clause-lasts : goal.returns-in-KeyedSet-clause-lasts
+returns-in-KeyedSet-clause-lasts c =
+    let call = c.written-in-KeyedSet in
+    let old = c.in-KeyedSet.set in
+    wrote_lasts (a_keyed_set (keyed_kind old)) (keyed_items old) (keyed_items call.new.object) c.args.object.now (KeyedSet call.new.object) (seen_by (keyed_items old) c.args.at) c.args.value
+    call.result (ap memory_of c.in-KeyedSet.is ∙ keyed_set old) (keyed_set_now old call.new.object call.ensures.kind) call.ensures.valid call.ensures.written
 
 pub returns-in-IntegersByInteger-clause-written : goal.returns-in-IntegersByInteger-clause-written
 returns-in-IntegersByInteger-clause-written c =

@@ -1,0 +1,173 @@
+//! What begins and ends an update of an element that keeps its key.
+ghost use Rattle.std.specs.Prelude.{◌≡◌, ◌<◌, length, Some, None, IfOk, OnErr, Err};
+ghost use Rattle.ac_base.specs.declared.reason.Reason.{Reason as ReasonData};
+ghost use Rattle.ac_model.specs.Cursors.{plain_mark};
+ghost use Rattle.ac_meaning.specs.Elements.{text_in};
+ghost use Rattle.ac_meaning.specs.Holdings.{Held, element_value, key_update_reason};
+ghost use Rattle.ac_meaning.specs.Environment.{object_at, mark_at, value_at, value_or_zero, with_bound, with_name, leaving, binds_object, binds_value};
+ghost use Rattle.ac_meaning.specs.Execution.{head_reason, guards_of_view};
+ghost use Rattle.ac_objects.specs.Blocks.{holding, releasing, guards_of_update_key, IsHeldAt};
+ghost use Rattle.ac_objects.specs.Standing.{IsObject, StandsAt, ElementsStand, counts_of};
+ghost use Rattle.ac_objects.specs.Updates.{UpdateEnds, key_ended};
+ghost use Rattle.ac_objects.specs.World.{state_of, IsKnown, Persists};
+
+use crate::blocks::UpdateKey;
+use crate::bound::Bound;
+use crate::element::ScriptElement;
+use crate::objects::Objects;
+use crate::reading::copy_element;
+use ac_base::{Fault, KeyedText, NoMemory, Reason, Value};
+use ac_cursor::{Cursor, GuardKey, GuardKind};
+use ac_model::allowed;
+
+impl Objects {
+    /// Begins an update of the element at which a cursor stands: its name holds a copy, and a guard is held.
+    pub fn enter_update(&mut self, object: usize, at: Option<usize>) -> Result<UpdateKey, Fault>
+        requires object { IsObject (state_of self.old) object }
+        ensures key { IfOk result (λ key. (key.object ≡ object) × (key.names ≡ length self.old.bounds)
+            × (key.guard.kind ≡ GuardKind.Cursors)
+            × (plain_mark key.at ≡ mark_at (state_of self.old) at) × IsKnown self.new key.at) }
+        ensures opened { (h : Held) → object_at (state_of self.old) object ≡ Some h → IfOk result (λ key.
+            (head_reason ViewKind.UpdateKey h (mark_at (state_of self.old) at) ≡ None)
+            × (guards_of_update_key key ≡ guards_of_view ViewKind.UpdateKey h)
+            × (state_of self.new ≡ with_name (holding (guards_of_view ViewKind.UpdateKey h) (state_of self.old))
+            (binds_value (value_or_zero (element_value h (mark_at (state_of self.old) at)).answer)))) }
+        ensures refused { (h : Held) (reason : ReasonData) → object_at (state_of self.old) object ≡ Some h →
+            result ≡ Err (Fault.Raised reason) → head_reason ViewKind.UpdateKey h (mark_at (state_of self.old) at) ≡ Some reason }
+        ensures persists { Persists self.old self.new }
+        ensures fault { OnErr result (self.new ≡ self.old) }
+    {
+        let at = self.cursor_at(at);
+        allowed(self.refuses_update(object, at))?;
+        if !self.has_room(object, GuardKind::Cursors) {
+            return Err(Fault::NoMemory);
+        }
+        let names = self.names();
+        let copy = self.copy_at(object, at)?;
+        self.add(Bound::Value(copy))?;
+        let guard = self.hold(object, GuardKind::Cursors);
+        Ok(UpdateKey {
+            object,
+            names,
+            at,
+            guard,
+        })
+    }
+
+    /// Ends an update: its name goes, its guard is released, and the element becomes what the copy is now. Where that has another
+    /// key, the element goes, and this is why.
+    pub fn leave_update(&mut self, key: UpdateKey) -> Result<Option<Reason>, NoMemory>
+        requires inner { key.object < key.names }
+        requires guard { IsHeldAt (state_of self.old) key.object key.guard }
+        requires cursors { key.guard.kind ≡ GuardKind.Cursors }
+        requires known { IsKnown self.old key.at }
+        requires element { StandsAt (state_of self.old) key.object (plain_mark key.at) }
+        requires stand { ElementsStand (state_of self.old) }
+        ensures ended { IfOk result (λ reason. UpdateEnds key (state_of self.old) (state_of self.new) reason) }
+        ensures persists { Persists self.old self.new }
+        ensures counts { counts_of (state_of self.new)
+            ≡ counts_of (releasing (guards_of_update_key key) (leaving key.names (state_of self.old))) }
+    {
+        match self.copied(key.names) {
+            Ok(element) => Ok(self.settle(key, element)),
+            Err(_) => {
+                self.abandon_update(key);
+                Err(NoMemory)
+            }
+        }
+    }
+
+    /// Ends an update whose body didn't end: its name goes, and its guard is released.
+    pub fn abandon_update(&mut self, key: UpdateKey)
+        requires inner { key.object < key.names }
+        requires guard { IsHeldAt (state_of self.old) key.object key.guard }
+        ensures left { state_of self.new ≡ releasing (guards_of_update_key key) (leaving key.names (state_of self.old)) }
+        ensures persists { Persists self.old self.new }
+    {
+        let UpdateKey {
+            object,
+            names,
+            at: _,
+            guard,
+        } = key;
+        self.leave_scope(names);
+        self.release(object, guard);
+    }
+}
+
+impl Objects {
+    /// Why the head of an update is refused.
+    fn refuses_update(&self, place: usize, at: Cursor) -> Option<Reason>
+        requires { IsKnown self.now at }
+        ensures { (h : Held) → object_at (state_of self.now) place ≡ Some h → result ≡ key_update_reason h (plain_mark at) }
+    {
+        match self.object_at(place) {
+            Some(object) => object.refused_update(at),
+            None => None,
+        }
+    }
+
+    /// A copy of the element at the cursor in the object at the place.
+    fn copy_at(&self, place: usize, at: Cursor) -> Result<Value, NoMemory>
+        requires known { IsKnown self.now at }
+        requires element { StandsAt (state_of self.now) place (plain_mark at) }
+        ensures { (h : Held) → object_at (state_of self.now) place ≡ Some h →
+            IfOk result (λ value. value ≡ value_or_zero (element_value h (plain_mark at)).answer) }
+    {
+        copy_element(&self.bounds, self.alloc, place, at)
+    }
+
+    /// What the copy under a name is, as an element of a keyed set.
+    fn copied(&self, place: usize) -> Result<KeyedText, NoMemory>
+        requires { ElementsStand (state_of self.now) }
+        ensures { IfOk result (λ made. made ≡ text_in (value_at (state_of self.now) place)) }
+    {
+        let read = self.read_name(place)?;
+        KeyedText::from_value(self.alloc, read.into_value())
+    }
+
+    /// The name goes, and the element becomes the copy.
+    fn settle(&mut self, key: UpdateKey, copy: KeyedText) -> Option<Reason>
+        requires inner { key.object < key.names }
+        requires guard { IsHeldAt (state_of self.old) key.object key.guard }
+        requires cursors { key.guard.kind ≡ GuardKind.Cursors }
+        requires known { IsKnown self.old key.at }
+        requires element { StandsAt (state_of self.old) key.object (plain_mark key.at) }
+        ensures ended { copy ≡ text_in (value_at (state_of self.old) key.names) →
+            UpdateEnds key (state_of self.old) (state_of self.new) result }
+        ensures persists { Persists self.old self.new }
+        ensures counts { counts_of (state_of self.new)
+            ≡ counts_of (releasing (guards_of_update_key key) (leaving key.names (state_of self.old))) }
+    {
+        let UpdateKey {
+            object,
+            names,
+            at,
+            guard,
+        } = key;
+        self.leave_scope(names);
+        self.end_update(object, at, guard, copy)
+    }
+
+    /// Ends an update of the element at the cursor in the object at the place.
+    fn end_update(
+        &mut self,
+        place: usize,
+        at: Cursor,
+        guard: GuardKey,
+        copy: KeyedText,
+    ) -> Option<Reason>
+        requires guard { IsHeldAt (state_of self.old) place guard }
+        requires cursors { guard.kind ≡ GuardKind.Cursors }
+        requires known { IsKnown self.old at }
+        requires element { StandsAt (state_of self.old) place (plain_mark at) }
+        ensures ended { (h : Held) → object_at (state_of self.old) place ≡ Some h → let w = key_ended h (plain_mark at) copy in
+            (result ≡ w.reason) × (state_of self.new ≡ with_bound (state_of self.old) place (binds_object w.after)) }
+        ensures persists { Persists self.old self.new }
+    {
+        match &mut self.bounds[place] {
+            Bound::Object(object) => object.end_update(at, guard, copy),
+            _ => unreachable!(),
+        }
+    }
+}
