@@ -42,7 +42,7 @@ less_number : (kind : GuardKind) (counts : GuardCounts) → (one_less kind count
 less_number guard.Cursors counts = refl
 less_number guard.Elements counts = refl
 
-own_number : (o : Object) → (counts_in o).number ≡ number_of (held_of o)
+pub own_number : (o : Object) → (counts_in o).number ≡ number_of (held_of o)
 own_number o = own_number_in (memory_of o)
 
 -- the object with one guard more, and with one less
@@ -64,11 +64,11 @@ more_held : (o : Object) (kind : GuardKind) →
 more_held o kind =
     ap held_in (memory_counted o (one_more (raised_kind (is_a_set (held_of o)) kind) (counts_in o))) ∙ more_in (memory_of o) kind
 
-less_held : (o : Object) (kind : GuardKind) → held_of (with_one_less o kind) ≡ with_rows_by (λ V p. release_call false kind p) (held_of o)
+pub less_held : (o : Object) (kind : GuardKind) → held_of (with_one_less o kind) ≡ with_rows_by (λ V p. release_call false kind p) (held_of o)
 less_held o kind = ap held_in (memory_counted o (one_less kind (counts_in o))) ∙ less_in (memory_of o) kind
 
 -- an object that isn't a set, with this number: on it a guard is of the kind that was asked for
-abbrev no_set : ℕ → Held
+abbrev pub no_set : ℕ → Held
 no_set number = of_rows (a_sequence of_list Integer) (empty_object false number Unbounded)
 
 own_guard : (o : Object) (g : HeldGuard) → g.object ≡ number_of (held_of o) → g ≡ guard_on (no_set (number_of (held_of o))) g.kind

@@ -15,6 +15,7 @@ pub mod MapOperations
 pub mod Worlds
 pub mod InScope
 pub mod Counted
+pub mod Updating
 pub mod Memory
 pub mod Given
 pub mod Found

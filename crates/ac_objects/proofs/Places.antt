@@ -63,7 +63,7 @@ module _ {A : Type 0} where
   set_same (z ∷ xs) zero x e = ap (λ y. y ∷ xs) (sym (same_some z x e))
   set_same (z ∷ xs) (suc i) x e = ap (λ ys. z ∷ ys) (set_same xs i x e)
 
-  set_twice : (xs : List A) (i : ℕ) (a b : A) → slice_set (slice_set xs i a) i b ≡ slice_set xs i b
+  pub set_twice : (xs : List A) (i : ℕ) (a b : A) → slice_set (slice_set xs i a) i b ≡ slice_set xs i b
   set_twice [] i a b = refl
   set_twice (x ∷ xs) zero a b = refl
   set_twice (x ∷ xs) (suc i) a b = ap (λ ys. x ∷ ys) (set_twice xs i a b)

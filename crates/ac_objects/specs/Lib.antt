@@ -19,5 +19,5 @@ pub mod Declarations
 pub mod Performs
 pub mod Blocks
 pub mod Called
-pub mod Updates
+pub mod KeyUpdates
 pub mod Steps

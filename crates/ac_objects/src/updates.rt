@@ -4,11 +4,12 @@ ghost use Rattle.ac_base.specs.declared.reason.Reason.{Reason as ReasonData};
 ghost use Rattle.ac_model.specs.Cursors.{plain_mark};
 ghost use Rattle.ac_meaning.specs.Elements.{text_in};
 ghost use Rattle.ac_meaning.specs.Holdings.{Held, element_value, key_update_reason};
-ghost use Rattle.ac_meaning.specs.Environment.{object_at, mark_at, value_at, value_or_zero, with_bound, with_name, leaving, binds_object, binds_value};
+ghost use Rattle.ac_meaning.specs.Environment.{object_at, mark_at, value_at, value_or_zero, objects_by, with_bound, with_name, leaving, binds_object, binds_value};
 ghost use Rattle.ac_meaning.specs.Execution.{head_reason, guards_of_view};
+ghost use Rattle.ac_meaning.specs.UnderGuards.{held_without};
 ghost use Rattle.ac_objects.specs.Blocks.{holding, releasing, guards_of_update_key, IsHeldAt};
 ghost use Rattle.ac_objects.specs.Standing.{IsObject, StandsAt, ElementsStand, counts_of};
-ghost use Rattle.ac_objects.specs.Updates.{UpdateEnds, key_ended};
+ghost use Rattle.ac_objects.specs.KeyUpdates.{UpdateEnds, key_ended};
 ghost use Rattle.ac_objects.specs.World.{state_of, IsKnown, Persists};
 
 use crate::blocks::UpdateKey;
@@ -162,8 +163,10 @@ impl Objects {
         requires known { IsKnown self.old at }
         requires element { StandsAt (state_of self.old) place (plain_mark at) }
         ensures ended { (h : Held) → object_at (state_of self.old) place ≡ Some h → let w = key_ended h (plain_mark at) copy in
-            (result ≡ w.reason) × (state_of self.new ≡ with_bound (state_of self.old) place (binds_object w.after)) }
+            (result ≡ w.reason)
+            × (state_of self.new ≡ with_bound (objects_by (held_without guard) (state_of self.old)) place (binds_object w.after)) }
         ensures persists { Persists self.old self.new }
+        ensures counts { counts_of (state_of self.new) ≡ counts_of (objects_by (held_without guard) (state_of self.old)) }
     {
         match &mut self.bounds[place] {
             Bound::Object(object) => object.end_update(at, guard, copy),

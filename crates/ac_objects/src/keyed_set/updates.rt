@@ -10,7 +10,7 @@ ghost use Rattle.ac_model.specs.Objects.{IsValid, plain};
 ghost use Rattle.ac_meaning.specs.Holdings.{element_value, key_update_reason, number_of};
 ghost use Rattle.ac_objects.specs.KeyedSets.{keyed_items, keyed_kind, keys_of};
 ghost use Rattle.ac_objects.specs.Standing.{counts_in_held};
-ghost use Rattle.ac_objects.specs.Updates.{key_ended};
+ghost use Rattle.ac_objects.specs.KeyUpdates.{key_ended};
 ghost use Rattle.ac_objects.specs.World.{held_of, ObjectAgrees};
 ghost use Rattle.ac_setwork.specs.KeyCalls.{DoesAlways, cursor_guard_of};
 

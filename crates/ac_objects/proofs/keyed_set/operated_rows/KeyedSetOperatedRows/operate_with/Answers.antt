@@ -12,8 +12,8 @@ use Rattle.ac_objects.proofs.KeyedOperations.{key_alone, not_by_key}
 use Rattle.ac_objects.proofs.Operations.{replied_beside, replied_with_by}
 use Rattle.ac_objects.proofs.keyed_set.operated_rows.KeyedSetOperatedRows.operate_with.Goals as goal
 
-pub operate_with-requires-like : goal.operate_with-requires-like
-operate_with-requires-like c = ap keyed_in c.requires.like
+pub operate_with-requires-clause-like : goal.operate_with-requires-clause-like
+operate_with-requires-clause-like c = ap keyed_in c.requires.like
 
 pub returns-in-Keyed-clause-replied : goal.returns-in-Keyed-clause-replied
 returns-in-Keyed-clause-replied c =
