@@ -6,6 +6,7 @@ use Rattle.std.proofs.lemmas.List.Elements.{All-set, All-take, All-push}
 use Rattle.std.proofs.lemmas.Option.{slice_get_past, slice_get-map, slice_get_within, get_or_from_slice_get, none-some, same_Some}
 use Rattle.ac_base.specs.declared.cursor.Cursor.{Cursor}
 use Rattle.ac_base.specs.declared.cursor.Cursor.TheVariants as cursor
+use Rattle.ac_base.specs.declared.value.Value.{Value}
 use Rattle.ac_model.specs.Letters.{Mark}
 use Rattle.ac_meaning.specs.Holdings.{Held, number_of}
 use Rattle.ac_meaning.specs.Environment as meant
@@ -227,6 +228,10 @@ named_object e b place h at =
 pub named_by : (f : Held → Held) (e : meant.State) (object : ℕ) (at : Mark) →
     meant.objects_by f (meant.with_name e (meant.binds_element object at)) ≡ meant.with_name (meant.objects_by f e) (meant.binds_element object at)
 named_by f e object at = ap (λ bs. record e { bounds = bs }) (map_push (meant.bound_by f) e.bounds (meant.binds_element object at))
+
+pub value_named : (f : Held → Held) (e : meant.State) (v : Value) →
+    meant.objects_by f (meant.with_name e (meant.binds_value v)) ≡ meant.with_name (meant.objects_by f e) (meant.binds_value v)
+value_named f e v = ap (λ bs. record e { bounds = bs }) (map_push (meant.bound_by f) e.bounds (meant.binds_value v))
 
 -- the counts of the objects below so many names
 

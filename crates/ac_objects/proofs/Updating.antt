@@ -1,12 +1,14 @@
 -- The end of an update of an element that keeps its key.
 use Rattle.std.proofs.Common.{◌≡◌, ◌==◌, ◌&&◌, ◌+◌, ◌-◌, ◌<◌, ◌≤◌, ◌++◌, ℕ, Bool, true, false, List, [], ◌∷◌, get_or, set, slice_get, slice_set, length, refl, sym, ap, subst, ◌∙◌, arith, eq-eqb, Option, Some, None, option_map, if◌then◌else◌}
+use Rattle.std.specs.Prelude.{Result, Ok, Err, IfOk}
 use Rattle.std.proofs.lemmas.Option.{same_Some}
+use Rattle.ac_base.specs.declared.fault.NoMemory.{NoMemory}
 use Rattle.ac_base.specs.declared.cursor.Cursor.{Cursor}
 use Rattle.ac_base.specs.declared.guard.GuardKind.TheVariants as guard
 use Rattle.ac_base.specs.declared.reason.Reason.{Reason}
 use Rattle.ac_base.specs.declared.reason.Reason.TheVariants.{NoElement}
 use Rattle.ac_base.specs.FirstReason.{first_reason, earlier}
-use Rattle.ac_base.specs.Guards.{HeldGuard, GuardCounts, count_of}
+use Rattle.ac_base.specs.Guards.{HeldGuard, count_of, raised_kind}
 use Rattle.ac_base.specs.declared.value.Value.{Value}
 use Rattle.ac_base.specs.Key.{key_of_text}
 use Rattle.ac_base.proofs.Earlier.{with_none_later}
@@ -20,6 +22,7 @@ use Rattle.ac_model.specs.Objects.{IsValid, plain}
 use Rattle.ac_model.specs.Objects as model
 use Rattle.ac_model.proofs.Reasons.{none_others}
 use Rattle.ac_model.proofs.Unslotted.{agreement_kept, seen_marks}
+use Rattle.ac_setwork.specs.KeyCalls.{cursor_guard_of}
 use Rattle.ac_meaning.specs.Elements.{Text, text_in, texts}
 use Rattle.ac_meaning.specs.KeyedReplies.{KeyedKind, order_by}
 use Rattle.ac_meaning.specs.Holdings.{RowKind, RowOf, Held, Guards, Written, of_rows, a_sequence, a_map, a_set, a_keyed_set, number_of, held_on, guarded, held_under, guard_on, with_rows_by, is_on, element_value, key_update_reason, key_updated}
@@ -60,9 +63,20 @@ update_reads (of_rows (a_map which k v) o) at e = absurd (cc)
 update_reads (of_rows (a_set which k) o) at e = absurd (cc)
 
 -- a keyed set that an object is
+
+keyed_memory : (o : Object) (s : KeyedTexts) → o ≡ KeyedSet s → memory_of o ≡ in_rows (a_keyed_set (keyed_kind s)) (keyed_items s)
+keyed_memory o s is = ap memory_of is ∙ keyed_set s
+
+pub keyed_own : (o : Object) (s : KeyedTexts) (g : HeldGuard) → o ≡ KeyedSet s → g ≡ cursor_guard_of (counts_in_held (held_of o)).number →
+    g ≡ cursor_guard_of (keyed_items s).object.number
+keyed_own o s g is own = own ∙ ap (λ m. cursor_guard_of (counts_in_held (held_in m)).number) (keyed_memory o s is)
+
+pub keyed_held : (o : Object) (s : KeyedTexts) → o ≡ KeyedSet s → 0 < (counts_in_held (held_of o)).cursor_guards → 0 < (keyed_items s).object.cursor_guards
+keyed_held o s is held = subst (λ m. 0 < (counts_in_held (held_in m)).cursor_guards) (keyed_memory o s is) held
+
 module _ (o : Object) (s : KeyedTexts) (at : Cursor) (is : o ≡ KeyedSet s) where
   memory : memory_of o ≡ in_rows (a_keyed_set (keyed_kind s)) (keyed_items s)
-  memory = ap memory_of is ∙ keyed_set s
+  memory = keyed_memory o s is
 
   module _ (agrees : ObjectAgrees o at) where
     own_agrees : Agrees (keyed_items s).object at
@@ -189,7 +203,7 @@ module _ (w : World) (bounds : List Place) (next place : ℕ) (x : Place) (o : O
     own : g.object ≡ number_of (held_of o)
     own = is_own bounds next place o there g held_here
 
-    pub end_own : g ≡ record { object = (counts_in_held (held_of o)).number; kind = guard.Cursors }
+    pub end_own : g ≡ cursor_guard_of (counts_in_held (held_of o)).number
     end_own = λ i. record { object = (own ∙ sym (own_number o)) i; kind = cursors i }
 
     pub end_held : 0 < (counts_in_held (held_of o)).cursor_guards
@@ -358,3 +372,42 @@ module _ (key : UpdateKey) (old new : State) (copy : Text) (result : Option Reas
       ∙ sym (counts_are_the_guards.rested guards (with_bound rest key.object (binds_object w.after))))) in
       subst (λ (x : Option Held). ((key_end_on line key.object rest at v x).lines ≡ end_lines line result) × (new ≡ under guards (key_end_on line key.object rest at v x).after))
       (sym found) (ap (end_lines line) (sym reason), state)
+
+-- what a name that goes leaves below it
+pub stands_left : (e now : State) (count place : ℕ) (m : Mark) → now ≡ leaving count e → place < count → StandsAt e place m → StandsAt now place m
+stands_left e now count place m is below s = subst (λ x. StandsAt x place m) (sym is) (record {
+  held = s.held;
+  there = left_object e count place below ∙ s.there;
+  stands = s.stands;
+})
+
+-- a copy that can be read
+pub can_copy : (w : World) (bs : List Place) (n i : ℕ) (at : Cursor) → world bs n ≡ w → IsKnown w at → StandsAt (state_of w) i (plain_mark at) → CanRead bs i at
+can_copy w bs n i at view known s =
+    let found = stands_in bs n i s.held (subst (λ v. object_at (state_of v) i ≡ Some s.held) (sym view) s.there) in
+    record {
+      held = found.object;
+      there = found.there;
+      agrees = known_agrees bs n i found.object at (subst (λ v. IsKnown v at) (sym view) known) found.there;
+      stands = subst (λ h. (element_value h (plain_mark at)).reason ≡ None) (sym found.is_held) s.stands;
+    }
+
+pub copied_there : (w : World) (bs : List Place) (n i : ℕ) (m : Mark) → world bs n ≡ w → (result : Result Value NoMemory) →
+    IfOk result (λ v. v ≡ value_in (state_of (world bs n)) (binds_element i m)) →
+    (h : Held) → object_at (state_of w) i ≡ Some h → IfOk result (λ v. v ≡ value_or_zero (element_value h m).answer)
+copied_there w bs n i m view (Ok v) e h at =
+    e ∙ ap (λ found. value_or_zero (element_in found m)) (ap (λ x. object_at (state_of x) i) view ∙ at)
+copied_there w bs n i m view (Err fault) e h at = tt
+
+pub element_copied : (result : Result Text NoMemory) (given meant : Value) → IfOk result (λ made. made ≡ text_in given) → given ≡ meant →
+    IfOk result (λ made. made ≡ text_in meant)
+element_copied (Ok made) given meant e is = e ∙ ap text_in is
+element_copied (Err fault) given meant e is = tt
+
+-- where nothing refuses the head the element stands there
+pub passed_stands : (e : State) (place : ℕ) (h : Held) (m : Mark) → object_at e place ≡ Some h → key_update_reason h m ≡ None → StandsAt e place m
+passed_stands e place h m there none = record { held = h; there = there; stands = update_reads h m none }
+
+pub raised_cursors : (is_set : Bool) → raised_kind is_set guard.Cursors ≡ guard.Cursors
+raised_cursors true = refl
+raised_cursors false = refl

@@ -26,8 +26,8 @@ impl Objects {
     pub fn enter_update(&mut self, object: usize, at: Option<usize>) -> Result<UpdateKey, Fault>
         requires object { IsObject (state_of self.old) object }
         ensures key { IfOk result (λ key. (key.object ≡ object) × (key.names ≡ length self.old.bounds)
-            × (key.guard.kind ≡ GuardKind.Cursors)
             × (plain_mark key.at ≡ mark_at (state_of self.old) at) × IsKnown self.new key.at) }
+        ensures guard { IfOk result (λ key. key.guard.kind ≡ GuardKind.Cursors) }
         ensures opened { (h : Held) → object_at (state_of self.old) object ≡ Some h → IfOk result (λ key.
             (head_reason ViewKind.UpdateKey h (mark_at (state_of self.old) at) ≡ None)
             × (guards_of_update_key key ≡ guards_of_view ViewKind.UpdateKey h)

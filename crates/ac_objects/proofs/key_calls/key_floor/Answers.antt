@@ -1,4 +1,4 @@
-use Rattle.std.proofs.Common.{rules, sym, subst}
+use Rattle.std.proofs.Common.{sym, subst}
 use Rattle.ac_check.specs.declared.operation.KeyedCall.TheVariants.{KeyFloor}
 use Rattle.ac_check.specs.declared.operation.Operation.TheVariants.{Keyed}
 use Rattle.ac_objects.specs.KeyCalls.{KeyedOperated}
@@ -8,5 +8,5 @@ use Rattle.ac_objects.proofs.key_calls.key_floor.Goals as goal
 
 pub returns-in-Ordered : goal.returns-in-Ordered
 returns-in-Ordered c =
-    let replied = told c.key_floor-in-Ordered.new.reply c.key_floor-in-Ordered.result in
-    subst (λ t. KeyedOperated (Keyed KeyFloor) c.args.args.now (of_set t) (of_set t) replied) (sym c.in-Ordered.is) c.key_floor-in-Ordered.ensures
+    let replied = told c.key_floor.new.reply c.key_floor.result in
+    subst (λ t. KeyedOperated (Keyed KeyFloor) c.args.args.now (of_set t) (of_set t) replied) (sym c.in-Ordered.is) c.key_floor.ensures

@@ -1,0 +1,21 @@
+use Rattle.std.proofs.Common.{refl, ap, ◌∙◌, Err}
+use Rattle.std.proofs.lemmas.Result.{err_from_is_err_and}
+use Rattle.ac_base.specs.Key.{key_of_text}
+use Rattle.ac_model.specs.Calls.{Done, Same}
+use Rattle.ac_model.specs.KeyedSets.{key_replace_call}
+use Rattle.ac_model.specs.Objects.{plain}
+use Rattle.ac_meaning.specs.Elements.{Text, text_in}
+use Rattle.ac_objects.specs.KeyedSets.{keyed_items, keys_of}
+use Rattle.ac_objects.proofs.Kept.{failed}
+use Rattle.ac_objects.proofs.key_calls.changes.key_replace.Goals as goal
+
+pub returns-in_err-key_replace-clause-replied : goal.returns-in_err-key_replace-clause-replied
+returns-in_err-key_replace-clause-replied c =
+    let s = c.args.set.now in
+    let old = keyed_items s in
+    let call = λ (p : Text × Text). key_replace_call key_of_text (keys_of s) (plain old.object) p.0 p.1 in
+    let key = c.in_ok-key.ensures ∙ ap text_in c.take_value.ensures in
+    let element = c.in_ok-element.ensures ∙ ap text_in c.take_value-2.ensures in
+    let left = c.from_residual-in_err-key_replace in let fault = err_from_is_err_and left.result left.ensures.1 in
+    failed (Same {A = Done}) call (c.in_ok-key.key, c.in_ok-element.element) _ _ old (keyed_items c.key_replace.new.self) _ c.args.reply.now left.result
+    (λ i. (key i, element i)) refl (fault.1 ∙ ap Err fault.2) c.in_err-key_replace.ensures.changed c.in_err-key_replace.ensures.slots

@@ -1,0 +1,12 @@
+use Rattle.std.proofs.Common.{sym, subst}
+use Rattle.ac_check.specs.declared.operation.KeyedCall.TheVariants.{KeyCeiling}
+use Rattle.ac_check.specs.declared.operation.Operation.TheVariants.{Keyed}
+use Rattle.ac_objects.specs.KeyCalls.{KeyedOperated}
+use Rattle.ac_objects.specs.Replied.{told}
+use Rattle.ac_objects.proofs.KeyedOperations.{of_set}
+use Rattle.ac_objects.proofs.key_calls.key_ceiling.Goals as goal
+
+pub returns-in-Ordered : goal.returns-in-Ordered
+returns-in-Ordered c =
+    let replied = told c.key_ceiling.new.reply c.key_ceiling.result in
+    subst (λ t. KeyedOperated (Keyed KeyCeiling) c.args.args.now (of_set t) (of_set t) replied) (sym c.in-Ordered.is) c.key_ceiling.ensures
