@@ -23,7 +23,7 @@ use Rattle.ac_objects.specs.KeyedSets.{keyed_items, keyed_kind}
 use Rattle.ac_objects.specs.Replied.{Replied}
 
 -- a call that both kinds have
-of_both : KeyedCall → Bool
+abbrev of_both : KeyedCall → Bool
 of_both keyed_call.KeyFloor = false
 of_both keyed_call.KeyCeiling = false
 of_both _ = true

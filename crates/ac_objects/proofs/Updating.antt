@@ -12,7 +12,7 @@ use Rattle.ac_base.specs.Guards.{HeldGuard, count_of, raised_kind}
 use Rattle.ac_base.specs.declared.value.Value.{Value}
 use Rattle.ac_base.specs.Key.{key_of_text}
 use Rattle.ac_base.proofs.Earlier.{with_none_later}
-use Rattle.ac_model.specs.Calls.{IsAfter}
+use Rattle.ac_model.specs.Calls.{Call, Done, IsAfter}
 use Rattle.ac_model.specs.Common.{release_call}
 use Rattle.ac_model.specs.Containers.{Container}
 use Rattle.ac_model.specs.Cursors.{Agrees, needs_cursor, mark, plain_mark, seen}
@@ -99,7 +99,7 @@ module _ (o : Object) (s : KeyedTexts) (at : Cursor) (is : o ≡ KeyedSet s) whe
 
     -- its end
     module _ (now : KeyedTexts) (copy : Text) (result : Option Reason) (kept : keyed_kind now ≡ keyed_kind s) where
-      abbrev the_call : model.Object ℕ Text → Mark → _
+      abbrev the_call : model.Object ℕ Text → Mark → Call (model.Object ℕ Text) Done
       the_call p m = end_update_key_call key_of_text (order_by texts (keyed_kind s)) p m copy
 
       memory_now : memory_of (KeyedSet now) ≡ in_rows (a_keyed_set (keyed_kind s)) (keyed_items now)
@@ -306,8 +306,8 @@ module _ (g : HeldGuard) (guards : Guards) (cursors : g.kind ≡ guard.Cursors) 
       ap (λ k. held_on (record { object = g.object; kind = k } ∷ guards) number guard.Elements) cursors ∙ no_more (g.object == number)
     where
       no_more : (b : Bool) → (if b && false then 1 else 0) + held_on guards number guard.Elements ≡ held_on guards number guard.Elements
-      no_more true = refl
-      no_more false = refl
+      no_more true = omega arith
+      no_more false = omega arith
 
   -- an object with these counts is as it is without the guard
   fits : {V : Type 0} (o : model.Object ℕ V) → o.cursor_guards ≡ held_on guards o.number guard.Cursors → o.element_guards ≡ held_on guards o.number guard.Elements →

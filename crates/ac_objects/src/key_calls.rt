@@ -1,5 +1,6 @@
 //! The calls of keyed sets by a key.
 ghost use Rattle.std.specs.Prelude.{◌≡◌};
+ghost use Rattle.ac_check.specs.declared.operation.Operation.TheVariants.{Keyed};
 ghost use Rattle.ac_objects.specs.KeyCalls.{KeyedOperated};
 ghost use Rattle.ac_objects.specs.KeyedSets.{keyed_kind};
 ghost use Rattle.ac_objects.specs.Replied.{told};
@@ -24,7 +25,7 @@ pub fn key_call(
     args: &mut Arguments,
     reply: &mut Reply,
 ) -> Result<(), Fault>
-    ensures replied { KeyedOperated (Operation.Keyed call) args.old set.old set.new (told reply.new result) }
+    ensures replied { KeyedOperated (Keyed call) args.old set.old set.new (told reply.new result) }
     ensures kind { keyed_kind set.new ≡ keyed_kind set.old }
 {
     match call {
@@ -46,7 +47,7 @@ fn key_floor(
     args: &mut Arguments,
     reply: &mut Reply,
 ) -> Result<(), Fault>
-    ensures { KeyedOperated (Operation.Keyed KeyedCall.KeyFloor) args.old set.now set.now (told reply.new result) }
+    ensures { KeyedOperated (Keyed KeyedCall.KeyFloor) args.old set.now set.now (told reply.new result) }
 {
     match &set.set {
         Set::Hashed(_) => {
@@ -63,7 +64,7 @@ fn key_ceiling(
     args: &mut Arguments,
     reply: &mut Reply,
 ) -> Result<(), Fault>
-    ensures { KeyedOperated (Operation.Keyed KeyedCall.KeyCeiling) args.old set.now set.now (told reply.new result) }
+    ensures { KeyedOperated (Keyed KeyedCall.KeyCeiling) args.old set.now set.now (told reply.new result) }
 {
     match &set.set {
         Set::Hashed(_) => {

@@ -2,6 +2,7 @@
 ghost use Rattle.std.specs.Prelude.{◌≡◌, ◌<◌, length, Some, None, IfOk, OnErr, Err};
 ghost use Rattle.ac_base.specs.declared.reason.Reason.{Reason as ReasonData};
 ghost use Rattle.ac_model.specs.Cursors.{plain_mark};
+ghost use Rattle.ac_syntax.specs.declared.view_kind.ViewKind.TheVariants as views;
 ghost use Rattle.ac_meaning.specs.Elements.{text_in};
 ghost use Rattle.ac_meaning.specs.Holdings.{Held, element_value, key_update_reason};
 ghost use Rattle.ac_meaning.specs.Environment.{object_at, mark_at, value_at, value_or_zero, objects_by, with_bound, with_name, leaving, binds_object, binds_value};
@@ -29,12 +30,12 @@ impl Objects {
             × (plain_mark key.at ≡ mark_at (state_of self.old) at) × IsKnown self.new key.at) }
         ensures guard { IfOk result (λ key. key.guard.kind ≡ GuardKind.Cursors) }
         ensures opened { (h : Held) → object_at (state_of self.old) object ≡ Some h → IfOk result (λ key.
-            (head_reason ViewKind.UpdateKey h (mark_at (state_of self.old) at) ≡ None)
-            × (guards_of_update_key key ≡ guards_of_view ViewKind.UpdateKey h)
-            × (state_of self.new ≡ with_name (holding (guards_of_view ViewKind.UpdateKey h) (state_of self.old))
+            (head_reason views.UpdateKey h (mark_at (state_of self.old) at) ≡ None)
+            × (guards_of_update_key key ≡ guards_of_view views.UpdateKey h)
+            × (state_of self.new ≡ with_name (holding (guards_of_view views.UpdateKey h) (state_of self.old))
             (binds_value (value_or_zero (element_value h (mark_at (state_of self.old) at)).answer)))) }
         ensures refused { (h : Held) (reason : ReasonData) → object_at (state_of self.old) object ≡ Some h →
-            result ≡ Err (Fault.Raised reason) → head_reason ViewKind.UpdateKey h (mark_at (state_of self.old) at) ≡ Some reason }
+            result ≡ Err (Fault.Raised reason) → head_reason views.UpdateKey h (mark_at (state_of self.old) at) ≡ Some reason }
         ensures persists { Persists self.old self.new }
         ensures fault { OnErr result (self.new ≡ self.old) }
     {
