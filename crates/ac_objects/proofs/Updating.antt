@@ -111,8 +111,8 @@ module _ (o : Object) (s : KeyedTexts) (at : Cursor) (is : o ≡ KeyedSet s) whe
         keyed_ended reason = (
           reason ∙ (ap (λ m. (the_call (plain (keyed_items s).object) m).reason) marks ∙ ap (λ m. (key_ended (held_in m) (plain_mark at) copy).reason) (sym memory)),
           ap held_in memory_now
-          ∙ (ap (of_rows (a_keyed_set (keyed_kind s))) (after.plainly ∙ ap (λ m. (the_call (plain (keyed_items s).object) m).after) marks)
-          ∙ ap (λ m. (key_ended (held_in m) (plain_mark at) copy).after) (sym memory)),
+              ∙ (ap (of_rows (a_keyed_set (keyed_kind s))) (after.plainly ∙ ap (λ m. (the_call (plain (keyed_items s).object) m).after) marks)
+              ∙ ap (λ m. (key_ended (held_in m) (plain_mark at) copy).after) (sym memory)),
         )
 
         pub keyed_number : number_of (held_of (KeyedSet now)) ≡ number_of (held_of o)
@@ -243,13 +243,12 @@ module _ (w : World) (bounds : List Place) (next place : ℕ) (x : Place) (o : O
             ≡ with_bound (objects_by (held_without g) (state_of w)) place (binds_object (key_ended h m copy).after))
         end_state h at =
             subst (λ y. (result ≡ (key_ended y m copy).reason) × (state_of (world (set bounds place (bound.Object now)) next)
-            ≡ with_bound (objects_by (held_without g) (state_of w)) place (binds_object (key_ended y m copy).after))) (seen_in h at)
-            (
+            ≡ with_bound (objects_by (held_without g) (state_of w)) place (binds_object (key_ended y m copy).after))) (seen_in h at) (
               ended.0,
               state
-              ∙ (ap (λ y. with_bound (state_of w) place (binds_object y)) ended.1
-              ∙ (sym (twice (state_of w) _ (binds_object (key_ended (held_of o) m copy).after))
-              ∙ ap (λ e. with_bound e place (binds_object (key_ended (held_of o) m copy).after)) (sym released))),
+                  ∙ (ap (λ y. with_bound (state_of w) place (binds_object y)) ended.1
+                  ∙ (sym (twice (state_of w) _ (binds_object (key_ended (held_of o) m copy).after))
+                  ∙ ap (λ e. with_bound e place (binds_object (key_ended (held_of o) m copy).after)) (sym released))),
             )
 
         pub end_counts : counts_of (state_of (world (set bounds place (bound.Object now)) next)) ≡ counts_of (objects_by (held_without g) (state_of w))

@@ -12,12 +12,7 @@ use ac_check::KeyedCall;
 use ac_ordered::OrderedSet;
 use std::alloc::Global;
 
-pub fn key(
-    set: &KeyedSet,
-    alloc: Global,
-    args: &Arguments,
-    reply: &mut Reply,
-) -> Result<(), Fault>
+pub fn key(set: &KeyedSet, alloc: Global, args: &Arguments, reply: &mut Reply) -> Result<(), Fault>
     ensures { KeyReplied KeyedCall.Key args.now set.now set.now (told reply.new result) }
 {
     let key = set.key(args.first.cursor())?;

@@ -32,7 +32,11 @@ pub fn key_contains<T: KeyOf>(set: &OrderedSet<T>, key: &T::Key) -> bool
     key_contains_counted::<T, Brand>(set, key, Blank::new(1))
 }
 
-fn key_contains_counted<T: KeyOf, L: Ledger>(set: &OrderedSet<T>, key: &T::Key, blank: Blank) -> bool
+fn key_contains_counted<T: KeyOf, L: Ledger>(
+    set: &OrderedSet<T>,
+    key: &T::Key,
+    blank: Blank,
+) -> bool
     requires name { blank.name ≡ L.name }
     requires parts { blank.parts ≡ L.parts }
     requires some { 0 < blank.parts }
@@ -62,7 +66,11 @@ pub fn key_ceiling<T: KeyOf>(set: &OrderedSet<T>, key: &T::Key) -> Cursor
     key_ceiling_counted::<T, Brand>(set, key, Blank::new(1))
 }
 
-fn key_ceiling_counted<T: KeyOf, L: Ledger>(set: &OrderedSet<T>, key: &T::Key, blank: Blank) -> Cursor
+fn key_ceiling_counted<T: KeyOf, L: Ledger>(
+    set: &OrderedSet<T>,
+    key: &T::Key,
+    blank: Blank,
+) -> Cursor
     requires name { blank.name ≡ L.name }
     requires parts { blank.parts ≡ L.parts }
     requires some { 0 < blank.parts }

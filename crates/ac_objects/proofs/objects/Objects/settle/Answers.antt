@@ -28,10 +28,10 @@ returns-clause-ended c copied =
     let left = c.leave_scope.ensures.left in
     update_ends key (state_of c.args.self.now) (state_of c.end_update.new.self) c.args.copy c.end_update.result c.requires.guard c.requires.cursors c.requires.inner copied
     (λ h there.
-      let end = c.end_update.ensures.ended h (ap (λ e. object_at e key.object) left ∙ there) in (
-        end.0,
-        end.1 ∙ ap (λ e. with_bound (objects_by (held_without key.guard) e) key.object (binds_object (key_ended h (plain_mark key.at) c.args.copy).after)) left,
-      ))
+    let end = c.end_update.ensures.ended h (ap (λ e. object_at e key.object) left ∙ there) in (
+      end.0,
+      end.1 ∙ ap (λ e. with_bound (objects_by (held_without key.guard) e) key.object (binds_object (key_ended h (plain_mark key.at) c.args.copy).after)) left,
+    ))
 
 pub returns-clause-persists : goal.returns-clause-persists
 returns-clause-persists c k known = c.end_update.ensures.persists k (c.leave_scope.ensures.persists k known)
