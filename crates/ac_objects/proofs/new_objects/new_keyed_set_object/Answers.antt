@@ -7,8 +7,8 @@ use Rattle.ac_objects.proofs.Families.{keyed_set}
 use Rattle.ac_objects.proofs.NewObjects.{of_type}
 use Rattle.ac_objects.proofs.new_objects.new_keyed_set_object.Goals as goal
 
-pub returns-in_ok-set : goal.returns-in_ok-set
-returns-in_ok-set c =
+pub returns : goal.returns
+returns c =
     let made = c.in_ok-set in
     let def = c.args.def.now in
     ap held_in (keyed_set (record { set = made.set })) ∙
