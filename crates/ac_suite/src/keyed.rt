@@ -60,7 +60,7 @@ A.Element (C);
 13: [20, 30]
 14: 30
 ====
-type S is hashed_set (string) keyed;
+type S is hashed_set (integer) keyed;
 ==> 1
 line 1: wrong type
 "#;
@@ -452,7 +452,7 @@ type S is ordered_set (integer, integer);
 ==> 1
 line 1: wrong type
 ====
-type S is ordered_set (string) keyed;
+type S is ordered_set (integer) keyed;
 ==> 1
 line 1: wrong type
 ====

@@ -5,6 +5,8 @@
 #[cfg(test)]
 mod keyed;
 #[cfg(test)]
+mod keyed_sets;
+#[cfg(test)]
 mod long;
 #[cfg(test)]
 mod maps;
