@@ -227,25 +227,26 @@ mark_under guards e (Some place) = ap mark_in (bound_under (held_under guards) e
     go (binds_value v) = refl
     go (binds_element object at) = refl
 
-viewed_comes : (body : Guards → State → Outcome) (guards : Guards) (e : State) (line object : ℕ) (kind : ViewKind) (at : Mark) (h : Held) → head_reason kind h at ≡ None →
+viewed_comes : (body : Guards → State → Outcome) (guards : Guards) (e : State) (line object : ℕ) (kind : ViewKind) (at : Mark) (h : Held) → (kind ≡ UpdateKey → ⊥) →
     viewed body guards line kind object at h e ≡ inside (length e.bounds) (body (guards_of_view kind h ++ guards) (with_name e (binds_element object at)))
-viewed_comes body guards e line object Query at h none = refl
-viewed_comes body guards e line object Update at h none = refl
-viewed_comes body guards e line object Reference at h none = refl
-viewed_comes body guards e line object UpdateKey at h none = absurd (none-some NoElement (sym none))
+viewed_comes body guards e line object Query at h other = refl
+viewed_comes body guards e line object Update at h other = refl
+viewed_comes body guards e line object Reference at h other = refl
+viewed_comes body guards e line object UpdateKey at h other = absurd (other refl)
 
-view_on_comes : (body : Guards → State → Outcome) (guards : Guards) (e : State) (line object : ℕ) (kind : ViewKind) (at : Mark) (h : Held) → head_reason kind h at ≡ None →
+view_on_comes : (body : Guards → State → Outcome) (guards : Guards) (e : State) (line object : ℕ) (kind : ViewKind) (at : Mark) (h : Held) → (kind ≡ UpdateKey → ⊥) →
+    head_reason kind h at ≡ None →
     view_on body guards line kind object at h e ≡ inside (length e.bounds) (body (guards_of_view kind h ++ guards) (with_name e (binds_element object at)))
-view_on_comes body guards e line object kind at h none = rw (none, view_on) (viewed_comes body guards e line object kind at h none)
+view_on_comes body guards e line object kind at h other none = rw (none, view_on) (viewed_comes body guards e line object kind at h other)
 
 pub view_comes : (code : ResolvedCode) (guards more : Guards) (e : State) (line object count : ℕ) (kind : ViewKind) (at : Option ℕ) (mark : Mark) (h : Held) →
-    object_at (under guards e) object ≡ Some h → more ≡ guards_of_view kind h → count ≡ length e.bounds → mark ≡ mark_at e at → head_reason kind h mark ≡ None →
+    (kind ≡ UpdateKey → ⊥) → object_at (under guards e) object ≡ Some h → more ≡ guards_of_view kind h → count ≡ length e.bounds → mark ≡ mark_at e at → head_reason kind h mark ≡ None →
     inside count (exec_resolved code (more ++ guards) (with_name e (binds_element object mark)))
     ≡ on_object (exec_resolved code) guards (views_at line kind object at) (object_at (under guards e) object) e
-view_comes code guards more e line object count kind at mark h there is many mark_is none =
+view_comes code guards more e line object count kind at mark h other there is many mark_is none =
     ap (λ m. inside count (exec_resolved code (m ++ guards) (with_name e (binds_element object mark)))) is
     ∙ (ap (λ n. inside n (exec_resolved code (guards_of_view kind h ++ guards) (with_name e (binds_element object mark)))) many
-    ∙ (sym (view_on_comes (exec_resolved code) guards e line object kind mark h none)
+    ∙ (sym (view_on_comes (exec_resolved code) guards e line object kind mark h other none)
     ∙ (ap (λ m. view_on (exec_resolved code) guards line kind object m h e) mark_is
     ∙ ap (λ o. on_object (exec_resolved code) guards (views_at line kind object at) o e) (sym there))))
 

@@ -6,5 +6,6 @@ mod Turns
 mod Opening
 mod Commands
 mod Blocks
+mod Updating
 mod Scripts
 mod OneLine

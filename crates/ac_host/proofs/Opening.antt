@@ -10,17 +10,19 @@ use Rattle.ac_base.specs.Rows.{Row, names}
 use Rattle.ac_base.specs.declared.guard.GuardKind.{GuardKind}
 use Rattle.ac_base.specs.declared.guard.GuardKind.TheVariants as guard
 use Rattle.ac_base.specs.declared.reason.Reason.{Reason}
+use Rattle.ac_base.specs.declared.value.Value.{Value}
 use Rattle.ac_base.specs.declared.reason.Reason.TheVariants.{ForeignCursor, DeadCursor, NoElement}
 use Rattle.ac_model.specs.Objects.{Object}
 use Rattle.ac_model.specs.Rows.{is_named}
-use Rattle.ac_model.specs.Letters.{Mark, no_mark, mark_at as mark_of_name, stale_mark, needs, judged_in, reason_if}
+use Rattle.ac_model.specs.Letters.{Mark, no_mark, mark_at as mark_of_name, stale_mark, needs, judged_in, reason_if, tampers_cursors}
 use Rattle.ac_model.specs.Cursors.{seen}
+use Rattle.ac_model.proofs.Reasons.{none_others}
 use Rattle.ac_syntax.specs.declared.view_kind.ViewKind.{ViewKind}
 use Rattle.ac_syntax.specs.declared.view_kind.ViewKind.TheVariants.{Query, Update, Reference, UpdateKey}
 use Rattle.ac_check.specs.Resolved.{loops_at, views_at, stables_at, declares_at}
 use Rattle.ac_check.specs.declared.resolved.ResolvedDecl.{ResolvedDecl}
 use Rattle.ac_check.specs.declared.resolved.ResolvedDecl.TheVariants as decl
-use Rattle.ac_meaning.specs.Holdings.{Held, of_rows, Guards, number_of, names_of, held_under, guard_on, element_value}
+use Rattle.ac_meaning.specs.Holdings.{a_sequence, a_map, a_set, a_keyed_set, Held, of_rows, Guards, number_of, names_of, held_under, guard_on, element_value}
 use Rattle.ac_meaning.specs.Environment.{Bound, binds_type, binds_object, binds_cursor, binds_value, binds_element, bound_by, bound_in, object_in, mark_in, State, under, bound_at, object_at, mark_at, with_name, leaving, number_taken, Declared, unless_spent, after_decl, after_decls}
 use Rattle.ac_meaning.specs.Answers.{answers_raised}
 use Rattle.ac_meaning.specs.Execution.{Outcome, outcome, one_line, guards_of_loop, guards_of_stable, guards_of_view, head_reason, in_order, turns, view_on, viewed, on_object, block_on}
@@ -35,7 +37,7 @@ use Rattle.ac_objects.specs.World.{World, state_of}
 use Rattle.ac_host.specs.Ready.{IsKept, Ready, IsUnder}
 use Rattle.ac_host.specs.Running.{inside, Turning}
 use Rattle.ac_host.proofs.Holding.{holding_under, object_by_there}
-use Rattle.ac_host.proofs.Standing.{Among, kept_at, object_framed, below_held, ready_more, ready_named, number_under, names_under}
+use Rattle.ac_host.proofs.Standing.{Among, kept_at, object_framed, below_held, kept_named, kept_longer, ready_more, ready_named, number_under, names_under}
 
 -- A cursor that designates an element
 
@@ -84,11 +86,19 @@ designated : (h : Held) (at : Mark) → (element_value h at).reason ≡ None →
 designated (of_rows kind o) at none =
     let r = designated_in o at (sym (element_needs kind o (seen o at)) ∙ none) in record { name = r.0; among = r.1; is = r.2 }
 
+updates_designate : (h : Held) (at : Mark) → head_reason UpdateKey h at ≡ None → Designates h at
+updates_designate (of_rows (a_keyed_set which) o) at none =
+    let r = designated_in o at (none_others (tampers_cursors o) (needs o (seen o at) ∷ []) none) in
+    record { name = r.0; among = r.1; is = r.2 }
+updates_designate (of_rows (a_sequence which e) o) at none = absurd (none-some NoElement (sym none))
+updates_designate (of_rows (a_map which k e) o) at none = absurd (none-some NoElement (sym none))
+updates_designate (of_rows (a_set which e) o) at none = absurd (none-some NoElement (sym none))
+
 viewed_designates : (kind : ViewKind) (h : Held) (at : Mark) → head_reason kind h at ≡ None → Designates h at
 viewed_designates Query h at none = designated h at none
 viewed_designates Update h at none = designated h at none
 viewed_designates Reference h at none = designated h at none
-viewed_designates UpdateKey h at none = absurd (none-some NoElement (sym none))
+viewed_designates UpdateKey h at none = updates_designate h at none
 
 -- Objects that are found while guards are held
 
@@ -143,22 +153,30 @@ module _ (w : World) (guards : Guards) (e : State) (u : IsUnder w guards e) (pla
     ready = ready_more (guards_of_stable h) guards e (below_one guard.Elements guards u.ready.below) u.ready;
   }
 
+  own_element : (kind : ViewKind) (at : Mark) → head_reason kind h at ≡ None →
+      IsKept (guards_of_view kind h ++ guards) (kept (guards_of_view kind h ++ guards) e) place at
+  own_element kind at none =
+      let held = guards_of_view kind h ++ guards in
+      let d = viewed_designates kind h at none in
+      let guarded = blocks_guard.views kind h guards in
+      subst (IsKept held (kept held e) place) (sym d.is)
+      (kept_at held (kept held e) place (number_of h) (names_of h) d.name (object_there_kept guards held e place h found guarded) guarded d.among)
+
+  named_more : (more : Guards) (b : Bound) (now : World) → b ≡ bound_by (held_under (more ++ guards)) b →
+      state_of now ≡ with_name (holding more (state_of w)) b → state_of now ≡ under (more ++ guards) (with_name e b)
+  named_more more b now same is =
+      is
+      ∙ (ap (λ s. with_name s b) (ap (holding more) u.is ∙ holding_under more guards e)
+      ∙ (ap (with_name (under (more ++ guards) e)) same ∙ sym (parts_under.named (more ++ guards) e b)))
+
   pub view_begins : (kind : ViewKind) (at : Mark) (now : World) → head_reason kind h at ≡ None →
       state_of now ≡ with_name (holding (guards_of_view kind h) (state_of w)) (binds_element place at) →
       IsUnder now (guards_of_view kind h ++ guards) (with_name e (binds_element place at))
   view_begins kind at now none is =
       let more = guards_of_view kind h in
-      let d = viewed_designates kind h at none in
-      let guarded = blocks_guard.views kind h guards in
-      let own : IsKept (more ++ guards) (kept (more ++ guards) e) place at =
-      subst (IsKept (more ++ guards) (kept (more ++ guards) e) place) (sym d.is)
-      (kept_at (more ++ guards) (kept (more ++ guards) e) place (number_of h) (names_of h) d.name
-      (object_there_kept guards (more ++ guards) e place h found guarded) guarded d.among) in
+      let own = own_element kind at none in
       record {
-        is =
-            is
-            ∙ (ap (λ s. with_name s (binds_element place at)) (ap (holding more) u.is ∙ holding_under more guards e)
-            ∙ sym (parts_under.named (more ++ guards) e (binds_element place at)));
+        is = named_more more (binds_element place at) now refl is;
         ready =
             ready_named (more ++ guards) e (binds_element place at) refl
             (λ object mark f.
@@ -168,6 +186,27 @@ module _ (w : World) (guards : Guards) (e : State) (u : IsUnder w guards e) (pla
             (subst (λ x. IsKept (more ++ guards) (kept (more ++ guards) e) place x) m own))
             (ready_more more guards e (below_view kind) u.ready);
       }
+
+  -- an update of a key, whose name holds a copy
+  pub update_begins : (copy : Value) (now : World) →
+      state_of now ≡ with_name (holding (guards_of_view UpdateKey h) (state_of w)) (binds_value copy) →
+      IsUnder now (guards_of_view UpdateKey h ++ guards) (with_name e (binds_value copy))
+  update_begins copy now is =
+      let more = guards_of_view UpdateKey h in
+      record {
+        is = named_more more (binds_value copy) now refl is;
+        ready =
+            ready_named (more ++ guards) e (binds_value copy) refl (λ object mark f. absurd (cc))
+            (ready_more more guards e (below_view UpdateKey) u.ready);
+      }
+
+  pub update_element : (at : Mark) (copy : Value) → head_reason UpdateKey h at ≡ None →
+      let held = guards_of_view UpdateKey h ++ guards in IsKept held (kept held (with_name e (binds_value copy))) place at
+  update_element at copy none =
+      let held = guards_of_view UpdateKey h ++ guards in
+      let b = binds_value copy in
+      subst (λ l. IsKept held l place at) (sym (kept_named held e b))
+      (kept_longer held (kept held e) (frame held b ∷ []) place at (own_element UpdateKey at none))
 
   pub loop_begins : (elements backward : Bool) (coming : Mark) (now : World) (count : ℕ) → count ≡ length (state_of w).bounds →
       coming ≡ first_mark (number_of h) (in_order backward (names_of h)) → state_of now ≡ holding (guards_of_loop elements h) (state_of w) →

@@ -169,7 +169,7 @@ element_by f (binds_cursor mark) object at is = absurd (cc)
 element_by f (binds_value v) object at is = absurd (cc)
 
 -- so an element that is kept stands, while the guards are held
-kept_stands : (guards : Guards) (e : State) (object : ℕ) (at : Mark) → IsKept guards (kept guards e) object at → ElementStands (under guards e) object at
+pub kept_stands : (guards : Guards) (e : State) (object : ℕ) (at : Mark) → IsKept guards (kept guards e) object at → ElementStands (under guards e) object at
 kept_stands guards e object at k =
     let o = kept_object guards e object k.number k.names k.there in
     let h = held_under guards o.held in
@@ -275,7 +275,7 @@ last_or_before [] y (suc place) x e = absurd (none-some x e)
 last_or_before (z ∷ xs) y zero x e = inl e
 last_or_before (z ∷ xs) y (suc place) x e = last_or_before xs y place x e
 
-kept_longer : (guards : Guards) (frames more : List Frame) (object : ℕ) (at : Mark) → IsKept guards frames object at → IsKept guards (frames ++ more) object at
+pub kept_longer : (guards : Guards) (frames more : List Frame) (object : ℕ) (at : Mark) → IsKept guards frames object at → IsKept guards (frames ++ more) object at
 kept_longer guards frames more object at k = record {
   number = k.number;
   names = k.names;

@@ -1,18 +1,22 @@
 -- What a statement comes to, and where the turns of a loop stand.
-use Rattle.std.specs.Prelude.{◌≡◌, ℕ, Bool, true, List, ◌++◌, length, slice_get, Option, Some, Result}
+use Rattle.std.specs.Prelude.{◌≡◌, ◌<◌, ℕ, Bool, true, List, ◌++◌, length, slice_get, Option, Some, Result}
+use Rattle.ac_base.specs.declared.guard.GuardKind.TheVariants as guard
+use Rattle.ac_model.specs.Cursors.{plain_mark}
 use Rattle.ac_model.specs.Letters.{Mark}
 use Rattle.ac_check.specs.Resolved.{calls_at, sets_at, sums_at, loops_at, views_at, stables_at, declares_at}
 use Rattle.ac_check.specs.declared.resolved.ResolvedStmt.{ResolvedStmt}
 use Rattle.ac_check.specs.declared.resolved.ResolvedStmt.TheVariants.{Call, Set, Sum, Loop, View, Stable, Declare}
 use Rattle.ac_meaning.specs.Holdings.{Held, Guards, number_of, names_of}
-use Rattle.ac_meaning.specs.Environment.{State, under, leaving}
-use Rattle.ac_meaning.specs.Execution.{Outcome, outcome, turns, commanded, block_on, exec_resolved, in_order, guards_of_loop}
+use Rattle.ac_meaning.specs.Environment.{State, under, value_at, leaving}
+use Rattle.ac_meaning.specs.Execution.{Outcome, outcome, turns, commanded, block_on, exec_resolved, in_order, guards_of_loop, key_end}
 use Rattle.ac_meaning.specs.GuardedNames.{is_guarded, of_object, kept}
 use Rattle.ac_meaning.specs.Walks.{first_mark}
+use Rattle.ac_objects.specs.declared.blocks.UpdateKey.{UpdateKey}
+use Rattle.ac_objects.specs.Blocks.{guards_of_update_key, IsHeldAt}
 use Rattle.ac_objects.specs.Standing.{counts_of}
-use Rattle.ac_objects.specs.World.{World, state_of, Persists}
+use Rattle.ac_objects.specs.World.{World, state_of, IsKnown, Persists}
 use Rattle.ac_host.specs.declared.end.HostEnd.{HostEnd}
-use Rattle.ac_host.specs.Ready.{Ready, IsUnder}
+use Rattle.ac_host.specs.Ready.{IsKept, Ready, IsUnder}
 use Rattle.ac_host.specs.Writing.{Ran, WroteSoFar}
 
 -- one statement, without what follows it
@@ -28,6 +32,11 @@ statement_outcome (Declare line decls body) guards e = block_on (exec_resolved b
 -- with no more than so many names left behind it
 abbrev pub inside : ℕ → Outcome → Outcome
 inside count r = outcome r.lines (leaving count r.after)
+
+-- what an update of a key comes to behind its body, which has left this environment
+abbrev pub key_ending : ℕ → UpdateKey → Guards → State → Outcome
+key_ending line key guards e =
+    key_end line key.object (plain_mark key.at) (value_at e key.names) (guards_of_update_key key ++ guards) (leaving key.names e)
 
 -- what runs on the objects comes to this, for whatever environment they are
 abbrev pub Runs : {K T : Type 0} → (K → Option (List ℕ)) → (K → ℕ) → (K → Option ℕ) → (K → Bool) → (sink_old sink_new : K) → (old new : World) →
@@ -59,6 +68,17 @@ pub record IsTurning (elements : Bool) (w : World) (count object : ℕ) (backwar
   pub env : State
   pub names : List ℕ
   pub turning : Turning w count object backward coming (guards_of_loop elements held ++ guards) env (number_of held) (names_of held) names
+
+-- an update of a key goes on: its guard is held, among others in such an environment, and its cursor designates an element of its object
+pub record IsUpdating (w : World) (key : UpdateKey) : Type 0 where
+  pub guards : Guards
+  pub env : State
+  pub stands : IsUnder w (guards_of_update_key key ++ guards) env
+  pub element : IsKept (guards_of_update_key key ++ guards) (kept (guards_of_update_key key ++ guards) env) key.object (plain_mark key.at)
+  pub known : IsKnown w key.at
+  pub inner : key.object < key.names
+  pub guard : IsHeldAt (state_of w) key.object key.guard
+  pub cursors : key.guard.kind ≡ guard.Cursors
 
 -- in the middle of a whole: what is left of it, of the environment that stands
 

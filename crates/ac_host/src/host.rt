@@ -1,5 +1,5 @@
 //! The host: it runs statements in order, and writes the line of each command as soon as it has run.
-ghost use Rattle.std.specs.Prelude.{◌≡◌, ◌<◌, ◌++◌, [], ◌∷◌, ℕ, List, take, Some};
+ghost use Rattle.std.specs.Prelude.{◌≡◌, ◌<◌, ◌++◌, [], ◌∷◌, ⊥, ℕ, List, take, Some};
 ghost use Rattle.ac_base.specs.declared.reason.Reason.TheVariants.{NamesSpent};
 ghost use Rattle.ac_base.specs.declared.fault.Fault.TheVariants as fault;
 ghost use Rattle.ac_model.specs.Cursors.{plain_mark};
@@ -7,12 +7,12 @@ ghost use Rattle.ac_check.specs.Resolved.{calls_at, sets_at, sums_at, loops_at, 
 ghost use Rattle.ac_meaning.specs.Answers.{line as line_of, lines_text, answers_raised};
 ghost use Rattle.ac_meaning.specs.Holdings.{Held, Guards, number_of, names_of};
 ghost use Rattle.ac_meaning.specs.Environment.{State, leaving};
-ghost use Rattle.ac_meaning.specs.Execution.{commanded, block_on, exec_resolved, turns, guards_of_loop};
-ghost use Rattle.ac_objects.specs.Blocks.{releasing, guards_of_loop_key, guards_of_view_key, IsHeldAt};
-ghost use Rattle.ac_objects.specs.Standing.{counts_of};
+ghost use Rattle.ac_meaning.specs.Execution.{commanded, block_on, exec_resolved, followed, turns, guards_of_loop};
+ghost use Rattle.ac_objects.specs.Blocks.{releasing, guards_of_loop_key, guards_of_update_key, guards_of_view_key, IsHeldAt};
+ghost use Rattle.ac_objects.specs.Standing.{IsObject, counts_of};
 ghost use Rattle.ac_objects.specs.World.{state_of, IsKnown, Persists};
 ghost use Rattle.ac_host.specs.Ready.{IsReady, IsUnder};
-ghost use Rattle.ac_host.specs.Running.{statement_outcome, inside, Runs, Leaves, Turning, IsTurning};
+ghost use Rattle.ac_host.specs.Running.{statement_outcome, inside, key_ending, Runs, Leaves, Turning, IsTurning, IsUpdating};
 ghost use Rattle.ac_host.specs.Writing.{Ran};
 
 use crate::end::HostEnd;
@@ -20,7 +20,7 @@ use crate::written::{write_line, write_refusal};
 use ac_base::{Fault, Reason};
 use ac_check::{Operation, ResolvedArg, ResolvedDecl, ResolvedStmt, ResolvedStmts};
 use ac_io::Sink;
-use ac_objects::{DeclareFault, LoopKey, Objects, ViewKey};
+use ac_objects::{DeclareFault, LoopKey, Objects, UpdateKey, ViewKey};
 use ac_syntax::ViewKind;
 
 /// A script that runs: what its names hold, and the line that is made next.
@@ -161,6 +161,31 @@ impl Host {
         ended
     }
 
+    /// Runs a view of an element itself.
+    #[cycle(statements)]
+    fn run_element_view<K: Sink>(
+        &mut self,
+        line: u64,
+        kind: ViewKind,
+        object: usize,
+        at: Option<usize>,
+        body: &ResolvedStmts,
+        sink: &mut K,
+    ) -> Result<(), HostEnd>
+        requires ready { IsReady self.old.objects }
+        requires view { kind ≡ ViewKind.UpdateKey → ⊥ }
+        requires object { IsObject (state_of self.old.objects) object }
+        ensures runs { Runs K.held K.faults K.room K.counts_failures sink.old sink.new self.old.objects self.new.objects
+            (λ guards e. block_on (exec_resolved body.now) guards e (views_at line kind object at)) result }
+        ensures leaves { Leaves self.old.objects self.new.objects }
+    {
+        match self.objects.enter_view(kind, object, at) {
+            Ok(key) => self.run_viewed(key, body, sink),
+            Err(Fault::Raised(reason)) => write_refusal(line, reason, &mut self.text, sink),
+            Err(Fault::NoMemory) => Err(HostEnd::NoMemory),
+        }
+    }
+
     #[cycle(statements)]
     fn run_view<K: Sink>(
         &mut self,
@@ -179,8 +204,75 @@ impl Host {
         if !self.objects.is_object(object) {
             return Ok(());
         }
-        match self.objects.enter_view(kind, object, at) {
-            Ok(key) => self.run_viewed(key, body, sink),
+        match kind {
+            ViewKind::UpdateKey => self.run_update(line, object, at, body, sink),
+            _ => self.run_element_view(line, kind, object, at, body, sink),
+        }
+    }
+
+    /// Ends an update of a key whose body ended. Where the copy has another key, a line of the block says so.
+    fn end_update<K: Sink>(
+        &mut self,
+        line: u64,
+        key: UpdateKey,
+        sink: &mut K,
+    ) -> Result<(), HostEnd>
+        requires updating { IsUpdating self.old.objects key }
+        ensures runs { (guards : Guards) (e : State) → IsUnder self.old.objects (guards_of_update_key key ++ guards) e →
+            Ran K.held K.faults K.room K.counts_failures sink.old sink.new self.new.objects guards (key_ending line key guards e) result }
+        ensures persists { Persists self.old.objects self.new.objects }
+        ensures counts { counts_of (state_of self.new.objects)
+            ≡ counts_of (releasing (guards_of_update_key key) (leaving key.names (state_of self.old.objects))) }
+    {
+        match self.objects.leave_update(key)? {
+            Some(reason) => write_refusal(line, reason, &mut self.text, sink),
+            None => Ok(()),
+        }
+    }
+
+    /// Runs the body of an update of a key that was begun, and ends it.
+    #[cycle(statements)]
+    fn run_updated<K: Sink>(
+        &mut self,
+        line: u64,
+        key: UpdateKey,
+        body: &ResolvedStmts,
+        sink: &mut K,
+    ) -> Result<(), HostEnd>
+        requires updating { IsUpdating self.old.objects key }
+        ensures runs { (guards : Guards) (e : State) → IsUnder self.old.objects (guards_of_update_key key ++ guards) e →
+            Ran K.held K.faults K.room K.counts_failures sink.old sink.new self.new.objects guards
+            (followed (exec_resolved body.now (guards_of_update_key key ++ guards) e) (key_ending line key guards)) result }
+        ensures persists { Persists self.old.objects self.new.objects }
+        ensures counts { counts_of (state_of self.new.objects)
+            ≡ counts_of (releasing (guards_of_update_key key) (leaving key.names (state_of self.old.objects))) }
+    {
+        match self.run_statements(body, sink) {
+            Ok(()) => self.end_update(line, key, sink),
+            Err(end) => {
+                self.objects.abandon_update(key);
+                Err(end)
+            }
+        }
+    }
+
+    #[cycle(statements)]
+    fn run_update<K: Sink>(
+        &mut self,
+        line: u64,
+        object: usize,
+        at: Option<usize>,
+        body: &ResolvedStmts,
+        sink: &mut K,
+    ) -> Result<(), HostEnd>
+        requires ready { IsReady self.old.objects }
+        requires object { IsObject (state_of self.old.objects) object }
+        ensures runs { Runs K.held K.faults K.room K.counts_failures sink.old sink.new self.old.objects self.new.objects
+            (λ guards e. block_on (exec_resolved body.now) guards e (views_at line ViewKind.UpdateKey object at)) result }
+        ensures leaves { Leaves self.old.objects self.new.objects }
+    {
+        match self.objects.enter_update(object, at) {
+            Ok(key) => self.run_updated(line, key, body, sink),
             Err(Fault::Raised(reason)) => write_refusal(line, reason, &mut self.text, sink),
             Err(Fault::NoMemory) => Err(HostEnd::NoMemory),
         }

@@ -3,25 +3,28 @@ use Rattle.ac_check.specs.Resolved.{resolved_size, no_statement}
 use Rattle.ac_check.specs.ResolvedStatements.{resolved_before, resolved_of}
 use Rattle.ac_check.specs.declared.resolved.ResolvedStmt.{ResolvedStmt}
 use Rattle.ac_meaning.specs.Holdings.{number_of, names_of}
-use Rattle.ac_meaning.specs.Environment.{State, objects_by, leaving, object_at, mark_at, with_name, binds_element, after_decls}
+use Rattle.ac_meaning.specs.Environment.{State, objects_by, leaving, object_at, mark_at, with_name, binds_element, binds_value, after_decls}
 use Rattle.ac_meaning.specs.Execution.{exec_resolved, guards_of_loop, guards_of_view, guards_of_stable, in_order, turns, turn_bound, scoped}
 use Rattle.ac_base.specs.declared.reason.Reason.TheVariants.{NamesSpent}
+use Rattle.ac_syntax.specs.declared.view_kind.ViewKind.TheVariants.{UpdateKey}
 use Rattle.ac_host.specs.declared.end.HostEnd.TheVariants.{NoMemory}
 use Rattle.ac_host.specs.Ready.{IsUnder}
-use Rattle.ac_objects.specs.Blocks.{releasing, guard_if, guards_of_loop_key, guards_of_view_key, IsHeldAt}
+use Rattle.ac_objects.specs.Blocks.{releasing, guard_if, guards_of_loop_key, guards_of_update_key, guards_of_view_key, IsHeldAt}
 use Rattle.ac_objects.specs.Standing.{counts_of}
 use Rattle.ac_objects.specs.World.{state_of}
 use Rattle.ac_model.specs.Cursors.{plain_mark}
 use Rattle.ac_model.specs.Letters.{mark_at as mark_of_name}
 use Rattle.ac_host.proofs.Blocks.{ran_inside, ran_as, ran_broke, ran_all, ran_line, there_within, many_names, many_under, leaving_held, leaving_named, counts_before, stable_held, view_held, loop_cursors_held, loop_elements_held, stable_comes, view_comes, view_refused, mark_under, loop_comes, decls_begin, declare_comes, declare_spent, declare_back, inner_by, loop_left}
-use Rattle.ac_host.specs.Running.{statement_outcome, inside, Turning}
+use Rattle.ac_host.specs.Running.{statement_outcome, inside, key_ending, Turning}
 use Rattle.ac_host.specs.Writing.{WroteSoFar}
 use Rattle.ac_meaning.specs.UnderGuards.{held_without}
 use Rattle.ac_host.proofs.Holding.{counts_back, leaving_counts, held_still, held_behind}
 use Rattle.ac_host.proofs.Opening.{stable_begins, view_begins, loop_begins}
 use Rattle.ac_host.proofs.Steps.{size_among, statements_next, statements_none, ready_statement}
+use Rattle.ac_host.proofs.Standing.{ready_exec}
 use Rattle.ac_host.proofs.Telling.{so_far_none, so_far_more, so_far_broke, so_far_stopped}
 use Rattle.ac_host.proofs.Turns.{held, turning_inner, turning_names, turning_there, turning_stands, turning_none, turning_next, turn_begins, turn_ends, turn_goes, turning_at}
+use Rattle.ac_host.proofs.Updating.{copied, updating_under, updating_begins, updating_held, updating_goes_on, update_comes, ran_then, ran_stopped}
 use Rattle.ac_host.proofs.host.Host.+statements.Goals as goal
 
 -- Statements
@@ -199,12 +202,12 @@ run_stable-returns-clause-leaves g t c =
 
 -- Views
 
-pub run_view-run_viewed-requires : goal.run_view-run_viewed-requires
-run_view-run_viewed-requires g t c κs within =
+pub run_element_view-run_viewed-requires : goal.run_element_view-run_viewed-requires
+run_element_view-run_viewed-requires g t c κs within =
     let old = c.args.self.now.objects in
     let now = c.enter_view.new.self in
     let r = c.requires.ready in
-    let o = c.is_object.ensures.yes c.if-not-is_object.false in
+    let o = c.requires.object in
     let is = c.in-Ok.ensures.opened o.held o.there in
     let key = c.in-Ok.ensures.key in
     let at = mark_at (state_of old) c.args.at in (
@@ -228,12 +231,12 @@ run_view-run_viewed-requires g t c κs within =
       ),
     )
 
-pub run_view-returns-in-Ok-clause-runs : goal.run_view-returns-in-Ok-clause-runs
-run_view-returns-in-Ok-clause-runs g t c guards e u =
+pub run_element_view-returns-in-Ok-clause-runs : goal.run_element_view-returns-in-Ok-clause-runs
+run_element_view-returns-in-Ok-clause-runs g t c guards e u =
     let sink = g.K.Sink in
     let old = c.args.self.now.objects in
     let now = c.enter_view.new.self in
-    let o = c.is_object.ensures.yes c.if-not-is_object.false in
+    let o = c.requires.object in
     let is = c.in-Ok.ensures.opened o.held o.there in
     let key = c.in-Ok.ensures.key in
     let at = mark_at (state_of old) c.args.at in
@@ -241,16 +244,16 @@ run_view-returns-in-Ok-clause-runs g t c guards e u =
     let begun = subst (λ m. IsUnder now (m ++ guards) (with_name e (binds_element c.args.object at))) (sym is.1)
     (view_begins old guards e u c.args.object o.held o.there c.args.kind at now is.0 is.2) in
     ran_as sink.held sink.faults sink.room sink.counts_failures c.args.sink.now c.run_viewed.new.sink c.run_viewed.new.self.objects guards _ _ c.run_viewed.result
-    (view_comes c.args.body.now guards more e c.args.line c.args.object c.in-Ok.key.names c.args.kind c.args.at at o.held
+    (view_comes c.args.body.now guards more e c.args.line c.args.object c.in-Ok.key.names c.args.kind c.args.at at o.held c.requires.view
     (ap (λ s. object_at s c.args.object) (sym u.is) ∙ o.there) is.1 (key.1 ∙ many_under old guards e u)
     (ap (λ s. mark_at s c.args.at) u.is ∙ mark_under guards e c.args.at) is.0)
     (c.run_viewed.ensures.runs guards (with_name e (binds_element c.args.object at)) begun)
 
-pub run_view-returns-in-Ok-clause-leaves : goal.run_view-returns-in-Ok-clause-leaves
-run_view-returns-in-Ok-clause-leaves g t c =
+pub run_element_view-returns-in-Ok-clause-leaves : goal.run_element_view-returns-in-Ok-clause-leaves
+run_element_view-returns-in-Ok-clause-leaves g t c =
     let old = c.args.self.now.objects in
     let now = c.enter_view.new.self in
-    let o = c.is_object.ensures.yes c.if-not-is_object.false in
+    let o = c.requires.object in
     let is = c.in-Ok.ensures.opened o.held o.there in
     let key = c.in-Ok.ensures.key in
     let names = c.in-Ok.key.names in
@@ -265,13 +268,13 @@ run_view-returns-in-Ok-clause-leaves g t c =
           ∙ leaving_named (guards_of_view c.args.kind o.held) (state_of old) (binds_element c.args.object at) names (key.1 ∙ sym (many_names old))));
     }
 
-pub run_view-returns-in-Err-Raised-clause-runs : goal.run_view-returns-in-Err-Raised-clause-runs
-run_view-returns-in-Err-Raised-clause-runs g t c guards e u =
+pub run_element_view-returns-in-Err-Raised-clause-runs : goal.run_element_view-returns-in-Err-Raised-clause-runs
+run_element_view-returns-in-Err-Raised-clause-runs g t c guards e u =
     let sink = g.K.Sink in
     let old = c.args.self.now.objects in
     let now = c.enter_view.new.self in
     let here = c.in-Err-Raised in
-    let o = c.is_object.ensures.yes c.if-not-is_object.false in
+    let o = c.requires.object in
     let at = mark_at (state_of old) c.args.at in
     let some = here.ensures.refused o.held here.reason o.there (ap Err here.field-0-is) in
     ran_line sink.held sink.faults sink.room sink.counts_failures c.args.sink.now c.write_refusal.new.sink now guards c.args.line here.reason e _ c.write_refusal.result
@@ -279,6 +282,117 @@ run_view-returns-in-Err-Raised-clause-runs g t c guards e u =
     (ap (λ s. object_at s c.args.object) (sym u.is) ∙ o.there) (ap (λ s. mark_at s c.args.at) u.is ∙ mark_under guards e c.args.at) some)
     (ap state_of here.ensures.fault ∙ u.is)
     c.write_refusal.ensures
+
+-- Updates of a key
+
+pub run_update-run_updated-requires : goal.run_update-run_updated-requires
+run_update-run_updated-requires g t c κs within =
+    let old = c.args.self.now.objects in
+    let r = c.requires.ready in
+    let o = c.requires.object in
+    let is = c.in-Ok.ensures.opened o.held o.there in
+    let key = c.in-Ok.ensures.key in (
+      omega arith,
+      (
+        within,
+        updating_begins old c.enter_update.new.self r.guards r.env r.stands c.args.object o.held o.there c.in-Ok.key (mark_at (state_of old) c.args.at)
+            (copied (state_of old) c.args.at o.held) is.0 is.1 is.2 key.0 key.1 key.2 key.3 c.in-Ok.ensures.guard,
+      ),
+    )
+
+pub run_update-returns-in-Ok-clause-runs : goal.run_update-returns-in-Ok-clause-runs
+run_update-returns-in-Ok-clause-runs g t c guards e u =
+    let sink = g.K.Sink in
+    let old = c.args.self.now.objects in
+    let o = c.requires.object in
+    let is = c.in-Ok.ensures.opened o.held o.there in
+    let key = c.in-Ok.ensures.key in
+    let copy = copied (state_of old) c.args.at o.held in
+    let begun = updating_under old c.enter_update.new.self guards e u c.args.object o.held o.there c.in-Ok.key copy is.1 is.2 in
+    ran_as sink.held sink.faults sink.room sink.counts_failures c.args.sink.now c.run_updated.new.sink c.run_updated.new.self.objects guards _ _ c.run_updated.result
+    (update_comes c.args.body.now guards e c.args.line c.args.object c.args.at (state_of old) o.held c.in-Ok.key
+    (ap (λ s. object_at s c.args.object) (sym u.is) ∙ o.there) u.is is.0 is.1 key.0 (key.1 ∙ many_under old guards e u) key.2)
+    (c.run_updated.ensures.runs guards (with_name e (binds_value copy)) begun)
+
+pub run_update-returns-in-Ok-clause-leaves : goal.run_update-returns-in-Ok-clause-leaves
+run_update-returns-in-Ok-clause-leaves g t c =
+    let old = c.args.self.now.objects in
+    let now = c.enter_update.new.self in
+    let o = c.requires.object in
+    let is = c.in-Ok.ensures.opened o.held o.there in
+    let key = c.in-Ok.ensures.key in
+    let names = c.in-Ok.key.names in
+    let copy = copied (state_of old) c.args.at o.held in
+    record {
+      persists = λ x known. c.run_updated.ensures.persists x (c.enter_update.ensures.persists x known);
+      counts =
+          c.run_updated.ensures.counts
+          ∙ (ap (λ m. counts_of (releasing m (leaving names (state_of now)))) is.1
+          ∙ counts_before (guards_of_view UpdateKey o.held) names (state_of old) (state_of now)
+          (ap (leaving names) is.2
+          ∙ leaving_named (guards_of_view UpdateKey o.held) (state_of old) (binds_value copy) names (key.1 ∙ sym (many_names old))));
+    }
+
+pub run_update-returns-in-Err-Raised-clause-runs : goal.run_update-returns-in-Err-Raised-clause-runs
+run_update-returns-in-Err-Raised-clause-runs g t c guards e u =
+    let sink = g.K.Sink in
+    let old = c.args.self.now.objects in
+    let now = c.enter_update.new.self in
+    let here = c.in-Err-Raised in
+    let o = c.requires.object in
+    let at = mark_at (state_of old) c.args.at in
+    let some = here.ensures.refused o.held here.reason o.there (ap Err here.field-0-is) in
+    ran_line sink.held sink.faults sink.room sink.counts_failures c.args.sink.now c.write_refusal.new.sink now guards c.args.line here.reason e _ c.write_refusal.result
+    (view_refused c.args.body.now guards e c.args.line c.args.object UpdateKey c.args.at at o.held here.reason
+    (ap (λ s. object_at s c.args.object) (sym u.is) ∙ o.there) (ap (λ s. mark_at s c.args.at) u.is ∙ mark_under guards e c.args.at) some)
+    (ap state_of here.ensures.fault ∙ u.is)
+    c.write_refusal.ensures
+
+pub run_updated-end_update-requires : goal.run_updated-end_update-requires
+run_updated-end_update-requires g t c =
+    let k = c.requires.updating in
+    let ran = c.in-Ok.ensures.runs (guards_of_update_key c.args.key ++ k.guards) k.env k.stands in
+    let leaves = c.in-Ok.ensures.leaves in
+    updating_goes_on c.args.body.now c.args.self.now.objects c.run_statements.new.self.objects c.args.key k ran.after leaves.counts
+    (leaves.persists c.args.key.at k.known)
+
+pub run_updated-abandon_update-requires : goal.run_updated-abandon_update-requires
+run_updated-abandon_update-requires g t c =
+    let k = c.requires.updating in
+    record {
+      inner = k.inner;
+      guard = updating_held c.args.self.now.objects c.run_statements.new.self.objects c.args.key k c.in-Err.ensures.leaves.counts;
+    }
+
+pub run_updated-returns-in-Ok-clause-runs : goal.run_updated-returns-in-Ok-clause-runs
+run_updated-returns-in-Ok-clause-runs g t c guards e u =
+    let sink = g.K.Sink in
+    let held = guards_of_update_key c.args.key ++ guards in
+    let first = exec_resolved c.args.body.now held e in
+    let ran = c.in-Ok.ensures.runs held e u in
+    ran_then sink.held sink.faults sink.room sink.counts_failures c.args.sink.now c.run_statements.new.sink c.end_update.new.sink
+    c.end_update.new.self.objects guards first (key_ending c.args.line c.args.key guards) c.end_update.result ran.writes
+    (c.end_update.ensures.runs guards first.after (record { is = ran.after; ready = ready_exec c.args.body.now held e u.ready }))
+
+pub run_updated-returns-in-Ok-clause-counts : goal.run_updated-returns-in-Ok-clause-counts
+run_updated-returns-in-Ok-clause-counts g t c =
+    c.end_update.ensures.counts
+    ∙ counts_back (guards_of_update_key c.args.key) c.args.key.names (state_of c.run_statements.new.self.objects) (state_of c.args.self.now.objects)
+    (ap (take c.args.key.names) c.in-Ok.ensures.leaves.counts)
+
+pub run_updated-returns-in-Err-clause-runs : goal.run_updated-returns-in-Err-clause-runs
+run_updated-returns-in-Err-clause-runs g t c guards e u =
+    let sink = g.K.Sink in
+    let held = guards_of_update_key c.args.key ++ guards in
+    let ran = c.in-Err.ensures.runs held e u in
+    ran_stopped sink.held sink.faults sink.room sink.counts_failures c.args.sink.now c.run_statements.new.sink c.abandon_update.new.self guards
+    (exec_resolved c.args.body.now held e) (key_ending c.args.line c.args.key guards) c.in-Err.end ran.writes
+
+pub run_updated-returns-in-Err-clause-counts : goal.run_updated-returns-in-Err-clause-counts
+run_updated-returns-in-Err-clause-counts g t c =
+    ap counts_of c.abandon_update.ensures.left
+    ∙ counts_back (guards_of_update_key c.args.key) c.args.key.names (state_of c.run_statements.new.self.objects) (state_of c.args.self.now.objects)
+    (ap (take c.args.key.names) c.in-Err.ensures.leaves.counts)
 
 -- Declarations
 

@@ -13,31 +13,40 @@ use Rattle.ac_host.specs.Running.{Leaves, Turning, GoesOn, TurnsOn}
 use Rattle.ac_host.proofs.host.Host.+statements.Given as goal
 
 abbrev pub decreases-run_statement : goal.decreases-run_statement
-decreases-run_statement g l = 4 * resolved_size (resolved_before l.stmt.now no_statement)
+decreases-run_statement g l = 5 * resolved_size (resolved_before l.stmt.now no_statement)
 
 abbrev pub decreases-run_statements : goal.decreases-run_statements
-decreases-run_statements g l = 4 * resolved_size l.stmts.now + 1
+decreases-run_statements g l = 5 * resolved_size l.stmts.now + 1
 
 abbrev pub decreases-run_turns : goal.decreases-run_turns
-decreases-run_turns g l = 4 * resolved_size l.body.now + 2
+decreases-run_turns g l = 5 * resolved_size l.body.now + 2
 
 abbrev pub decreases-run_viewed : goal.decreases-run_viewed
-decreases-run_viewed g l = 4 * resolved_size l.body.now + 2
+decreases-run_viewed g l = 5 * resolved_size l.body.now + 2
 
 abbrev pub decreases-run_scope : goal.decreases-run_scope
-decreases-run_scope g l = 4 * resolved_size l.body.now + 2
+decreases-run_scope g l = 5 * resolved_size l.body.now + 2
 
 abbrev pub decreases-run_loop : goal.decreases-run_loop
-decreases-run_loop g l = 4 * resolved_size l.body.now + 3
+decreases-run_loop g l = 5 * resolved_size l.body.now + 3
 
 abbrev pub decreases-run_view : goal.decreases-run_view
-decreases-run_view g l = 4 * resolved_size l.body.now + 3
+decreases-run_view g l = 5 * resolved_size l.body.now + 4
+
+abbrev pub decreases-run_element_view : goal.decreases-run_element_view
+decreases-run_element_view g l = 5 * resolved_size l.body.now + 3
+
+abbrev pub decreases-run_update : goal.decreases-run_update
+decreases-run_update g l = 5 * resolved_size l.body.now + 3
+
+abbrev pub decreases-run_updated : goal.decreases-run_updated
+decreases-run_updated g l = 5 * resolved_size l.body.now + 2
 
 abbrev pub decreases-run_stable : goal.decreases-run_stable
-decreases-run_stable g l = 4 * resolved_size l.body.now + 3
+decreases-run_stable g l = 5 * resolved_size l.body.now + 3
 
 abbrev pub decreases-run_declare : goal.decreases-run_declare
-decreases-run_declare g l = 4 * resolved_size l.body.now + 3
+decreases-run_declare g l = 5 * resolved_size l.body.now + 3
 
 abbrev pub invariant-run_statements-loop-stmt : goal.invariant-run_statements-loop-stmt
 invariant-run_statements-loop-stmt g l =

@@ -1,0 +1,173 @@
+-- Updates of a key.
+use Rattle.std.proofs.Common.{◌≡◌, ◌<◌, ◌++◌, ℕ, Bool, List, [], ◌∷◌, take, length, refl, sym, ap, subst, ◌∙◌, Option, Some, None, Result, Ok, Err, OnOk}
+use Rattle.ac_base.specs.declared.guard.GuardKind.TheVariants as guard
+use Rattle.ac_base.specs.declared.reason.Reason.{Reason}
+use Rattle.ac_base.specs.declared.value.Value.{Value}
+use Rattle.ac_model.specs.Cursors.{plain_mark}
+use Rattle.ac_model.specs.Letters.{Mark}
+use Rattle.ac_syntax.specs.declared.view_kind.ViewKind.TheVariants.{UpdateKey}
+use Rattle.ac_check.specs.Resolved.{ResolvedCode, views_at}
+use Rattle.ac_meaning.specs.Answers.{lines_text, line as line_of, answers_raised}
+use Rattle.ac_meaning.specs.Holdings.{Held, Guards, element_value}
+use Rattle.ac_meaning.specs.Environment.{State, under, object_at, mark_at, value_at, value_or_zero, with_name, leaving, binds_value}
+use Rattle.ac_meaning.specs.Execution.{Outcome, followed, exec_resolved, guards_of_view, head_reason, key_end, end_lines, key_body, view_on, on_object}
+use Rattle.ac_meaning.specs.GuardedNames.{Frame, kept}
+use Rattle.ac_meaning.proofs.ExecKeeps.{resolved_keeps}
+use Rattle.ac_objects.specs.declared.blocks.UpdateKey.{UpdateKey as KeyOfUpdate}
+use Rattle.ac_objects.specs.Blocks.{holding, releasing, guards_of_update_key, IsHeldAt}
+use Rattle.ac_objects.specs.KeyUpdates.{UpdateEnds}
+use Rattle.ac_objects.specs.Standing.{StandsAt, counts_of}
+use Rattle.ac_objects.specs.World.{World, state_of, IsKnown}
+use Rattle.ac_host.specs.declared.end.HostEnd.{HostEnd}
+use Rattle.ac_host.specs.Ready.{IsKept, IsUnder}
+use Rattle.ac_host.specs.Running.{key_ending, IsUpdating}
+use Rattle.ac_host.specs.Writing.{Wrote, Broke, Writes, Ran}
+use Rattle.ac_host.proofs.Blocks.{mark_under, there_within, many_names, view_held}
+use Rattle.ac_host.proofs.Holding.{held_still}
+use Rattle.ac_host.proofs.Opening.{update_begins, update_element}
+use Rattle.ac_host.proofs.Standing.{kept_stands, ready_exec}
+use Rattle.ac_host.proofs.Telling.{lines_together, wrote_nothing, wrote_then, broke_before, broke_behind}
+
+-- What its name holds first
+
+abbrev pub copied : State → Option ℕ → Held → Value
+copied e at h = value_or_zero (element_value h (mark_at e at)).answer
+
+-- Where it begins
+
+pub updating_under : (w now : World) (guards : Guards) (e : State) → IsUnder w guards e → (place : ℕ) (h : Held) → object_at (state_of w) place ≡ Some h →
+    (key : KeyOfUpdate) (copy : Value) → guards_of_update_key key ≡ guards_of_view UpdateKey h →
+    state_of now ≡ with_name (holding (guards_of_view UpdateKey h) (state_of w)) (binds_value copy) →
+    IsUnder now (guards_of_update_key key ++ guards) (with_name e (binds_value copy))
+updating_under w now guards e u place h there key copy own is =
+    subst (λ m. IsUnder now (m ++ guards) (with_name e (binds_value copy))) (sym own) (update_begins w guards e u place h there copy now is)
+
+pub updating_begins : (w now : World) (guards : Guards) (e : State) → IsUnder w guards e → (place : ℕ) (h : Held) → object_at (state_of w) place ≡ Some h →
+    (key : KeyOfUpdate) (at : Mark) (copy : Value) → head_reason UpdateKey h at ≡ None → guards_of_update_key key ≡ guards_of_view UpdateKey h →
+    state_of now ≡ with_name (holding (guards_of_view UpdateKey h) (state_of w)) (binds_value copy) →
+    key.object ≡ place → key.names ≡ length w.bounds → plain_mark key.at ≡ at → IsKnown now key.at → key.guard.kind ≡ guard.Cursors →
+    IsUpdating now key
+updating_begins w now guards e u place h there key at copy none own is object names mark known kind =
+    let env = with_name e (binds_value copy) in
+    record {
+      guards = guards;
+      env = env;
+      stands = updating_under w now guards e u place h there key copy own is;
+      element =
+          subst (λ m. IsKept (m ++ guards) (kept (m ++ guards) env) key.object (plain_mark key.at)) (sym own)
+          (subst (λ p. IsKept (guards_of_view UpdateKey h ++ guards) (kept (guards_of_view UpdateKey h ++ guards) env) p (plain_mark key.at)) (sym object)
+          (subst (IsKept (guards_of_view UpdateKey h ++ guards) (kept (guards_of_view UpdateKey h ++ guards) env) place) (sym mark)
+          (update_element w guards e u place h there at copy none)));
+      known = known;
+      inner =
+          subst (λ p. p < key.names) (sym object)
+          (subst (λ n. place < n) (many_names w ∙ sym names) (there_within (state_of w) place h there));
+      guard =
+          subst (λ p. IsHeldAt (state_of now) p key.guard) (sym object)
+          (subst (λ s. IsHeldAt s place key.guard) (sym is) (view_held (state_of w) (binds_value copy) place UpdateKey h key.guard there own));
+      cursors = kind;
+    }
+
+-- Behind its body
+
+pub updating_stands : (w : World) (key : KeyOfUpdate) → IsUpdating w key → StandsAt (state_of w) key.object (plain_mark key.at)
+updating_stands w key k =
+    let r = kept_stands (guards_of_update_key key ++ k.guards) k.env key.object (plain_mark key.at) k.element in
+    subst (λ s. StandsAt s key.object (plain_mark key.at)) (sym k.stands.is) (record { held = r.held; there = r.there; stands = r.stands })
+
+pub updating_held : (w now : World) (key : KeyOfUpdate) → IsUpdating w key → counts_of (state_of now) ≡ counts_of (state_of w) →
+    IsHeldAt (state_of now) key.object key.guard
+updating_held w now key k same = held_still (state_of w) (state_of now) key.object key.names key.guard k.inner (ap (take key.names) same) k.guard
+
+pub updating_goes_on : (code : ResolvedCode) (w now : World) (key : KeyOfUpdate) (k : IsUpdating w key) →
+    state_of now ≡ under (guards_of_update_key key ++ k.guards) (exec_resolved code (guards_of_update_key key ++ k.guards) k.env).after →
+    counts_of (state_of now) ≡ counts_of (state_of w) → IsKnown now key.at → IsUpdating now key
+updating_goes_on code w now key k is same known =
+    let held = guards_of_update_key key ++ k.guards in
+    record {
+      guards = k.guards;
+      env = (exec_resolved code held k.env).after;
+      stands = record { is = is; ready = ready_exec code held k.env k.stands.ready };
+      element = subst (λ l. IsKept held l key.object (plain_mark key.at)) (sym (resolved_keeps code held k.env)) k.element;
+      known = known;
+      inner = k.inner;
+      guard = updating_held w now key k same;
+      cursors = k.cursors;
+    }
+
+-- What it comes to
+
+pub update_comes : (code : ResolvedCode) (guards : Guards) (e : State) (line object : ℕ) (at : Option ℕ) (s : State) (h : Held) (key : KeyOfUpdate) →
+    object_at (under guards e) object ≡ Some h → s ≡ under guards e → head_reason UpdateKey h (mark_at s at) ≡ None →
+    guards_of_update_key key ≡ guards_of_view UpdateKey h → key.object ≡ object → key.names ≡ length e.bounds → plain_mark key.at ≡ mark_at s at →
+    followed (exec_resolved code (guards_of_update_key key ++ guards) (with_name e (binds_value (copied s at h)))) (key_ending line key guards)
+    ≡ on_object (exec_resolved code) guards (views_at line UpdateKey object at) (object_at (under guards e) object) e
+update_comes code guards e line object at s h key there s_is none own place names mark_is =
+    let body = exec_resolved code in
+    let mark : mark_at s at ≡ mark_at e at = ap (λ x. mark_at x at) s_is ∙ mark_under guards e at in
+    let same = mark_is ∙ mark in
+    (λ i. followed (body (own i ++ guards) (with_name e (binds_value (value_or_zero (element_value h (mark i)).answer))))
+    (λ (r : State). key_end line (place i) (same i) (value_at r (names i)) (own i ++ guards) (leaving (names i) r)))
+    ∙ (begun body (mark_at e at) (sym (ap (head_reason UpdateKey h) mark) ∙ none)
+    ∙ ap (λ o. on_object body guards (views_at line UpdateKey object at) o e) (sym there))
+  where
+    begun : (body : Guards → State → Outcome) (m : Mark) → head_reason UpdateKey h m ≡ None →
+        key_body body guards line object m h e ≡ view_on body guards line UpdateKey object m h e
+    begun body m f = rw (f, view_on) refl
+
+-- What was written
+
+module _ {K T : Type 0} (held : K → Option (List ℕ)) (faults : K → ℕ) (room : K → Option ℕ) (counts : K → Bool) where
+  pub ran_then : (a b c : K) (now : World) (guards : Guards) (first : Outcome) (next : State → Outcome) (result : Result T HostEnd) →
+      Wrote held faults room counts a b (lines_text first.lines) → Ran held faults room counts b c now guards (next first.after) result →
+      Ran held faults room counts a c now guards (followed first next) result
+  ran_then a b c now guards first next result wrote ran =
+      let second = next first.after in
+      record {
+        writes =
+            subst (λ t. Writes held faults room counts a c t result) (sym (lines_together first.lines second.lines)) (both result ran.writes);
+        after = ran.after;
+      }
+    where
+      both : (r : Result T HostEnd) → Writes held faults room counts b c (lines_text (next first.after).lines) r →
+          Writes held faults room counts a c (lines_text first.lines ++ lines_text (next first.after).lines) r
+      both (Ok x) w = wrote_then held faults room counts a b c (lines_text first.lines) (lines_text (next first.after).lines) wrote w
+      both (Err end) w = broke_behind held faults room counts a b c (lines_text first.lines) (lines_text (next first.after).lines) end wrote w
+
+  pub ran_stopped : (a b : K) (now : World) (guards : Guards) (first : Outcome) (next : State → Outcome) (end : HostEnd) →
+      Broke held faults room counts a b (lines_text first.lines) end → Ran {T = T} held faults room counts a b now guards (followed first next) (Err end)
+  ran_stopped a b now guards first next end broke =
+      let second = next first.after in
+      record {
+        writes =
+            subst (λ t. Broke held faults room counts a b t end) (sym (lines_together first.lines second.lines))
+            (broke_before held faults room counts a b (lines_text first.lines) (lines_text second.lines) end broke);
+        after = tt;
+      }
+
+  -- at the end, where the copy has the element's key
+  pub ended_silent : (a : K) (old now : World) (line : ℕ) (key : KeyOfUpdate) (guards : Guards) (e : State) (x : T) →
+      UpdateEnds key (state_of old) (state_of now) None → IsUnder old (guards_of_update_key key ++ guards) e →
+      Ran held faults room counts a a now guards (key_ending line key guards e) (Ok x)
+  ended_silent a old now line key guards e x ends u =
+      let is = ends line guards e u.is in
+      record {
+        writes = subst (λ l. Wrote held faults room counts a a (lines_text l)) (sym is.0) (wrote_nothing held faults room counts a);
+        after = is.1;
+      }
+
+  -- and where it has another
+  pub ended_line : (a b : K) (old now : World) (line : ℕ) (key : KeyOfUpdate) (guards : Guards) (e : State) (reason : Reason) (result : Result T HostEnd) →
+      UpdateEnds key (state_of old) (state_of now) (Some reason) → IsUnder old (guards_of_update_key key ++ guards) e →
+      Writes held faults room counts a b (lines_text (line_of line (answers_raised reason) ∷ [])) result →
+      Ran held faults room counts a b now guards (key_ending line key guards e) result
+  ended_line a b old now line key guards e reason result ends u writes =
+      let is = ends line guards e u.is in
+      record {
+        writes = subst (λ l. Writes held faults room counts a b (lines_text l) result) (sym is.0) writes;
+        after = after result is.1;
+      }
+    where
+      after : {P : Type 0} (r : Result T HostEnd) → P → OnOk r P
+      after (Ok x) p = p
+      after (Err end) p = tt
