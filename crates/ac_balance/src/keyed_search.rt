@@ -21,7 +21,8 @@ pub(crate) fn seek_key<K: Keyed, V, L: Ledger>(
     steps: &mut Steps<L>,
 ) -> Trail
     requires { IsTree nodes.now root }
-    ensures found { Leads nodes.now root (λ e. K.Key.is_less (K.key_of e.key) k.now) (λ e. K.Key.is_less k.now (K.key_of e.key)) (spot_at nodes.now result) }
+    ensures found { Leads nodes.now root (λ e. K.Key.is_less (K.key_of e.key) k.now) (λ e. K.Key.is_less k.now (K.key_of e.key))
+        (spot_at nodes.now result) }
     ensures few { (t : Tree (Entry K V)) → Stood nodes.now root t → steps.new ≤ steps.old + 2 * height t }
     ensures counted { steps.old ≤ steps.new }
 {

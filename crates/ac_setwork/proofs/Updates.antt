@@ -1,7 +1,6 @@
 -- The calls by key and the update of a key, in the words of the definitions.
 use Rattle.std.proofs.Common.{◌≡◌, ◌==◌, ◌||◌, ◌+◌, ◌<◌, ◌≤◌, ℕ, Bool, true, false, not, true≢false, List, [], ◌∷◌, Option, Some, None, Result, Ok, Err, IsTrue, refl, sym, ap, ◌∙◌, subst, inl, inr, arith, eq-eqb, if◌then◌else◌}
 use Rattle.std.specs.Prelude.{IfOk, find, is_some, nat_lt, option_map}
-use Rattle.std.specs.Borrow.{Bor}
 use Rattle.std.proofs.lemmas.Bool.{cases_Bool}
 use Rattle.std.proofs.lemmas.Bool.Decides.{nat_tests}
 use Rattle.std.proofs.lemmas.Option.{none-some}
@@ -18,17 +17,16 @@ use Rattle.ac_base.specs.FirstReason.{earlier, first_reason}
 use Rattle.ac_base.specs.Guards.{GuardCounts, HeldGuard, one_less, one_more}
 use Rattle.ac_base.specs.Rows.{Row, names}
 use Rattle.ac_base.specs.Tampering.{forbids}
-use Rattle.ac_model.specs.Calls.{Call, Changing, ChangingAlways, Done, IsAfter, Lends, Looking, Same, call, takes_none}
+use Rattle.ac_model.specs.Calls.{Call, Changing, ChangingAlways, Done, IsAfter, Same, call, takes_none}
 use Rattle.ac_model.specs.Containers.{Container, container, guards_of, with_guards}
 use Rattle.ac_model.specs.Cursors.{cursor_at, mark, name_in, needs_cursor}
 use Rattle.ac_model.specs.Keyed as keyed
 use Rattle.ac_model.specs.Keyed.{Order, another_is_like, on_key, with_reordered}
 use Rattle.ac_model.specs.KeyedSets as by_key
-use Rattle.ac_model.specs.KeyedSets.{Started, has_key, keeps_key, name_found, reordered_where_found}
+use Rattle.ac_model.specs.KeyedSets.{has_key, keeps_key, name_found, reordered_where_found}
 use Rattle.ac_model.specs.Letters.{Mark, is_among, is_same_name, judged_in, mark_at, mark_of, name_of, needs, reason_if, tampers_cursors}
 use Rattle.ac_model.specs.Objects.{Object, plain, plain_row, plains, times, with_rows}
 use Rattle.ac_model.specs.Rows.{cut, place_of, named, value_at, with_value}
-use Rattle.ac_model.specs.Sequences as sequences
 use Rattle.ac_model.proofs.Counts.{count, count-cons}
 use Rattle.ac_model.proofs.Moves.{times-named}
 use Rattle.ac_model.proofs.Reasons.{none_first, none_others}
@@ -225,10 +223,6 @@ module _ {K V : Type 0} (order : Order V) (key : V → K) (keys : Order K) (by_k
       ∙ ap (λ n. call takes_none (first_reason (tampers_cursors (plain o) ∷ n ∷ d ∷ [])) (with_rows (plain o) (with_reordered (on_key key keys) (plain o).rows name.serial v)) tt) none
       ∙ sym (ap replaced_at one.1) in
       subst (λ (it : Call (Object ℕ V) Done). Changing Same it o new r) same h
-
--- the key of a row that is lent
-pub key_lent : {K V : Type 0} (key : V → K) (o : Object ℕ V) (m : Mark) (lent : Bor V) (part : Bor K) → Looking Lends (sequences.element_call o m) (Ok lent) → part.now ≡ key lent.now → Looking Lends (by_key.key_call key o m) (Ok part)
-key_lent key o m lent part h is = (h.0, ap (option_map key) h.1 ∙ ap Some (sym is))
 
 -- tests by keys as tests of rows
 pub as_test : {K V : Type 0} (same : K → K → Bool) (key : V → K) (like : V → V → Bool) → ((v w : V) → like v w ≡ same (key v) (key w)) → (e : V) (k : K) → k ≡ key e → ◌≡◌ {A = V → Bool} (λ v. same (key v) k) (λ v. like v e)
