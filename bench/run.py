@@ -1,9 +1,9 @@
 #!/usr/bin/env python3
 """Times the built programs beside plain Rust programs on the same machine in the same run.
 
-Prints the program's time for each generated script, the ratio to the baseline's, and the growth from half the script to the whole: 2 is linear. Then the time and the memory of long runs, and what `A.Length` costs. Then the time of `--check` on inputs of 1 MiB that are the worst of their sorts, and the growth. Then the time of a put and a take of the pool, and the ratio; and of an insertion and a removal in the middle of a chain, which stays flat where the chain grows. Then the times of calls of lists and sets, and their growth from 10,000 elements to 1,000,000, and the memory of a slot. Needs rustc; isn't part of the gate.
+Prints the program's time for each generated script, the ratio to the baseline's, and the growth from half the script to the whole: 2 is linear. Then the time and the memory of long runs, and what `A.Length` costs. Then the time of `--check` on inputs of 1 MiB that are the worst of their sorts, and the growth. Then what the calls of two sets take for each element, in sets of 1,000 to 100,000: n log n is a growth of 1.67. Then the time of a put and a take of the pool, and the ratio; and of an insertion and a removal in the middle of a chain, which stays flat where the chain grows. Then the times of calls of lists and sets, and their growth from 10,000 elements to 1,000,000, and the memory of a slot. Needs rustc; isn't part of the gate.
 
-With `--peer COMMAND` it prints instead the times of some scripts, and of the generator's longest, beside those of another interpreter of the same language, and the ratio: below 1 is faster.
+With `--peer COMMAND` it prints instead the processor times of some scripts, and of the generator's longest, beside those of another interpreter of the same language, and the ratio: below 1 is faster.
 
 With `--before PROGRAM`, where PROGRAM is `crates/ac_bench/out/ac_bench` of another checkout, built there by `rt run`, it prints instead the times of each workload with that program and with this checkout's, which run in turn, beside one another, and the ratio: below 1 is faster than before.
 """
@@ -112,8 +112,27 @@ def ordered_map_ops():
     return map_ops("ordered_map")
 
 
+def ordered_set_r14():
+    """200,000 insertions in ascending order, then four searches for each element, the greatest first."""
+    return ("type V is vector (integer);\ntype S is ordered_set (integer);\nA : V;\nB : S;\nC : S.cursor;\nN : integer;\nA.Append (0, 200000);\n"
+            + rounds("N := N + 1;\nB.Insert (N);\n", "A") + rounds("C := B.Find (N);\nB.Contains (N);\nC := B.Floor (N);\nC := B.Ceiling (N);\nN := N - 1;\n", "A") + "B.Length;\n")
+
+
+def set_algebra(kind, size, times):
+    """Two sets of so many elements, of which a third is common, and each call of two sets so often."""
+    procedures = "".join(f"T.Assign (A);\nT.{name} (B);\nT.Length;\n" for name in ("Union", "Intersection", "Difference", "Symmetric_Difference"))
+    return (f"type Driver is list (integer);\ntype S is {kind} (integer);\nDrive : Driver;\nRep : Driver;\nA : S;\nB : S;\nT : S;\nN : integer;\nK : integer;\n"
+            f"Drive.Append (0, {size});\nRep.Append (0, {times});\n" + rounds("N := N + 2;\nK := K + 3;\nA.Insert (N);\nB.Insert (K);\n")
+            + rounds(procedures + "A.Overlap (B);\nT.Is_Subset (A);\nA.Equivalent_Sets (B);\n", "Rep"))
+
+
+def ordered_set_algebra():
+    return set_algebra("ordered_set", 100_000, 10)
+
+
 BESIDE_A_PEER = [("list_churn", list_churn), ("list_sort_merge", list_sort_merge), ("dispatch", dispatch), ("vector_append_read", vector_append_read), ("vector_sort", vector_sort),
-                 ("hashed_map_ops", hashed_map_ops), ("ordered_map_ops", ordered_map_ops)]
+                 ("hashed_map_ops", hashed_map_ops), ("ordered_map_ops", ordered_map_ops), ("ordered_set_r14", ordered_set_r14), ("ordered_set_algebra", ordered_set_algebra)]
+ALGEBRA_SIZES = (1_000, 10_000, 100_000)
 GENERATED = ["--generate", "200000"]
 
 
@@ -156,6 +175,16 @@ def once(command, script=os.devnull, status=True):
         start = time.perf_counter()
         subprocess.run(command, stdin=text, stdout=nowhere, check=status)
         return time.perf_counter() - start
+
+
+def processor(command, script):
+    """The processor time of one run, its system calls with it."""
+    with open(script) as text:
+        running = subprocess.Popen(command, stdin=text, stdout=subprocess.DEVNULL)
+        _, status, usage = os.wait4(running.pid, 0)
+    if status != 0:
+        sys.exit(f"{command} failed")
+    return usage.ru_utime + usage.ru_stime
 
 
 def seconds(command, script=os.devnull, status=True):
@@ -262,7 +291,7 @@ def a_length(place):
 
 
 def beside_a_peer(peer, place):
-    """Each script's time, and the generator's, with the ratio to another interpreter's of the same language, which runs in turn with this one."""
+    """Each script's processor time, and the generator's, with the ratio to another interpreter's of the same language, which runs in turn with this one."""
     program = os.path.join(TOP, "crates/adacont/out/adacont")
     print(f"{'script':<30}{'adacont s':>12}{'peer s':>12}{'ratio':>8}")
     rows = [(name, text(), []) for name, text in BESIDE_A_PEER] + [(" ".join(GENERATED), "", GENERATED)]
@@ -270,9 +299,22 @@ def beside_a_peer(peer, place):
         path = written(place, text)
         ours, theirs = [], []
         for _ in range(RUNS):
-            ours.append(once([program, *words], path))
-            theirs.append(once([*peer, *words], path))
+            ours.append(processor([program, *words], path))
+            theirs.append(processor([*peer, *words], path))
         print(f"{name:<30}{min(ours):>12.3f}{min(theirs):>12.3f}{min(ours) / min(theirs):>8.2f}", flush=True)
+
+
+def algebra(place):
+    """What the calls of two sets take, once each, for each element of a set: without filling the sets."""
+    program = os.path.join(TOP, "crates/adacont/out/adacont")
+    print(f"{'two sets, ns for each element':<40}" + "".join(f"{size:>12,}" for size in ALGEBRA_SIZES) + f"{'growth':>8}")
+    for kind in ("hashed_set", "ordered_set"):
+        took = []
+        for size in ALGEBRA_SIZES:
+            times = 1_000_000 // size
+            many, none = (min(processor([program], written(place, set_algebra(kind, size, count))) for _ in range(RUNS)) for count in (times, 0))
+            took.append((many - none) / times / size)
+        print(f"{kind:<40}" + "".join(f"{each * 1e9:>12.1f}" for each in took) + f"{took[-1] / took[0]:>8.2f}")
 
 
 def churn(program, place):
@@ -375,6 +417,7 @@ def main():
         large(place)
         a_length(place)
         checks(place)
+        algebra(place)
         churn(os.path.join(folder, "out/ac_bench"), place)
     middle(os.path.join(folder, "out/ac_bench"))
     lists(os.path.join(folder, "out/ac_bench"))
