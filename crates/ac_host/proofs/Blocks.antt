@@ -1,43 +1,43 @@
 -- What a block comes to, and what is left behind it.
-use Rattle.std.proofs.Common.{◌≡◌, ◌<◌, ◌≤◌, ℕ, Bool, true, false, not, List, [], ◌∷◌, ◌++◌, map, take, length, slice_get, nat_lt, refl, sym, ap, subst, ◌∙◌, arith, Option, Some, None, Result, Ok, Err, OnOk, IsErrAnd, if◌then◌else◌}
+use Rattle.std.proofs.Common.{◌≡◌, ◌<◌, ◌≤◌, ℕ, Bool, true, false, List, [], ◌∷◌, ◌++◌, length, nat_lt, refl, sym, ap, subst, ◌∙◌, arith, Option, Some, None, Result, Ok, Err, OnOk, IsErrAnd, if◌then◌else◌}
 use Rattle.std.proofs.lemmas.List.{length-map, take_all, take-append-le}
-use Rattle.std.proofs.lemmas.Option.{none-some, same_Some, slice_get_within}
+use Rattle.std.proofs.lemmas.Option.{slice_get_within}
 use Rattle.std.proofs.lemmas.Result.{err_from_is_err_and}
 use Rattle.ac_base.specs.Guards.{HeldGuard}
 use Rattle.ac_base.specs.Limits.{numbers_end}
 use Rattle.ac_base.specs.declared.guard.GuardKind.{GuardKind}
 use Rattle.ac_base.specs.declared.guard.GuardKind.TheVariants as guard
 use Rattle.ac_base.specs.declared.reason.Reason.{Reason}
-use Rattle.ac_base.specs.declared.reason.Reason.TheVariants.{NoElement, NamesSpent}
+use Rattle.ac_base.specs.declared.reason.Reason.TheVariants.{NamesSpent}
 use Rattle.ac_base.specs.declared.value.Value.TheVariants as value
 use Rattle.std.specs.Prelude.{pos}
 use Rattle.ac_model.specs.Letters.{Mark, no_mark, mark_at as mark_of_name}
 use Rattle.ac_syntax.specs.declared.view_kind.ViewKind.{ViewKind}
 use Rattle.ac_syntax.specs.declared.view_kind.ViewKind.TheVariants.{Query, Update, Reference, UpdateKey}
 use Rattle.ac_syntax.specs.declared.type_def.TypeDef.{TypeDef}
-use Rattle.ac_check.specs.Resolved.{ResolvedCode, loops_at, views_at, stables_at, declares_at}
+use Rattle.ac_check.specs.Resolved.{ResolvedCode, loops_at, views_at, stables_at}
 use Rattle.ac_check.specs.declared.resolved.ResolvedDecl.{ResolvedDecl}
 use Rattle.ac_check.specs.declared.resolved.ResolvedDecl.TheVariants as decl
 use Rattle.ac_meaning.specs.Answers.{line, lines_text, answers_raised}
-use Rattle.ac_meaning.specs.Holdings.{Held, Guards, number_of, names_of, new_held, held_under, guard_on, is_a_set}
+use Rattle.ac_meaning.specs.Holdings.{Held, Guards, number_of, names_of, new_held, held_under, guard_on}
 use Rattle.ac_meaning.specs.Environment.{Bound, binds_type, binds_object, binds_cursor, binds_value, binds_element, bound_by, bound_in, object_in, mark_in, State, objects_by, under, bound_at, object_at, mark_at, with_name, leaving, number_taken, Declared, declared, unless_spent, after_decl, after_decls}
 use Rattle.ac_meaning.specs.Execution.{Outcome, outcome, one_line, exec_resolved, guards_of_loop, guards_of_stable, guards_of_view, head_reason, in_order, turn_bound, turns, view_on, viewed, on_object, after_declared, scoped}
-use Rattle.ac_meaning.specs.GuardedNames.{Frame, of_element, frame, kept}
+use Rattle.ac_meaning.specs.GuardedNames.{of_element, frame, kept}
 use Rattle.ac_meaning.specs.Numbers.{GuardsBelow}
 use Rattle.ac_meaning.specs.UnderGuards.{held_with, held_without}
 use Rattle.ac_meaning.proofs.BoundsStay.{object_there}
 use Rattle.ac_meaning.proofs.CountsStay.{parts_under, counts_are_the_guards, bound_under}
 use Rattle.ac_meaning.proofs.ExecKeeps.{resolved_keeps}
-use Rattle.ac_meaning.proofs.Frames.{kept_weaker, kept_back}
+use Rattle.ac_meaning.proofs.Frames.{kept_back}
 use Rattle.ac_meaning.proofs.NewObjects.{new_objects_are_unguarded}
 use Rattle.ac_meaning.proofs.NextRises.{next_rises}
 use Rattle.ac_meaning.proofs.NumbersApart.{numbers_go_on}
-use Rattle.ac_objects.specs.Blocks.{holding, releasing, guard_if, IsHeldAt}
+use Rattle.ac_objects.specs.Blocks.{holding, releasing, IsHeldAt}
 use Rattle.ac_objects.specs.Standing.{counts_of}
 use Rattle.ac_objects.specs.World.{World, state_of}
 use Rattle.ac_host.specs.declared.end.HostEnd.{HostEnd}
-use Rattle.ac_host.specs.Ready.{ElementsKept, Ready, IsUnder}
-use Rattle.ac_host.specs.Running.{inside, Turning}
+use Rattle.ac_host.specs.Ready.{ElementsKept, IsUnder}
+use Rattle.ac_host.specs.Running.{inside}
 use Rattle.ac_host.specs.Writing.{Broke, Writes, Ran, WroteSoFar}
 use Rattle.ac_host.proofs.Holding.{releasing_under, released_again, held_now, object_by_there, number_stays}
 use Rattle.ac_host.proofs.Standing.{elements_longer, kept_named, bound_found, no_type_object, longer}

@@ -1,7 +1,7 @@
 -- Guards that are held and released one after another.
-use Rattle.std.proofs.Common.{◌≡◌, ◌==◌, ◌+◌, ◌<◌, ◌≤◌, ℕ, zero, suc, Bool, true, false, List, [], ◌∷◌, ◌++◌, map, take, length, slice_get, refl, sym, ap, subst, ◌∙◌, arith, option_map, Option, Some, None, if◌then◌else◌}
+use Rattle.std.proofs.Common.{◌≡◌, ◌==◌, ◌<◌, ℕ, zero, suc, Bool, true, false, List, [], ◌∷◌, ◌++◌, map, take, slice_get, refl, sym, ap, subst, ◌∙◌, arith, option_map, Some, None, if◌then◌else◌}
 use Rattle.std.proofs.lemmas.List.{take-map}
-use Rattle.std.proofs.lemmas.Option.{slice_get-map, none-some, same_Some}
+use Rattle.std.proofs.lemmas.Option.{none-some, same_Some}
 use Rattle.std.proofs.lemmas.Bool.Decides.{nat_tests}
 use Rattle.ac_base.specs.declared.guard.GuardKind.{GuardKind}
 use Rattle.ac_base.specs.declared.guard.GuardKind.TheVariants as guard
@@ -9,8 +9,8 @@ use Rattle.ac_base.specs.Guards.{HeldGuard, GuardCounts, count_of, one_more, one
 use Rattle.ac_model.specs.Objects.{Object}
 use Rattle.ac_model.specs.Common.{hold_call, release_call, guards_on}
 use Rattle.ac_meaning.specs.Holdings.{Held, of_rows, Guards, number_of}
-use Rattle.ac_meaning.specs.Environment.{Bound, binds_type, binds_object, binds_cursor, binds_value, binds_element, bound_by, bound_in, object_in, State, objects_by, under, bound_at, object_at, with_name, leaving}
-use Rattle.ac_meaning.specs.UnderGuards.{hold_on, release_on, held_with, held_without}
+use Rattle.ac_meaning.specs.Environment.{Bound, binds_type, binds_object, binds_cursor, binds_value, binds_element, bound_by, bound_in, object_in, State, objects_by, under, bound_at, object_at, leaving}
+use Rattle.ac_meaning.specs.UnderGuards.{held_with, held_without}
 use Rattle.ac_meaning.proofs.CountsStay.{guards_come_and_go, release_hold, objects_twice, objects_alike, bound_under}
 use Rattle.ac_objects.specs.Blocks.{holding, releasing, IsHeldAt}
 use Rattle.ac_objects.specs.Standing.{counts_in_held, counts_in, counts_of}

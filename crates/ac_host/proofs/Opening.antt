@@ -1,11 +1,9 @@
 -- What begins a block.
-use Rattle.std.proofs.Common.{◌≡◌, ◌==◌, ◌&&◌, ◌||◌, ◌+◌, ◌<◌, ◌≤◌, ℕ, zero, suc, Bool, true, false, not, List, [], ◌∷◌, ◌++◌, map, length, slice_get, take, nat_lt, option_map, refl, sym, ap, subst, ◌∙◌, arith, Option, Some, None, if◌then◌else◌}
-use Rattle.std.proofs.lemmas.List.{append-nil, length-map, take_all}
+use Rattle.std.proofs.Common.{◌≡◌, ◌==◌, ◌&&◌, ◌||◌, ℕ, Bool, true, false, not, List, [], ◌∷◌, ◌++◌, length, slice_get, option_map, refl, sym, ap, subst, ◌∙◌, arith, Option, Some, None, if◌then◌else◌}
+use Rattle.std.proofs.lemmas.List.{length-map, take_all}
 use Rattle.std.proofs.lemmas.Option.{none-some, same_Some}
 use Rattle.std.proofs.lemmas.Bool.Decides.{nat_tests}
 use Rattle.ac_base.specs.FirstReason.{first_reason}
-use Rattle.ac_base.specs.Guards.{HeldGuard}
-use Rattle.ac_base.specs.Limits.{numbers_end}
 use Rattle.ac_base.specs.Rows.{Row, names}
 use Rattle.ac_base.specs.declared.guard.GuardKind.{GuardKind}
 use Rattle.ac_base.specs.declared.guard.GuardKind.TheVariants as guard
@@ -14,29 +12,25 @@ use Rattle.ac_base.specs.declared.value.Value.{Value}
 use Rattle.ac_base.specs.declared.reason.Reason.TheVariants.{ForeignCursor, DeadCursor, NoElement}
 use Rattle.ac_model.specs.Objects.{Object}
 use Rattle.ac_model.specs.Rows.{is_named}
-use Rattle.ac_model.specs.Letters.{Mark, no_mark, mark_at as mark_of_name, stale_mark, needs, judged_in, reason_if, tampers_cursors}
+use Rattle.ac_model.specs.Letters.{Mark, no_mark, mark_at as mark_of_name, stale_mark, needs, reason_if, tampers_cursors}
 use Rattle.ac_model.specs.Cursors.{seen}
 use Rattle.ac_model.proofs.Reasons.{none_others}
 use Rattle.ac_syntax.specs.declared.view_kind.ViewKind.{ViewKind}
 use Rattle.ac_syntax.specs.declared.view_kind.ViewKind.TheVariants.{Query, Update, Reference, UpdateKey}
-use Rattle.ac_check.specs.Resolved.{loops_at, views_at, stables_at, declares_at}
-use Rattle.ac_check.specs.declared.resolved.ResolvedDecl.{ResolvedDecl}
-use Rattle.ac_check.specs.declared.resolved.ResolvedDecl.TheVariants as decl
 use Rattle.ac_meaning.specs.Holdings.{a_sequence, a_map, a_set, a_keyed_set, Held, of_rows, Guards, number_of, names_of, held_under, guard_on, element_value}
-use Rattle.ac_meaning.specs.Environment.{Bound, binds_type, binds_object, binds_cursor, binds_value, binds_element, bound_by, bound_in, object_in, mark_in, State, under, bound_at, object_at, mark_at, with_name, leaving, number_taken, Declared, unless_spent, after_decl, after_decls}
-use Rattle.ac_meaning.specs.Answers.{answers_raised}
-use Rattle.ac_meaning.specs.Execution.{Outcome, outcome, one_line, guards_of_loop, guards_of_stable, guards_of_view, head_reason, in_order, turns, view_on, viewed, on_object, block_on}
-use Rattle.ac_meaning.specs.GuardedNames.{is_guarded, Frame, of_object, of_element, frame, kept}
+use Rattle.ac_meaning.specs.Environment.{Bound, binds_value, binds_element, bound_by, State, under, object_at, with_name, leaving}
+use Rattle.ac_meaning.specs.Execution.{guards_of_loop, guards_of_stable, guards_of_view, head_reason, in_order}
+use Rattle.ac_meaning.specs.GuardedNames.{is_guarded, of_object, frame, kept}
 use Rattle.ac_meaning.specs.Walks.{first_mark}
-use Rattle.ac_meaning.specs.Numbers.{NumbersDiffer, GuardsBelow}
+use Rattle.ac_meaning.specs.Numbers.{GuardsBelow}
 use Rattle.ac_meaning.proofs.CountsStay.{parts_under}
 use Rattle.ac_meaning.proofs.RowKinds.{element_needs}
 use Rattle.ac_meaning.proofs.GuardedGoesOn.{blocks_guard}
 use Rattle.ac_objects.specs.Blocks.{holding}
 use Rattle.ac_objects.specs.World.{World, state_of}
-use Rattle.ac_host.specs.Ready.{IsKept, Ready, IsUnder}
-use Rattle.ac_host.specs.Running.{inside, Turning}
-use Rattle.ac_host.proofs.Holding.{holding_under, object_by_there}
+use Rattle.ac_host.specs.Ready.{IsKept, IsUnder}
+use Rattle.ac_host.specs.Running.{Turning}
+use Rattle.ac_host.proofs.Holding.{holding_under}
 use Rattle.ac_host.proofs.Standing.{Among, kept_at, object_framed, below_held, kept_named, kept_longer, ready_more, ready_named, number_under, names_under}
 
 -- A cursor that designates an element

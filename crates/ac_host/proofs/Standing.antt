@@ -1,21 +1,20 @@
 -- Environments in which statements can run.
-use Rattle.std.proofs.Common.{◌≡◌, ◌==◌, ◌||◌, ◌&&◌, ◌+◌, ◌<◌, ◌≤◌, ◌⊎◌, inl, inr, ℕ, zero, suc, Bool, true, false, not, List, [], ◌∷◌, ◌++◌, map, take, length, slice_get, reverse, refl, sym, ap, subst, ◌∙◌, arith, Option, Some, None, if◌then◌else◌}
-use Rattle.std.proofs.lemmas.List.{map-append, reverse-append, reverse-reverse, append_assoc}
+use Rattle.std.proofs.Common.{◌≡◌, ◌==◌, ◌||◌, ◌&&◌, ◌+◌, ◌<◌, ◌⊎◌, inl, inr, ℕ, zero, suc, Bool, true, false, not, List, [], ◌∷◌, ◌++◌, map, length, slice_get, reverse, refl, sym, ap, subst, ◌∙◌, arith, Some, None, if◌then◌else◌}
+use Rattle.std.proofs.lemmas.List.{map-append}
 use Rattle.std.proofs.lemmas.List.Folds.{list_any-append}
 use Rattle.std.proofs.lemmas.Option.{none-some, same_Some}
 use Rattle.std.proofs.lemmas.Bool.Decides.{nat_tests}
 use Rattle.ac_base.specs.FirstReason.{first_reason}
 use Rattle.ac_base.specs.Guards.{HeldGuard}
 use Rattle.ac_base.specs.declared.guard.GuardKind.{GuardKind}
-use Rattle.ac_base.specs.declared.guard.GuardKind.TheVariants as guard
 use Rattle.ac_base.specs.declared.reason.Reason.TheVariants.{ForeignCursor, DeadCursor}
 use Rattle.ac_base.specs.Rows.{names}
 use Rattle.ac_model.specs.Objects.{Object}
 use Rattle.ac_model.specs.Rows.{is_named}
-use Rattle.ac_model.specs.Letters.{Mark, no_mark, mark_at, stale_mark, needs, judged_in, reason_if}
+use Rattle.ac_model.specs.Letters.{Mark, mark_at, stale_mark, needs, judged_in, reason_if}
 use Rattle.ac_model.specs.Cursors.{seen}
 use Rattle.ac_check.specs.Resolved.{ResolvedCode}
-use Rattle.ac_meaning.specs.Holdings.{Held, of_rows, Guards, number_of, names_of, held_under, held_on, element_value, guard_on}
+use Rattle.ac_meaning.specs.Holdings.{Held, of_rows, Guards, number_of, names_of, held_under, element_value, guard_on}
 use Rattle.ac_meaning.specs.Environment.{Bound, binds_type, binds_object, binds_cursor, binds_value, binds_element, bound_by, bound_in, object_in, State, under, bound_at, object_at, with_name, leaving}
 use Rattle.ac_meaning.specs.Execution.{exec_resolved, in_order}
 use Rattle.ac_meaning.specs.GuardedNames.{is_guarded, Frame, of_type, of_object, of_cursor, of_value, of_element, names_if, frame, kept}
@@ -32,7 +31,7 @@ use Rattle.ac_meaning.proofs.RowKinds.{element_needs}
 use Rattle.ac_meaning.proofs.Walks.{named_there, turned}
 use Rattle.ac_objects.specs.Standing.{ElementStands, ElementsStand, counts_in_held}
 use Rattle.ac_objects.specs.World.{World, state_of}
-use Rattle.ac_host.specs.Ready.{IsKept, ElementsKept, Ready, IsUnder, IsReady}
+use Rattle.ac_host.specs.Ready.{IsKept, ElementsKept, Ready, IsReady}
 use Rattle.ac_host.proofs.Holding.{object_by_there}
 
 -- An element that an object has

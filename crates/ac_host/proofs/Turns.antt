@@ -1,19 +1,18 @@
 -- The turns of a loop.
-use Rattle.std.proofs.Common.{◌≡◌, ◌+◌, ◌<◌, ◌≤◌, ◌⊎◌, inl, inr, ℕ, Bool, true, false, List, [], ◌∷◌, ◌++◌, map, take, length, min, slice_get, refl, sym, ap, subst, ◌∙◌, arith, append_assoc, Option, Some, None}
+use Rattle.std.proofs.Common.{◌≡◌, ◌<◌, ◌≤◌, inl, inr, ℕ, Bool, true, false, List, [], ◌∷◌, ◌++◌, take, length, slice_get, refl, sym, ap, subst, ◌∙◌, arith, append_assoc, Some, None}
 use Rattle.std.proofs.lemmas.List.{length-map, length-take}
 use Rattle.std.proofs.lemmas.Option.{slice_get_within}
 use Rattle.ac_model.specs.Letters.{Mark, no_mark, mark_at}
 use Rattle.ac_check.specs.Resolved.{ResolvedCode}
 use Rattle.ac_meaning.specs.Holdings.{Held, Guards, number_of, names_of, held_under, element_value}
-use Rattle.ac_meaning.specs.Environment.{Bound, binds_cursor, binds_element, bound_by, bound_in, object_in, State, under, bound_at, object_at, with_name, leaving}
+use Rattle.ac_meaning.specs.Environment.{Bound, bound_by, bound_in, object_in, State, under, object_at, with_name, leaving}
 use Rattle.ac_meaning.specs.Execution.{exec_resolved, in_order, turn_bound}
-use Rattle.ac_meaning.specs.GuardedNames.{is_guarded, Frame, of_object, of_element, frame, kept}
+use Rattle.ac_meaning.specs.GuardedNames.{Frame, of_object, of_element, frame, kept}
 use Rattle.ac_meaning.specs.Walks.{first_mark}
-use Rattle.ac_meaning.proofs.BoundsStay.{object_there}
 use Rattle.ac_meaning.proofs.CountsStay.{parts_under}
 use Rattle.ac_meaning.proofs.ExecKeeps.{resolved_keeps}
 use Rattle.ac_meaning.proofs.Frames.{kept_back}
-use Rattle.ac_objects.specs.Standing.{IsObject, ComingStands}
+use Rattle.ac_objects.specs.Standing.{ComingStands}
 use Rattle.ac_objects.specs.World.{World, state_of}
 use Rattle.ac_host.specs.Ready.{IsKept, Ready, IsUnder}
 use Rattle.ac_host.specs.Running.{Turning}

@@ -10,11 +10,11 @@ use Rattle.ac_check.specs.Resolved.{ResolvedCode, views_at}
 use Rattle.ac_meaning.specs.Answers.{lines_text, line as line_of, answers_raised}
 use Rattle.ac_meaning.specs.Holdings.{Held, Guards, element_value}
 use Rattle.ac_meaning.specs.Environment.{State, under, object_at, mark_at, value_at, value_or_zero, with_name, leaving, binds_value}
-use Rattle.ac_meaning.specs.Execution.{Outcome, followed, exec_resolved, guards_of_view, head_reason, key_end, end_lines, key_body, view_on, on_object}
-use Rattle.ac_meaning.specs.GuardedNames.{Frame, kept}
+use Rattle.ac_meaning.specs.Execution.{Outcome, followed, exec_resolved, guards_of_view, head_reason, key_end, key_body, view_on, on_object}
+use Rattle.ac_meaning.specs.GuardedNames.{kept}
 use Rattle.ac_meaning.proofs.ExecKeeps.{resolved_keeps}
 use Rattle.ac_objects.specs.declared.blocks.UpdateKey.{UpdateKey as KeyOfUpdate}
-use Rattle.ac_objects.specs.Blocks.{holding, releasing, guards_of_update_key, IsHeldAt}
+use Rattle.ac_objects.specs.Blocks.{holding, guards_of_update_key, IsHeldAt}
 use Rattle.ac_objects.specs.KeyUpdates.{UpdateEnds}
 use Rattle.ac_objects.specs.Standing.{StandsAt, counts_of}
 use Rattle.ac_objects.specs.World.{World, state_of, IsKnown}
@@ -134,8 +134,11 @@ module _ {K T : Type 0} (held : K → Option (List ℕ)) (faults : K → ℕ) (r
       both (Ok x) w = wrote_then held faults room counts a b c (lines_text first.lines) (lines_text (next first.after).lines) wrote w
       both (Err end) w = broke_behind held faults room counts a b c (lines_text first.lines) (lines_text (next first.after).lines) end wrote w
 
+  abbrev stopped : HostEnd → Result T HostEnd
+  stopped end = Err end
+
   pub ran_stopped : (a b : K) (now : World) (guards : Guards) (first : Outcome) (next : State → Outcome) (end : HostEnd) →
-      Broke held faults room counts a b (lines_text first.lines) end → Ran {T = T} held faults room counts a b now guards (followed first next) (Err end)
+      Broke held faults room counts a b (lines_text first.lines) end → Ran held faults room counts a b now guards (followed first next) (stopped end)
   ran_stopped a b now guards first next end broke =
       let second = next first.after in
       record {

@@ -1,6 +1,6 @@
 -- What a statement comes to, and where the turns of a loop stand.
 use Rattle.std.specs.Prelude.{◌≡◌, ◌<◌, ℕ, Bool, true, List, ◌++◌, length, slice_get, Option, Some, Result}
-use Rattle.ac_base.specs.declared.guard.GuardKind.TheVariants as guard
+use Rattle.ac_base.specs.declared.guard.GuardKind.TheVariants.{Cursors}
 use Rattle.ac_model.specs.Cursors.{plain_mark}
 use Rattle.ac_model.specs.Letters.{Mark}
 use Rattle.ac_check.specs.Resolved.{calls_at, sets_at, sums_at, loops_at, views_at, stables_at, declares_at}
@@ -8,7 +8,7 @@ use Rattle.ac_check.specs.declared.resolved.ResolvedStmt.{ResolvedStmt}
 use Rattle.ac_check.specs.declared.resolved.ResolvedStmt.TheVariants.{Call, Set, Sum, Loop, View, Stable, Declare}
 use Rattle.ac_meaning.specs.Holdings.{Held, Guards, number_of, names_of}
 use Rattle.ac_meaning.specs.Environment.{State, under, value_at, leaving}
-use Rattle.ac_meaning.specs.Execution.{Outcome, outcome, turns, commanded, block_on, exec_resolved, in_order, guards_of_loop, key_end}
+use Rattle.ac_meaning.specs.Execution.{Outcome, outcome, commanded, block_on, exec_resolved, in_order, guards_of_loop, key_end}
 use Rattle.ac_meaning.specs.GuardedNames.{is_guarded, of_object, kept}
 use Rattle.ac_meaning.specs.Walks.{first_mark}
 use Rattle.ac_objects.specs.declared.blocks.UpdateKey.{UpdateKey}
@@ -78,7 +78,7 @@ pub record IsUpdating (w : World) (key : UpdateKey) : Type 0 where
   pub known : IsKnown w key.at
   pub inner : key.object < key.names
   pub guard : IsHeldAt (state_of w) key.object key.guard
-  pub cursors : key.guard.kind ≡ guard.Cursors
+  pub cursors : key.guard.kind ≡ Cursors
 
 -- in the middle of a whole: what is left of it, of the environment that stands
 

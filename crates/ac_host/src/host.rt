@@ -1,5 +1,5 @@
 //! The host: it runs statements in order, and writes the line of each command as soon as it has run.
-ghost use Rattle.std.specs.Prelude.{◌≡◌, ◌<◌, ◌++◌, [], ◌∷◌, ⊥, ℕ, List, take, Some};
+ghost use Rattle.std.specs.Prelude.{◌≡◌, ◌<◌, ◌++◌, [], ◌∷◌, ℕ, List, take, Some};
 ghost use Rattle.ac_base.specs.declared.reason.Reason.TheVariants.{NamesSpent};
 ghost use Rattle.ac_base.specs.declared.fault.Fault.TheVariants as fault;
 ghost use Rattle.ac_model.specs.Cursors.{plain_mark};

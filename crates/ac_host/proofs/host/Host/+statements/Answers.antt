@@ -1,9 +1,9 @@
-use Rattle.std.proofs.Common.{◌≡◌, ◌+◌, ◌<◌, ◌++◌, ◌∷◌, ℕ, List, [], take, drop, length, get_or, refl, sym, ap, subst, ◌∙◌, arith, Some, Ok, Err}
+use Rattle.std.proofs.Common.{◌≡◌, ◌+◌, ◌<◌, ◌++◌, ◌∷◌, [], take, drop, length, get_or, refl, sym, ap, subst, ◌∙◌, arith, Ok, Err}
 use Rattle.ac_check.specs.Resolved.{resolved_size, no_statement}
 use Rattle.ac_check.specs.ResolvedStatements.{resolved_before, resolved_of}
 use Rattle.ac_check.specs.declared.resolved.ResolvedStmt.{ResolvedStmt}
 use Rattle.ac_meaning.specs.Holdings.{number_of, names_of}
-use Rattle.ac_meaning.specs.Environment.{State, objects_by, leaving, object_at, mark_at, with_name, binds_element, binds_value, after_decls}
+use Rattle.ac_meaning.specs.Environment.{objects_by, leaving, object_at, mark_at, with_name, binds_element, binds_value, after_decls}
 use Rattle.ac_meaning.specs.Execution.{exec_resolved, guards_of_loop, guards_of_view, guards_of_stable, in_order, turns, turn_bound, scoped}
 use Rattle.ac_base.specs.declared.reason.Reason.TheVariants.{NamesSpent}
 use Rattle.ac_syntax.specs.declared.view_kind.ViewKind.TheVariants.{UpdateKey}
@@ -15,7 +15,7 @@ use Rattle.ac_objects.specs.World.{state_of}
 use Rattle.ac_model.specs.Cursors.{plain_mark}
 use Rattle.ac_model.specs.Letters.{mark_at as mark_of_name}
 use Rattle.ac_host.proofs.Blocks.{ran_inside, ran_as, ran_broke, ran_all, ran_line, there_within, many_names, many_under, leaving_held, leaving_named, counts_before, stable_held, view_held, loop_cursors_held, loop_elements_held, stable_comes, view_comes, view_refused, mark_under, loop_comes, decls_begin, declare_comes, declare_spent, declare_back, inner_by, loop_left}
-use Rattle.ac_host.specs.Running.{statement_outcome, inside, key_ending, Turning}
+use Rattle.ac_host.specs.Running.{statement_outcome, key_ending}
 use Rattle.ac_host.specs.Writing.{WroteSoFar}
 use Rattle.ac_meaning.specs.UnderGuards.{held_without}
 use Rattle.ac_host.proofs.Holding.{counts_back, leaving_counts, held_still, held_behind}
@@ -353,8 +353,11 @@ run_updated-end_update-requires g t c =
     let k = c.requires.updating in
     let ran = c.in-Ok.ensures.runs (guards_of_update_key c.args.key ++ k.guards) k.env k.stands in
     let leaves = c.in-Ok.ensures.leaves in
-    updating_goes_on c.args.body.now c.args.self.now.objects c.run_statements.new.self.objects c.args.key k ran.after leaves.counts
-    (leaves.persists c.args.key.at k.known)
+    record {
+      updating =
+          updating_goes_on c.args.body.now c.args.self.now.objects c.run_statements.new.self.objects c.args.key k ran.after leaves.counts
+          (leaves.persists c.args.key.at k.known);
+    }
 
 pub run_updated-abandon_update-requires : goal.run_updated-abandon_update-requires
 run_updated-abandon_update-requires g t c =

@@ -1,7 +1,6 @@
-use Rattle.std.proofs.Common.{◌≡◌, [], ap, subst, sym, ◌∙◌}
-use Rattle.ac_meaning.specs.Answers.{lines_text}
-use Rattle.ac_meaning.specs.Environment.{State, first_state, after_decls, nodes}
-use Rattle.ac_meaning.specs.Execution.{Outcome, run, text_of}
+use Rattle.std.proofs.Common.{[], ap, subst, ◌∙◌}
+use Rattle.ac_meaning.specs.Environment.{first_state, after_decls, nodes}
+use Rattle.ac_meaning.specs.Execution.{Outcome, text_of}
 use Rattle.ac_host.specs.declared.end.HostEnd.TheVariants.{NoMemory}
 use Rattle.ac_host.specs.Writing.{Broke, Wrote}
 use Rattle.ac_host.proofs.Scripts.{script_begins, comes_to, script_comes, script_text, nodes_under, writes_broke}
