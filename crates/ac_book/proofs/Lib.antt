@@ -1,4 +1,5 @@
 -- Proofs of task blocks.
+pub mod Alike
 pub mod Beginning
 pub mod Ending
 pub mod KindsKept

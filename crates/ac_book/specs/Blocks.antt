@@ -29,6 +29,11 @@ with_entries b more = record { queues = b.queues; code = b.code; history = b.his
 abbrev pub new_block : List TaskQueue → List TaskCode → Block
 new_block queues code = record { queues = queues; code = code; history = [] }
 
+-- they began with the same queues, and have the same code
+pub record SameStart (b other : Block) : Type 0 where
+  pub queues : b.queues ≡ other.queues
+  pub code : b.code ≡ other.code
+
 -- the steps of all tasks together
 abbrev pub commands_in : List TaskCode → ℕ
 commands_in code = sum_by (λ t. length t.steps) code

@@ -1,15 +1,18 @@
 //! A task block while it runs.
 ghost use Rattle.std.specs.Prelude.{◌≡◌, ◌<◌, ◌^◌, true, List, IfNone, IfSome, IfOk, map, length, get_or};
+ghost use Rattle.std.specs.Bool.{Decides};
 ghost use Rattle.std.specs.List.{All};
 ghost use Rattle.ac_book.specs.declared.entry.Entry.{Entry};
-ghost use Rattle.ac_book.specs.Blocks.{IsComplete, commands_in, new_block, opening, present, with_entries};
+ghost use Rattle.ac_book.specs.Blocks.{IsComplete, SameStart, commands_in, new_block, opening, present, with_entries};
 ghost use Rattle.ac_book.specs.Books.{CodeFits};
 ghost use Rattle.ac_book.specs.Histories.{IsLegal, entries_of, is_able, outcome, turn_told};
 ghost use Rattle.ac_book.specs.States.{TaskState, shared};
 
 use crate::code::TaskCode;
+use crate::copies::{copy_entries, copy_queues, copy_tasks};
 use crate::entry::{Entry, Turn};
-use crate::prepare::{begin, copies, items_added, reserve_all, steps_in};
+use crate::prepare::{begin, items_added, reserve_all, steps_in};
+use crate::same::{same_code, same_queues};
 use crate::step::would_wait;
 use crate::task::{Task, take_turn};
 use ac_base::NoMemory;
@@ -56,7 +59,7 @@ impl Book {
         ensures { IfOk result (λ made. made ≡ new_block (map shared queues.items) code.items) }
     {
         let mut queues = queues;
-        let opened = copies(alloc, &queues)?;
+        let opened = copy_queues(alloc, &queues)?;
         reserve_all(&mut queues, items_added(&code)?)?;
         let history = Vec::with_capacity(alloc, steps_in(&code)? as usize)?;
         let tasks = begin(alloc, code)?;
@@ -150,6 +153,33 @@ impl Book {
             }
         }
         None
+    }
+
+    /// Whether both have the same code, and had the same queues at first, whatever was done since.
+    pub fn same_start(&self, other: &Book) -> bool
+        ensures { Decides result (SameStart self.now other.now) }
+    {
+        if !same_queues(&self.opened, &other.opened) {
+            return false;
+        }
+        same_code(&self.tasks, &other.tasks)
+    }
+
+    /// The block again, as far as it has come, with room for all that it has still to do.
+    pub fn copy(&self) -> Result<Book, NoMemory>
+        ensures { IfOk result (λ made. made ≡ self.now) }
+    {
+        let alloc = *self.history.allocator();
+        let opened = copy_queues(alloc, &self.opened)?;
+        let queues = copy_queues(alloc, &self.queues)?;
+        let tasks = copy_tasks(alloc, &self.tasks)?;
+        let history = copy_entries(alloc, &self.history, self.history.capacity())?;
+        Ok(Book {
+            opened,
+            queues,
+            tasks,
+            history,
+        })
     }
 
     /// The queues as the history leaves them.

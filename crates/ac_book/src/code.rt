@@ -1,5 +1,7 @@
-ghost use Rattle.std.specs.Prelude.{◌≡◌};
+ghost use Rattle.std.specs.Prelude.{◌≡◌, IfOk};
 
+use ac_base::NoMemory;
+use std::alloc::Global;
 use std::marker::Model;
 
 /// A number, or the local of this number.
@@ -74,6 +76,14 @@ impl Steplist {
         ensures { result.now ≡ self.now }
     {
         &self.items
+    }
+
+    pub(crate) fn copy(&self, alloc: Global) -> Result<Steplist, NoMemory>
+        ensures { IfOk result (λ made. made ≡ self.now) }
+    {
+        Ok(Steplist {
+            items: Vec::from_slice(alloc, &self.items)?,
+        })
     }
 }
 

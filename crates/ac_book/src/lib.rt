@@ -4,11 +4,13 @@
 
 mod book;
 mod code;
+mod copies;
 mod entry;
 pub mod examples;
 mod law;
 mod one_queue;
 mod prepare;
+mod same;
 mod step;
 mod sum;
 mod task;

@@ -13,16 +13,6 @@ use ac_base::NoMemory;
 use ac_queue::AnyQueue;
 use std::alloc::Global;
 
-pub(crate) fn copies(alloc: Global, queues: &[AnyQueue]) -> Result<Vec<AnyQueue>, NoMemory>
-    ensures { IfOk result (λ made. made.items ≡ queues.now) }
-{
-    let mut made = Vec::with_capacity(alloc, queues.len())?;
-    for queue in queues {
-        made.push_reserved(queue.copy()?);
-    }
-    Ok(made)
-}
-
 /// Gives each queue room for so many items more.
 pub(crate) fn reserve_all(queues: &mut [AnyQueue], n: u64) -> Result<(), NoMemory>
     ensures shared { map shared queues.new ≡ map shared queues.old }

@@ -1,12 +1,14 @@
 //! A task in memory.
 ghost use Rattle.std.specs.Prelude.{◌≡◌, ◌+◌, ◌<◌, ℕ, IfSome, OnSome, IfErr, IfOk, ◌^◌, map, length};
+ghost use Rattle.std.specs.Bool.{Decides};
 ghost use Rattle.ac_book.specs.Running.{Fits, HaveSpare, IsTarget, added_next};
 ghost use Rattle.ac_book.specs.States.{begun, shared};
 ghost use Rattle.ac_book.specs.Steps.{advanced, kept, target_of};
-ghost use Rattle.ac_book.specs.Tasks.{TakesTurn, next_of};
+ghost use Rattle.ac_book.specs.Tasks.{TakesTurn, code_of, next_of};
 
 use crate::code::{Steplist, TaskCode, TaskStep};
 use crate::entry::{Entry, Reply, Turn};
+use crate::same::same_steps;
 use crate::step::run;
 use ac_base::NoMemory;
 use ac_queue::AnyQueue;
@@ -45,6 +47,27 @@ impl Task {
             place: 0,
             locals,
         })
+    }
+
+    /// The task again, with its place and its locals.
+    pub(crate) fn copy(&self, alloc: Global) -> Result<Task, NoMemory>
+        ensures { IfOk result (λ made. made ≡ self.now) }
+    {
+        Ok(Task {
+            steps: self.steps.copy(alloc)?,
+            place: self.place,
+            locals: Vec::from_slice(alloc, &self.locals)?,
+        })
+    }
+
+    /// Whether both have as many locals and the same steps, wherever they are.
+    pub(crate) fn has_same_code(&self, other: &Task) -> bool
+        ensures { Decides result (code_of self.now ≡ code_of other.now) }
+    {
+        if self.locals().len() != other.locals().len() {
+            return false;
+        }
+        same_steps(self.steps(), other.steps())
     }
 
     pub(crate) fn place(&self) -> u32

@@ -1,4 +1,4 @@
-ghost use Rattle.std.specs.Prelude.{◌≡◌, ◌∷◌, [], IfOk};
+ghost use Rattle.std.specs.Prelude.{◌≡◌, ◌∷◌, [], IfOk, length};
 
 use super::*;
 use ac_base::{Limit, NoMemory};
@@ -18,30 +18,69 @@ fn one_step(alloc: Global, step: TaskStep) -> Result<TaskCode, NoMemory>
     })
 }
 
-/// One task puts 7 into the queue, the other takes it out.
-#[test]
-fn an_item_is_passed_on(rt: HostRuntime) -> Result<(), Fail> {
-    let mut queues = Vec::new(rt.alloc());
-    queues.push(AnyQueue::Plain(Queue::new(rt.alloc(), Limit::Bounded(1))?))?;
-    let mut code = Vec::new(rt.alloc());
+/// One task puts an item into a queue, the other takes it out.
+fn passing_on(alloc: Global, item: i64) -> Result<Book, NoMemory>
+    ensures { IfOk result (λ made. length made.code ≡ 2) }
+{
+    let mut queues = Vec::new(alloc);
+    queues.push(AnyQueue::Plain(Queue::new(alloc, Limit::Bounded(1))?))?;
+    let mut code = Vec::new(alloc);
     code.push(one_step(
-        rt.alloc(),
+        alloc,
         TaskStep::Enqueue {
             line: 6,
             queue: 0,
-            item: TaskArg::Number(7),
+            item: TaskArg::Number(item),
         },
     )?)?;
     code.push(one_step(
-        rt.alloc(),
+        alloc,
         TaskStep::Dequeue {
             line: 11,
             queue: 0,
             into: None,
         },
     )?)?;
-    let mut book = Book::prepare(rt.alloc(), queues, code)?;
+    Book::prepare(alloc, queues, code)
+}
+
+#[test]
+fn an_item_is_passed_on(rt: HostRuntime) -> Result<(), Fail> {
+    let mut book = passing_on(rt.alloc(), 7)?;
     book.finish();
     assert!(rt; book.history().len() == 2);
+    Ok(())
+}
+
+#[test]
+fn a_copy_goes_on_as_its_original(rt: HostRuntime) -> Result<(), Fail> {
+    let mut book = passing_on(rt.alloc(), 7)?;
+    assert!(rt; book.turn(0) == Turn::Ran);
+    let mut other = book.copy()?;
+    assert!(rt; other.turn(1) == Turn::Ran);
+    assert!(rt; book.turn(1) == Turn::Ran);
+    assert!(rt; other.history() == book.history());
+    Ok(())
+}
+
+#[test]
+fn a_copy_is_finished_and_its_original_waits(rt: HostRuntime) -> Result<(), Fail> {
+    let mut book = passing_on(rt.alloc(), 7)?;
+    let mut other = book.copy()?;
+    other.finish();
+    assert!(rt; other.history().len() == 2);
+    assert!(rt; book.history().is_empty());
+    assert!(rt; book.turn(1) == Turn::Waits);
+    book.finish();
+    assert!(rt; other.history() == book.history());
+    Ok(())
+}
+
+#[test]
+fn books_begin_alike_where_their_code_is_one(rt: HostRuntime) -> Result<(), Fail> {
+    let mut book = passing_on(rt.alloc(), 7)?;
+    book.finish();
+    assert!(rt; book.same_start(&passing_on(rt.alloc(), 7)?));
+    assert!(rt; !book.same_start(&passing_on(rt.alloc(), 8)?));
     Ok(())
 }
