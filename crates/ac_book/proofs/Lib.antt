@@ -6,4 +6,5 @@ pub mod KindsKept
 pub mod Left
 pub mod LegalHistories
 pub mod Shared
+pub mod Starts
 pub mod Turning

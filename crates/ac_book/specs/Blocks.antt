@@ -1,10 +1,10 @@
 -- A task block: the queues that it began with, its tasks, and the history of what was done.
-use Rattle.std.specs.Prelude.{◌≡◌, ◌<◌, ℕ, false, List, [], ◌++◌, length}
+use Rattle.std.specs.Prelude.{◌≡◌, ◌<◌, ℕ, false, List, [], ◌∷◌, ◌++◌, length}
 use Rattle.std.specs.List.{sum_by}
 use Rattle.std.specs.Coded.{Coded, codes}
 use Rattle.ac_book.specs.declared.code.TaskCode.{TaskCode}
 use Rattle.ac_book.specs.declared.entry.Entry.{Entry}
-use Rattle.ac_book.specs.Histories.{is_able, replay}
+use Rattle.ac_book.specs.Histories.{entries_of, is_able, outcome, replay}
 use Rattle.ac_book.specs.States.{State, TaskQueue, opening_state}
 
 pub record Block : Type 0 where
@@ -28,6 +28,11 @@ with_entries b more = record { queues = b.queues; code = b.code; history = b.his
 -- nothing was done yet
 abbrev pub new_block : List TaskQueue → List TaskCode → Block
 new_block queues code = record { queues = queues; code = code; history = [] }
+
+-- the block after turns of these tasks, one after another
+abbrev pub after_turns : Block → List ℕ → Block
+after_turns b [] = b
+after_turns b (task ∷ tasks) = after_turns (with_entries b (entries_of (outcome (present b) task))) tasks
 
 -- they began with the same queues, and have the same code
 pub record SameStart (b other : Block) : Type 0 where

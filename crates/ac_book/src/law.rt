@@ -1,6 +1,7 @@
-//! What holds of histories.
+//! What holds of histories, and of blocks that began alike.
 ghost use Rattle.std.specs.Prelude.{◌≡◌, ◌++◌, [], List, ℕ};
 ghost use Rattle.ac_book.specs.declared.entry.Entry.{Entry};
+ghost use Rattle.ac_book.specs.Blocks.{Block, SameStart, after_turns, with_entries};
 ghost use Rattle.ac_book.specs.Histories.{IsLegal, Turned, begun_at, turned, replay};
 ghost use Rattle.ac_book.specs.States.{State};
 
@@ -17,4 +18,17 @@ pub fn in_parts()
         IsLegal start first → IsLegal (replay start first) second → IsLegal start (first ++ second) }
     ensures replayed { (start : State) (first second : List Entry) →
         replay start (first ++ second) ≡ replay (replay start first) second }
+{}
+
+/// To have begun alike is an equivalence.
+pub fn begun_alike()
+    ensures with_itself { (b : Block) → SameStart b b }
+    ensures turned_round { (b other : Block) → SameStart b other → SameStart other b }
+    ensures passed_on { (b other third : Block) → SameStart b other → SameStart other third → SameStart b third }
+{}
+
+/// A block has begun as it did, whatever was done since.
+pub fn start_stays()
+    ensures any_entries { (b : Block) (more : List Entry) → SameStart (with_entries b more) b }
+    ensures any_turns { (b : Block) (tasks : List ℕ) → SameStart (after_turns b tasks) b }
 {}

@@ -18,7 +18,7 @@ mod task;
 pub use book::Book;
 pub use code::{Steplist, TaskArg, TaskCode, TaskStep};
 pub use entry::{Entry, Reply, Turn};
-pub use law::{every_list_of_turns, in_parts};
+pub use law::{begun_alike, every_list_of_turns, in_parts, start_stays};
 
 #[cfg(test)]
 mod tests;
