@@ -1,5 +1,5 @@
 -- Blocks that began alike.
-use Rattle.std.proofs.Common.{◌≡◌, ℕ, List, [], ◌∷◌, refl, sym, ◌∙◌}
+use Rattle.std.proofs.Common.{ℕ, List, [], ◌∷◌, refl, sym, ◌∙◌}
 use Rattle.ac_book.specs.Blocks.{Block, SameStart, after_turns, present, with_entries}
 use Rattle.ac_book.specs.Histories.{outcome, entries_of}
 

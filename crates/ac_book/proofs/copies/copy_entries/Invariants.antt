@@ -1,4 +1,4 @@
-use Rattle.std.proofs.Common.{◌≡◌, take, length, vec_len}
+use Rattle.std.proofs.Common.{◌≡◌, take, vec_len}
 use Rattle.std.specs.Vec.{vec_capacity}
 use Rattle.ac_book.proofs.copies.copy_entries.Given as goal
 
