@@ -1,4 +1,5 @@
 pub mod Children
+pub mod Counting
 pub mod Forests
 pub mod Holes
 pub mod Inserting

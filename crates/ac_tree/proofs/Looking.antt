@@ -1,7 +1,7 @@
 -- What the questions about a node answer, from its links.
-use Rattle.std.proofs.Common.{◌≡◌, ℕ, suc, ◌+◌, Bool, true, false, ◌||◌, List, [], ◌∷◌, ◌++◌, length, reverse, Option, Some, None, is_none, Ok, Bor, refl, sym, ap, ◌∙◌, subst, inl, inr, arith, eq-eqb, ne_eqb}
+use Rattle.std.proofs.Common.{◌≡◌, ℕ, ℤ, pos, suc, ◌+◌, Bool, true, false, ◌||◌, List, [], ◌∷◌, ◌++◌, length, reverse, Option, Some, None, is_none, Ok, Bor, refl, sym, ap, ◌∙◌, subst, inl, inr, arith, eq-eqb, ne_eqb}
 use Rattle.std.specs.Prelude.{◌==◌, slice_get}
-use Rattle.std.specs.Option.{option_map}
+use Rattle.std.specs.Option.{ForSome, option_map}
 use Rattle.std.proofs.lemmas.Bool.{cond-true, cond-false, cases_Bool}
 use Rattle.ac_base.specs.declared.name.Name.{Name}
 use Rattle.ac_base.specs.declared.cursor.Cursor.{Cursor}
@@ -169,6 +169,20 @@ module _ {X : Type 0} (l : Links X) (s : IsForest l) (o : Object Name (Node X)) 
     ap (λ m. first_reason (m ∷ [])) (may_needed l s o rows_is c h),
     e ∙ leaf_here c at name h is found ∙ sym (ap (λ m. unless_none m false (trees.is_leaf (plain o) (tree_mark o c))) (at_node l s o rows_is c h).mark),
   )
+
+  pub child_count_looks : (c : Cursor) (at : Option Name) (n : ℕ) (r : ℤ) → needs_node (plain o) (tree_mark o c) ≡ None → at ≡ node_in c → n ≡ length (children_of (plains (outline 2 (forest_in l))) (serial_in at)) → r ≡ pos n
+      → Looking Same (trees.child_count_call (plain o) (tree_mark o c)) (Ok r)
+  child_count_looks c at n r h is found e =
+      let count : n ≡ length (children_of (plain o).rows (name_of (tree_mark o c))) =
+      found ∙ ap (λ a. length (children_of (plains (outline 2 (forest_in l))) (serial_in a))) is ∙ sym (ap (λ k. length (children_of (plains k) (serial_in (node_in c)))) rows_is)
+      ∙ sym (ap (λ m. length (children_of (plain o).rows (name_of m))) (at_node l s o rows_is c h).mark) in (
+        ap (λ m. first_reason (m ∷ [])) h,
+        e ∙ ap pos count,
+      )
+
+  -- the node at a cursor is live
+  pub node_live : (c : Cursor) (at : Option Name) → needs_node (plain o) (tree_mark o c) ≡ None → at ≡ node_in c → ForSome at (IsLive l.nodes)
+  node_live c at h is = λ a e. (at_node l s o rows_is c h).live a (sym is ∙ e)
 
   -- the root, and No_Element, have neither a parent nor siblings
   pub parent_of_none : (c : Cursor) (r : Cursor) → may_node (plain o) (tree_mark o c) ≡ None → None ≡ node_in c → r ≡ NoElement → Looking (NodeMarks o) (trees.parent_call (plain o) (tree_mark o c)) (Ok r)

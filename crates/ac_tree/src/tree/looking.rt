@@ -9,6 +9,7 @@ ghost use Rattle.ac_tree.specs.TreeCursors.{seen_by, NodeMarks};
 
 use super::Tree;
 use super::cursors::{is_root, node_in};
+use crate::counts::{as_number, count_children};
 use ac_base::{Cursor, Fault};
 use ac_model::{allowed, name_in};
 
@@ -45,6 +46,14 @@ impl<T> Tree<T> {
         }
         allowed(self.needs_node(c))?;
         Ok(self.links.first_child(node_in(c)).is_none())
+    }
+
+    /// Child_Count (A.18.10).
+    pub fn child_count(&self, c: Cursor) -> Result<i64, Fault>
+        ensures { Looks Same (λ o. trees.child_count_call o (seen_by self.now c)) self.now result }
+    {
+        allowed(self.needs_node(c))?;
+        Ok(as_number(count_children(&self.links, node_in(c))))
     }
 
     /// Element (A.18.10).
