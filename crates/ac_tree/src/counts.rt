@@ -2,7 +2,7 @@
 ghost use Rattle.std.specs.Prelude.{◌≡◌, ◌+◌, ◌^◌, ◌≤◌, length, pos};
 ghost use Rattle.std.specs.Option.{ForSome};
 ghost use Rattle.ac_model.specs.Objects.{plains};
-ghost use Rattle.ac_model.specs.Outline.{children_of};
+ghost use Rattle.ac_model.specs.Outline.{children_of, depth_of};
 ghost use Rattle.ac_pool.specs.Contents.{IsLive};
 ghost use Rattle.ac_tree.specs.TreeCursors.{serial_in};
 ghost use Rattle.ac_tree.specs.TreeFields.{IsForest};
@@ -25,6 +25,22 @@ pub fn count_children<T>(links: &Links<T>, parent: Option<Name>) -> u64
         place = links.next(name);
     }
     count
+}
+
+/// The depth of a node, where the root's is 1.
+pub fn depth<T>(links: &Links<T>, node: Option<Name>) -> u64
+    requires forest { IsForest links.now }
+    requires live { ForSome node (IsLive links.now.nodes) }
+    ensures depth { result ≡ depth_of (plains (rows_of links.now).rows) (serial_in node) }
+    ensures few { result ≤ 2 ^ 30 + 1 }
+{
+    let mut depth = 1;
+    let mut place = node;
+    while let Some(name) = place {
+        depth += 1;
+        place = links.parent(name);
+    }
+    depth
 }
 
 /// A count as a call answers it.

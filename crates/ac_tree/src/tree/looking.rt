@@ -9,7 +9,7 @@ ghost use Rattle.ac_tree.specs.TreeCursors.{seen_by, NodeMarks};
 
 use super::Tree;
 use super::cursors::{is_root, node_in};
-use crate::counts::{as_number, count_children};
+use crate::counts::{as_number, count_children, depth};
 use ac_base::{Cursor, Fault};
 use ac_model::{allowed, name_in};
 
@@ -46,6 +46,17 @@ impl<T> Tree<T> {
         }
         allowed(self.needs_node(c))?;
         Ok(self.links.first_child(node_in(c)).is_none())
+    }
+
+    /// Depth (A.18.10): the root's is 1.
+    pub fn depth(&self, c: Cursor) -> Result<i64, Fault>
+        ensures { Looks Same (λ o. trees.depth_call o (seen_by self.now c)) self.now result }
+    {
+        if c == Cursor::NoElement {
+            return Ok(0);
+        }
+        allowed(self.needs_node(c))?;
+        Ok(as_number(depth(&self.links, node_in(c))))
     }
 
     /// Child_Count (A.18.10).
