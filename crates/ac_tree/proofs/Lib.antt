@@ -14,4 +14,5 @@ pub mod Replacing
 pub mod Spots
 pub mod Standing
 pub mod Steps
+pub mod Swapping
 pub mod Writes

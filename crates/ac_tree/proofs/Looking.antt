@@ -283,7 +283,7 @@ module _ {X : Type 0} (l : Links X) (s : IsForest l) (o : Object Name (Node X)) 
             ∙ spot_mark (plain o) (slice_get (reverse (elders k.steps)) 0) ∙ ap (mark_named o.number) (prev_elder k.steps)),
       )
 
-  value_of_name : (c : Cursor) (e : At_element l s o rows_is c) → (k : At_place l e.name) → trees.element_of (value_at (plain o).rows (name_of (tree_mark o c))) ≡ Some k.at.value
+  pub value_of_name : (c : Cursor) (e : At_element l s o rows_is c) → (k : At_place l e.name) → trees.element_of (value_at (plain o).rows (name_of (tree_mark o c))) ≡ Some k.at.value
   value_of_name c e k =
       ap (λ m. trees.element_of (value_at (plain o).rows (name_of m))) e.mark
       ∙ ap (λ z. trees.element_of (value_at (plains z) e.name.serial)) (rows_is ∙ ap (outline 2) (sym k.is))

@@ -30,6 +30,7 @@ use Rattle.ac_tree.specs.TreeFields.{links, StandsFor, forest_in, written, writt
 use Rattle.ac_tree.specs.TreeRows.{rows_of, tree_object, IsTree}
 use Rattle.ac_tree.proofs.Places.{IsAround, outline_plugged, plugged_has, around_has, plugged_either, plugged_size, size_is, parted, has}
 use Rattle.ac_tree.proofs.Places as places
+use Rattle.ac_tree.proofs.Writes.{keeps_at}
 use Rattle.ac_tree.proofs.Forests.{live_of, revalued_stands, forest-is}
 use Rattle.ac_tree.proofs.Objects.{tree_from}
 use Rattle.ac_tree.proofs.Outlines.{seen, seen-append, before_out, forest_out, IsAlone}
@@ -38,7 +39,7 @@ use Rattle.ac_tree.proofs.Judging.{at_element}
 use Rattle.ac_tree.proofs.Looking.{at_place, value_at_place}
 
 module _ {X : Type 0} where
-  written_is : (c : Contents (TreeNode X)) (a : Name) (w : TreeNode X → TreeNode X) (n : TreeNode X) → value_of c a ≡ Some n → written_at c a w ≡ pool.with_value c a (w n)
+  pub written_is : (c : Contents (TreeNode X)) (a : Name) (w : TreeNode X → TreeNode X) (n : TreeNode X) → value_of c a ≡ Some n → written_at c a w ≡ pool.with_value c a (w n)
   unfolding written_at
   written_is c a w n is = ap (written c a w) is
 
@@ -118,6 +119,33 @@ module _ {X : Type 0} where
   names_kept : (a : Name) (steps : List (Step X)) (x : Row Name X) (below rest : Forest X) (w : X) → Has a (plugged steps (grove (row x.name w) below rest)) → Has a (plugged steps (grove x below rest))
   names_kept a steps x below rest w h = elim (plugged_either steps (grove (row x.name w) below rest) a h) [ inl k ↦ plugged_has steps (grove x below rest) a k | inr k ↦ around_has steps (grove x below rest) a k ]
 
+  -- the tree with another value under the name
+  pub record Reset (g : GuardCounts) (limit : Limit) (l : Links X) (a : Name) (w : X) (m : Links X) : Type 0 where
+    pub tree : IsTree limit m
+    pub plainly : plain (tree_object g limit m) ≡ with_rows (plain (tree_object g limit l)) (trees.with_element (plain (tree_object g limit l)).rows a.serial (Some w))
+    pub kept : (b : Name) → HasName b (outline 2 (forest_in m)) → HasName b (outline 2 (forest_in l))
+    pub live : (b : Name) → IsLive l.nodes b → IsLive m.nodes b
+    pub spare : m.nodes.spare ≡ l.nodes.spare
+
+  pub reset : (g : GuardCounts) (limit : Limit) (l : Links X) → IsTree limit l → (a : Name) → IsLive l.nodes a → (w : X) → Reset g limit l a w (links (written_at l.nodes a (value_put w)) l.first l.last)
+  reset g limit l t a live w =
+      let k = at_place l t.forest a live in
+      let r = revalued_is l w a k.steps k.at k.below k.rest k.stands k.named in
+      let m = links (written_at l.nodes a (value_put w)) l.first l.last in
+      let old : outline 2 (forest_in l) ≡ outline 2 (plugged k.steps (grove k.at k.below k.rest)) = ap (outline 2) (sym k.is) in
+      let new : outline 2 (forest_in m) ≡ outline 2 (plugged k.steps (grove (row k.at.name w) k.below k.rest)) = ap (outline 2) (forest-is m _ r.stands) in
+      let serial : a.serial ≡ k.at.name.serial = ap (λ (n : Name). n.serial) (sym k.named) in
+      let rows : plains (outline 2 (forest_in m)) ≡ trees.with_element (plains (outline 2 (forest_in l))) a.serial (Some w) =
+      ap plains new ∙ sym (rows_set l k.steps k.at k.below k.rest w k.stands k.alone)
+      ∙ sym (ap (λ v. with_some_value (plains (outline 2 (plugged k.steps (grove k.at k.below k.rest)))) k.at.name.serial (option_map (λ (n : Node X). node n.depth w) v)) (value_at_place k.steps k.at k.below k.rest k.alone))
+      ∙ sym (λ i. trees.with_element (plains (old i)) (serial i) (Some w)) in record {
+        tree = revalued_tree limit l w a k.steps k.at k.below k.rest t k.stands r;
+        plainly = λ i. record { number = g.number; limit = limit; capacity = None; next = r.next i; rows = rows i; cursor_guards = g.cursor_guards; element_guards = g.element_guards };
+        kept = λ b q. places.named b 2 (forest_in l) (subst (λ z. Has b z) k.is (names_kept b k.steps k.at k.below k.rest w (has b 2 _ (subst (λ z. HasName b z) new q))));
+        live = λ b h. (keeps_at l.nodes a (value_put w)).live b ∙ h;
+        spare = r.spare;
+      }
+
   pub revalued_after : (g : GuardCounts) (limit : Limit) (l : Links X) (t : IsTree limit l) (w : X) (c : Cursor) (h : needs_element (plain (tree_object g limit l)) (tree_mark (tree_object g limit l) c) ≡ None) (a : Name) → a ≡ name_in c
       → IsTree limit (links (written_at l.nodes a (value_put w)) l.first l.last)
       × IsAfter (tree_object g limit l) (tree_object g limit (links (written_at l.nodes a (value_put w)) l.first l.last))
@@ -126,22 +154,14 @@ module _ {X : Type 0} where
   revalued_after g limit l t w c h a is =
       let o = tree_object g limit l in
       let e = at_element l t.forest o refl c h in
-      let k = at_place l t.forest e.name e.live in
-      let named : k.at.name ≡ a = k.named ∙ sym (is ∙ e.is) in
-      let r = revalued_is l w a k.steps k.at k.below k.rest k.stands named in
+      let named : e.name ≡ a = sym (is ∙ e.is) in
+      let r = reset g limit l t a (subst (λ n. IsLive l.nodes n) named e.live) w in
       let m = links (written_at l.nodes a (value_put w)) l.first l.last in
-      let old : outline 2 (forest_in l) ≡ outline 2 (plugged k.steps (grove k.at k.below k.rest)) = ap (outline 2) (sym k.is) in
-      let new : outline 2 (forest_in m) ≡ outline 2 (plugged k.steps (grove (row k.at.name w) k.below k.rest)) = ap (outline 2) (forest-is m _ r.stands) in
-      let serial : name_of (tree_mark o c) ≡ k.at.name.serial = ap name_of e.mark ∙ ap (λ (n : Name). n.serial) (sym k.named) in
-      let rows : plains (outline 2 (forest_in m)) ≡ trees.with_element (plains (outline 2 (forest_in l))) (name_of (tree_mark o c)) (Some w) =
-      ap plains new ∙ sym (rows_set l k.steps k.at k.below k.rest w k.stands k.alone)
-      ∙ sym (ap (λ v. with_some_value (plains (outline 2 (plugged k.steps (grove k.at k.below k.rest)))) k.at.name.serial (option_map (λ (n : Node X). node n.depth w) v)) (value_at_place k.steps k.at k.below k.rest k.alone))
-      ∙ sym (λ i. trees.with_element (plains (old i)) (serial i) (Some w)) in (
-        revalued_tree limit l w a k.steps k.at k.below k.rest t k.stands r,
+      let serial : name_of (tree_mark o c) ≡ a.serial = ap name_of e.mark ∙ ap (λ (n : Name). n.serial) named in (
+        r.tree,
         record {
-          plainly = λ i. record { number = g.number; limit = limit; capacity = None; next = r.next i; rows = rows i; cursor_guards = g.cursor_guards; element_guards = g.element_guards };
-          slots = all_from (λ name. name.serial < l.nodes.next_serial → IsTrue (is_among (names (outline 2 (forest_in l))) name)) (outline 2 (forest_in m)) (λ b q lt.
-              has_among b (outline 2 (forest_in l)) (places.named b 2 (forest_in l) (subst (λ z. Has b z) k.is (names_kept b k.steps k.at k.below k.rest w (has b 2 _ (subst (λ z. HasName b z) new q))))));
+          plainly = r.plainly ∙ sym (ap (λ n. with_rows (plain o) (trees.with_element (plain o).rows n (Some w))) serial);
+          slots = all_from (λ name. name.serial < l.nodes.next_serial → IsTrue (is_among (names (outline 2 (forest_in l))) name)) (outline 2 (forest_in m)) (λ b q lt. has_among b (outline 2 (forest_in l)) (r.kept b q));
         },
         r.spare,
       )

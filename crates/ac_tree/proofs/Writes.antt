@@ -43,7 +43,7 @@ module _ {X : Type 0} where
   keeps_written c a w None is = keeps_itself c
   keeps_written c a w (Some n) is = keeps_value c a n (w n) is
 
-  keeps_at : (c : Contents (TreeNode X)) (a : Name) (w : TreeNode X → TreeNode X) → Keeps c (written_at c a w)
+  pub keeps_at : (c : Contents (TreeNode X)) (a : Name) (w : TreeNode X → TreeNode X) → Keeps c (written_at c a w)
   unfolding written_at
   keeps_at c a w = keeps_written c a w (value_of c a) refl
 

@@ -2,10 +2,11 @@
 use Rattle.std.specs.Prelude.{◌≡◌, ℕ, zero, suc, List, [], ◌∷◌, Option, Some, None}
 use Rattle.ac_base.specs.declared.name.Name.{Name}
 use Rattle.ac_base.specs.Rows.{row}
-use Rattle.ac_pool.specs.Contents.{Contents, value_of, with_value, no_values, IsLive, live_count, IsSound}
+use Rattle.ac_pool.specs.Contents.{Contents, value_of, with_value, swapped, no_values, IsLive, live_count, IsSound}
 use Rattle.ac_pool.specs.Link.{link_of, name_in}
 use Rattle.ac_tree.specs.declared.links.TreeNode.{TreeNode}
 use Rattle.ac_tree.specs.declared.links.Links.{Links}
+use Rattle.ac_tree.specs.declared.links.NodeLinks.{NodeLinks}
 use Rattle.ac_tree.specs.Forests.{Forest, bare, grove, size, first_in, or_name, last_in, Has, Once, Step, under, after, parent_in, prev_in}
 
 module _ {X : Type 0} where
@@ -128,6 +129,18 @@ module _ {X : Type 0} where
 
   unfoldable pub written_at : Contents (TreeNode X) → Name → (TreeNode X → TreeNode X) → Contents (TreeNode X)
   written_at c a w = written c a w (value_of c a)
+
+  -- all links of a node, and the node with others
+  abbrev pub links_in : Option (TreeNode X) → NodeLinks
+  links_in o = record { parent = parent_link o; first = first_link o; last = last_link o; prev = prev_link o; next = next_link o }
+
+  abbrev pub links_put : NodeLinks → TreeNode X → TreeNode X
+  links_put to n = node_with n.value to.parent to.first to.last to.prev to.next
+
+  -- the values of two nodes change places, and their links stay
+  unfoldable pub exchanged_in : Links X → Name → Name → Links X
+  exchanged_in l a b =
+      links (written_at (written_at (swapped l.nodes a b) a (links_put (links_in (value_of l.nodes a)))) b (links_put (links_in (value_of l.nodes b)))) l.first l.last
 
   -- the node before a place, or the parent where there is none, leads to another node there
   unfoldable pub with_next : Links X → Option Name → Option Name → Option Name → Links X

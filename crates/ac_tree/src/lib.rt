@@ -7,5 +7,5 @@ mod links;
 mod tree;
 
 #[doc(hidden)]
-pub use links::{Links, TreeNode};
+pub use links::{Links, NodeLinks, TreeNode};
 pub use tree::Tree;

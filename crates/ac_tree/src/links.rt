@@ -8,7 +8,7 @@ ghost use Rattle.ac_model.specs.Containers.{first_spare};
 ghost use Rattle.ac_pool.specs.Link.{link_of, name_in};
 ghost use Rattle.ac_tree.specs.Inserting.{Inserts, Reserves};
 ghost use Rattle.ac_tree.specs.Removing.{Removes};
-ghost use Rattle.ac_tree.specs.TreeFields.{parent_link, first_link, last_link, prev_link, next_link, parent_of, first_of, last_of, prev_of, next_of, prev_before, first_put, last_put, prev_put, next_put, written_at, with_next, with_prev, tied, closed, links, value_put, IsEmptied};
+ghost use Rattle.ac_tree.specs.TreeFields.{parent_link, first_link, last_link, prev_link, next_link, parent_of, first_of, last_of, prev_of, next_of, prev_before, first_put, last_put, prev_put, next_put, written_at, with_next, with_prev, tied, closed, links, value_put, links_in, links_put, exchanged_in, IsEmptied};
 
 use ac_base::{Limit, Name, NoMemory};
 use ac_pool::{NO_SLOT, Pool, link_to};
@@ -18,6 +18,16 @@ use std::alloc::Global;
 pub struct TreeNode<T> {
     pub value: T,
     /// Of a child of the root it leads to no node.
+    pub parent: u32,
+    pub first: u32,
+    pub last: u32,
+    pub prev: u32,
+    pub next: u32,
+}
+
+/// The links of a node.
+#[derive(Clone, Copy)]
+pub struct NodeLinks {
     pub parent: u32,
     pub first: u32,
     pub last: u32,
@@ -229,6 +239,54 @@ impl<T> Links<T> {
     {
         self.set_next(parent, prev, next);
         self.set_prev(parent, next, prev);
+    }
+
+    /// The links of the name's node, which lead to no node where it isn't live.
+    fn node_links(&self, name: Name) -> NodeLinks
+        ensures { result ≡ links_in (value_of self.now.nodes name) }
+    {
+        match self.nodes.get(name) {
+            Some(node) => NodeLinks {
+                parent: node.parent,
+                first: node.first,
+                last: node.last,
+                prev: node.prev,
+                next: node.next,
+            },
+            None => NodeLinks {
+                parent: NO_SLOT,
+                first: NO_SLOT,
+                last: NO_SLOT,
+                prev: NO_SLOT,
+                next: NO_SLOT,
+            },
+        }
+    }
+
+    /// Gives the name's node other links.
+    #[tactic(auto, unfolding(crate::specs::TreeFields::written_at))]
+    fn set_links(&mut self, name: Name, to: NodeLinks)
+        ensures { self.new ≡ links (written_at self.old.nodes name (links_put to)) self.old.first self.old.last }
+    {
+        if let Some(node) = self.nodes.get_mut(name) {
+            node.parent = to.parent;
+            node.first = to.first;
+            node.last = to.last;
+            node.prev = to.prev;
+            node.next = to.next;
+        }
+    }
+
+    /// Exchanges the values of two nodes, which keep their links.
+    #[tactic(auto, unfolding(crate::specs::TreeFields::exchanged_in))]
+    pub fn exchange(&mut self, a: Name, b: Name)
+        ensures { self.new ≡ exchanged_in self.old a b }
+    {
+        let at_a = self.node_links(a);
+        let at_b = self.node_links(b);
+        self.nodes.swap(a, b);
+        self.set_links(a, at_a);
+        self.set_links(b, at_b);
     }
 }
 

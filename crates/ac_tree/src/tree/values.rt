@@ -19,6 +19,38 @@ impl<T> Tree<T> {
     {
         first_reason(&[self.guards.forbids(Class::Elements), self.needs_element(c)])
     }
+
+    fn refuses_swap(&self, first: Cursor, second: Cursor) -> Option<Reason>
+        ensures { result ≡ first_reason (tampers_elements (plain self.now.object)
+            ∷ trees.needs_element (plain self.now.object) (seen_by self.now first)
+            ∷ trees.needs_element (plain self.now.object) (seen_by self.now second) ∷ []) }
+    {
+        first_reason(&[
+            self.guards.forbids(Class::Elements),
+            self.needs_element(first),
+            self.needs_element(second),
+        ])
+    }
+
+    /// Swap (A.18.10): the two elements change places, and each node keeps its name and its links.
+    pub fn swap(&mut self, first: Cursor, second: Cursor) -> Result<(), Fault>
+        ensures changed { Does Same (λ o. trees.swap_call o (seen_by self.old first) (seen_by self.old second)) self.old self.new result }
+        ensures spare { self.new.spare ≡ self.old.spare }
+    {
+        allowed(self.refuses_swap(first, second))?;
+        self.exchange(first, second);
+        Ok(())
+    }
+
+    fn exchange(&mut self, first: Cursor, second: Cursor)
+        requires first { trees.needs_element (plain self.old.object) (seen_by self.old first) ≡ None }
+        requires second { trees.needs_element (plain self.old.object) (seen_by self.old second) ≡ None }
+        ensures written { IsAfter self.old.object self.new.object
+            (trees.swap_call (plain self.old.object) (seen_by self.old first) (seen_by self.old second)).after }
+        ensures spare { self.new.spare ≡ self.old.spare }
+    {
+        self.links.exchange(name_in(first), name_in(second));
+    }
 }
 
 impl<T: Drop> Tree<T> {
