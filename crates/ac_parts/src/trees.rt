@@ -64,3 +64,27 @@ fn a_bounded_tree_uses_its_memory_again(rt: HostRuntime) {
     assert!(rt; tree.append_child(root, 3, 1).is_ok());
     assert!(rt; holds(&tree, root, &[1, 3]));
 }
+
+/// So many nodes, each the only child of the one before, and the last one's cursor.
+fn deepen(tree: &mut Tree<i64>, n: u64) -> Cursor {
+    let mut c = tree.root();
+    for _ in 0..n {
+        let mut below = c;
+        if tree
+            .insert_child_pos(c, Cursor::NoElement, 1, &mut below, 1)
+            .is_err()
+        {
+            return c;
+        }
+        c = below;
+    }
+    c
+}
+
+#[test]
+fn a_deep_tree_is_counted_within_the_stack(rt: HostRuntime) {
+    let mut tree = made(&rt, rt.alloc(), Limit::Unbounded);
+    let deepest = deepen(&mut tree, 100_000);
+    assert!(rt; tree.depth(deepest).ok() == Some(100_001));
+    assert!(rt; tree.subtree_node_count(tree.root()).ok() == Some(100_001));
+}

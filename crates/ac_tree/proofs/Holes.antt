@@ -55,7 +55,7 @@ module _ {X : Type 0} where
     pub start : run_start (plains (outline 2 (plugged steps below))) (serial_in node_name) ≡ length (before_in steps)
     pub first : first_of l node_name ≡ first_in below
 
-  length_seen : (rows : List (Row Name (Node X))) → length (seen rows) ≡ length rows
+  pub length_seen : (rows : List (Row Name (Node X))) → length (seen rows) ≡ length rows
   length_seen rows = length-map (plains rows) spot ∙ length-map rows (λ (r : Row Name (Node X)). row r.name.serial r.value)
 
   pub under_root : (l : Links X) → IsForest l → Under l None

@@ -1,5 +1,6 @@
 pub mod Children
 pub mod Counting
+pub mod Following
 pub mod Forests
 pub mod Holes
 pub mod Inserting

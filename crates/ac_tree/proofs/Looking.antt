@@ -14,7 +14,7 @@ use Rattle.ac_model.specs.Objects.{Object, plain, plains}
 use Rattle.ac_model.specs.Letters.{no_mark, mark_at, name_of}
 use Rattle.ac_model.specs.Cursors.{cursor_at, name_in}
 use Rattle.ac_model.specs.Calls.{Looking, Same, Lends}
-use Rattle.ac_model.specs.Outline.{depth_of, children_of, parent_of, siblings_of, siblings_by, next_after, last_before, is_in}
+use Rattle.ac_model.specs.Outline.{depth_of, subtree_length, children_of, parent_of, siblings_of, siblings_by, next_after, last_before, is_in}
 use Rattle.ac_model.specs.Trees as trees
 use Rattle.ac_model.specs.Trees.{tree_mark, needs_node, may_node, needs_element, is_root, mark_of_spot, unless_none}
 use Rattle.ac_tree.specs.declared.links.TreeNode.{TreeNode}
@@ -188,6 +188,16 @@ module _ {X : Type 0} (l : Links X) (s : IsForest l) (o : Object Name (Node X)) 
       ∙ sym (ap (λ m. depth_of (plain o).rows (name_of m)) (at_node l s o rows_is c h).mark) in (
         ap (λ m. first_reason (m ∷ [])) (may_needed l s o rows_is c h),
         e ∙ ap pos depth ∙ sym (ap (λ m. unless_none m (pos 0) (pos (depth_of (plain o).rows (name_of (tree_mark o c))))) (at_node l s o rows_is c h).mark),
+      )
+
+  pub subtree_looks : (c : Cursor) (at : Option Name) (n : ℕ) (r : ℤ) → needs_node (plain o) (tree_mark o c) ≡ None → at ≡ node_in c → n ≡ subtree_length (plains (outline 2 (forest_in l))) (serial_in at) → r ≡ pos n
+      → Looking Same (trees.subtree_node_count_call (plain o) (tree_mark o c)) (Ok r)
+  subtree_looks c at n r h is found e =
+      let count : n ≡ subtree_length (plain o).rows (name_of (tree_mark o c)) =
+      found ∙ ap (λ a. subtree_length (plains (outline 2 (forest_in l))) (serial_in a)) is ∙ sym (ap (λ k. subtree_length (plains k) (serial_in (node_in c))) rows_is)
+      ∙ sym (ap (λ m. subtree_length (plain o).rows (name_of m)) (at_node l s o rows_is c h).mark) in (
+        ap (λ m. first_reason (m ∷ [])) (may_needed l s o rows_is c h),
+        e ∙ ap pos count ∙ sym (ap (λ m. unless_none m (pos 0) (pos (subtree_length (plain o).rows (name_of (tree_mark o c))))) (at_node l s o rows_is c h).mark),
       )
 
   -- the node at a cursor is live

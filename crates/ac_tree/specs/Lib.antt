@@ -5,3 +5,4 @@ pub mod TreeCursors
 pub mod Inserting
 pub mod Children
 pub mod Removing
+pub mod Walking

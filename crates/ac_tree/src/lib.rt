@@ -4,6 +4,7 @@
 mod counts;
 mod growing;
 mod links;
+mod preorder;
 mod tree;
 
 #[doc(hidden)]

@@ -1,6 +1,6 @@
 //! Nodes in a pool, each with links to its parent, to its first and last child, and to the siblings on both sides.
 //! A link is a slot, and leads to the live name of the slot: the serial stands in the pool alone. The root has no node.
-ghost use Rattle.std.specs.Prelude.{◌≡◌, ◌+◌, ◌-◌, ◌^◌, ◌<◌, ◌≤◌, Some, IfOk, IsOk, OnOk, OnErr};
+ghost use Rattle.std.specs.Prelude.{◌≡◌, ◌+◌, ◌-◌, ◌^◌, ◌<◌, ◌≤◌, ◌↔◌, Some, IfOk, IsOk, IsTrue, OnOk, OnErr};
 ghost use Rattle.std.specs.Option.{option_map};
 ghost use Rattle.ac_pool.specs.Contents.{value_of, IsLive, live_count};
 ghost use Rattle.ac_base.specs.Limits.{IsLimit};
@@ -364,4 +364,10 @@ fn set_node_last<T>(nodes: &mut Pool<TreeNode<T>>, name: Name, to: Option<Name>)
     if let Some(node) = nodes.get_mut(name) {
         node.last = link_to(to);
     }
+}
+
+pub(crate) fn is_same(a: Option<Name>, b: Option<Name>) -> bool
+    ensures { IsTrue result ↔ (a ≡ b) }
+{
+    a == b
 }

@@ -1,5 +1,5 @@
 //! New nodes, as children of a node.
-ghost use Rattle.std.specs.Prelude.{◌≡◌, ◌∷◌, [], None, ◌↔◌, IsTrue};
+ghost use Rattle.std.specs.Prelude.{◌≡◌, ◌∷◌, [], None};
 ghost use Rattle.ac_base.specs.FirstReason.{first_reason};
 ghost use Rattle.ac_model.specs.Calls.{Marks, Same};
 ghost use Rattle.ac_model.specs.Containers.{Grows};
@@ -16,15 +16,10 @@ ghost use Rattle.ac_tree.specs.TreeCursors.{seen_by, SetsNode};
 use super::Tree;
 use super::cursors::node_in;
 use crate::growing::put_copies;
+use crate::links::is_same;
 use ac_base::{Class, Cursor, Elem, Fault, Name, Reason, first_reason};
 use ac_chain::calls::done;
 use ac_model::{allowed, count_of, cursor_of_first, in_range, place_in, reason_if, room};
-
-fn is_same(a: Option<Name>, b: Option<Name>) -> bool
-    ensures { IsTrue result ↔ (a ≡ b) }
-{
-    a == b
-}
 
 impl<T> Tree<T> {
     /// Why a place for children is refused, before it is looked at.

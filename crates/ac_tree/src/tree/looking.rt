@@ -9,7 +9,7 @@ ghost use Rattle.ac_tree.specs.TreeCursors.{seen_by, NodeMarks};
 
 use super::Tree;
 use super::cursors::{is_root, node_in};
-use crate::counts::{as_number, count_children, depth};
+use crate::counts::{as_number, count_children, count_subtree, depth};
 use ac_base::{Cursor, Fault};
 use ac_model::{allowed, name_in};
 
@@ -57,6 +57,17 @@ impl<T> Tree<T> {
         }
         allowed(self.needs_node(c))?;
         Ok(as_number(depth(&self.links, node_in(c))))
+    }
+
+    /// Subtree_Node_Count (A.18.10): the node itself counts.
+    pub fn subtree_node_count(&self, c: Cursor) -> Result<i64, Fault>
+        ensures { Looks Same (λ o. trees.subtree_node_count_call o (seen_by self.now c)) self.now result }
+    {
+        if c == Cursor::NoElement {
+            return Ok(0);
+        }
+        allowed(self.needs_node(c))?;
+        Ok(as_number(count_subtree(&self.links, node_in(c))))
     }
 
     /// Child_Count (A.18.10).
