@@ -101,7 +101,7 @@ fn each_slot_has_its_name(rt: HostRuntime) -> Result<(), Fail> {
     for slot in 0..130 {
         if let Some(name) = pool.name_in(slot) {
             assert!(rt; name.slot == slot);
-            assert!(rt; pool.take(name) == Some(name.serial - 1));
+            assert!(rt; pool.take(name) == Some(name.serial.wrapping_sub(1)));
             assert!(rt; pool.name_in(slot).is_none());
         }
     }
