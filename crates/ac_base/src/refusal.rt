@@ -5,6 +5,7 @@ ghost use Rattle.ac_base.specs.FirstReason.{step_of, earlier, first_reason};
 use crate::reason::Reason;
 
 /// The step in which a call looks for the reason.
+#[inline(always)]
 fn step_of(reason: Reason) -> u8
     ensures { result ≡ step_of reason }
 {
@@ -22,6 +23,7 @@ fn step_of(reason: Reason) -> u8
 }
 
 /// Of two reasons the one of the earlier step, and the first where both are of one step.
+#[inline(always)]
 fn earlier(first: Option<Reason>, second: Option<Reason>) -> Option<Reason>
     ensures { result ≡ earlier first second }
 {
@@ -33,6 +35,7 @@ fn earlier(first: Option<Reason>, second: Option<Reason>) -> Option<Reason>
 }
 
 /// Among the reasons that were found, the first one of the earliest step.
+#[inline(always)]
 pub fn first_reason(found: &[Option<Reason>]) -> Option<Reason>
     ensures { result ≡ first_reason found.now }
 {
