@@ -34,11 +34,11 @@ reversed nodes = ap reverse (sym (take_all (length nodes) (rows_of nodes) (omega
 abbrev pub in_bucket : ℕ → ℕ → List Node → ℕ → List Name
 in_bucket size b nodes n = names (filter (λ (r : Row Name ℕ). r.value % size == b) (below nodes n))
 
-filtered : (t : Bool) (r : Row Name ℕ) (rows : List (Row Name ℕ)) → t ≡ true → names (cond t (r ∷ rows) rows) ≡ r.name ∷ names rows
+pub filtered : (t : Bool) (r : Row Name ℕ) (rows : List (Row Name ℕ)) → t ≡ true → names (cond t (r ∷ rows) rows) ≡ r.name ∷ names rows
 filtered true r rows e = refl
 filtered false r rows e = cc
 
-left_out : (t : Bool) (r : Row Name ℕ) (rows : List (Row Name ℕ)) → t ≡ false → names (cond t (r ∷ rows) rows) ≡ names rows
+pub left_out : (t : Bool) (r : Row Name ℕ) (rows : List (Row Name ℕ)) → t ≡ false → names (cond t (r ∷ rows) rows) ≡ names rows
 left_out false r rows e = refl
 left_out true r rows e = cc
 

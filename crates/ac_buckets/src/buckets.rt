@@ -155,7 +155,8 @@ impl Buckets {
         name_behind(self.nodes.as_slice(), self.nodes[index].next)
     }
 
-    /// Where a walk of the bucket of the hash begins. A walk by `step` reads each pair of the bucket once.
+    /// Where a walk of the pairs with the hash begins. A walk by `step` reads each node of the bucket once.
+    #[inline(always)]
     pub fn walk(&self, hash: u32) -> Place
         ensures { Begins self.now hash result }
     {
@@ -167,16 +168,21 @@ impl Buckets {
         }
     }
 
-    /// The name at the place, and the next place of the walk.
-    pub fn step(&self, place: Place) -> Option<(Name, Place)>
-        requires { place.left ≤ length self.now.pairs }
-        ensures { (hash : ℕ) → IsPlace self.now hash place.left → Steps self.now hash place result }
+    /// The next name with the hash, and the place behind it.
+    #[inline(always)]
+    pub fn step(&self, hash: u32, place: Place) -> Option<(Name, Place)>
+        requires { IsPlace self.now hash place.left }
+        ensures { Steps self.now hash place result }
     {
-        if place.left == 0 {
-            return None;
+        let mut link = place.left;
+        while link != 0 {
+            let node = &self.nodes[link as usize - 1];
+            if node.hash == hash {
+                return Some((node.name, Place { left: node.next }));
+            }
+            link = node.next;
         }
-        let node = &self.nodes[place.left as usize - 1];
-        Some((node.name, Place { left: node.next }))
+        None
     }
 
     /// Drops all pairs, and keeps the buckets.

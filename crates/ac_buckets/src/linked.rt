@@ -13,6 +13,7 @@ pub struct Node {
     pub name: Name,
 }
 
+#[inline(always)]
 pub(crate) fn bucket_of(hash: u32, size: usize) -> usize
     requires { 0 < size }
     ensures bucket { result ≡ hash % size }

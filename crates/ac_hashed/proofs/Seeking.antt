@@ -1,5 +1,5 @@
--- A search along a bucket.
-use Rattle.std.proofs.Common.{◌≡◌, ◌==◌, ◌||◌, ◌%◌, ◌≤◌, ◌-◌, ℕ, Bool, true, false, true≢false, [], ◌∷◌, ◌++◌, length, drop, Option, Some, None, IsTrue, refl, sym, ap, ◌∙◌, subst, inl, inr, arith}
+-- A search along the pairs with a hash.
+use Rattle.std.proofs.Common.{◌≡◌, ◌==◌, ◌||◌, ◌≤◌, ◌-◌, ℕ, Bool, true, false, true≢false, [], ◌∷◌, ◌++◌, length, drop, Option, Some, None, IsTrue, refl, sym, ap, ◌∙◌, subst, inl, inr, arith}
 use Rattle.std.specs.List.{list_any}
 use Rattle.std.proofs.lemmas.Bool.{cases_Bool}
 use Rattle.std.specs.Cmp.{IsEquivalence}
@@ -45,14 +45,14 @@ module _ {V : Type 0} (hash : V → ℕ) (alike : V → V → Bool) (matches : V
         let rows : c.rows ≡ k.0.before ++ row a v ∷ k.0.after = k.0.is ∙ ap (λ r. k.0.before ++ r ∷ k.0.after) k.1 in
         let there : list_any (is_pair a (hash v)) (hashed hash c.rows) ≡ true = ap (λ rs. list_any (is_pair a (hash v)) (hashed hash rs)) rows ∙ pair_there hash k.0.before (row a v) k.0.after in
         let met = any_as_often (is_pair a (hash v)) b.pairs (hashed hash c.rows) tied.pairs there in
-        subst (λ ns. is_among ns a ≡ true) (sym start.names) (pair_met b.pairs b.size h a (subst (λ n. list_any (is_pair a n) b.pairs ≡ true) (key.same_hash v t) met));
+        subst (λ ns. is_among ns a ≡ true) (sym start.names) (pair_met b.pairs h a (subst (λ n. list_any (is_pair a n) b.pairs ≡ true) (key.same_hash v t) met));
   }
 
   -- the name at the place is a row's
   pub met_live : AreTied hash alike c b → (place next : Place) (name : Name) → IsNext b h place name next → IsLive c name
   met_live tied place next name step =
       let here : is_among (names_left b h place.left) name ≡ true = ap (λ ns. is_among ns name) step.names ∙ ap (λ t. t || is_among (names_left b h next.left) name) (is_same name name refl) in
-      let left = among_pass (λ (r : Row Name ℕ). r.value % b.size == h % b.size) (drop (length b.pairs - place.left) b.pairs) name here in
+      let left = among_pass (λ (r : Row Name ℕ). r.value == h) (drop (length b.pairs - place.left) b.pairs) name here in
       has_live name c.rows (name_there hash b.pairs c.rows name tied.pairs (any-drop (λ (p : Row Name ℕ). is_same_name name p.name) (length b.pairs - place.left) b.pairs left))
 
   -- the row at the place doesn't have the key

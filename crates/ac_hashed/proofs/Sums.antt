@@ -1,5 +1,5 @@
 -- Pairs that stand as often in the buckets as among the rows.
-use Rattle.std.proofs.Common.{◌≡◌, ◌==◌, ◌&&◌, ◌||◌, ◌+◌, ◌<◌, ◌%◌, ℕ, zero, suc, Bool, true, false, true≢false, List, [], ◌∷◌, ◌++◌, length, drop, filter, refl, sym, ap, ◌∙◌, subst, inl, inr, arith, eq-eqb, eqb-true, if◌then◌else◌}
+use Rattle.std.proofs.Common.{◌≡◌, ◌==◌, ◌&&◌, ◌||◌, ◌+◌, ◌<◌, ℕ, zero, suc, Bool, true, false, true≢false, List, [], ◌∷◌, ◌++◌, length, drop, filter, refl, sym, ap, ◌∙◌, subst, inl, inr, arith, eq-eqb, if◌then◌else◌}
 use Rattle.std.specs.List.{list_any, sum_by}
 use Rattle.std.specs.List.Sorted.{IsPermutation}
 use Rattle.std.proofs.lemmas.Bool.{cases_Bool}
@@ -114,26 +114,25 @@ any-drop test zero xs h = h
 any-drop test (suc n) [] h = h
 any-drop test (suc n) (x ∷ xs) h = ap (λ b. test x || b) (any-drop test n xs h) ∙ or_true (test x)
 
--- a pair is met in the bucket of its hash
-pub pair_met : (pairs : List (Row Name ℕ)) (size h : ℕ) (a : Name) → list_any (is_pair a h) pairs ≡ true → is_among (names (filter (λ (p : Row Name ℕ). p.value % size == h % size) pairs)) a ≡ true
-pair_met [] size h a t = t
-pair_met (p ∷ pairs) size h a t = elim (cases_Bool (is_pair a h p)) [
+-- a pair is met among those with its hash
+pub pair_met : (pairs : List (Row Name ℕ)) (h : ℕ) (a : Name) → list_any (is_pair a h) pairs ≡ true → is_among (names (filter (λ (p : Row Name ℕ). p.value == h) pairs)) a ≡ true
+pair_met [] h a t = t
+pair_met (p ∷ pairs) h a t = elim (cases_Bool (is_pair a h p)) [
   | inl passed ↦
       let same : is_same_name a p.name ≡ true = left_true (is_same_name a p.name) (p.value == h) passed in
-      let value : p.value ≡ h = eqb-true p.value h (right_true (is_same_name a p.name) (p.value == h) passed) in
-      let bucket : (p.value % size == h % size) ≡ true = eq-eqb (p.value % size) (h % size) (ap (λ n. n % size) value) in
-      subst (λ b. is_among (names (if b then p ∷ rest else rest)) a ≡ true) (sym bucket) (ap (λ b. b || is_among (names rest) a) same)
+      let value : (p.value == h) ≡ true = right_true (is_same_name a p.name) (p.value == h) passed in
+      subst (λ b. is_among (names (if b then p ∷ rest else rest)) a ≡ true) (sym value) (ap (λ b. b || is_among (names rest) a) same)
   | inr off ↦
       let k : list_any (is_pair a h) pairs ≡ true = subst (λ b. (b || list_any (is_pair a h) pairs) ≡ true) off t in
-      let again = pair_met pairs size h a k in
-      elim (cases_Bool (p.value % size == h % size)) [
+      let again = pair_met pairs h a k in
+      elim (cases_Bool (p.value == h)) [
         | inl b ↦ subst (λ c. is_among (names (if c then p ∷ rest else rest)) a ≡ true) (sym b) (ap (λ c. is_same_name a p.name || c) again ∙ or_true (is_same_name a p.name))
         | inr b ↦ subst (λ c. is_among (names (if c then p ∷ rest else rest)) a ≡ true) (sym b) again
       ]
 ]
   where
     rest : List (Row Name ℕ)
-    rest = filter (λ (q : Row Name ℕ). q.value % size == h % size) pairs
+    rest = filter (λ (q : Row Name ℕ). q.value == h) pairs
 
     left_true : (b c : Bool) → (b && c) ≡ true → b ≡ true
     left_true true c e = refl

@@ -15,8 +15,9 @@ where
     requires tied { AreTied (λ v. S.Key.hash_of (S.key_of v)) (λ v w. S.Key.is_alike (S.key_of v) (S.key_of w)) chain.now buckets.now }
     ensures { result ≡ found_in (λ v. S.Key.is_alike (S.key_of v) key.now) chain.now.rows }
 {
-    let mut place = buckets.walk(key.hash());
-    while let Some((name, next)) = buckets.step(place) {
+    let hash = key.hash();
+    let mut place = buckets.walk(hash);
+    while let Some((name, next)) = buckets.step(hash, place) {
         if S::key(chain.at(name)).alike(key) {
             return Some(name);
         }

@@ -1,18 +1,19 @@
-use Rattle.std.proofs.Common.{◌≡◌, suc, ◌-◌, ◌<◌, length, refl, ◌∙◌, subst, arith}
-use Rattle.std.proofs.lemmas.List.{get_or_default, length-reverse}
-use Rattle.ac_buckets.specs.declared.walk.Place.{Place}
-use Rattle.ac_buckets.specs.Linked.{blank_node, rows_of}
-use Rattle.ac_buckets.specs.Places.{IsPlace, IsNext}
-use Rattle.ac_buckets.proofs.PlaceSteps.{next_place}
-use Rattle.ac_buckets.proofs.Walks.{node_at, length-rows}
+use Rattle.std.proofs.Common.{◌∙◌, arith}
+use Rattle.ac_buckets.proofs.PlaceSteps.{meets_node}
 use Rattle.ac_buckets.proofs.buckets.Buckets.step.Goals as goal
 
-pub returns : goal.returns
-returns c =
-    let nodes = c.self.inside.nodes.items in let heads = c.self.inside.heads.items in let i = c.args.place.left - 1 in let place = c.args.place in
-    let some : place.left ≡ suc i = omega (arith, c.if-place-eq0.false) in
-    let next : Place = record { left = c.index-node.result.now.next } in
-    λ hash. subst (λ b. IsPlace b hash place.left → IsNext b hash place c.index-node.result.now.name next) c.self.view_is (λ p.
-    let less : i < length nodes = omega (arith, p.within, length-reverse (rows_of nodes), length-rows nodes, some) in
-    let at : c.index-node.result.now ≡ node_at nodes i = c.index-node.ensures ∙ get_or_default nodes i c.index-node.result.now blank_node less in
-    rw at (next_place nodes heads _ hash i place (record { left = (node_at nodes i).next }) c.self.invariant less some refl p))
+pub returns-then-node-hash : goal.returns-then-node-hash
+returns-then-node-hash c =
+    let l = c.loop-link in
+    let met = meets_node c.self.inside.nodes.items c.self.inside.heads.items _ c.args.hash l.link c.args.self.now c.index-node.result.now c.self.invariant c.self.view_is c.loop-link-test.true c.index-node.ensures l.invariant.stands in
+    record { names = l.invariant.names ∙ met.has c.if-node-hash.true; stands = met.stands; nearer = omega (arith, met.nearer, l.invariant.nearer) }
+
+pub loop-link-smaller : goal.loop-link-smaller
+loop-link-smaller c =
+    (meets_node c.self.inside.nodes.items c.self.inside.heads.items _ c.args.hash c.loop-link.link c.args.self.now c.index-node.result.now c.self.invariant c.self.view_is c.loop-link-test.true c.index-node.ensures c.loop-link.invariant.stands).nearer
+
+pub loop-link-preserved : goal.loop-link-preserved
+loop-link-preserved c =
+    let l = c.loop-link in
+    let met = meets_node c.self.inside.nodes.items c.self.inside.heads.items _ c.args.hash l.link c.args.self.now c.index-node.result.now c.self.invariant c.self.view_is c.loop-link-test.true c.index-node.ensures l.invariant.stands in
+    record { stands = met.stands; names = l.invariant.names ∙ met.other c.if-node-hash.false; nearer = omega (arith, met.nearer, l.invariant.nearer) }
