@@ -32,6 +32,18 @@ fn met(buckets: &Buckets, hash: u32) -> u64 {
     1000
 }
 
+// How many names a walk by places meets.
+fn stepped(buckets: &Buckets, hash: u32) -> u64 {
+    let mut place = buckets.walk(hash);
+    for count in 0..1000 {
+        let Some((_name, next)) = buckets.step(hash, place) else {
+            return count;
+        };
+        place = next;
+    }
+    1000
+}
+
 #[test]
 fn sizes_double_and_stay(rt: HostRuntime) {
     let mut buckets = Buckets::new(rt.alloc());
@@ -72,4 +84,16 @@ fn a_dropped_pair_is_not_met(rt: HostRuntime) {
     assert!(rt; buckets.drop_one(64, second));
     assert!(rt; !buckets.drop_one(64, second));
     assert!(rt; met(&buckets, 0) == 3);
+}
+
+#[test]
+fn a_walk_by_places_meets_its_own_hash_alone(rt: HostRuntime) {
+    let mut buckets = Buckets::new(rt.alloc());
+    assert!(rt; buckets.grow(128).is_ok());
+    fill(&mut buckets, 128);
+    for hash in [0, 64, 128, 4096] {
+        assert!(rt; stepped(&buckets, hash) == 1);
+    }
+    assert!(rt; stepped(&buckets, 1) == 0);
+    assert!(rt; stepped(&buckets, 128 * 64) == 0);
 }
