@@ -1,21 +1,24 @@
 #!/usr/bin/env python3
 """Times the built programs beside plain Rust programs on the same machine in the same run.
 
-Prints the program's time for each generated script, the ratio to the baseline's, and the growth from half the script to the whole: 2 is linear. Then the time and the memory of long runs, and what `A.Length` costs. Then the time of `--check` on inputs of 1 MiB that are the worst of their sorts, and the growth. Then what the calls of two sets take for each element, in sets of 1,000 to 100,000: n log n is a growth of 1.67. Then the time of a put and a take of the pool, and the ratio; and of an insertion and a removal in the middle of a chain, which stays flat where the chain grows. Then the times of calls of lists and sets, and their growth from 10,000 elements to 1,000,000, and the memory of a slot. Needs rustc; isn't part of the gate.
+Prints the program's time for each generated script, the ratio to the baseline's, and the growth from half the script to the whole: 2 is linear. Then the time and the memory of long runs, and what `A.Length` costs. Then the time of `--check` on inputs of 1 MiB that are the worst of their sorts, and the growth. Then what the calls of two sets take for each element, in sets of 1,000 to 100,000, in time and, where valgrind is there, in instructions, which no cache changes: n log n is a growth of 1.67. Then the time of a put and a take of the pool, and the ratio; and of an insertion and a removal in the middle of a chain, which stays flat where the chain grows. Then the times of calls of lists and sets, and their growth from 10,000 elements to 1,000,000, and the memory of a slot. Needs rustc; isn't part of the gate.
 
-With `--peer COMMAND` it prints instead the processor times of some scripts, and of the generator's longest, beside those of another interpreter of the same language, and the ratio: below 1 is faster.
+With `--peer COMMAND` it prints instead the processor times of some scripts, and of the generator's longest, beside those of another interpreter of the same language, and the ratio: below 1 is faster. Then the growth of set algebra with both.
 
 With `--before PROGRAM`, where PROGRAM is `crates/ac_bench/out/ac_bench` of another checkout, built there by `rt run`, it prints instead the times of each workload with that program and with this checkout's, which run in turn, beside one another, and the ratio: below 1 is faster than before.
 """
 import argparse
 import os
+import re
 import shlex
+import shutil
 import subprocess
 import sys
 import tempfile
 import time
 
 TOP = os.path.dirname(os.path.dirname(os.path.abspath(__file__)))
+PROGRAM = os.path.join(TOP, "crates/adacont/out/adacont")
 HEAD = "type L is list (integer);\nA : L;\n"
 RUNS = 5
 SIZES = (10_000, 100_000, 1_000_000)
@@ -208,7 +211,7 @@ def prove_and_build(folder, *words):
 
 def workload(program, *words, rounds):
     """Seconds for each round of a workload, without what a program takes to start."""
-    command = [program, *words]
+    command = [PROGRAM, *words]
     return (seconds(command + [str(rounds)]) - seconds(command + ["0"])) / rounds
 
 
@@ -222,7 +225,6 @@ def peak(command, script=subprocess.DEVNULL):
 
 
 def scripts(place):
-    program = os.path.join(TOP, "crates/adacont/out/adacont")
     baseline = build("baseline.rs", place)
     rows = [
         ("1 MiB of appends, a print at the end", appends(1048576), appends(524288)),
@@ -236,14 +238,13 @@ def scripts(place):
             with open(path, "w") as file:
                 file.write(text or "")
             paths.append(path)
-        ours, theirs = seconds([program], paths[0]), seconds([baseline], paths[0])
-        growth = f"{ours / seconds([program], paths[1]):.2f}" if half else "-"
+        ours, theirs = seconds([PROGRAM], paths[0]), seconds([baseline], paths[0])
+        growth = f"{ours / seconds([PROGRAM], paths[1]):.2f}" if half else "-"
         print(f"{name:<40}{ours:>12.4f}{ours / theirs:>8.2f}{growth:>8}")
 
 
 def checks(place):
     """Checks of the longest inputs of some sorts: 2 is linear."""
-    program = os.path.join(TOP, "crates/adacont/out/adacont")
     print(f"{'1 MiB, --check':<40}{'adacont s':>12}{'':>8}{'growth':>8}")
     for name, text in WORST:
         took = []
@@ -251,7 +252,7 @@ def checks(place):
             path = os.path.join(place, "checked.ada")
             with open(path, "w") as file:
                 file.write(text(size))
-            took.append(seconds([program, "--check"], path, status=False))
+            took.append(seconds([PROGRAM, "--check"], path, status=False))
         print(f"{name:<40}{took[0]:>12.4f}{'':>8}{took[0] / took[1]:>8.2f}")
 
 
@@ -264,19 +265,17 @@ def written(place, text):
 
 def large(place):
     """Long runs: their time, and the most memory that the program had."""
-    program = os.path.join(TOP, "crates/adacont/out/adacont")
     print(f"{'script':<45}{'seconds':>10}{'MB':>10}")
     for name, text in LARGE:
         path = written(place, text)
         with open(path) as script:
-            memory_used = peak([program], script)
-        print(f"{name:<45}{seconds([program], path):>10.3f}{memory_used / 1e6:>10.1f}", flush=True)
+            memory_used = peak([PROGRAM], script)
+        print(f"{name:<45}{seconds([PROGRAM], path):>10.3f}{memory_used / 1e6:>10.1f}", flush=True)
 
 
 def a_length(place):
     """What A.Length costs, with its line's write and without: /dev/null takes a write in little time, which a program that only writes such lines is timed for."""
-    program = os.path.join(TOP, "crates/adacont/out/adacont")
-    many, few = (seconds([program], written(place, lengths(count))) for count in (1_000_000, 1))
+    many, few = (seconds([PROGRAM], written(place, lengths(count))) for count in (1_000_000, 1))
     with open(os.devnull, "wb", buffering=0) as nowhere:
         start = time.perf_counter()
         for _ in range(1_000_000):
@@ -292,29 +291,47 @@ def a_length(place):
 
 def beside_a_peer(peer, place):
     """Each script's processor time, and the generator's, with the ratio to another interpreter's of the same language, which runs in turn with this one."""
-    program = os.path.join(TOP, "crates/adacont/out/adacont")
     print(f"{'script':<30}{'adacont s':>12}{'peer s':>12}{'ratio':>8}")
     rows = [(name, text(), []) for name, text in BESIDE_A_PEER] + [(" ".join(GENERATED), "", GENERATED)]
     for name, text, words in rows:
         path = written(place, text)
         ours, theirs = [], []
         for _ in range(RUNS):
-            ours.append(processor([program, *words], path))
+            ours.append(processor([PROGRAM, *words], path))
             theirs.append(processor([*peer, *words], path))
         print(f"{name:<30}{min(ours):>12.3f}{min(theirs):>12.3f}{min(ours) / min(theirs):>8.2f}", flush=True)
 
 
-def algebra(place):
-    """What the calls of two sets take, once each, for each element of a set: without filling the sets."""
-    program = os.path.join(TOP, "crates/adacont/out/adacont")
-    print(f"{'two sets, ns for each element':<40}" + "".join(f"{size:>12,}" for size in ALGEBRA_SIZES) + f"{'growth':>8}")
-    for kind in ("hashed_set", "ordered_set"):
-        took = []
-        for size in ALGEBRA_SIZES:
-            times = 1_000_000 // size
-            many, none = (min(processor([program], written(place, set_algebra(kind, size, count))) for _ in range(RUNS)) for count in (times, 0))
-            took.append((many - none) / times / size)
-        print(f"{kind:<40}" + "".join(f"{each * 1e9:>12.1f}" for each in took) + f"{took[-1] / took[0]:>8.2f}")
+def instructions(command, script):
+    """How many instructions a command takes, as valgrind counts them: the same in each run, and whatever the machine's memory is."""
+    with open(script) as text, tempfile.TemporaryDirectory() as place:
+        run = subprocess.run(["valgrind", "--tool=callgrind", f"--callgrind-out-file={place}/out", *command], stdin=text, stdout=subprocess.DEVNULL, stderr=subprocess.PIPE, text=True, check=True)
+    return int(re.search(r"Collected : (\d+)", run.stderr).group(1))
+
+
+def algebra_row(name, of_each):
+    """Of each element, in sets of each size: what the calls take besides what filling the sets takes."""
+    took = [of_each(size) for size in ALGEBRA_SIZES]
+    print(f"{name:<50}" + "".join(f"{each:>12,.1f}" for each in took) + f"{took[-1] / took[0]:>8.2f}", flush=True)
+
+
+def algebra(place, programs):
+    """What the calls of two sets take, once each, for each element of a set, in nanoseconds and, where valgrind is there, in instructions."""
+    def nanoseconds(command, kind, size):
+        times = 1_000_000 // size
+        many, none = (min(processor(command, written(place, set_algebra(kind, size, count))) for _ in range(RUNS)) for count in (times, 0))
+        return (many - none) / times / size * 1e9
+
+    def counted(command, kind, size):
+        once, none = (instructions(command, written(place, set_algebra(kind, size, count))) for count in (1, 0))
+        return (once - none) / size
+
+    print(f"{'two sets, for each element':<50}" + "".join(f"{size:>12,}" for size in ALGEBRA_SIZES) + f"{'growth':>8}")
+    for name, command in programs:
+        for kind in ("hashed_set", "ordered_set"):
+            algebra_row(f"{kind}, {name}, ns", lambda size: nanoseconds(command, kind, size))
+            if shutil.which("valgrind"):
+                algebra_row(f"{kind}, {name}, instructions", lambda size: counted(command, kind, size))
 
 
 def churn(program, place):
@@ -410,6 +427,7 @@ def main():
     with tempfile.TemporaryDirectory() as place:
         if asked.peer:
             beside_a_peer(shlex.split(asked.peer), place)
+            algebra(place, [("adacont", [PROGRAM]), ("peer", shlex.split(asked.peer))])
             return 0
         folder = os.path.join(TOP, "crates/ac_bench")
         prove_and_build(folder, "pool", "0")
@@ -417,7 +435,7 @@ def main():
         large(place)
         a_length(place)
         checks(place)
-        algebra(place)
+        algebra(place, [("adacont", [PROGRAM])])
         churn(os.path.join(folder, "out/ac_bench"), place)
     middle(os.path.join(folder, "out/ac_bench"))
     lists(os.path.join(folder, "out/ac_bench"))
