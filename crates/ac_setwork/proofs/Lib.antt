@@ -6,6 +6,7 @@ pub mod Ends
 pub mod Equality
 pub mod Equivalents
 pub mod Found
+pub mod Insertions
 pub mod KeptSlots
 pub mod Refills
 pub mod Replacing

@@ -1,5 +1,5 @@
 -- What the fields of a map or a set are seen as, and what holds of them.
-use Rattle.std.specs.Prelude.{◌≡◌, ◌==◌, ℕ, Bool, false, not, Option, Some, None}
+use Rattle.std.specs.Prelude.{◌≡◌, ◌==◌, ◌∷◌, ◌+◌, ◌<◌, ℕ, Bool, false, not, Option, Some, None}
 use Rattle.ac_base.specs.declared.cursor.Cursor.{Cursor}
 use Rattle.ac_base.specs.declared.cursor.Cursor.TheVariants.{At}
 use Rattle.ac_base.specs.declared.limit.Limit.{Limit}
@@ -8,11 +8,12 @@ use Rattle.ac_base.specs.Guards.{GuardCounts}
 use Rattle.ac_base.specs.Tampering.{forbids}
 use Rattle.ac_base.specs.declared.guard.Class.{Class}
 use Rattle.ac_base.specs.Limits.{IsLimit}
+use Rattle.ac_base.specs.FirstReason.{first_reason}
 use Rattle.ac_base.specs.Rows.{names}
 use Rattle.ac_model.specs.Calls.{Call, call, Marks, Done}
-use Rattle.ac_model.specs.Containers.{object_with}
-use Rattle.ac_model.specs.Objects.{Object, plain}
-use Rattle.ac_model.specs.Letters.{Mark, mark_at, mark_of, has_room}
+use Rattle.ac_model.specs.Containers.{Container, object_with}
+use Rattle.ac_model.specs.Objects.{Object, plain, capacity_after, length_of}
+use Rattle.ac_model.specs.Letters.{Mark, mark_at, mark_of, has_room, tampers_cursors, room_for_one}
 use Rattle.ac_model.specs.Keyed as keyed
 use Rattle.ac_model.specs.Keyed.{Order, IsValidKeyed, Inserted, with_added}
 use Rattle.ac_setwork.specs.Indexed.{Indexed, slots, HasSlots, found_in}
@@ -37,6 +38,16 @@ module _ {V : Type 0} where
   -- one row more, whose key no other has
   abbrev pub add_call : Order V → Object ℕ V → V → Call (Object ℕ V) Mark
   add_call order o v = call (not (has_room o)) None (with_added order o v) (mark_at o.number o.next)
+
+  -- one row more leaves the Capacity as it is
+  abbrev pub keeps_capacity : Object Name V → Type 0
+  keeps_capacity o = capacity_after o.limit o.capacity (length_of o + 1) ≡ o.capacity
+
+  -- one row more, whose key no other has, is allowed and takes no memory
+  pub record TakesOne (c : Container V) : Type 0 where
+    pub allowed : first_reason (tampers_cursors (plain c.object) ∷ room_for_one (plain c.object)) ≡ None
+    pub spare : 0 < c.spare
+    pub capacity : keeps_capacity c.object
 
   -- the name that is answered is the new row's
   abbrev pub Inserts : Object Name V → Name → Mark → Type 0

@@ -1,5 +1,5 @@
 //! What a map or a set needs of its rows.
-ghost use Rattle.std.specs.Prelude.{◌≡◌, ◌∷◌, [], ◌+◌, ◌-◌, ◌^◌, ◌<◌, ◌≤◌, Bool, false, Option, Some, None, is_some, IsOk, IsTrue, IfOk, IfSome, OnOk, OnErr, length};
+ghost use Rattle.std.specs.Prelude.{◌≡◌, ◌∷◌, [], ◌+◌, ◌-◌, ◌^◌, ◌<◌, ◌≤◌, Bool, false, Option, Some, None, is_some, IsOk, IsTrue, IfOk, IfErr, IfSome, OnOk, OnErr, length};
 ghost use Rattle.ac_base.specs.Limits.{IsLimit, is_past};
 ghost use Rattle.ac_base.specs.declared.limit.TheConstants.{GREATEST_LENGTH};
 ghost use Rattle.ac_model.specs.Rows.{cut, place_of, with_value};
@@ -101,6 +101,18 @@ pub trait Index: Drop {
         ensures ok { OnOk result (MakesRoom limit n (seen self.old) (seen self.new)) }
         ensures err { OnErr result (seen self.new ≡ seen self.old) }
         ensures had_room { n ≡ 1 → IsTrue (takes_one limit (seen self.old)) → IsOk result };
+
+    /// Adds a row at its place, or answers the name of the one that has an equivalent key. It takes no memory.
+    fn add(&mut self, row: Self::Row) -> Result<Name, Name>
+        requires spare { 0 < (seen self.old).spare }
+        requires unspent { (seen self.old).next < 2 ^ 64 - 1 }
+        ensures absent { OnOk result (found (λ other. order.alike other row) (seen self.old) ≡ None) }
+        ensures added { OnOk result (Becomes (seen self.old) (seen self.new)
+            (added order (plain_rows (seen self.old)) (seen self.old).next (row ∷ [])) ((seen self.old).next + 1) ((seen self.old).spare - 1)) }
+        ensures serial { IfOk result (λ name. name.serial ≡ (seen self.old).next) }
+        ensures there { IfOk result (λ name. IsTrue (is_there (seen self.new) name)) }
+        ensures present { IfErr result (λ name. found (λ other. order.alike other row) (seen self.old) ≡ Some name) }
+        ensures err { OnErr result (seen self.new ≡ seen self.old) };
 
     /// Adds a row, whose key no other has, at its place. It takes no memory.
     fn add_new(&mut self, row: Self::Row) -> Name

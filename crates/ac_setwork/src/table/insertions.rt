@@ -1,5 +1,5 @@
 //! Rows that are inserted.
-ghost use Rattle.std.specs.Prelude.{◌≡◌, ◌∷◌, None, OnErr};
+ghost use Rattle.std.specs.Prelude.{◌≡◌, ◌∷◌, None, IsTrue, OnErr};
 ghost use Rattle.ac_base.specs.FirstReason.{first_reason};
 ghost use Rattle.ac_model.specs.Objects.{plain};
 ghost use Rattle.ac_model.specs.Letters.{tampers_cursors, room_for_one};
@@ -8,7 +8,7 @@ ghost use Rattle.ac_model.specs.Containers.{Grows};
 ghost use Rattle.ac_model.specs.Forms.{Does, Refuses};
 ghost use Rattle.ac_model.specs.Keyed as keyed;
 ghost use Rattle.ac_model.specs.Putting.{done};
-ghost use Rattle.ac_setwork.specs.TableFields.{named_like, add_call, Inserts, Places};
+ghost use Rattle.ac_setwork.specs.TableFields.{named_like, add_call, keeps_capacity, Inserts, Places, TakesOne};
 
 use super::Table;
 use crate::index::Index;
@@ -28,6 +28,31 @@ fn done(added: Result<Name, Fault>) -> Result<(), Fault>
 impl<I: Index> Table<I> {
     /// Insert (A.18.4, A.18.7).
     pub fn insert(&mut self, row: I::Row) -> Result<(), Fault>
+        ensures changed { Does Same (λ o. keyed.insert_call I.order o row) self.old self.new result }
+        ensures slots { Grows result self.old self.new }
+    {
+        if self.takes_one() {
+            self.insert_at_once(row)
+        } else {
+            self.insert_with_room(row)
+        }
+    }
+
+    /// Puts a row in a slot that is there, unless another has an equivalent key.
+    #[inline(always)]
+    fn insert_at_once(&mut self, row: I::Row) -> Result<(), Fault>
+        requires { TakesOne self.old }
+        ensures changed { Does Same (λ o. keyed.insert_call I.order o row) self.old self.new result }
+        ensures slots { Grows result self.old self.new }
+    {
+        match self.index.add(row) {
+            Ok(_) => Ok(()),
+            Err(_) => Err(Fault::Raised(Reason::KeyPresent)),
+        }
+    }
+
+    /// Puts a row in a slot that may have to be made, once it is known that nothing refuses it.
+    fn insert_with_room(&mut self, row: I::Row) -> Result<(), Fault>
         ensures changed { Does Same (λ o. keyed.insert_call I.order o row) self.old self.new result }
         ensures slots { Grows result self.old self.new }
     {
@@ -100,6 +125,7 @@ impl<I: Index> Table<I> {
     }
 
     /// Why a row is refused whose key no other has.
+    #[inline(always)]
     fn refuses_new(&self) -> Option<Reason>
         ensures { result ≡ first_reason (tampers_cursors (plain self.now.object) ∷ room_for_one (plain self.now.object)) }
     {
@@ -112,6 +138,24 @@ impl<I: Index> Table<I> {
                 1,
             ),
         ])
+    }
+
+    /// A row whose key no other has is allowed, and a slot and the Capacity are there for it.
+    #[inline(always)]
+    fn takes_one(&self) -> bool
+        ensures { IsTrue result → TakesOne self.now }
+    {
+        self.index.spare() > 0 && self.keeps_capacity() && self.refuses_new().is_none()
+    }
+
+    #[inline(always)]
+    fn keeps_capacity(&self) -> bool
+        ensures { IsTrue result → keeps_capacity self.now.object }
+    {
+        match self.index.capacity() {
+            None => true,
+            Some(capacity) => self.index.len() < capacity,
+        }
     }
 
     /// Puts a row, whose key no other has, at its place.
