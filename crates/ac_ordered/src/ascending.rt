@@ -138,8 +138,15 @@ where
         self.tree.reserve(n)
     }
 
-    fn add_new(&mut self, row: S::Row) -> Name {
+    fn add(&mut self, row: S::Row) -> Result<Name, Name> {
         match self.tree.add(Sorted { row }, ()) {
+            Ok(name) => Ok(name),
+            Err(present) => Err(present.at),
+        }
+    }
+
+    fn add_new(&mut self, row: S::Row) -> Name {
+        match self.add(row) {
             Ok(name) => name,
             Err(_) => unreachable!(),
         }
