@@ -145,6 +145,13 @@ where
         self.chain.reserve(n)
     }
 
+    fn add(&mut self, row: S::Row) -> Result<Name, Name> {
+        match self.look_like(&row) {
+            Some(name) => Err(name),
+            None => Ok(self.add_new(row)),
+        }
+    }
+
     fn add_new(&mut self, row: S::Row) -> Name {
         let hash = S::key(&row).hash();
         let name = self.chain.insert_before(None, row);
