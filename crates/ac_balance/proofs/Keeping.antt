@@ -6,7 +6,7 @@ use Rattle.ac_pool.proofs.NameLaws.{cases_name}
 use Rattle.ac_pool.proofs.ContentsLaws.{value_of-with_value_same, value_of-with_value_other, live_count-with_value}
 use Rattle.ac_balance.specs.declared.links.Node.{Node}
 use Rattle.ac_balance.specs.Climbing.{Keeps}
-use Rattle.ac_balance.specs.TreeFields.{parent_written, sides_written, side_written, with_parent, with_sides, with_side, above, fastened}
+use Rattle.ac_balance.specs.TreeFields.{parent_written, sides_written, side_written, with_parent, with_sides, with_side, fastened_at}
 
 module _ {X : Type 0} where
   pub keeps_itself : (c : Contents (Node X)) → Keeps c c
@@ -52,11 +52,11 @@ module _ {X : Type 0} where
   unfolding with_side
   keeps_side c a b to = keeps_side_at c a b to (value_of c a) refl
 
-  pub keeps_fastened : (c : Contents (Node X)) (a : Name) (l r : Option Name) → Keeps c (fastened c a l r)
-  unfolding fastened
-  keeps_fastened c a l r =
-      let one = with_sides c a l r (above c l r) in let two = with_parent one l (Some a) in let three = with_parent two r (Some a) in
-      keeps_then c one three (keeps_sides c a l r (above c l r)) (keeps_then one two three (keeps_parent one l (Some a)) (keeps_parent two r (Some a)))
+  pub keeps_fastened : (c : Contents (Node X)) (a : Name) (l r : Option Name) (h : ℕ) → Keeps c (fastened_at c a l r h)
+  unfolding fastened_at
+  keeps_fastened c a l r h =
+      let one = with_parent c l (Some a) in let two = with_parent one r (Some a) in let three = with_sides two a l r h in
+      keeps_then c two three (keeps_then c one two (keeps_parent c l (Some a)) (keeps_parent one r (Some a))) (keeps_sides two a l r h)
 
   live_still : (c d : Contents (Node X)) → Keeps c d → (a : Name) → IsLive d a → IsLive c a
   live_still c d k a h = sym (k.live a) ∙ h

@@ -8,7 +8,7 @@ use Rattle.ac_pool.proofs.ContentsLaws.{value_of-with_value_same, value_of-with_
 use Rattle.ac_balance.specs.declared.links.Node.{Node}
 use Rattle.ac_base.specs.Rows.{Row}
 use Rattle.ac_balance.specs.Trees.{Tree, leaf, node, height}
-use Rattle.ac_balance.specs.TreeFields.{node_with, linked, left_link, right_link, left_of, right_of, root, Stands, height_of, high, parent_written, sides_written, with_parent, with_sides, above, fastened}
+use Rattle.ac_balance.specs.TreeFields.{node_with, linked, left_link, right_link, left_of, right_of, root, Stands, height_of, high, parent_written, sides_written, with_parent, with_sides, above, fastened_at, fastened}
 use Rattle.ac_pool.specs.Link.{link_of, name_in}
 use Rattle.ac_balance.specs.Climbing.{Has, Once, Hangs, Keeps}
 use Rattle.ac_pool.proofs.SlotNames.{linked_name}
@@ -92,18 +92,23 @@ module _ {X : Type 0} where
   unfolding with_sides
   with_sides-writes c a l r h = sides_written-writes c a l r h (value_of c a) refl
 
-  pub fastened-fastens : (c : Contents (Node X)) (x : Name) (l r : Option Name) → (l ≡ Some x → ⊥) → (r ≡ Some x → ⊥) → ((a : Name) → l ≡ Some a → r ≡ Some a → ⊥)
-      → Fastens (value_of c) (value_of (fastened c x l r)) x l r (above c l r)
-  unfolding fastened
-  fastened-fastens c x l r nl nr n =
-      let d = with_sides c x l r (above c l r) in let e = with_parent d l (Some x) in
-      let one = with_sides-writes c x l r (above c l r) in let two = with_parent-writes d l (Some x) in let three = with_parent-writes e r (Some x) in
+  fastened-fastens : (c : Contents (Node X)) (x : Name) (l r : Option Name) (h : ℕ) → (l ≡ Some x → ⊥) → (r ≡ Some x → ⊥) → ((a : Name) → l ≡ Some a → r ≡ Some a → ⊥)
+      → Fastens (value_of c) (value_of (fastened_at c x l r h)) x l r h
+  unfolding fastened_at
+  fastened-fastens c x l r h nl nr n =
+      let d = with_parent c l (Some x) in let e = with_parent d r (Some x) in
+      let one = with_parent-writes c l (Some x) in let two = with_parent-writes d r (Some x) in let three = with_sides-writes e x l r h in
       record {
-        here = three.there x nr ∙ two.there x nl ∙ one.here x refl;
-        left = λ a is. three.there a (n a is) ∙ two.here a is ∙ ap (option_map (parent_put (Some x))) (one.there a (λ k. nl (is ∙ sym k)));
-        right = λ a is. three.here a is ∙ ap (option_map (parent_put (Some x))) (two.there a (λ k. n a k is) ∙ one.there a (λ k. nr (is ∙ sym k)));
-        there = λ a ne ml mr. three.there a mr ∙ two.there a ml ∙ one.there a (λ k. ne (sym (some_name x a k)));
+        here = three.here x refl ∙ ap (option_map (sides_put l r h)) (two.there x nr ∙ one.there x nl);
+        left = λ a is. three.there a (λ k. nl (is ∙ sym k)) ∙ two.there a (n a is) ∙ one.here a is;
+        right = λ a is. three.there a (λ k. nr (is ∙ sym k)) ∙ two.here a is ∙ ap (option_map (parent_put (Some x))) (one.there a (λ k. n a k is));
+        there = λ a ne ml mr. three.there a (λ k. ne (sym (some_name x a k))) ∙ two.there a mr ∙ one.there a ml;
       }
+
+  -- the height of one side while the other has got its parent
+  high-still : (c : Contents (Node X)) (l r to : Option Name) → ((a : Name) → l ≡ Some a → r ≡ Some a → ⊥) → high (with_parent c l to) r ≡ high c r
+  high-still c l None to n = refl
+  high-still c l (Some b) to n = ap height_of ((with_parent-writes c l to).there b (λ e. n b e refl))
 
   pub root_has : (t : Tree X) (a : Name) → root t ≡ Some a → Has a t
   root_has leaf a e = cc
@@ -141,25 +146,31 @@ module _ {X : Type 0} where
   pub Hangs-same : (f g : Nodes X) (t : Tree X) → ((a : Name) → Has a t → g a ≡ f a) → Hangs f t → Hangs g t
   Hangs-same f g t same h = record { parent = h.parent; stands = Stands-same f g h.parent t same h.stands }
 
-  pub fastened-becomes : (c : Contents (Node X)) (l : Tree X) (x : Row Name X) (r : Tree X) → Once (node l x r) → max (height l) (height r) + 1 < 2 ^ 32
-      → IsAt (value_of c) x → Hangs (value_of c) l → Hangs (value_of c) r → Becomes c (fastened c x.name (root l) (root r)) (node l x r)
-  fastened-becomes c l x r once few at hl hr =
-      let d = fastened c x.name (root l) (root r) in
-      let w = fastened-fastens c x.name (root l) (root r) (λ e. once.0 (root_has l x.name e)) (λ e. once.1 (root_has r x.name e)) (λ a e k. once.2 a (root_has l a e) (root_has r a k)) in
-      let el = high-is c l hl in let er = high-is c r hr in
-      let h : above c (root l) (root r) ≡ max (height l) (height r) + 1 = omega (arith, el, er, few) in
-      let kept : (a : Name) → Has a (node l x r) → a ≢ x.name → (root l ≡ Some a → ⊥) → (root r ≡ Some a → ⊥) → value_of d a ≡ value_of c a = λ a k. w.there a in
+  pub fastened_at-becomes : (c : Contents (Node X)) (l : Tree X) (x : Row Name X) (r : Tree X) (h : ℕ) → Once (node l x r) → h ≡ max (height l) (height r) + 1
+      → IsAt (value_of c) x → Hangs (value_of c) l → Hangs (value_of c) r → Becomes c (fastened_at c x.name (root l) (root r) h) (node l x r)
+  fastened_at-becomes c l x r h once is at hl hr =
+      let d = fastened_at c x.name (root l) (root r) h in
+      let w = fastened-fastens c x.name (root l) (root r) h (λ e. once.0 (root_has l x.name e)) (λ e. once.1 (root_has r x.name e)) (λ a e k. once.2 a (root_has l a e) (root_has r a k)) in
       record {
         hangs = record {
           parent = in_slot at.node.parent;
           stands = (
-            w.here ∙ ap (option_map (sides_put (root l) (root r) (above c (root l) (root r)))) at.found ∙ (λ i. Some (linked (at.value i) (in_slot at.node.parent) (root l) (root r) (h i))),
+            w.here ∙ ap (option_map (sides_put (root l) (root r) h)) at.found ∙ (λ i. Some (linked (at.value i) (in_slot at.node.parent) (root l) (root r) (is i))),
             Stands-moved (value_of c) (value_of d) hl.parent (Some x.name) l once.3 w.left
                 (λ a k n. w.there a (λ e. once.0 (subst (λ m. Has m l) e k)) n (λ e. once.2 a k (root_has r a e))) hl.stands,
             Stands-moved (value_of c) (value_of d) hr.parent (Some x.name) r once.4 w.right
                 (λ a k n. w.there a (λ e. once.1 (subst (λ m. Has m r) e k)) (λ e. once.2 a (root_has l a e) k) n) hr.stands,
           );
         };
-        keeps = keeps_fastened c x.name (root l) (root r);
+        keeps = keeps_fastened c x.name (root l) (root r) h;
         aside = λ a n. w.there a (λ e. n (inl e)) (λ e. n (inr (inl (root_has l a e)))) (λ e. n (inr (inr (root_has r a e))));
       }
+
+  pub fastened-becomes : (c : Contents (Node X)) (l : Tree X) (x : Row Name X) (r : Tree X) → Once (node l x r) → max (height l) (height r) + 1 < 2 ^ 32
+      → IsAt (value_of c) x → Hangs (value_of c) l → Hangs (value_of c) r → Becomes c (fastened c x.name (root l) (root r)) (node l x r)
+  unfolding fastened
+  fastened-becomes c l x r once few at hl hr =
+      let d = with_parent c (root l) (Some x.name) in
+      let el = high-is c l hl in let er = high-still c (root l) (root r) (Some x.name) (λ a e k. once.2 a (root_has l a e) (root_has r a k)) ∙ high-is c r hr in
+      let h : above (high c (root l)) (high d (root r)) ≡ max (height l) (height r) + 1 = omega (arith, el, er, few) in
+      fastened_at-becomes c l x r _ once h at hl hr

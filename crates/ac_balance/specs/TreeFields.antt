@@ -21,6 +21,10 @@ same_names (Some a) (Some b) = eq_by_cmp name_cmp a b
 abbrev pub place : Option Name → Bool → Option Name → Place
 place parent on_left top = record { parent = parent; is_left = on_left; top = top }
 
+-- the height above two sides that are h and k high
+abbrev pub above : ℕ → ℕ → ℕ
+above h k = min (max h k + 1) (2 ^ 32 - 1)
+
 -- nodes after a turn, and the name that is the topmost then
 pub record Made (X : Type 0) : Type 0 where
   pub nodes : Contents (Node X)
@@ -92,12 +96,13 @@ module _ {X : Type 0} where
   unfoldable pub with_sides : Contents (Node X) → Name → Option Name → Option Name → ℕ → Contents (Node X)
   with_sides c a l r h = sides_written c a l r h (value_of c a)
 
-  abbrev pub above : Contents (Node X) → Option Name → Option Name → ℕ
-  above c l r = min (max (high c l) (high c r) + 1) (2 ^ 32 - 1)
+  -- the name's node has these two sides, and is h high
+  unfoldable pub fastened_at : Contents (Node X) → Name → Option Name → Option Name → ℕ → Contents (Node X)
+  fastened_at c a l r h = with_sides (with_parent (with_parent c l (Some a)) r (Some a)) a l r h
 
   -- the name's node has these two sides
   unfoldable pub fastened : Contents (Node X) → Name → Option Name → Option Name → Contents (Node X)
-  fastened c a l r = with_parent (with_parent (with_sides c a l r (above c l r)) l (Some a)) r (Some a)
+  fastened c a l r = fastened_at c a l r (above (high c l) (high (with_parent c l (Some a)) r))
 
   abbrev pub made : Contents (Node X) → Name → Made X
   made c a = record { nodes = c; top = a }

@@ -128,6 +128,24 @@ pub(crate) fn set_parent<T>(nodes: &mut Pool<Node<T>>, name: Option<Name>, to: O
     }
 }
 
+/// Sets the parent of a side, and gives the side's height.
+#[tactic(auto, unfolding(crate::specs::TreeFields::with_parent))]
+pub(crate) fn adopt<T>(nodes: &mut Pool<Node<T>>, side: Option<Name>, parent: Name) -> u32
+    ensures nodes { nodes.new ≡ with_parent nodes.old side (Some parent) }
+    ensures height { result ≡ high nodes.old side }
+{
+    let Some(side) = side else {
+        return 0;
+    };
+    match nodes.get_mut(side) {
+        Some(node) => {
+            node.parent = parent.slot;
+            node.height
+        }
+        None => 0,
+    }
+}
+
 #[tactic(auto, unfolding(crate::specs::TreeFields::with_sides))]
 pub(crate) fn set_sides<T>(
     nodes: &mut Pool<Node<T>>,

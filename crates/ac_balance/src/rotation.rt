@@ -1,20 +1,26 @@
 //! The turns that keep the two sides of each node within one of each other in height.
 ghost use Rattle.std.specs.Prelude.{◌≡◌};
-ghost use Rattle.ac_balance.specs.TreeFields.{fastened, twice_left_in, from_left_in, twice_right_in, from_right_in, balanced_in};
+ghost use Rattle.ac_balance.specs.TreeFields.{above, fastened, fastened_at, twice_left_in, from_left_in, twice_right_in, from_right_in, balanced_in};
 
-use crate::links::{Node, height, left, right, set_parent, set_sides};
+use crate::links::{Node, adopt, height, left, right, set_sides};
 use ac_base::Name;
 use ac_pool::Pool;
 
+/// The height above two sides.
+fn above(left: u32, right: u32) -> u32
+    ensures { result ≡ above left right }
+{
+    left.max(right).saturating_add(1)
+}
+
 /// Gives the name's node these two sides.
-#[tactic(auto, unfolding(crate::specs::TreeFields::fastened))]
+#[tactic(auto, unfolding(crate::specs::TreeFields::fastened, crate::specs::TreeFields::fastened_at))]
 fn fasten<T>(nodes: &mut Pool<Node<T>>, name: Name, left: Option<Name>, right: Option<Name>)
     ensures { nodes.new ≡ fastened nodes.old name left right }
 {
-    let sides = height(nodes, left).max(height(nodes, right));
-    set_sides(nodes, name, left, right, sides.saturating_add(1));
-    set_parent(nodes, left, Some(name));
-    set_parent(nodes, right, Some(name));
+    let left_height = adopt(nodes, left, name);
+    let right_height = adopt(nodes, right, name);
+    set_sides(nodes, name, left, right, above(left_height, right_height));
 }
 
 #[tactic(auto, unfolding(crate::specs::TreeFields::twice_left_in))]
