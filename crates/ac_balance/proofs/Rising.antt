@@ -7,14 +7,14 @@ use Rattle.ac_balance.specs.declared.links.Node.{Node}
 use Rattle.ac_balance.specs.declared.places.Place.{Place}
 use Rattle.ac_base.specs.Rows.{Row}
 use Rattle.ac_balance.specs.Trees.{Tree, leaf, node, in_order, height, Level, Balanced, balanced, Step, on_left, on_right, side_of, joined, settled, plugged, tall, Fits}
-use Rattle.ac_balance.specs.TreeFields.{root, left_link, right_link, parent_link, left_of, right_of, height_of, high, balanced_in, parent_of, same_names, is_left_in, settled_in, risen}
+use Rattle.ac_balance.specs.TreeFields.{root, left_link, parent_link, left_of, height_of, high, beside_link, balanced_in, parent_of, same_names, is_left_in, settled_with, settled_in, risen}
 use Rattle.ac_pool.specs.Link.{name_in}
 use Rattle.ac_balance.specs.Climbing.{Has, Once, Hangs, name_of, above_in, Framed, IsSide, IsRooted, Open, Climbing, Climbed, HasName, Relinks}
 use Rattle.ac_pool.proofs.SlotNames.{linked_name}
 use Rattle.ac_balance.proofs.Keeping.{keeps_itself, keeps_then, sound_still}
 use Rattle.ac_balance.proofs.Standing.{Nodes, some_name, Stands-same, high-is, linked_root}
 use Rattle.ac_balance.proofs.Names.{IsAround, once_order, plugged_once, height_le, plugged_le, named, part_has}
-use Rattle.ac_balance.proofs.Turning.{Gives, balanced-gives}
+use Rattle.ac_balance.proofs.Turning.{Balances, balanced-gives}
 use Rattle.ac_balance.proofs.Climbs.{settled-order, settled-step, plugged-balanced, plugged-order, around, plugged-height}
 
 level_same : (h k : ℕ) → k ≡ h → Level h k
@@ -30,15 +30,15 @@ module _ {X : Type 0} where
 
   -- the parent is balanced over the part
   pub settled-gives : (c : Contents (Node X)) (sound : IsSound c) (s : Step X) (steps : List (Step X)) (t : Tree X) (o : Option Name) (h : ℕ) (b : Bool) → Framed (value_of c) (s ∷ steps) o h → IsSide b (s ∷ steps)
-      → Hangs (value_of c) t → Once (settled s t) → height (settled s t) < 2 ^ 32 → Gives c (settled_in c (name_of s) b (root t)) (settled s t)
-  unfolding settled_in
+      → Hangs (value_of c) t → Once (settled s t) → height (settled s t) < 2 ^ 32 → Balances c (settled_in c (name_of s) b (root t)) (settled s t)
+  unfolding settled_in settled_with
   settled-gives c sound (on_left x r) steps t o h b f side hangs once few =
-      let er : right_of c x.name ≡ root r = ap (λ n. name_in c (right_link n)) f.0 ∙ linked_root c sound (Some x.name) r f.1 in
-      subst (λ m. Gives c m (balanced t x r)) (λ i. if sym side i then balanced_in c (root t) x.name (sym er i) else balanced_in c (left_of c x.name) x.name (root t))
+      let er : name_in c (beside_link b (value_of c x.name)) ≡ root r = (λ i. name_in c (beside_link (side i) (f.0 i))) ∙ linked_root c sound (Some x.name) r f.1 in
+      subst (λ m. Balances c m (balanced t x r)) (λ i. if sym side i then balanced_in c (root t) x.name (sym er i) else balanced_in c (sym er i) x.name (root t))
       (balanced-gives c sound t x r hangs (record { node = _; found = f.0; value = refl }) (record { parent = Some x.name; stands = f.1 }) once few)
   settled-gives c sound (on_right l x) steps t o h b f side hangs once few =
-      let el : left_of c x.name ≡ root l = ap (λ n. name_in c (left_link n)) f.0 ∙ linked_root c sound (Some x.name) l f.1 in
-      subst (λ m. Gives c m (balanced l x t)) (λ i. if sym side i then balanced_in c (root t) x.name (right_of c x.name) else balanced_in c (sym el i) x.name (root t))
+      let el : name_in c (beside_link b (value_of c x.name)) ≡ root l = (λ i. name_in c (beside_link (side i) (f.0 i))) ∙ linked_root c sound (Some x.name) l f.1 in
+      subst (λ m. Balances c m (balanced l x t)) (λ i. if sym side i then balanced_in c (root t) x.name (sym el i) else balanced_in c (sym el i) x.name (root t))
       (balanced-gives c sound l x t (record { parent = Some x.name; stands = f.1 }) (record { node = _; found = f.0; value = refl }) hangs once few)
 
   -- how far the stored heights are from their bound
@@ -96,9 +96,11 @@ module _ {X : Type 0} where
   rooted-up base s [] h = tt
   rooted-up base s (r ∷ steps) h = h
 
-  pub record Raised (c : Contents (Node X)) (x : Name) (d : Contents (Node X)) (q : Place) (base : Option Name) (rows : List (Row Name X)) (high_before : ℕ) : Type 0 where
+  -- the part is now as high as it was measured
+  pub record Raised (c : Contents (Node X)) (x : Name) (d : Contents (Node X)) (q : Place) (now : ℕ) (base : Option Name) (rows : List (Row Name X)) (high_before : ℕ) : Type 0 where
     pub climbing : Climbing d q base rows
     pub was : climbing.was ≡ height_of (value_of c x)
+    pub measured : now ≡ high d q.top
     pub less : left_to d q.parent < left_to c (Some x)
     pub relinks : Relinks rows c d
     pub whole : tall climbing.steps climbing.was ≡ high_before
@@ -108,7 +110,7 @@ module _ {X : Type 0} where
   step-live f (on_right l x) steps o h k = ap is_some k.0
 
   raised : (c : Contents (Node X)) (p : Place) (base : Option Name) (rows : List (Row Name X)) (s : Step X) (steps : List (Step X)) (t : Tree X) (h : ℕ) → Open c p base rows (s ∷ steps) t h → Fits (s ∷ steps) h → Balanced t → Level h (height t)
-      → Raised c (name_of s) (settled_in c (name_of s) p.is_left (root t)).nodes (risen c (name_of s) p.is_left (root t)) base rows (tall (s ∷ steps) h)
+      → Raised c (name_of s) (settled_in c (name_of s) p.is_left (root t)).nodes (risen c (name_of s) p.is_left (root t)) (settled_in c (name_of s) p.is_left (root t)).high base rows (tall (s ∷ steps) h)
   raised c p base rows s steps t h o fits bal near =
       let n = name_of s in let k = max h (height (side_of s)) + 1 in let u = settled s t in
       let m = settled_in c n p.is_left (root t) in
@@ -147,20 +149,21 @@ module _ {X : Type 0} where
           near = up.1;
         };
         was = sym was;
+        measured = gives.high ∙ sym (high-is m.nodes u gives.becomes.hangs) ∙ ap (high m.nodes) gives.top;
         less = subst (λ z. left_to m.nodes z < left_to c (Some n)) (sym parent) (falls c m.nodes n steps k was small framed);
         relinks = record { aside = λ a z. gives.becomes.aside a (λ w. z (subst (HasName a) ordered (named a (plugged steps u) (part_has steps u a w)))); keeps = gives.becomes.keeps };
         whole = refl;
       }
 
   raise : (c : Contents (Node X)) (p : Place) (base : Option Name) (rows : List (Row Name X)) (x : Name) (steps : List (Step X)) (t : Tree X) (h : ℕ) → p.parent ≡ Some x → Open c p base rows steps t h → Fits steps h → Balanced t → Level h (height t)
-      → Raised c x (settled_in c x p.is_left p.top).nodes (risen c x p.is_left p.top) base rows (tall steps h)
+      → Raised c x (settled_in c x p.is_left p.top).nodes (risen c x p.is_left p.top) (settled_in c x p.is_left p.top).high base rows (tall steps h)
   raise c p base rows x [] t h e o fits bal near = let bad = sym e ∙ o.parent in cc
   raise c p base rows x (s ∷ steps) t h e o fits bal near =
       let both : Some (name_of s) ≡ Some x = sym o.parent ∙ e in let same : name_of s ≡ x = cc in let high = tall (s ∷ steps) h in
-      subst (λ z. Raised c z (settled_in c z p.is_left p.top).nodes (risen c z p.is_left p.top) base rows high) same
-      (subst (λ z. Raised c (name_of s) (settled_in c (name_of s) p.is_left z).nodes (risen c (name_of s) p.is_left z) base rows high) (sym o.top) (raised c p base rows s steps t h o fits bal near))
+      subst (λ z. Raised c z (settled_in c z p.is_left p.top).nodes (risen c z p.is_left p.top) (settled_in c z p.is_left p.top).high base rows high) same
+      (subst (λ z. Raised c (name_of s) (settled_in c (name_of s) p.is_left z).nodes (risen c (name_of s) p.is_left z) (settled_in c (name_of s) p.is_left z).high base rows high) (sym o.top) (raised c p base rows s steps t h o fits bal near))
 
-  pub rises : (c : Contents (Node X)) (p : Place) (base : Option Name) (rows : List (Row Name X)) (x : Name) → p.parent ≡ Some x → (k : Climbing c p base rows) → Raised c x (settled_in c x p.is_left p.top).nodes (risen c x p.is_left p.top) base rows (tall k.steps k.was)
+  pub rises : (c : Contents (Node X)) (p : Place) (base : Option Name) (rows : List (Row Name X)) (x : Name) → p.parent ≡ Some x → (k : Climbing c p base rows) → Raised c x (settled_in c x p.is_left p.top).nodes (risen c x p.is_left p.top) (settled_in c x p.is_left p.top).high base rows (tall k.steps k.was)
   rises c p base rows x e k = raise c p base rows x k.steps k.part k.was e k.stands k.fits k.balanced k.near
 
   -- the height is what it was: nothing above changes
@@ -195,14 +198,15 @@ module _ {X : Type 0} where
   pub relinks_then : (rows : List (Row Name X)) (c d e : Contents (Node X)) → Relinks rows c d → Relinks rows d e → Relinks rows c e
   relinks_then rows c d e p q = record { aside = λ a n. q.aside a n ∙ p.aside a n; keeps = keeps_then c d e p.keeps q.keeps }
 
-  pub rises_to : (c d : Contents (Node X)) (p q : Place) (base : Option Name) (rows : List (Row Name X)) (x : Name) → p.parent ≡ Some x → d ≡ (settled_in c x p.is_left p.top).nodes → q ≡ risen c x p.is_left p.top
-      → (k : Climbing c p base rows) → Raised c x d q base rows (tall k.steps k.was)
-  rises_to c d p q base rows x e is was k =
-      let whole = tall k.steps k.was in
-      subst (λ z. Raised c x z q base rows whole) (sym is) (subst (λ z. Raised c x (settled_in c x p.is_left p.top).nodes z base rows whole) (sym was) (rises c p base rows x e k))
+  pub rises_to : (c d : Contents (Node X)) (p q : Place) (o : Option Name) (base : Option Name) (rows : List (Row Name X)) (x : Name) (now : ℕ) → p.parent ≡ Some x → o ≡ p.top → d ≡ (settled_in c x p.is_left o).nodes → q ≡ risen c x p.is_left o
+      → now ≡ (settled_in c x p.is_left o).high → (k : Climbing c p base rows) → Raised c x d q now base rows (tall k.steps k.was)
+  rises_to c d p q o base rows x now e at is it high k =
+      let whole = tall k.steps k.was in let m = settled_in c x p.is_left o in let up = risen c x p.is_left o in
+      let raised = subst (λ z. Raised c x (settled_in c x p.is_left z).nodes (risen c x p.is_left z) (settled_in c x p.is_left z).high base rows whole) (sym at) (rises c p base rows x e k) in
+      subst (λ z. Raised c x z q now base rows whole) (sym is) (subst (λ z. Raised c x m.nodes z now base rows whole) (sym it) (subst (λ z. Raised c x m.nodes up z base rows whole) (sym high) raised))
 
-  pub stops_at : (c d : Contents (Node X)) (p q : Place) (base : Option Name) (rows : List (Row Name X)) (x : Name) (was now : ℕ) → p.parent ≡ Some x → d ≡ (settled_in c x p.is_left p.top).nodes → q ≡ risen c x p.is_left p.top
-      → was ≡ high c (Some x) → now ≡ high d q.top → now ≡ was → (k : Climbing c p base rows) → Climbed d q base rows (tall k.steps k.was) × Relinks rows c d
-  stops_at c d p q base rows x was now e is it old new same k =
-      let up = rises_to c d p q base rows x e is it k in
-      (subst (λ n. Climbed d q base rows n) up.whole (stops d q base rows up.climbing (sym new ∙ same ∙ old ∙ sym up.was)), up.relinks)
+  pub stops_at : (c d : Contents (Node X)) (p q : Place) (o : Option Name) (base : Option Name) (rows : List (Row Name X)) (x : Name) (was now : ℕ) → p.parent ≡ Some x → o ≡ p.top → d ≡ (settled_in c x p.is_left o).nodes → q ≡ risen c x p.is_left o
+      → was ≡ high c (Some x) → now ≡ (settled_in c x p.is_left o).high → now ≡ was → (k : Climbing c p base rows) → Climbed d q base rows (tall k.steps k.was) × Relinks rows c d
+  stops_at c d p q o base rows x was now e at is it old new same k =
+      let up = rises_to c d p q o base rows x now e at is it new k in
+      (subst (λ n. Climbed d q base rows n) up.whole (stops d q base rows up.climbing (sym up.measured ∙ same ∙ old ∙ sym up.was)), up.relinks)

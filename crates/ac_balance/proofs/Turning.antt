@@ -5,16 +5,25 @@ use Rattle.ac_pool.specs.Contents.{Contents, value_of, IsSound}
 use Rattle.ac_balance.specs.declared.links.Node.{Node}
 use Rattle.ac_base.specs.Rows.{Row}
 use Rattle.ac_balance.specs.Trees.{Tree, leaf, node, height, twice_left, from_left, twice_right, from_right, balanced}
-use Rattle.ac_balance.specs.TreeFields.{root, left_of, right_of, high, fastened, Made, made, twice_left_in, from_left_in, twice_right_in, from_right_in, balanced_in}
+use Rattle.ac_balance.specs.TreeFields.{root, left_of, right_of, high, above, fastened, Made, Measured, made, measured, laid, twice_left_in, from_left_in, twice_right_in, from_right_in, balanced_in}
 use Rattle.ac_balance.specs.Climbing.{Has, Once, Hangs}
 use Rattle.ac_balance.proofs.Keeping.{keeps_then}
-use Rattle.ac_balance.proofs.Standing.{Nodes, IsAt, IsAt-same, Hangs-same, high-is, Becomes, fastened-becomes, left-is, right-is}
+use Rattle.ac_balance.proofs.Standing.{Nodes, IsAt, IsAt-same, Hangs-same, high-is, Becomes, fastened_at-becomes, fastened-becomes, left-is, right-is}
 
 module _ {X : Type 0} where
   -- the tree has become t, and m names its topmost row
   pub record Gives (c : Contents (Node X)) (m : Made X) (t : Tree X) : Type 0 where
     pub becomes : Becomes c m.nodes t
     pub top : root t ≡ Some m.top
+
+  -- and how high it is
+  pub record Balances (c : Contents (Node X)) (m : Measured X) (t : Tree X) : Type 0 where
+    pub becomes : Becomes c m.nodes t
+    pub top : root t ≡ Some m.top
+    pub high : m.high ≡ height t
+
+  balances : (c : Contents (Node X)) (m : Made X) (t : Tree X) → Gives c m t → Balances c (measured m) t
+  balances c m t g = record { becomes = g.becomes; top = g.top; high = ap (high m.nodes) (sym g.top) ∙ high-is m.nodes t g.becomes.hangs }
 
   hung : (f : Nodes X) (l : Tree X) (x : Row Name X) (r : Tree X) → Hangs f (node l x r) → IsAt f x × Hangs f l × Hangs f r
   hung f l x r h = (record { node = _; found = h.stands.0; value = refl }, record { parent = Some x.name; stands = h.stands.1 }, record { parent = Some x.name; stands = h.stands.2 })
@@ -71,10 +80,10 @@ module _ {X : Type 0} where
         top = refl;
       }
 
-  chosen : (c : Contents (Node X)) (k : Bool) (m n : Made X) (t u : Tree X) → (Once t → height t < 2 ^ 32 → Gives c m t) → (Once u → height u < 2 ^ 32 → Gives c n u)
-      → Once (if k then t else u) → height (if k then t else u) < 2 ^ 32 → Gives c (if k then m else n) (if k then t else u)
-  chosen c true m n t u f g once few = f once few
-  chosen c false m n t u f g once few = g once few
+  chosen : {M : Type 0} (P : M → Tree X → Type 0) (k : Bool) (m n : M) (t u : Tree X) → (Once t → height t < 2 ^ 32 → P m t) → (Once u → height u < 2 ^ 32 → P n u)
+      → Once (if k then t else u) → height (if k then t else u) < 2 ^ 32 → P (if k then m else n) (if k then t else u)
+  chosen P true m n t u f g once few = f once few
+  chosen P false m n t u f g once few = g once few
 
   from_left-gives : (c : Contents (Node X)) (sound : IsSound c) (l : Tree X) (x : Row Name X) (r : Tree X) → Hangs (value_of c) l → IsAt (value_of c) x → Hangs (value_of c) r
       → Once (from_left l x r) → height (from_left l x r) < 2 ^ 32 → Gives c (from_left_in c (root l) x.name (root r)) (from_left l x r)
@@ -88,7 +97,7 @@ module _ {X : Type 0} where
       ≡ (if nat_le (height b) (height a) then made (fastened (fastened c x.name (root b) (root r)) y.name (root a) (Some x.name)) y.name else twice_left_in c (root a) y.name (root b) x.name (root r))
       = λ i. if nat_le (hb i) (ha i) then made (fastened (fastened c x.name (er i) (root r)) y.name (el i) (Some x.name)) y.name else twice_left_in c (el i) y.name (er i) x.name (root r) in
       subst (λ m. Gives c m (from_left (node a y b) x r)) (sym is)
-      (chosen c (nat_le (height b) (height a)) _ _ (node a y (node b x r)) (twice_left a y b x r)
+      (chosen (Gives c) (nat_le (height b) (height a)) _ _ (node a y (node b x r)) (twice_left a y b x r)
       (λ o f. record { becomes = becomes-right c a y b x r o f atx parts.2 hr parts.0 parts.1; top = refl })
       (λ o f. twice_left-gives c sound a y b x r o f parts.0 parts.1 parts.2 atx hr) once few)
 
@@ -117,19 +126,25 @@ module _ {X : Type 0} where
       ≡ (if nat_le (height a) (height b) then made (fastened (fastened c x.name (root l) (root a)) y.name (Some x.name) (root b)) y.name else twice_right_in c (root l) x.name (root a) y.name (root b))
       = λ i. if nat_le (ha i) (hb i) then made (fastened (fastened c x.name (root l) (el i)) y.name (Some x.name) (er i)) y.name else twice_right_in c (root l) x.name (el i) y.name (er i) in
       subst (λ m. Gives c m (from_right l x (node a y b))) (sym is)
-      (chosen c (nat_le (height a) (height b)) _ _ (node (node l x a) y b) (twice_right l x a y b)
+      (chosen (Gives c) (nat_le (height a) (height b)) _ _ (node (node l x a) y b) (twice_right l x a y b)
       (λ o f. record { becomes = becomes-left c l x a b y o f atx hl parts.1 parts.0 parts.2; top = refl })
       (λ o f. twice_right-gives c sound l x a y b o f hl atx parts.1 parts.0 parts.2) once few)
 
+  laid-gives : (c : Contents (Node X)) (l : Tree X) (x : Row Name X) (r : Tree X) → Hangs (value_of c) l → IsAt (value_of c) x → Hangs (value_of c) r
+      → Once (node l x r) → height (node l x r) < 2 ^ 32 → Balances c (laid c (root l) x.name (root r) (above (height l) (height r))) (node l x r)
+  laid-gives c l x r hl atx hr once few =
+      let h : above (height l) (height r) ≡ max (height l) (height r) + 1 = omega (arith, few) in
+      record { becomes = fastened_at-becomes c l x r _ once h atx hl hr; top = refl; high = h }
+
   pub balanced-gives : (c : Contents (Node X)) (sound : IsSound c) (l : Tree X) (x : Row Name X) (r : Tree X) → Hangs (value_of c) l → IsAt (value_of c) x → Hangs (value_of c) r
-      → Once (balanced l x r) → height (balanced l x r) < 2 ^ 32 → Gives c (balanced_in c (root l) x.name (root r)) (balanced l x r)
+      → Once (balanced l x r) → height (balanced l x r) < 2 ^ 32 → Balances c (balanced_in c (root l) x.name (root r)) (balanced l x r)
   unfolding balanced_in
   balanced-gives c sound l x r hl atx hr once few =
       let el = high-is c l hl in let er = high-is c r hr in let o = root l in let p = root r in
-      subst (λ m. Gives c m (balanced l x r))
-      (λ i. if nat_lt 1 (sym el i - sym er i) then from_left_in c o x.name p else if nat_lt 1 (sym er i - sym el i) then from_right_in c o x.name p else made (fastened c x.name o p) x.name)
-      (chosen c (nat_lt 1 (height l - height r)) _ _ (from_left l x r) (if nat_lt 1 (height r - height l) then from_right l x r else node l x r)
-      (λ k f. from_left-gives c sound l x r hl atx hr k f)
-      (λ k f. chosen c (nat_lt 1 (height r - height l)) _ _ (from_right l x r) (node l x r)
-      (λ k f. from_right-gives c sound l x r hl atx hr k f)
-      (λ k f. record { becomes = fastened-becomes c l x r k f atx hl hr; top = refl }) k f) once few)
+      subst (λ m. Balances c m (balanced l x r))
+      (λ i. if nat_lt 1 (sym el i - sym er i) then measured (from_left_in c o x.name p) else if nat_lt 1 (sym er i - sym el i) then measured (from_right_in c o x.name p) else laid c o x.name p (above (sym el i) (sym er i)))
+      (chosen (Balances c) (nat_lt 1 (height l - height r)) _ _ (from_left l x r) (if nat_lt 1 (height r - height l) then from_right l x r else node l x r)
+      (λ k f. balances c _ _ (from_left-gives c sound l x r hl atx hr k f))
+      (λ k f. chosen (Balances c) (nat_lt 1 (height r - height l)) _ _ (from_right l x r) (node l x r)
+      (λ k f. balances c _ _ (from_right-gives c sound l x r hl atx hr k f))
+      (λ k f. laid-gives c l x r hl atx hr k f) k f) once few)

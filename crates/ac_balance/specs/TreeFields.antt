@@ -30,6 +30,12 @@ pub record Made (X : Type 0) : Type 0 where
   pub nodes : Contents (Node X)
   pub top : Name
 
+-- and how high it is
+pub record Measured (X : Type 0) : Type 0 where
+  pub nodes : Contents (Node X)
+  pub top : Name
+  pub high : ℕ
+
 module _ {X : Type 0} where
   -- a node with these slots as its links, and one that is linked with these names
   abbrev pub node_with : X → ℕ → ℕ → ℕ → ℕ → Node X
@@ -107,6 +113,16 @@ module _ {X : Type 0} where
   abbrev pub made : Contents (Node X) → Name → Made X
   made c a = record { nodes = c; top = a }
 
+  abbrev pub made_at : Contents (Node X) → Name → ℕ → Measured X
+  made_at c a h = record { nodes = c; top = a; high = h }
+
+  abbrev pub measured : Made X → Measured X
+  measured m = made_at m.nodes m.top (high m.nodes (Some m.top))
+
+  -- the node between two sides, h high itself
+  abbrev pub laid : Contents (Node X) → Option Name → Name → Option Name → ℕ → Measured X
+  laid c l x r h = made_at (fastened_at c x l r h) x h
+
   -- the turns of `Trees`, by names
   unfoldable pub twice_left_in : Contents (Node X) → Option Name → Name → Option Name → Name → Option Name → Made X
   twice_left_in c a y None x r = made (fastened (fastened c y a None) x (Some y) r) x
@@ -130,18 +146,26 @@ module _ {X : Type 0} where
       made (fastened (fastened c x l (left_of c y)) y (Some x) (right_of c y)) y
       else twice_right_in c l x (left_of c y) y (right_of c y)
 
-  unfoldable pub balanced_in : Contents (Node X) → Option Name → Name → Option Name → Made X
+  unfoldable pub balanced_in : Contents (Node X) → Option Name → Name → Option Name → Measured X
   balanced_in c l x r =
-      if nat_lt 1 (high c l - high c r) then from_left_in c l x r
-      else if nat_lt 1 (high c r - high c l) then from_right_in c l x r
-      else made (fastened c x l r) x
+      if nat_lt 1 (high c l - high c r) then measured (from_left_in c l x r)
+      else if nat_lt 1 (high c r - high c l) then measured (from_right_in c l x r)
+      else laid c l x r (above (high c l) (high c r))
 
   abbrev pub is_left_in : Contents (Node X) → Option Name → Name → Bool
   is_left_in c None a = false
   is_left_in c (Some b) a = same_names (left_of c b) (Some a)
 
-  unfoldable pub settled_in : Contents (Node X) → Name → Bool → Option Name → Made X
-  settled_in c x on_left o = if on_left then balanced_in c o x (right_of c x) else balanced_in c (left_of c x) x o
+  -- the link to the side beside the left one, or beside the right one
+  abbrev pub beside_link : Bool → Option (Node X) → ℕ
+  beside_link on_left None = link_of None
+  beside_link on_left (Some n) = if on_left then n.right else n.left
+
+  unfoldable pub settled_with : Contents (Node X) → Name → Bool → Option Name → Option Name → Measured X
+  settled_with c x on_left o beside = if on_left then balanced_in c o x beside else balanced_in c beside x o
+
+  unfoldable pub settled_in : Contents (Node X) → Name → Bool → Option Name → Measured X
+  settled_in c x on_left o = settled_with c x on_left o (name_in c (beside_link on_left (value_of c x)))
 
   abbrev pub risen : Contents (Node X) → Name → Bool → Option Name → Place
   risen c x on_left o = let up = parent_of c x in place up (is_left_in c up x) (Some (settled_in c x on_left o).top)

@@ -1,7 +1,7 @@
 //! Taking a node out of the tree. It stays in the pool.
 ghost use Rattle.ac_balance.specs.Detaching.{Cuts, IsCut, Joins, IsJoined, Detaches, IsDetached};
 
-use crate::links::{Links, left, right, set_parent};
+use crate::links::{Links, left, right, set_parent, side_of};
 use crate::places::{mend, place_of};
 use crate::rotation::balance;
 use crate::walk::leftmost;
@@ -29,7 +29,10 @@ fn join<T>(links: &mut Links<T>, left_side: Option<Name>, right_side: Option<Nam
     };
     let first = leftmost(&links.nodes, top);
     cut_first(links, top, first);
-    Some(balance(&mut links.nodes, left_side, first, links.root))
+    let before = side_of(&links.nodes, left_side);
+    let behind = side_of(&links.nodes, links.root);
+    let whole = balance(&mut links.nodes, before, first, behind);
+    whole.top
 }
 
 /// Takes the node out of the tree.

@@ -20,8 +20,8 @@ pub use index::{OrderIndex, Present};
 pub use keyed::Keyed;
 pub use law::steps_of_searches;
 #[doc(hidden)]
-pub use links::{Links, Node};
+pub use links::{Links, Node, Side};
 #[doc(hidden)]
-pub use places::Place;
+pub use places::{NodeLinks, Place, Risen};
 #[doc(hidden)]
 pub use search::Spot;

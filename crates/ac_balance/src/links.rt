@@ -18,6 +18,13 @@ pub struct Node<T> {
     pub height: u32,
 }
 
+/// A part of the tree by its topmost node, with its height.
+#[derive(Clone, Copy)]
+pub struct Side {
+    pub top: Option<Name>,
+    pub height: u32,
+}
+
 #[derive(Drop)]
 pub struct Links<T> {
     pub nodes: Pool<Node<T>>,
@@ -114,6 +121,33 @@ pub(crate) fn height<T>(nodes: &Pool<Node<T>>, name: Option<Name>) -> u32
             None => 0,
         },
         None => 0,
+    }
+}
+
+/// The part under a name.
+#[inline(always)]
+pub(crate) fn side_of<T>(nodes: &Pool<Node<T>>, top: Option<Name>) -> Side
+    ensures top { result.top ≡ top }
+    ensures height { result.height ≡ high nodes.now top }
+{
+    Side {
+        top,
+        height: height(nodes, top),
+    }
+}
+
+/// The part to which a link leads.
+#[inline(always)]
+pub(crate) fn side_in<T>(nodes: &Pool<Node<T>>, link: u32) -> Side
+    ensures top { result.top ≡ name_in nodes.now link }
+    ensures height { result.height ≡ high nodes.now result.top }
+{
+    match name_in(nodes, link) {
+        Some(name) => side_of(nodes, Some(name)),
+        None => Side {
+            top: None,
+            height: 0,
+        },
     }
 }
 

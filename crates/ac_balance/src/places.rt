@@ -1,12 +1,15 @@
 //! A part of the tree and its place, and the way up from there.
-ghost use Rattle.std.specs.Prelude.{◌≡◌};
-ghost use Rattle.ac_balance.specs.TreeFields.{is_left_in, settled_in, risen, attached, place_in};
+ghost use Rattle.std.specs.Prelude.{◌≡◌, Some};
+ghost use Rattle.ac_pool.specs.Contents.{value_of};
+ghost use Rattle.ac_balance.specs.TreeFields.{parent_link, beside_link, height_of, high, is_left_in, settled_with, settled_in, risen, attached, place_in};
 ghost use Rattle.ac_balance.specs.Climbing.{IsClimbing, Climbs, IsMendable, Mends};
 
-use crate::links::{Links, Node, height, left, parent, right, set_parent, set_side};
+use crate::links::{
+    Links, Node, Side, left, name_in, parent, set_parent, set_side, side_in, side_of,
+};
 use crate::rotation::balance;
 use ac_base::Name;
-use ac_pool::Pool;
+use ac_pool::{NO_SLOT, Pool};
 
 /// A place in the tree for a part whose topmost node is `top`: under a parent, on its left or its right.
 #[derive(Clone, Copy)]
@@ -37,31 +40,78 @@ pub(crate) fn is_on_left<T>(nodes: &Pool<Node<T>>, above: Option<Name>, name: Na
     }
 }
 
-#[tactic(auto, unfolding(crate::specs::TreeFields::settled_in))]
-fn settle<T>(nodes: &mut Pool<Node<T>>, name: Name, is_left: bool, top: Option<Name>) -> Name
-    ensures nodes { nodes.new ≡ (settled_in nodes.old name is_left top).nodes }
-    ensures top { result ≡ (settled_in nodes.old name is_left top).top }
+/// The links around a node, but for the one to the part on one of its sides.
+#[derive(Clone, Copy)]
+pub struct NodeLinks {
+    pub above: u32,
+    pub beside: u32,
+    pub height: u32,
+}
+
+#[inline(always)]
+fn around<T>(nodes: &Pool<Node<T>>, name: Name, is_left: bool) -> NodeLinks
+    ensures above { result.above ≡ parent_link (value_of nodes.now name) }
+    ensures beside { result.beside ≡ beside_link is_left (value_of nodes.now name) }
+    ensures height { result.height ≡ height_of (value_of nodes.now name) }
+{
+    match nodes.get(name) {
+        Some(node) => NodeLinks {
+            above: node.parent,
+            beside: if is_left { node.right } else { node.left },
+            height: node.height,
+        },
+        None => NodeLinks {
+            above: NO_SLOT,
+            beside: NO_SLOT,
+            height: 0,
+        },
+    }
+}
+
+#[tactic(auto, unfolding(crate::specs::TreeFields::settled_with))]
+fn settle<T>(nodes: &mut Pool<Node<T>>, name: Name, is_left: bool, part: Side, beside: Side) -> Side
+    requires part { part.height ≡ high nodes.old part.top }
+    requires beside { beside.height ≡ high nodes.old beside.top }
+    ensures nodes { nodes.new ≡ (settled_with nodes.old name is_left part.top beside.top).nodes }
+    ensures top { result.top ≡ Some (settled_with nodes.old name is_left part.top beside.top).top }
+    ensures height { result.height ≡ (settled_with nodes.old name is_left part.top beside.top).high }
 {
     if is_left {
-        let side = right(nodes, name);
-        return balance(nodes, top, name, side);
+        return balance(nodes, part, name, beside);
     }
-    let side = left(nodes, name);
-    balance(nodes, side, name, top)
+    balance(nodes, beside, name, part)
+}
+
+/// A place one step further up: how high the part for it is, and how high the node was that it has at the top.
+#[derive(Clone, Copy)]
+pub struct Risen {
+    pub place: Place,
+    pub height: u32,
+    pub was: u32,
 }
 
 /// One step up: the parent is balanced, and the part is it with its sides.
-fn rise<T>(nodes: &mut Pool<Node<T>>, name: Name, is_left: bool, top: Option<Name>) -> Place
-    ensures nodes { nodes.new ≡ (settled_in nodes.old name is_left top).nodes }
-    ensures place { result ≡ risen nodes.old name is_left top }
+#[tactic(auto, unfolding(crate::specs::TreeFields::settled_in))]
+fn rise<T>(nodes: &mut Pool<Node<T>>, name: Name, is_left: bool, part: Side) -> Risen
+    requires { part.height ≡ high nodes.old part.top }
+    ensures nodes { nodes.new ≡ (settled_in nodes.old name is_left part.top).nodes }
+    ensures place { result.place ≡ risen nodes.old name is_left part.top }
+    ensures height { result.height ≡ (settled_in nodes.old name is_left part.top).high }
+    ensures was { result.was ≡ high nodes.old (Some name) }
 {
-    let above = parent(nodes, name);
+    let around = around(nodes, name, is_left);
+    let above = name_in(nodes, around.above);
     let is_on_left = is_on_left(nodes, above, name);
-    let top = settle(nodes, name, is_left, top);
-    Place {
-        parent: above,
-        is_left: is_on_left,
-        top: Some(top),
+    let beside = side_in(nodes, around.beside);
+    let part = settle(nodes, name, is_left, part, beside);
+    Risen {
+        place: Place {
+            parent: above,
+            is_left: is_on_left,
+            top: part.top,
+        },
+        height: part.height,
+        was: around.height,
     }
 }
 
@@ -71,12 +121,17 @@ fn climb<T>(nodes: &mut Pool<Node<T>>, from: Place) -> Place
     ensures { Climbs nodes.old from nodes.new result }
 {
     let mut place = from;
+    let mut part = side_of(nodes, from.top);
     while let Some(name) = place.parent {
-        let was = height(nodes, Some(name));
-        place = rise(nodes, name, place.is_left, place.top);
-        if height(nodes, place.top) == was {
+        let up = rise(nodes, name, place.is_left, part);
+        place = up.place;
+        if up.height == up.was {
             return place;
         }
+        part = Side {
+            top: place.top,
+            height: up.height,
+        };
     }
     place
 }

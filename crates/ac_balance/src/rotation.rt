@@ -1,8 +1,8 @@
 //! The turns that keep the two sides of each node within one of each other in height.
-ghost use Rattle.std.specs.Prelude.{◌≡◌};
-ghost use Rattle.ac_balance.specs.TreeFields.{above, fastened, fastened_at, twice_left_in, from_left_in, twice_right_in, from_right_in, balanced_in};
+ghost use Rattle.std.specs.Prelude.{◌≡◌, Some};
+ghost use Rattle.ac_balance.specs.TreeFields.{high, above, fastened, fastened_at, twice_left_in, from_left_in, twice_right_in, from_right_in, balanced_in};
 
-use crate::links::{Node, adopt, height, left, right, set_sides};
+use crate::links::{Node, Side, adopt, height, left, right, set_parent, set_sides, side_of};
 use ac_base::Name;
 use ac_pool::Pool;
 
@@ -11,6 +11,22 @@ fn above(left: u32, right: u32) -> u32
     ensures { result ≡ above left right }
 {
     left.max(right).saturating_add(1)
+}
+
+/// Gives the name's node these two sides and this height.
+#[tactic(auto, unfolding(crate::specs::TreeFields::fastened_at))]
+fn lay<T>(
+    nodes: &mut Pool<Node<T>>,
+    name: Name,
+    left: Option<Name>,
+    right: Option<Name>,
+    height: u32,
+)
+    ensures { nodes.new ≡ fastened_at nodes.old name left right height }
+{
+    set_parent(nodes, left, Some(name));
+    set_parent(nodes, right, Some(name));
+    set_sides(nodes, name, left, right, height);
 }
 
 /// Gives the name's node these two sides.
@@ -123,25 +139,32 @@ fn from_right<T>(
     top
 }
 
-/// Puts a node between two sides whose heights differ by at most two, and gives the topmost.
+/// Puts a node between two sides whose heights differ by at most two, and gives the whole part.
 #[tactic(auto, unfolding(crate::specs::TreeFields::balanced_in))]
 pub(crate) fn balance<T>(
     nodes: &mut Pool<Node<T>>,
-    left_side: Option<Name>,
+    left_side: Side,
     at: Name,
-    right_side: Option<Name>,
-) -> Name
-    ensures nodes { nodes.new ≡ (balanced_in nodes.old left_side at right_side).nodes }
-    ensures top { result ≡ (balanced_in nodes.old left_side at right_side).top }
+    right_side: Side,
+) -> Side
+    requires left { left_side.height ≡ high nodes.old left_side.top }
+    requires right { right_side.height ≡ high nodes.old right_side.top }
+    ensures nodes { nodes.new ≡ (balanced_in nodes.old left_side.top at right_side.top).nodes }
+    ensures top { result.top ≡ Some (balanced_in nodes.old left_side.top at right_side.top).top }
+    ensures height { result.height ≡ (balanced_in nodes.old left_side.top at right_side.top).high }
 {
-    let left_height = height(nodes, left_side);
-    let right_height = height(nodes, right_side);
-    if left_height.saturating_sub(right_height) > 1 {
-        return from_left(nodes, left_side, at, right_side);
+    if left_side.height.saturating_sub(right_side.height) > 1 {
+        let top = from_left(nodes, left_side.top, at, right_side.top);
+        return side_of(nodes, Some(top));
     }
-    if right_height.saturating_sub(left_height) > 1 {
-        return from_right(nodes, left_side, at, right_side);
+    if right_side.height.saturating_sub(left_side.height) > 1 {
+        let top = from_right(nodes, left_side.top, at, right_side.top);
+        return side_of(nodes, Some(top));
     }
-    fasten(nodes, at, left_side, right_side);
-    at
+    let height = above(left_side.height, right_side.height);
+    lay(nodes, at, left_side.top, right_side.top, height);
+    Side {
+        top: Some(at),
+        height,
+    }
 }
