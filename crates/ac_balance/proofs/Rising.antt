@@ -1,14 +1,14 @@
 -- One step up from a place keeps what holds on the way.
-use Rattle.std.proofs.Common.{◌≡◌, ℕ, ◌+◌, ◌-◌, ◌^◌, ◌<◌, max, Bool, false, List, [], ◌∷◌, length, Option, Some, None, is_some, IsSome, refl, sym, ap, ◌∙◌, subst, inl, inr, arith, if◌then◌else◌}
+use Rattle.std.proofs.Common.{◌≡◌, ℕ, ◌+◌, ◌-◌, ◌^◌, ◌<◌, max, Bool, true, false, nat_eq, List, [], ◌∷◌, length, Option, Some, None, is_some, IsSome, refl, sym, ap, ◌∙◌, subst, inl, inr, arith, if◌then◌else◌}
 use Rattle.ac_base.specs.declared.name.Name.{Name}
 use Rattle.ac_pool.specs.Contents.{Contents, value_of, IsLive, IsSound}
-use Rattle.ac_pool.proofs.NameLaws.{ties_itself, ties_no_other}
+use Rattle.std.proofs.lemmas.Bool.{false_from_ne_true}
 use Rattle.ac_balance.specs.declared.links.Node.{Node}
 use Rattle.ac_balance.specs.declared.places.Place.{Place}
 use Rattle.ac_base.specs.Rows.{Row}
 use Rattle.ac_balance.specs.Trees.{Tree, leaf, node, in_order, height, Level, Balanced, balanced, Step, on_left, on_right, side_of, joined, settled, plugged, tall, Fits}
-use Rattle.ac_balance.specs.TreeFields.{root, left_link, parent_link, left_of, height_of, high, beside_link, balanced_in, parent_of, same_names, is_left_in, settled_with, settled_in, risen}
-use Rattle.ac_pool.specs.Link.{name_in}
+use Rattle.ac_balance.specs.TreeFields.{root, Stands, left_link, parent_link, height_of, high, beside_link, balanced_in, parent_of, is_left_in, settled_with, settled_in, risen}
+use Rattle.ac_pool.specs.Link.{link_of, name_in}
 use Rattle.ac_balance.specs.Climbing.{Has, Once, Hangs, name_of, above_in, Framed, IsSide, IsRooted, Open, Climbing, Climbed, HasName, Relinks}
 use Rattle.ac_pool.proofs.SlotNames.{linked_name}
 use Rattle.ac_balance.proofs.Keeping.{keeps_itself, keeps_then, sound_still}
@@ -16,6 +16,12 @@ use Rattle.ac_balance.proofs.Standing.{Nodes, some_name, Stands-same, high-is, l
 use Rattle.ac_balance.proofs.Names.{IsAround, once_order, plugged_once, height_le, plugged_le, named, part_has}
 use Rattle.ac_balance.proofs.Turning.{Balances, balanced-gives}
 use Rattle.ac_balance.proofs.Climbs.{settled-order, settled-step, plugged-balanced, plugged-order, around, plugged-height}
+
+nat_eq_true : (a b : ℕ) → nat_eq a b ≡ true → a ≡ b
+nat_eq_true a b h = grind arith
+
+nat_eq_itself : (a : ℕ) → nat_eq a a ≡ true
+nat_eq_itself a = grind arith
 
 level_same : (h k : ℕ) → k ≡ h → Level h k
 level_same h k e = record { up = omega arith; down = omega arith }
@@ -67,18 +73,15 @@ module _ {X : Type 0} where
   framed-rest f (on_left x r) steps o h k = k.2
   framed-rest f (on_right l x) steps o h k = k.2
 
-  other_root : (n : Name) (t : Tree X) → (Has n t → ⊥) → same_names (root t) (Some n) ≡ false
-  other_root n leaf ne = refl
-  other_root n (node l x r) ne = ties_no_other x.name n (λ e. ne (inl (sym e)))
+  -- a link to a tree that hasn't the name isn't the name's
+  other_link : (c : Contents (Node X)) (sound : IsSound c) (p : Option Name) (t : Tree X) (n : Name) → Stands (value_of c) p t → IsLive c n → (Has n t → ⊥) → nat_eq (link_of (root t)) n.slot ≡ false
+  other_link c sound p leaf n h live ne = let within = sound.within n live in let few = sound.few in grind (arith, within, few)
+  other_link c sound p (node l x r) n h live ne = false_from_ne_true _ (λ e. ne (inl (sym (sound.slots x.name n (ap is_some h.0) live (nat_eq_true _ _ e)))))
 
   pub side-is : (c : Contents (Node X)) (sound : IsSound c) (steps : List (Step X)) (n : Name) (h : ℕ) → IsLive c n → (IsAround n steps → ⊥) → Framed (value_of c) steps (Some n) h → IsSide (is_left_in c (above_in steps) n) steps
   side-is c sound [] n h live ne k = tt
-  side-is c sound (on_left x r ∷ steps) n h live ne k =
-      let there : left_of c x.name ≡ Some n = ap (λ o. name_in c (left_link o)) k.0 ∙ linked_name c sound (Some n) (λ a e. subst (IsLive c) (some_name n a e) live) in
-      ap (λ o. same_names o (Some n)) there ∙ ties_itself n
-  side-is c sound (on_right l x ∷ steps) n h live ne k =
-      let there : left_of c x.name ≡ root l = ap (λ o. name_in c (left_link o)) k.0 ∙ linked_root c sound (Some x.name) l k.1 in
-      ap (λ o. same_names o (Some n)) there ∙ other_root n l (λ m. ne (inr (inl m)))
+  side-is c sound (on_left x r ∷ steps) n h live ne k = ap (λ o. nat_eq (left_link o) n.slot) k.0 ∙ nat_eq_itself n.slot
+  side-is c sound (on_right l x ∷ steps) n h live ne k = ap (λ o. nat_eq (left_link o) n.slot) k.0 ∙ other_link c sound (Some x.name) l n k.1 live (λ m. ne (inr (inl m)))
 
   pub falls : (c d : Contents (Node X)) (x : Name) (steps : List (Step X)) (k : ℕ) → height_of (value_of c x) ≡ k → k < 2 ^ 32 → Framed (value_of d) steps (Some x) k → left_to d (above_in steps) < left_to c (Some x)
   falls c d x [] k e few f = omega (arith, e, few)

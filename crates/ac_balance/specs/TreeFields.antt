@@ -1,22 +1,13 @@
 -- Nodes whose links stand for a tree. What the writes of links leave.
-use Rattle.std.specs.Prelude.{◌≡◌, ℕ, zero, suc, ◌+◌, ◌-◌, ◌^◌, max, min, Bool, true, false, Option, Some, None, nat_le, nat_lt, if◌then◌else◌}
-use Rattle.std.specs.Ordering.{eq_by_cmp}
+use Rattle.std.specs.Prelude.{◌≡◌, ℕ, zero, suc, ◌+◌, ◌-◌, ◌^◌, max, min, Bool, true, false, Option, Some, None, nat_eq, nat_le, nat_lt, if◌then◌else◌}
 use Rattle.ac_base.specs.declared.name.Name.{Name}
 use Rattle.ac_base.specs.Rows.{row}
-use Rattle.ac_pool.specs.Names.{name_cmp}
 use Rattle.ac_pool.specs.Contents.{Contents, value_of, with_value, live_count}
 use Rattle.ac_balance.specs.declared.links.Node.{Node}
 use Rattle.ac_balance.specs.declared.links.Links.{Links}
 use Rattle.ac_balance.specs.declared.places.Place.{Place}
 use Rattle.ac_pool.specs.Link.{link_of, name_in}
 use Rattle.ac_balance.specs.Trees.{Tree, leaf, node, height}
-
--- the two are the same name, or both none
-abbrev pub same_names : Option Name → Option Name → Bool
-same_names None None = true
-same_names None (Some b) = false
-same_names (Some a) None = false
-same_names (Some a) (Some b) = eq_by_cmp name_cmp a b
 
 abbrev pub place : Option Name → Bool → Option Name → Place
 place parent on_left top = record { parent = parent; is_left = on_left; top = top }
@@ -154,7 +145,7 @@ module _ {X : Type 0} where
 
   abbrev pub is_left_in : Contents (Node X) → Option Name → Name → Bool
   is_left_in c None a = false
-  is_left_in c (Some b) a = same_names (left_of c b) (Some a)
+  is_left_in c (Some b) a = nat_eq (left_link (value_of c b)) a.slot
 
   -- the link to the side beside the left one, or beside the right one
   abbrev pub beside_link : Bool → Option (Node X) → ℕ

@@ -20,7 +20,7 @@ pub use index::{OrderIndex, Present};
 pub use keyed::Keyed;
 pub use law::steps_of_searches;
 #[doc(hidden)]
-pub use links::{Links, Node, Side};
+pub use links::{BothSides, Links, Node, Side};
 #[doc(hidden)]
 pub use places::{NodeLinks, Place, Risen};
 #[doc(hidden)]

@@ -25,6 +25,13 @@ pub struct Side {
     pub height: u32,
 }
 
+/// The parts on the two sides of a node.
+#[derive(Clone, Copy)]
+pub struct BothSides {
+    pub left: Side,
+    pub right: Side,
+}
+
 #[derive(Drop)]
 pub struct Links<T> {
     pub nodes: Pool<Node<T>>,
@@ -148,6 +155,32 @@ pub(crate) fn side_in<T>(nodes: &Pool<Node<T>>, link: u32) -> Side
             top: None,
             height: 0,
         },
+    }
+}
+
+/// The links of a node to its left and to its right.
+#[inline(always)]
+fn side_links<T>(nodes: &Pool<Node<T>>, name: Name) -> (u32, u32)
+    ensures left { result.0 ≡ left_link (value_of nodes.now name) }
+    ensures right { result.1 ≡ right_link (value_of nodes.now name) }
+{
+    match nodes.get(name) {
+        Some(node) => (node.left, node.right),
+        None => (NO_SLOT, NO_SLOT),
+    }
+}
+
+#[inline(always)]
+pub(crate) fn sides_of<T>(nodes: &Pool<Node<T>>, name: Name) -> BothSides
+    ensures left { result.left.top ≡ left_of nodes.now name }
+    ensures left_height { result.left.height ≡ high nodes.now result.left.top }
+    ensures right { result.right.top ≡ right_of nodes.now name }
+    ensures right_height { result.right.height ≡ high nodes.now result.right.top }
+{
+    let (left, right) = side_links(nodes, name);
+    BothSides {
+        left: side_in(nodes, left),
+        right: side_in(nodes, right),
     }
 }
 

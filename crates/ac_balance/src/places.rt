@@ -5,7 +5,7 @@ ghost use Rattle.ac_balance.specs.TreeFields.{parent_link, beside_link, height_o
 ghost use Rattle.ac_balance.specs.Climbing.{IsClimbing, Climbs, IsMendable, Mends};
 
 use crate::links::{
-    Links, Node, Side, left, name_in, parent, set_parent, set_side, side_in, side_of,
+    Links, Node, Side, left_link, name_in, parent, set_parent, set_side, side_in, side_of,
 };
 use crate::rotation::balance;
 use ac_base::Name;
@@ -35,7 +35,7 @@ pub(crate) fn is_on_left<T>(nodes: &Pool<Node<T>>, above: Option<Name>, name: Na
     ensures { result ≡ is_left_in nodes.now above name }
 {
     match above {
-        Some(above) => left(nodes, above) == Some(name),
+        Some(above) => left_link(nodes, above) == name.slot,
         None => false,
     }
 }

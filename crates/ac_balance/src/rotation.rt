@@ -2,7 +2,7 @@
 ghost use Rattle.std.specs.Prelude.{◌≡◌, Some};
 ghost use Rattle.ac_balance.specs.TreeFields.{high, above, fastened, fastened_at, twice_left_in, from_left_in, twice_right_in, from_right_in, balanced_in};
 
-use crate::links::{Node, Side, adopt, height, left, right, set_parent, set_sides, side_of};
+use crate::links::{Node, Side, adopt, left, right, set_parent, set_sides, side_of, sides_of};
 use ac_base::Name;
 use ac_pool::Pool;
 
@@ -79,9 +79,10 @@ fn from_left<T>(
         fasten(nodes, at, None, right_side);
         return at;
     };
-    let outer = left(nodes, top);
-    let inner = right(nodes, top);
-    if height(nodes, inner) > height(nodes, outer) {
+    let sides = sides_of(nodes, top);
+    let outer = sides.left.top;
+    let inner = sides.right.top;
+    if sides.right.height > sides.left.height {
         return twice_left(nodes, outer, top, inner, at, right_side);
     }
     fasten(nodes, at, inner, right_side);
@@ -129,9 +130,10 @@ fn from_right<T>(
         fasten(nodes, at, left_side, None);
         return at;
     };
-    let inner = left(nodes, top);
-    let outer = right(nodes, top);
-    if height(nodes, inner) > height(nodes, outer) {
+    let sides = sides_of(nodes, top);
+    let inner = sides.left.top;
+    let outer = sides.right.top;
+    if sides.left.height > sides.right.height {
         return twice_right(nodes, left_side, at, inner, top, outer);
     }
     fasten(nodes, at, left_side, inner);
