@@ -60,6 +60,7 @@ pub(crate) fn renew<T: Drop>(nodes: &mut Pool<Node<T>>, name: Name, value: T)
 }
 
 /// The name to which a link leads.
+#[inline(always)]
 pub(crate) fn name_in<T>(nodes: &Pool<Node<T>>, slot: u32) -> Option<Name>
     ensures { result ≡ name_in nodes.now slot }
 {
@@ -74,6 +75,7 @@ pub(crate) fn node_in<T>(nodes: &Pool<Node<T>>, slot: u32) -> Option<&Node<T>>
     nodes.value_in(slot)
 }
 
+#[inline(always)]
 pub(crate) fn left_link<T>(nodes: &Pool<Node<T>>, name: Name) -> u32
     ensures { result ≡ left_link (value_of nodes.now name) }
 {
@@ -119,6 +121,7 @@ pub(crate) fn parent<T>(nodes: &Pool<Node<T>>, name: Name) -> Option<Name>
     name_in(nodes, parent_link(nodes, name))
 }
 
+#[inline(always)]
 pub(crate) fn height<T>(nodes: &Pool<Node<T>>, name: Option<Name>) -> u32
     ensures { result ≡ high nodes.now name }
 {
@@ -184,6 +187,7 @@ pub(crate) fn sides_of<T>(nodes: &Pool<Node<T>>, name: Name) -> BothSides
     }
 }
 
+#[inline(always)]
 #[tactic(auto, unfolding(crate::specs::TreeFields::with_parent))]
 pub(crate) fn set_parent<T>(nodes: &mut Pool<Node<T>>, name: Option<Name>, to: Option<Name>)
     ensures { nodes.new ≡ with_parent nodes.old name to }
@@ -196,6 +200,7 @@ pub(crate) fn set_parent<T>(nodes: &mut Pool<Node<T>>, name: Option<Name>, to: O
 }
 
 /// Sets the parent of a side, and gives the side's height.
+#[inline(always)]
 #[tactic(auto, unfolding(crate::specs::TreeFields::with_parent))]
 pub(crate) fn adopt<T>(nodes: &mut Pool<Node<T>>, side: Option<Name>, parent: Name) -> u32
     ensures nodes { nodes.new ≡ with_parent nodes.old side (Some parent) }
@@ -213,6 +218,7 @@ pub(crate) fn adopt<T>(nodes: &mut Pool<Node<T>>, side: Option<Name>, parent: Na
     }
 }
 
+#[inline(always)]
 #[tactic(auto, unfolding(crate::specs::TreeFields::with_sides))]
 pub(crate) fn set_sides<T>(
     nodes: &mut Pool<Node<T>>,

@@ -31,6 +31,7 @@ pub(crate) fn place_of<T>(nodes: &Pool<Node<T>>, name: Name, top: Option<Name>) 
     }
 }
 
+#[inline(always)]
 pub(crate) fn is_on_left<T>(nodes: &Pool<Node<T>>, above: Option<Name>, name: Name) -> bool
     ensures { result ≡ is_left_in nodes.now above name }
 {
@@ -68,6 +69,7 @@ fn around<T>(nodes: &Pool<Node<T>>, name: Name, is_left: bool) -> NodeLinks
     }
 }
 
+#[inline(always)]
 #[tactic(auto, unfolding(crate::specs::TreeFields::settled_with))]
 fn settle<T>(nodes: &mut Pool<Node<T>>, name: Name, is_left: bool, part: Side, beside: Side) -> Side
     requires part { part.height ≡ high nodes.old part.top }
@@ -91,6 +93,7 @@ pub struct Risen {
 }
 
 /// One step up: the parent is balanced, and the part is it with its sides.
+#[inline(always)]
 #[tactic(auto, unfolding(crate::specs::TreeFields::settled_in))]
 fn rise<T>(nodes: &mut Pool<Node<T>>, name: Name, is_left: bool, part: Side) -> Risen
     requires { part.height ≡ high nodes.old part.top }

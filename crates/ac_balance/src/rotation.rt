@@ -7,6 +7,7 @@ use ac_base::Name;
 use ac_pool::Pool;
 
 /// The height above two sides.
+#[inline(always)]
 fn above(left: u32, right: u32) -> u32
     ensures { result ≡ above left right }
 {
@@ -14,6 +15,7 @@ fn above(left: u32, right: u32) -> u32
 }
 
 /// Gives the name's node these two sides and this height.
+#[inline(always)]
 #[tactic(auto, unfolding(crate::specs::TreeFields::fastened_at))]
 fn lay<T>(
     nodes: &mut Pool<Node<T>>,
@@ -142,6 +144,7 @@ fn from_right<T>(
 }
 
 /// Puts a node between two sides whose heights differ by at most two, and gives the whole part.
+#[inline(always)]
 #[tactic(auto, unfolding(crate::specs::TreeFields::balanced_in))]
 pub(crate) fn balance<T>(
     nodes: &mut Pool<Node<T>>,
