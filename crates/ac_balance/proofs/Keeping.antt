@@ -39,7 +39,7 @@ module _ {X : Type 0} where
   keeps_sides_at c a l r h None is = keeps_itself c
   keeps_sides_at c a l r h (Some n) is = keeps_value c a n _ is
 
-  keeps_sides : (c : Contents (Node X)) (a : Name) (l r : Option Name) (h : ℕ) → Keeps c (with_sides c a l r h)
+  pub keeps_sides : (c : Contents (Node X)) (a : Name) (l r : Option Name) (h : ℕ) → Keeps c (with_sides c a l r h)
   unfolding with_sides
   keeps_sides c a l r h = keeps_sides_at c a l r h (value_of c a) refl
 

@@ -88,7 +88,7 @@ module _ {X : Type 0} where
     there = λ b ne. value_of-with_value_other c a b (sides_put l r h n) (λ e. ne (ap Some (sym e)));
   }
 
-  with_sides-writes : (c : Contents (Node X)) (a : Name) (l r : Option Name) (h : ℕ) → Writes (value_of c) (value_of (with_sides c a l r h)) (Some a) (sides_put l r h)
+  pub with_sides-writes : (c : Contents (Node X)) (a : Name) (l r : Option Name) (h : ℕ) → Writes (value_of c) (value_of (with_sides c a l r h)) (Some a) (sides_put l r h)
   unfolding with_sides
   with_sides-writes c a l r h = sides_written-writes c a l r h (value_of c a) refl
 

@@ -1,14 +1,15 @@
 -- The turns by names do what the turns of trees say.
-use Rattle.std.proofs.Common.{◌≡◌, ◌+◌, ◌-◌, ◌^◌, ◌<◌, max, Bool, true, false, nat_le, nat_lt, if◌then◌else◌, Some, refl, sym, ap, ◌∙◌, subst, inl, inr, arith}
+use Rattle.std.proofs.Common.{◌≡◌, ℕ, ◌+◌, ◌-◌, ◌^◌, ◌<◌, max, Bool, true, false, nat_le, nat_lt, if◌then◌else◌, Some, refl, sym, ap, ◌∙◌, subst, inl, inr, arith}
+use Rattle.std.specs.Option.{option_map}
 use Rattle.ac_base.specs.declared.name.Name.{Name}
 use Rattle.ac_pool.specs.Contents.{Contents, value_of, IsSound}
 use Rattle.ac_balance.specs.declared.links.Node.{Node}
 use Rattle.ac_base.specs.Rows.{Row}
 use Rattle.ac_balance.specs.Trees.{Tree, leaf, node, height, twice_left, from_left, twice_right, from_right, balanced}
-use Rattle.ac_balance.specs.TreeFields.{root, left_of, right_of, high, above, fastened, Made, Measured, made, measured, laid, twice_left_in, from_left_in, twice_right_in, from_right_in, balanced_in}
-use Rattle.ac_balance.specs.Climbing.{Has, Once, Hangs}
-use Rattle.ac_balance.proofs.Keeping.{keeps_then}
-use Rattle.ac_balance.proofs.Standing.{Nodes, IsAt, IsAt-same, Hangs-same, high-is, Becomes, fastened_at-becomes, fastened-becomes, left-is, right-is}
+use Rattle.ac_balance.specs.TreeFields.{linked, root, Stands, left_of, right_of, high, above, with_parent, with_sides, fastened_at, fastened, hung, turned_left, turned_right, Made, Measured, made, measured, laid, twice_left_in, from_left_in, twice_right_in, from_right_in, balanced_in}
+use Rattle.ac_balance.specs.Climbing.{Has, Once, Hangs, Keeps}
+use Rattle.ac_balance.proofs.Keeping.{keeps_then, keeps_parent, keeps_sides}
+use Rattle.ac_balance.proofs.Standing.{Nodes, some_name, sides_put, Stands-same, Stands-moved, with_parent-writes, with_sides-writes, IsAt, IsAt-same, Hangs-same, high-is, Becomes, fastened_at-becomes, fastened-becomes, left-is, right-is}
 
 module _ {X : Type 0} where
   -- the tree has become t, and m names its topmost row
@@ -25,8 +26,8 @@ module _ {X : Type 0} where
   balances : (c : Contents (Node X)) (m : Made X) (t : Tree X) → Gives c m t → Balances c (measured m) t
   balances c m t g = record { becomes = g.becomes; top = g.top; high = ap (high m.nodes) (sym g.top) ∙ high-is m.nodes t g.becomes.hangs }
 
-  hung : (f : Nodes X) (l : Tree X) (x : Row Name X) (r : Tree X) → Hangs f (node l x r) → IsAt f x × Hangs f l × Hangs f r
-  hung f l x r h = (record { node = _; found = h.stands.0; value = refl }, record { parent = Some x.name; stands = h.stands.1 }, record { parent = Some x.name; stands = h.stands.2 })
+  parts_of : (f : Nodes X) (l : Tree X) (x : Row Name X) (r : Tree X) → Hangs f (node l x r) → IsAt f x × Hangs f l × Hangs f r
+  parts_of f l x r h = (record { node = _; found = h.stands.0; value = refl }, record { parent = Some x.name; stands = h.stands.1 }, record { parent = Some x.name; stands = h.stands.2 })
 
   -- one tree is made, and then a tree above it
   becomes-left : (c : Contents (Node X)) (a : Tree X) (x : Row Name X) (l r : Tree X) (y : Row Name X) → let t = node a x l in let all = node t y r in Once all → max (height t) (height r) + 1 < 2 ^ 32
@@ -72,7 +73,7 @@ module _ {X : Type 0} where
   unfolding twice_left_in
   twice_left-gives c sound a y leaf x r once few aty ha hb atx hr = record { becomes = becomes-left c a y leaf r x once few aty ha hb atx hr; top = refl }
   twice_left-gives c sound a y (node p z q) x r once few aty ha hb atx hr =
-      let parts = hung (value_of c) p z q hb in let el = left-is c sound p z q hb in let er = right-is c sound p z q hb in
+      let parts = parts_of (value_of c) p z q hb in let el = left-is c sound p z q hb in let er = right-is c sound p z q hb in
       let it = becomes-both c a y p z q x r once few aty ha parts.1 atx parts.2 hr parts.0 in
       record {
         becomes = subst (λ d. Becomes c d (node (node a y p) z (node q x r)))
@@ -85,28 +86,106 @@ module _ {X : Type 0} where
   chosen P true m n t u f g once few = f once few
   chosen P false m n t u f g once few = g once few
 
+  -- the tree stands under the node p, and d is c elsewhere
+  record Hung (c d : Contents (Node X)) (p : Name) (t : Tree X) : Type 0 where
+    stands : Stands (value_of d) (Some p) t
+    aside : (a : Name) → (Has a t → ⊥) → value_of d a ≡ value_of c a
+    keeps : Keeps c d
+
+  hung-is : (c : Contents (Node X)) (l : Tree X) (x : Row Name X) (r : Tree X) (p : Name) (h : ℕ) → Once (node l x r) → h ≡ max (height l) (height r) + 1
+      → IsAt (value_of c) x → Hangs (value_of c) l → Hangs (value_of c) r → Hung c (hung c x.name p (root l) (root r) h) p (node l x r)
+  unfolding hung
+  hung-is c l x r p h once is at hl hr =
+      let t = node l x r in let d = fastened_at c x.name (root l) (root r) h in let e = with_parent d (Some x.name) (Some p) in
+      let one = fastened_at-becomes c l x r h once is at hl hr in let two = with_parent-writes d (Some x.name) (Some p) in
+      record {
+        stands = Stands-moved (value_of d) (value_of e) one.hangs.parent (Some p) t once two.here (λ a k n. two.there a n) one.hangs.stands;
+        aside = λ a n. two.there a (λ q. n (inl (sym (some_name x.name a q)))) ∙ one.aside a n;
+        keeps = keeps_then c d e one.keeps (keeps_parent d (Some x.name) (Some p));
+      }
+
+  turned_right-gives : (c : Contents (Node X)) (a : Tree X) (y : Row Name X) (b : Tree X) (x : Row Name X) (r : Tree X) → let all = node a y (node b x r) in Once all → height all < 2 ^ 32
+      → Hangs (value_of c) (node a y b) → IsAt (value_of c) x → Hangs (value_of c) r → Balances c (turned_right c (root a) y.name (root b) x.name (root r)) all
+  unfolding turned_right
+  turned_right-gives c a y b x r once few hy atx hr =
+      let parts = parts_of (value_of c) a y b hy in let t = node b x r in
+      let ea = high-is c a parts.1 in let eb = high-is c b parts.2 in let er = high-is c r hr in
+      let low = above (high c (root b)) (high c (root r)) in let h = above (high c (root a)) low in
+      let low_is : low ≡ max (height b) (height r) + 1 = omega (arith, eb, er, few) in
+      let is : h ≡ max (height a) (max (height b) (height r) + 1) + 1 = omega (arith, low_is, ea, few) in
+      let d = hung c x.name y.name (root b) (root r) low in let e = with_sides d y.name (root a) (Some x.name) h in
+      let one = hung-is c b x r y.name low once.4 low_is atx parts.2 hr in let two = with_sides-writes d y.name (root a) (Some x.name) h in
+      let other : (k : Name) → (k ≡ y.name → ⊥) → value_of e k ≡ value_of d k = λ k n. two.there k (λ q. n (sym (some_name y.name k q))) in
+      let here : value_of d y.name ≡ value_of c y.name = one.aside y.name once.1 in
+      record {
+        becomes = record {
+          hangs = record {
+            parent = hy.parent;
+            stands = (
+              two.here y.name refl ∙ ap (option_map (sides_put (root a) (Some x.name) h)) (here ∙ hy.stands.0) ∙ (λ i. Some (linked y.value hy.parent (root a) (Some x.name) (is i))),
+              Stands-same (value_of c) (value_of e) (Some y.name) a (λ k p. other k (λ q. once.0 (subst (λ m. Has m a) q p)) ∙ one.aside k (λ q. once.2 k p q)) hy.stands.1,
+              Stands-same (value_of d) (value_of e) (Some y.name) t (λ k p. other k (λ q. once.1 (subst (λ m. Has m t) q p))) one.stands,
+            );
+          };
+          aside = λ k n. other k (λ q. n (inl q)) ∙ one.aside k (λ p. n (inr (inr p)));
+          keeps = keeps_then c d e one.keeps (keeps_sides d y.name (root a) (Some x.name) h);
+        };
+        top = refl;
+        high = is;
+      }
+
+  turned_left-gives : (c : Contents (Node X)) (l : Tree X) (x : Row Name X) (a : Tree X) (y : Row Name X) (b : Tree X) → let all = node (node l x a) y b in Once all → height all < 2 ^ 32
+      → Hangs (value_of c) l → IsAt (value_of c) x → Hangs (value_of c) (node a y b) → Balances c (turned_left c (root l) x.name (root a) y.name (root b)) all
+  unfolding turned_left
+  turned_left-gives c l x a y b once few hl atx hy =
+      let parts = parts_of (value_of c) a y b hy in let t = node l x a in
+      let el = high-is c l hl in let ea = high-is c a parts.1 in let eb = high-is c b parts.2 in
+      let low = above (high c (root l)) (high c (root a)) in let h = above low (high c (root b)) in
+      let low_is : low ≡ max (height l) (height a) + 1 = omega (arith, el, ea, few) in
+      let is : h ≡ max (max (height l) (height a) + 1) (height b) + 1 = omega (arith, low_is, eb, few) in
+      let d = hung c x.name y.name (root l) (root a) low in let e = with_sides d y.name (Some x.name) (root b) h in
+      let one = hung-is c l x a y.name low once.3 low_is atx hl parts.1 in let two = with_sides-writes d y.name (Some x.name) (root b) h in
+      let other : (k : Name) → (k ≡ y.name → ⊥) → value_of e k ≡ value_of d k = λ k n. two.there k (λ q. n (sym (some_name y.name k q))) in
+      let here : value_of d y.name ≡ value_of c y.name = one.aside y.name once.0 in
+      record {
+        becomes = record {
+          hangs = record {
+            parent = hy.parent;
+            stands = (
+              two.here y.name refl ∙ ap (option_map (sides_put (Some x.name) (root b) h)) (here ∙ hy.stands.0) ∙ (λ i. Some (linked y.value hy.parent (Some x.name) (root b) (is i))),
+              Stands-same (value_of d) (value_of e) (Some y.name) t (λ k p. other k (λ q. once.0 (subst (λ m. Has m t) q p))) one.stands,
+              Stands-same (value_of c) (value_of e) (Some y.name) b (λ k p. other k (λ q. once.1 (subst (λ m. Has m b) q p)) ∙ one.aside k (λ q. once.2 k q p)) hy.stands.2,
+            );
+          };
+          aside = λ k n. other k (λ q. n (inl q)) ∙ one.aside k (λ p. n (inr (inl p)));
+          keeps = keeps_then c d e one.keeps (keeps_sides d y.name (Some x.name) (root b) h);
+        };
+        top = refl;
+        high = is;
+      }
+
   from_left-gives : (c : Contents (Node X)) (sound : IsSound c) (l : Tree X) (x : Row Name X) (r : Tree X) → Hangs (value_of c) l → IsAt (value_of c) x → Hangs (value_of c) r
-      → Once (from_left l x r) → height (from_left l x r) < 2 ^ 32 → Gives c (from_left_in c (root l) x.name (root r)) (from_left l x r)
+      → Once (from_left l x r) → height (from_left l x r) < 2 ^ 32 → Balances c (from_left_in c (root l) x.name (root r)) (from_left l x r)
   unfolding from_left_in
-  from_left-gives c sound leaf x r hl atx hr once few = record { becomes = fastened-becomes c leaf x r once few atx hl hr; top = refl }
+  from_left-gives c sound leaf x r hl atx hr once few = balances c _ _ (record { becomes = fastened-becomes c leaf x r once few atx hl hr; top = refl })
   from_left-gives c sound (node a y b) x r hl atx hr once few =
-      let parts = hung (value_of c) a y b hl in let el = left-is c sound a y b hl in let er = right-is c sound a y b hl in
+      let parts = parts_of (value_of c) a y b hl in let el = left-is c sound a y b hl in let er = right-is c sound a y b hl in
       let ha : high c (left_of c y.name) ≡ height a = ap (high c) el ∙ high-is c a parts.1 in
       let hb : high c (right_of c y.name) ≡ height b = ap (high c) er ∙ high-is c b parts.2 in
       let is : from_left_in c (Some y.name) x.name (root r)
-      ≡ (if nat_le (height b) (height a) then made (fastened (fastened c x.name (root b) (root r)) y.name (root a) (Some x.name)) y.name else twice_left_in c (root a) y.name (root b) x.name (root r))
-      = λ i. if nat_le (hb i) (ha i) then made (fastened (fastened c x.name (er i) (root r)) y.name (el i) (Some x.name)) y.name else twice_left_in c (el i) y.name (er i) x.name (root r) in
-      subst (λ m. Gives c m (from_left (node a y b) x r)) (sym is)
-      (chosen (Gives c) (nat_le (height b) (height a)) _ _ (node a y (node b x r)) (twice_left a y b x r)
-      (λ o f. record { becomes = becomes-right c a y b x r o f atx parts.2 hr parts.0 parts.1; top = refl })
-      (λ o f. twice_left-gives c sound a y b x r o f parts.0 parts.1 parts.2 atx hr) once few)
+      ≡ (if nat_le (height b) (height a) then turned_right c (root a) y.name (root b) x.name (root r) else measured (twice_left_in c (root a) y.name (root b) x.name (root r)))
+      = λ i. if nat_le (hb i) (ha i) then turned_right c (el i) y.name (er i) x.name (root r) else measured (twice_left_in c (el i) y.name (er i) x.name (root r)) in
+      subst (λ m. Balances c m (from_left (node a y b) x r)) (sym is)
+      (chosen (Balances c) (nat_le (height b) (height a)) _ _ (node a y (node b x r)) (twice_left a y b x r)
+      (λ o f. turned_right-gives c a y b x r o f hl atx hr)
+      (λ o f. balances c _ _ (twice_left-gives c sound a y b x r o f parts.0 parts.1 parts.2 atx hr)) once few)
 
   twice_right-gives : (c : Contents (Node X)) (sound : IsSound c) (l : Tree X) (x : Row Name X) (a : Tree X) (y : Row Name X) (b : Tree X) → let t = twice_right l x a y b in Once t → height t < 2 ^ 32
       → Hangs (value_of c) l → IsAt (value_of c) x → Hangs (value_of c) a → IsAt (value_of c) y → Hangs (value_of c) b → Gives c (twice_right_in c (root l) x.name (root a) y.name (root b)) t
   unfolding twice_right_in
   twice_right-gives c sound l x leaf y b once few hl atx ha aty hb = record { becomes = becomes-right c l x leaf y b once few aty ha hb atx hl; top = refl }
   twice_right-gives c sound l x (node p z q) y b once few hl atx ha aty hb =
-      let parts = hung (value_of c) p z q ha in let el = left-is c sound p z q ha in let er = right-is c sound p z q ha in
+      let parts = parts_of (value_of c) p z q ha in let el = left-is c sound p z q ha in let er = right-is c sound p z q ha in
       let it = becomes-both c l x p z q y b once few atx hl parts.1 aty parts.2 hb parts.0 in
       record {
         becomes = subst (λ d. Becomes c d (node (node l x p) z (node q y b)))
@@ -115,20 +194,20 @@ module _ {X : Type 0} where
       }
 
   from_right-gives : (c : Contents (Node X)) (sound : IsSound c) (l : Tree X) (x : Row Name X) (r : Tree X) → Hangs (value_of c) l → IsAt (value_of c) x → Hangs (value_of c) r
-      → Once (from_right l x r) → height (from_right l x r) < 2 ^ 32 → Gives c (from_right_in c (root l) x.name (root r)) (from_right l x r)
+      → Once (from_right l x r) → height (from_right l x r) < 2 ^ 32 → Balances c (from_right_in c (root l) x.name (root r)) (from_right l x r)
   unfolding from_right_in
-  from_right-gives c sound l x leaf hl atx hr once few = record { becomes = fastened-becomes c l x leaf once few atx hl hr; top = refl }
+  from_right-gives c sound l x leaf hl atx hr once few = balances c _ _ (record { becomes = fastened-becomes c l x leaf once few atx hl hr; top = refl })
   from_right-gives c sound l x (node a y b) hl atx hr once few =
-      let parts = hung (value_of c) a y b hr in let el = left-is c sound a y b hr in let er = right-is c sound a y b hr in
+      let parts = parts_of (value_of c) a y b hr in let el = left-is c sound a y b hr in let er = right-is c sound a y b hr in
       let ha : high c (left_of c y.name) ≡ height a = ap (high c) el ∙ high-is c a parts.1 in
       let hb : high c (right_of c y.name) ≡ height b = ap (high c) er ∙ high-is c b parts.2 in
       let is : from_right_in c (root l) x.name (Some y.name)
-      ≡ (if nat_le (height a) (height b) then made (fastened (fastened c x.name (root l) (root a)) y.name (Some x.name) (root b)) y.name else twice_right_in c (root l) x.name (root a) y.name (root b))
-      = λ i. if nat_le (ha i) (hb i) then made (fastened (fastened c x.name (root l) (el i)) y.name (Some x.name) (er i)) y.name else twice_right_in c (root l) x.name (el i) y.name (er i) in
-      subst (λ m. Gives c m (from_right l x (node a y b))) (sym is)
-      (chosen (Gives c) (nat_le (height a) (height b)) _ _ (node (node l x a) y b) (twice_right l x a y b)
-      (λ o f. record { becomes = becomes-left c l x a b y o f atx hl parts.1 parts.0 parts.2; top = refl })
-      (λ o f. twice_right-gives c sound l x a y b o f hl atx parts.1 parts.0 parts.2) once few)
+      ≡ (if nat_le (height a) (height b) then turned_left c (root l) x.name (root a) y.name (root b) else measured (twice_right_in c (root l) x.name (root a) y.name (root b)))
+      = λ i. if nat_le (ha i) (hb i) then turned_left c (root l) x.name (el i) y.name (er i) else measured (twice_right_in c (root l) x.name (el i) y.name (er i)) in
+      subst (λ m. Balances c m (from_right l x (node a y b))) (sym is)
+      (chosen (Balances c) (nat_le (height a) (height b)) _ _ (node (node l x a) y b) (twice_right l x a y b)
+      (λ o f. turned_left-gives c l x a y b o f hl atx hr)
+      (λ o f. balances c _ _ (twice_right-gives c sound l x a y b o f hl atx parts.1 parts.0 parts.2)) once few)
 
   laid-gives : (c : Contents (Node X)) (l : Tree X) (x : Row Name X) (r : Tree X) → Hangs (value_of c) l → IsAt (value_of c) x → Hangs (value_of c) r
       → Once (node l x r) → height (node l x r) < 2 ^ 32 → Balances c (laid c (root l) x.name (root r) (above (height l) (height r))) (node l x r)
@@ -142,9 +221,9 @@ module _ {X : Type 0} where
   balanced-gives c sound l x r hl atx hr once few =
       let el = high-is c l hl in let er = high-is c r hr in let o = root l in let p = root r in
       subst (λ m. Balances c m (balanced l x r))
-      (λ i. if nat_lt 1 (sym el i - sym er i) then measured (from_left_in c o x.name p) else if nat_lt 1 (sym er i - sym el i) then measured (from_right_in c o x.name p) else laid c o x.name p (above (sym el i) (sym er i)))
+      (λ i. if nat_lt 1 (sym el i - sym er i) then from_left_in c o x.name p else if nat_lt 1 (sym er i - sym el i) then from_right_in c o x.name p else laid c o x.name p (above (sym el i) (sym er i)))
       (chosen (Balances c) (nat_lt 1 (height l - height r)) _ _ (from_left l x r) (if nat_lt 1 (height r - height l) then from_right l x r else node l x r)
-      (λ k f. balances c _ _ (from_left-gives c sound l x r hl atx hr k f))
+      (λ k f. from_left-gives c sound l x r hl atx hr k f)
       (λ k f. chosen (Balances c) (nat_lt 1 (height r - height l)) _ _ (from_right l x r) (node l x r)
-      (λ k f. balances c _ _ (from_right-gives c sound l x r hl atx hr k f))
+      (λ k f. from_right-gives c sound l x r hl atx hr k f)
       (λ k f. laid-gives c l x r hl atx hr k f) k f) once few)

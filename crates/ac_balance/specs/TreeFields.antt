@@ -101,6 +101,10 @@ module _ {X : Type 0} where
   unfoldable pub fastened : Contents (Node X) → Name → Option Name → Option Name → Contents (Node X)
   fastened c a l r = fastened_at c a l r (above (high c l) (high (with_parent c l (Some a)) r))
 
+  -- and hangs under the node p
+  unfoldable pub hung : Contents (Node X) → Name → Name → Option Name → Option Name → ℕ → Contents (Node X)
+  hung c a p l r h = with_parent (fastened_at c a l r h) (Some a) (Some p)
+
   abbrev pub made : Contents (Node X) → Name → Made X
   made c a = record { nodes = c; top = a }
 
@@ -119,28 +123,37 @@ module _ {X : Type 0} where
   twice_left_in c a y None x r = made (fastened (fastened c y a None) x (Some y) r) x
   twice_left_in c a y (Some z) x r = made (fastened (fastened (fastened c y a (left_of c z)) x (right_of c z) r) z (Some y) (Some x)) z
 
-  unfoldable pub from_left_in : Contents (Node X) → Option Name → Name → Option Name → Made X
-  from_left_in c None x r = made (fastened c x None r) x
+  -- y, which has its outer side already, comes above x
+  unfoldable pub turned_right : Contents (Node X) → Option Name → Name → Option Name → Name → Option Name → Measured X
+  turned_right c a y b x r =
+      let low = above (high c b) (high c r) in let h = above (high c a) low in
+      made_at (with_sides (hung c x y b r low) y a (Some x) h) y h
+
+  unfoldable pub from_left_in : Contents (Node X) → Option Name → Name → Option Name → Measured X
+  from_left_in c None x r = measured (made (fastened c x None r) x)
   from_left_in c (Some y) x r =
-      if nat_le (high c (right_of c y)) (high c (left_of c y)) then
-      made (fastened (fastened c x (right_of c y) r) y (left_of c y) (Some x)) y
-      else twice_left_in c (left_of c y) y (right_of c y) x r
+      if nat_le (high c (right_of c y)) (high c (left_of c y)) then turned_right c (left_of c y) y (right_of c y) x r
+      else measured (twice_left_in c (left_of c y) y (right_of c y) x r)
 
   unfoldable pub twice_right_in : Contents (Node X) → Option Name → Name → Option Name → Name → Option Name → Made X
   twice_right_in c l x None y b = made (fastened (fastened c y None b) x l (Some y)) x
   twice_right_in c l x (Some z) y b = made (fastened (fastened (fastened c x l (left_of c z)) y (right_of c z) b) z (Some x) (Some y)) z
 
-  unfoldable pub from_right_in : Contents (Node X) → Option Name → Name → Option Name → Made X
-  from_right_in c l x None = made (fastened c x l None) x
+  unfoldable pub turned_left : Contents (Node X) → Option Name → Name → Option Name → Name → Option Name → Measured X
+  turned_left c l x a y b =
+      let low = above (high c l) (high c a) in let h = above low (high c b) in
+      made_at (with_sides (hung c x y l a low) y (Some x) b h) y h
+
+  unfoldable pub from_right_in : Contents (Node X) → Option Name → Name → Option Name → Measured X
+  from_right_in c l x None = measured (made (fastened c x l None) x)
   from_right_in c l x (Some y) =
-      if nat_le (high c (left_of c y)) (high c (right_of c y)) then
-      made (fastened (fastened c x l (left_of c y)) y (Some x) (right_of c y)) y
-      else twice_right_in c l x (left_of c y) y (right_of c y)
+      if nat_le (high c (left_of c y)) (high c (right_of c y)) then turned_left c l x (left_of c y) y (right_of c y)
+      else measured (twice_right_in c l x (left_of c y) y (right_of c y))
 
   unfoldable pub balanced_in : Contents (Node X) → Option Name → Name → Option Name → Measured X
   balanced_in c l x r =
-      if nat_lt 1 (high c l - high c r) then measured (from_left_in c l x r)
-      else if nat_lt 1 (high c r - high c l) then measured (from_right_in c l x r)
+      if nat_lt 1 (high c l - high c r) then from_left_in c l x r
+      else if nat_lt 1 (high c r - high c l) then from_right_in c l x r
       else laid c l x r (above (high c l) (high c r))
 
   abbrev pub is_left_in : Contents (Node X) → Option Name → Name → Bool

@@ -1,6 +1,6 @@
 //! Nodes in a pool, each with links to its parent and to its two sides. The reads and writes of single links.
 //! A link is a slot, and leads to the live name of the slot: the serial stands in the pool alone.
-ghost use Rattle.std.specs.Prelude.{◌≡◌, option_copied};
+ghost use Rattle.std.specs.Prelude.{◌≡◌, Some, option_copied};
 ghost use Rattle.ac_pool.specs.Contents.{value_of, with_value, IsLive};
 ghost use Rattle.ac_pool.specs.Link.{name_in, value_in};
 ghost use Rattle.ac_balance.specs.TreeFields.{alone, left_of, right_of, parent_of, left_link, right_link, parent_link, high, with_parent, with_sides, with_side};
@@ -234,6 +234,22 @@ pub(crate) fn set_sides<T>(
         node.right = link_to(right);
         node.height = height;
     }
+}
+
+/// Sets all of a node's links and its height.
+#[inline(always)]
+pub(crate) fn set_links<T>(
+    nodes: &mut Pool<Node<T>>,
+    name: Name,
+    parent: Name,
+    left: Option<Name>,
+    right: Option<Name>,
+    height: u32,
+)
+    ensures { nodes.new ≡ with_parent (with_sides nodes.old name left right height) (Some name) (Some parent) }
+{
+    set_sides(nodes, name, left, right, height);
+    set_parent(nodes, Some(name), Some(parent));
 }
 
 #[tactic(auto, unfolding(crate::specs::TreeFields::with_side))]

@@ -1,8 +1,10 @@
 //! The turns that keep the two sides of each node within one of each other in height.
 ghost use Rattle.std.specs.Prelude.{◌≡◌, Some};
-ghost use Rattle.ac_balance.specs.TreeFields.{high, above, fastened, fastened_at, twice_left_in, from_left_in, twice_right_in, from_right_in, balanced_in};
+ghost use Rattle.ac_balance.specs.TreeFields.{high, above, fastened, fastened_at, hung, turned_left, turned_right, twice_left_in, from_left_in, twice_right_in, from_right_in, balanced_in};
 
-use crate::links::{Node, Side, adopt, left, right, set_parent, set_sides, side_of, sides_of};
+use crate::links::{
+    Node, Side, adopt, left, right, set_links, set_parent, set_sides, side_of, sides_of,
+};
 use ac_base::Name;
 use ac_pool::Pool;
 
@@ -29,6 +31,24 @@ fn lay<T>(
     set_parent(nodes, left, Some(name));
     set_parent(nodes, right, Some(name));
     set_sides(nodes, name, left, right, height);
+}
+
+/// Gives the name's node these two sides and this height, and hangs it under another.
+#[tactic(auto, unfolding(crate::specs::TreeFields::hung, crate::specs::TreeFields::fastened_at))]
+#[inline(always)]
+fn hang<T>(
+    nodes: &mut Pool<Node<T>>,
+    name: Name,
+    parent: Name,
+    left: Option<Name>,
+    right: Option<Name>,
+    height: u32,
+)
+    ensures { nodes.new ≡ hung nodes.old name parent left right height }
+{
+    set_parent(nodes, left, Some(name));
+    set_parent(nodes, right, Some(name));
+    set_links(nodes, name, parent, left, right, height);
 }
 
 /// Gives the name's node these two sides.
@@ -66,30 +86,63 @@ fn twice_left<T>(
     middle
 }
 
+/// The topmost node of the left side comes above the node.
+#[tactic(auto, unfolding(crate::specs::TreeFields::turned_right))]
+fn turn_right<T>(
+    nodes: &mut Pool<Node<T>>,
+    outer: Side,
+    top: Name,
+    inner: Side,
+    at: Name,
+    right_side: Side,
+) -> Side
+    requires outer { outer.height ≡ high nodes.old outer.top }
+    requires inner { inner.height ≡ high nodes.old inner.top }
+    requires right { right_side.height ≡ high nodes.old right_side.top }
+    ensures nodes { nodes.new ≡ (turned_right nodes.old outer.top top inner.top at right_side.top).nodes }
+    ensures top { result.top ≡ Some (turned_right nodes.old outer.top top inner.top at right_side.top).top }
+    ensures height { result.height ≡ (turned_right nodes.old outer.top top inner.top at right_side.top).high }
+{
+    let low = above(inner.height, right_side.height);
+    hang(nodes, at, top, inner.top, right_side.top, low);
+    let height = above(outer.height, low);
+    set_sides(nodes, top, outer.top, Some(at), height);
+    Side {
+        top: Some(top),
+        height,
+    }
+}
+
 /// The left side is too high: its topmost node, or a node below that, becomes the topmost.
 #[tactic(auto, unfolding(crate::specs::TreeFields::from_left_in))]
 fn from_left<T>(
     nodes: &mut Pool<Node<T>>,
     left_side: Option<Name>,
     at: Name,
-    right_side: Option<Name>,
-) -> Name
-    ensures nodes { nodes.new ≡ (from_left_in nodes.old left_side at right_side).nodes }
-    ensures top { result ≡ (from_left_in nodes.old left_side at right_side).top }
+    right_side: Side,
+) -> Side
+    requires { right_side.height ≡ high nodes.old right_side.top }
+    ensures nodes { nodes.new ≡ (from_left_in nodes.old left_side at right_side.top).nodes }
+    ensures top { result.top ≡ Some (from_left_in nodes.old left_side at right_side.top).top }
+    ensures height { result.height ≡ (from_left_in nodes.old left_side at right_side.top).high }
 {
     let Some(top) = left_side else {
-        fasten(nodes, at, None, right_side);
-        return at;
+        fasten(nodes, at, None, right_side.top);
+        return side_of(nodes, Some(at));
     };
     let sides = sides_of(nodes, top);
-    let outer = sides.left.top;
-    let inner = sides.right.top;
     if sides.right.height > sides.left.height {
-        return twice_left(nodes, outer, top, inner, at, right_side);
+        let top = twice_left(
+            nodes,
+            sides.left.top,
+            top,
+            sides.right.top,
+            at,
+            right_side.top,
+        );
+        return side_of(nodes, Some(top));
     }
-    fasten(nodes, at, inner, right_side);
-    fasten(nodes, top, outer, Some(at));
-    top
+    turn_right(nodes, sides.left, top, sides.right, at, right_side)
 }
 
 #[tactic(auto, unfolding(crate::specs::TreeFields::twice_right_in))]
@@ -117,30 +170,62 @@ fn twice_right<T>(
     middle
 }
 
+#[tactic(auto, unfolding(crate::specs::TreeFields::turned_left))]
+fn turn_left<T>(
+    nodes: &mut Pool<Node<T>>,
+    left_side: Side,
+    at: Name,
+    inner: Side,
+    top: Name,
+    outer: Side,
+) -> Side
+    requires left { left_side.height ≡ high nodes.old left_side.top }
+    requires inner { inner.height ≡ high nodes.old inner.top }
+    requires outer { outer.height ≡ high nodes.old outer.top }
+    ensures nodes { nodes.new ≡ (turned_left nodes.old left_side.top at inner.top top outer.top).nodes }
+    ensures top { result.top ≡ Some (turned_left nodes.old left_side.top at inner.top top outer.top).top }
+    ensures height { result.height ≡ (turned_left nodes.old left_side.top at inner.top top outer.top).high }
+{
+    let low = above(left_side.height, inner.height);
+    hang(nodes, at, top, left_side.top, inner.top, low);
+    let height = above(low, outer.height);
+    set_sides(nodes, top, Some(at), outer.top, height);
+    Side {
+        top: Some(top),
+        height,
+    }
+}
+
 /// The right side is too high.
 #[tactic(auto, unfolding(crate::specs::TreeFields::from_right_in))]
 fn from_right<T>(
     nodes: &mut Pool<Node<T>>,
-    left_side: Option<Name>,
+    left_side: Side,
     at: Name,
     right_side: Option<Name>,
-) -> Name
-    ensures nodes { nodes.new ≡ (from_right_in nodes.old left_side at right_side).nodes }
-    ensures top { result ≡ (from_right_in nodes.old left_side at right_side).top }
+) -> Side
+    requires { left_side.height ≡ high nodes.old left_side.top }
+    ensures nodes { nodes.new ≡ (from_right_in nodes.old left_side.top at right_side).nodes }
+    ensures top { result.top ≡ Some (from_right_in nodes.old left_side.top at right_side).top }
+    ensures height { result.height ≡ (from_right_in nodes.old left_side.top at right_side).high }
 {
     let Some(top) = right_side else {
-        fasten(nodes, at, left_side, None);
-        return at;
+        fasten(nodes, at, left_side.top, None);
+        return side_of(nodes, Some(at));
     };
     let sides = sides_of(nodes, top);
-    let inner = sides.left.top;
-    let outer = sides.right.top;
     if sides.left.height > sides.right.height {
-        return twice_right(nodes, left_side, at, inner, top, outer);
+        let top = twice_right(
+            nodes,
+            left_side.top,
+            at,
+            sides.left.top,
+            top,
+            sides.right.top,
+        );
+        return side_of(nodes, Some(top));
     }
-    fasten(nodes, at, left_side, inner);
-    fasten(nodes, top, Some(at), outer);
-    top
+    turn_left(nodes, left_side, at, sides.left, top, sides.right)
 }
 
 /// Puts a node between two sides whose heights differ by at most two, and gives the whole part.
@@ -159,12 +244,10 @@ pub(crate) fn balance<T>(
     ensures height { result.height ≡ (balanced_in nodes.old left_side.top at right_side.top).high }
 {
     if left_side.height.saturating_sub(right_side.height) > 1 {
-        let top = from_left(nodes, left_side.top, at, right_side.top);
-        return side_of(nodes, Some(top));
+        return from_left(nodes, left_side.top, at, right_side);
     }
     if right_side.height.saturating_sub(left_side.height) > 1 {
-        let top = from_right(nodes, left_side.top, at, right_side.top);
-        return side_of(nodes, Some(top));
+        return from_right(nodes, left_side, at, right_side.top);
     }
     let height = above(left_side.height, right_side.height);
     lay(nodes, at, left_side.top, right_side.top, height);
