@@ -2,13 +2,14 @@
 use Rattle.std.proofs.Common.{◌≡◌, ◌≢◌, ℕ, ◌+◌, ◌^◌, ◌<◌, max, Option, Some, None, is_some, IsSome, refl, sym, ap, ◌∙◌, subst, inl, inr, arith}
 use Rattle.std.specs.Option.{option_map}
 use Rattle.ac_base.specs.declared.name.Name.{Name}
-use Rattle.ac_pool.specs.Contents.{Contents, value_of, IsSound}
+use Rattle.ac_pool.specs.Contents.{Contents, contents, value_of, with_value, IsSound}
 use Rattle.ac_pool.specs.PoolFields.{name_at}
+use Rattle.ac_pool.proofs.NameLaws.{cases_name, same_names}
 use Rattle.ac_pool.proofs.ContentsLaws.{value_of-with_value_same, value_of-with_value_other}
 use Rattle.ac_balance.specs.declared.links.Node.{Node}
 use Rattle.ac_base.specs.Rows.{Row}
 use Rattle.ac_balance.specs.Trees.{Tree, leaf, node, height}
-use Rattle.ac_balance.specs.TreeFields.{node_with, linked, left_link, right_link, left_of, right_of, root, Stands, height_of, high, parent_written, sides_written, with_parent, with_sides, above, fastened_at, fastened}
+use Rattle.ac_balance.specs.TreeFields.{node_with, linked, left_link, right_link, left_of, right_of, root, Stands, height_of, high, parent_written, sides_written, links_written, with_parent, with_sides, with_links, above, fastened_at, fastened}
 use Rattle.ac_pool.specs.Link.{link_of, name_in}
 use Rattle.ac_balance.specs.Climbing.{Has, Once, Hangs, Keeps}
 use Rattle.ac_pool.proofs.SlotNames.{linked_name}
@@ -91,6 +92,25 @@ module _ {X : Type 0} where
   pub with_sides-writes : (c : Contents (Node X)) (a : Name) (l r : Option Name) (h : ℕ) → Writes (value_of c) (value_of (with_sides c a l r h)) (Some a) (sides_put l r h)
   unfolding with_sides
   with_sides-writes c a l r h = sides_written-writes c a l r h (value_of c a) refl
+
+  -- what is written later under a name stands
+  written_twice : (c : Contents (Node X)) (a : Name) (v w : Node X) → with_value (with_value c a v) a w ≡ with_value c a w
+  written_twice c a v w =
+      let d = with_value c a v in
+      ap (λ m. contents m c.next_serial c.spare) (same_names (with_value d a w).entries (with_value c a w).entries (λ q. elim (cases_name q a) [
+        | inl e ↦ ap (value_of (with_value d a w)) e ∙ value_of-with_value_same d a w ∙ sym (value_of-with_value_same c a w) ∙ ap (value_of (with_value c a w)) (sym e)
+        | inr n ↦ value_of-with_value_other d a q w n ∙ value_of-with_value_other c a q v n ∙ sym (value_of-with_value_other c a q w n)
+      ]))
+
+  links_written-is : (c : Contents (Node X)) (a p : Name) (l r : Option Name) (h : ℕ) (o : Option (Node X)) → value_of c a ≡ o
+      → let d = sides_written c a l r h o in parent_written d a (Some p) (value_of d a) ≡ links_written c a p l r h o
+  links_written-is c a p l r h None e = ap (parent_written c a (Some p)) e
+  links_written-is c a p l r h (Some n) e =
+      let v = sides_put l r h n in ap (parent_written (with_value c a v) a (Some p)) (value_of-with_value_same c a v) ∙ written_twice c a v (linked n.value (Some p) l r h)
+
+  pub with_links-is : (c : Contents (Node X)) (a p : Name) (l r : Option Name) (h : ℕ) → with_parent (with_sides c a l r h) (Some a) (Some p) ≡ with_links c a p l r h
+  unfolding with_parent with_sides with_links
+  with_links-is c a p l r h = links_written-is c a p l r h (value_of c a) refl
 
   fastened-fastens : (c : Contents (Node X)) (x : Name) (l r : Option Name) (h : ℕ) → (l ≡ Some x → ⊥) → (r ≡ Some x → ⊥) → ((a : Name) → l ≡ Some a → r ≡ Some a → ⊥)
       → Fastens (value_of c) (value_of (fastened_at c x l r h)) x l r h

@@ -9,7 +9,7 @@ use Rattle.ac_balance.specs.Trees.{Tree, leaf, node, height, twice_left, from_le
 use Rattle.ac_balance.specs.TreeFields.{linked, root, Stands, left_of, right_of, high, above, with_parent, with_sides, fastened_at, fastened, hung, turned_left, turned_right, Made, Measured, made, measured, laid, twice_left_in, from_left_in, twice_right_in, from_right_in, balanced_in}
 use Rattle.ac_balance.specs.Climbing.{Has, Once, Hangs, Keeps}
 use Rattle.ac_balance.proofs.Keeping.{keeps_then, keeps_parent, keeps_sides}
-use Rattle.ac_balance.proofs.Standing.{Nodes, some_name, sides_put, Stands-same, Stands-moved, with_parent-writes, with_sides-writes, IsAt, IsAt-same, Hangs-same, high-is, Becomes, fastened_at-becomes, fastened-becomes, left-is, right-is}
+use Rattle.ac_balance.proofs.Standing.{Nodes, some_name, sides_put, Stands-same, Stands-moved, with_links-is, with_parent-writes, with_sides-writes, IsAt, IsAt-same, Hangs-same, high-is, Becomes, fastened_at-becomes, fastened-becomes, left-is, right-is}
 
 module _ {X : Type 0} where
   -- the tree has become t, and m names its topmost row
@@ -94,15 +94,15 @@ module _ {X : Type 0} where
 
   hung-is : (c : Contents (Node X)) (l : Tree X) (x : Row Name X) (r : Tree X) (p : Name) (h : ℕ) → Once (node l x r) → h ≡ max (height l) (height r) + 1
       → IsAt (value_of c) x → Hangs (value_of c) l → Hangs (value_of c) r → Hung c (hung c x.name p (root l) (root r) h) p (node l x r)
-  unfolding hung
+  unfolding hung fastened_at
   hung-is c l x r p h once is at hl hr =
       let t = node l x r in let d = fastened_at c x.name (root l) (root r) h in let e = with_parent d (Some x.name) (Some p) in
       let one = fastened_at-becomes c l x r h once is at hl hr in let two = with_parent-writes d (Some x.name) (Some p) in
-      record {
+      subst (λ z. Hung c z p t) (with_links-is (with_parent (with_parent c (root l) (Some x.name)) (root r) (Some x.name)) x.name p (root l) (root r) h) (record {
         stands = Stands-moved (value_of d) (value_of e) one.hangs.parent (Some p) t once two.here (λ a k n. two.there a n) one.hangs.stands;
         aside = λ a n. two.there a (λ q. n (inl (sym (some_name x.name a q)))) ∙ one.aside a n;
         keeps = keeps_then c d e one.keeps (keeps_parent d (Some x.name) (Some p));
-      }
+      })
 
   turned_right-gives : (c : Contents (Node X)) (a : Tree X) (y : Row Name X) (b : Tree X) (x : Row Name X) (r : Tree X) → let all = node a y (node b x r) in Once all → height all < 2 ^ 32
       → Hangs (value_of c) (node a y b) → IsAt (value_of c) x → Hangs (value_of c) r → Balances c (turned_right c (root a) y.name (root b) x.name (root r)) all

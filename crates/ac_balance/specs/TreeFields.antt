@@ -86,12 +86,19 @@ module _ {X : Type 0} where
   sides_written c a l r h None = c
   sides_written c a l r h (Some n) = with_value c a (node_with n.value n.parent (link_of l) (link_of r) h)
 
+  abbrev pub links_written : Contents (Node X) → Name → Name → Option Name → Option Name → ℕ → Option (Node X) → Contents (Node X)
+  links_written c a p l r h None = c
+  links_written c a p l r h (Some n) = with_value c a (linked n.value (Some p) l r h)
+
   unfoldable pub with_parent : Contents (Node X) → Option Name → Option Name → Contents (Node X)
   with_parent c None to = c
   with_parent c (Some a) to = parent_written c a to (value_of c a)
 
   unfoldable pub with_sides : Contents (Node X) → Name → Option Name → Option Name → ℕ → Contents (Node X)
   with_sides c a l r h = sides_written c a l r h (value_of c a)
+
+  unfoldable pub with_links : Contents (Node X) → Name → Name → Option Name → Option Name → ℕ → Contents (Node X)
+  with_links c a p l r h = links_written c a p l r h (value_of c a)
 
   -- the name's node has these two sides, and is h high
   unfoldable pub fastened_at : Contents (Node X) → Name → Option Name → Option Name → ℕ → Contents (Node X)
@@ -103,7 +110,7 @@ module _ {X : Type 0} where
 
   -- and hangs under the node p
   unfoldable pub hung : Contents (Node X) → Name → Name → Option Name → Option Name → ℕ → Contents (Node X)
-  hung c a p l r h = with_parent (fastened_at c a l r h) (Some a) (Some p)
+  hung c a p l r h = with_links (with_parent (with_parent c l (Some a)) r (Some a)) a p l r h
 
   abbrev pub made : Contents (Node X) → Name → Made X
   made c a = record { nodes = c; top = a }

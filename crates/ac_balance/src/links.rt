@@ -3,7 +3,7 @@
 ghost use Rattle.std.specs.Prelude.{◌≡◌, Some, option_copied};
 ghost use Rattle.ac_pool.specs.Contents.{value_of, with_value, IsLive};
 ghost use Rattle.ac_pool.specs.Link.{name_in, value_in};
-ghost use Rattle.ac_balance.specs.TreeFields.{alone, left_of, right_of, parent_of, left_link, right_link, parent_link, high, with_parent, with_sides, with_side};
+ghost use Rattle.ac_balance.specs.TreeFields.{alone, left_of, right_of, parent_of, left_link, right_link, parent_link, high, with_parent, with_sides, with_links, with_side};
 
 use ac_base::Name;
 use ac_pool::{NO_SLOT, Pool, link_to};
@@ -237,6 +237,7 @@ pub(crate) fn set_sides<T>(
 }
 
 /// Sets all of a node's links and its height.
+#[tactic(auto, unfolding(crate::specs::TreeFields::with_links))]
 #[inline(always)]
 pub(crate) fn set_links<T>(
     nodes: &mut Pool<Node<T>>,
@@ -246,10 +247,14 @@ pub(crate) fn set_links<T>(
     right: Option<Name>,
     height: u32,
 )
-    ensures { nodes.new ≡ with_parent (with_sides nodes.old name left right height) (Some name) (Some parent) }
+    ensures { nodes.new ≡ with_links nodes.old name parent left right height }
 {
-    set_sides(nodes, name, left, right, height);
-    set_parent(nodes, Some(name), Some(parent));
+    if let Some(node) = nodes.get_mut(name) {
+        node.parent = parent.slot;
+        node.left = link_to(left);
+        node.right = link_to(right);
+        node.height = height;
+    }
 }
 
 #[tactic(auto, unfolding(crate::specs::TreeFields::with_side))]

@@ -34,7 +34,7 @@ fn lay<T>(
 }
 
 /// Gives the name's node these two sides and this height, and hangs it under another.
-#[tactic(auto, unfolding(crate::specs::TreeFields::hung, crate::specs::TreeFields::fastened_at))]
+#[tactic(auto, unfolding(crate::specs::TreeFields::hung))]
 #[inline(always)]
 fn hang<T>(
     nodes: &mut Pool<Node<T>>,
@@ -88,6 +88,7 @@ fn twice_left<T>(
 
 /// The topmost node of the left side comes above the node.
 #[tactic(auto, unfolding(crate::specs::TreeFields::turned_right))]
+#[inline(always)]
 fn turn_right<T>(
     nodes: &mut Pool<Node<T>>,
     outer: Side,
@@ -115,6 +116,7 @@ fn turn_right<T>(
 
 /// The left side is too high: its topmost node, or a node below that, becomes the topmost.
 #[tactic(auto, unfolding(crate::specs::TreeFields::from_left_in))]
+#[inline(always)]
 fn from_left<T>(
     nodes: &mut Pool<Node<T>>,
     left_side: Option<Name>,
@@ -171,6 +173,7 @@ fn twice_right<T>(
 }
 
 #[tactic(auto, unfolding(crate::specs::TreeFields::turned_left))]
+#[inline(always)]
 fn turn_left<T>(
     nodes: &mut Pool<Node<T>>,
     left_side: Side,
@@ -198,6 +201,7 @@ fn turn_left<T>(
 
 /// The right side is too high.
 #[tactic(auto, unfolding(crate::specs::TreeFields::from_right_in))]
+#[inline(always)]
 fn from_right<T>(
     nodes: &mut Pool<Node<T>>,
     left_side: Side,
