@@ -18,7 +18,7 @@ use Rattle.ac_balance.proofs.Standing.{Hangs-same}
 use Rattle.ac_balance.proofs.Keeping.{sound_still}
 use Rattle.ac_balance.proofs.Names.{IsOnce, HasName-left, HasName-right, HasName-either, once-append, once_from, once_rows, named, has, plugged_once, height_le}
 use Rattle.ac_balance.proofs.Turns.{balanced-order}
-use Rattle.ac_balance.proofs.Turning.{Balances, balanced-gives}
+use Rattle.ac_balance.proofs.Turning.{Balances, both_new, balanced-gives}
 use Rattle.ac_balance.proofs.Climbs.{plugged-order, plugged-fits, settled-step}
 use Rattle.ac_balance.proofs.Opening.{cut, rooted-in}
 use Rattle.ac_balance.proofs.Rising.{Framed-same, relinks_then, above-live, side-is}
@@ -31,7 +31,7 @@ module _ {X : Type 0} where
   relinks_more xs ys c d f r = record { aside = λ a n. r.aside a (λ h. n (f a h)); keeps = r.keeps }
 
   pub joined_both : (l m : Links X) (o p : Option Name) (t u : Tree X) (first : Name) (n : Contents (Node X)) (top : Option Name) → Beside l.nodes o p t u → CutOff l m u first
-      → n ≡ (balanced_in m.nodes o first m.root).nodes → top ≡ Some (balanced_in m.nodes o first m.root).top → Joined l (links n m.root) t u top
+      → n ≡ (balanced_in m.nodes o first m.root o m.root).nodes → top ≡ Some (balanced_in m.nodes o first m.root o m.root).top → Joined l (links n m.root) t u top
   joined_both l m o p t u first n top b k is is_top =
       let c = m.nodes in let x = k.row in let r = k.closed.tree in let whole = balanced t x r in let rows = in_order t ++ in_order u in
       let order : in_order (node t x r) ≡ rows = ap (λ zs. in_order t ++ x ∷ zs) k.closed.ordered ∙ ap (λ zs. in_order t ++ zs) (sym k.are) in
@@ -40,9 +40,9 @@ module _ {X : Type 0} where
       let once : Once whole = once_from whole (subst (λ zs. IsOnce zs) (sym ordered) once_both) in
       let low = height_le whole in let len = ap length ordered in let few = b.few in
       let left : Hangs (value_of c) t = Hangs-same (value_of l.nodes) (value_of c) t (λ a h. k.relinks.aside a (λ q. b.apart a h (has a u q))) b.left.hangs in
-      let gives = balanced-gives c k.closed.sound t x r left (record { node = k.kept.node; found = k.kept.found; value = k.kept.value }) (record { parent = None; stands = k.closed.stands }) once (omega (arith, low, len, few)) in
-      let same : balanced_in c (root t) x.name (root r) ≡ balanced_in c o first m.root = λ i. balanced_in c (sym b.left.top i) (k.name i) (sym k.closed.top i) in
-      let done : Balances c (balanced_in c o first m.root) whole = subst (λ z. Balances c z whole) same gives in
+      let gives = balanced-gives c k.closed.sound t x r (root t) (root r) (both_new c x.name t r) left (record { node = k.kept.node; found = k.kept.found; value = k.kept.value }) (record { parent = None; stands = k.closed.stands }) once (omega (arith, low, len, few)) in
+      let same : balanced_in c (root t) x.name (root r) (root t) (root r) ≡ balanced_in c o first m.root o m.root = λ i. balanced_in c (sym b.left.top i) (k.name i) (sym k.closed.top i) (sym b.left.top i) (sym k.closed.top i) in
+      let done : Balances c (balanced_in c o first m.root o m.root) whole = subst (λ z. Balances c z whole) same gives in
       let lev = b.level in let lu = lev.up in let ld = lev.down in
       let step = settled-step (on_right t x) r (height u) (record { up = ld; down = lu }) b.left.balanced k.closed.balanced k.near in
       let nu = step.1.up in let nd = step.1.down in

@@ -14,7 +14,7 @@ use Rattle.ac_pool.proofs.SlotNames.{linked_name}
 use Rattle.ac_balance.proofs.Keeping.{keeps_itself, keeps_then, sound_still}
 use Rattle.ac_balance.proofs.Standing.{Nodes, some_name, Stands-same, high-is, linked_root}
 use Rattle.ac_balance.proofs.Names.{IsAround, once_order, plugged_once, height_le, plugged_le, named, part_has}
-use Rattle.ac_balance.proofs.Turning.{Balances, balanced-gives}
+use Rattle.ac_balance.proofs.Turning.{Balances, left_new, right_new, balanced-gives}
 use Rattle.ac_balance.proofs.Climbs.{settled-order, settled-step, plugged-balanced, plugged-order, around, plugged-height}
 
 nat_eq_true : (a b : ℕ) → nat_eq a b ≡ true → a ≡ b
@@ -40,12 +40,12 @@ module _ {X : Type 0} where
   unfolding settled_in settled_with
   settled-gives c sound (on_left x r) steps t o h b f side hangs once few =
       let er : name_in c (beside_link b (value_of c x.name)) ≡ root r = (λ i. name_in c (beside_link (side i) (f.0 i))) ∙ linked_root c sound (Some x.name) r f.1 in
-      subst (λ m. Balances c m (balanced t x r)) (λ i. if sym side i then balanced_in c (root t) x.name (sym er i) else balanced_in c (sym er i) x.name (root t))
-      (balanced-gives c sound t x r hangs (record { node = _; found = f.0; value = refl }) (record { parent = Some x.name; stands = f.1 }) once few)
+      subst (λ m. Balances c m (balanced t x r)) (λ i. if sym side i then balanced_in c (root t) x.name (sym er i) (root t) None else balanced_in c (sym er i) x.name (root t) None (root t))
+      (balanced-gives c sound t x r (root t) None (left_new c x.name t r f.1) hangs (record { node = _; found = f.0; value = refl }) (record { parent = Some x.name; stands = f.1 }) once few)
   settled-gives c sound (on_right l x) steps t o h b f side hangs once few =
       let el : name_in c (beside_link b (value_of c x.name)) ≡ root l = (λ i. name_in c (beside_link (side i) (f.0 i))) ∙ linked_root c sound (Some x.name) l f.1 in
-      subst (λ m. Balances c m (balanced l x t)) (λ i. if sym side i then balanced_in c (root t) x.name (sym el i) else balanced_in c (sym el i) x.name (root t))
-      (balanced-gives c sound l x t (record { parent = Some x.name; stands = f.1 }) (record { node = _; found = f.0; value = refl }) hangs once few)
+      subst (λ m. Balances c m (balanced l x t)) (λ i. if sym side i then balanced_in c (root t) x.name (sym el i) (root t) None else balanced_in c (sym el i) x.name (root t) None (root t))
+      (balanced-gives c sound l x t None (root t) (right_new c x.name l t f.1) (record { parent = Some x.name; stands = f.1 }) (record { node = _; found = f.0; value = refl }) hangs once few)
 
   -- how far the stored heights are from their bound
   abbrev pub left_to : Contents (Node X) → Option Name → ℕ

@@ -5,7 +5,7 @@ use Rattle.ac_base.specs.declared.name.Name.{Name}
 use Rattle.ac_pool.specs.Contents.{Contents, contents, value_of, with_value, IsSound}
 use Rattle.ac_pool.specs.PoolFields.{name_at}
 use Rattle.ac_pool.proofs.NameLaws.{cases_name, same_names}
-use Rattle.ac_pool.proofs.ContentsLaws.{value_of-with_value_same, value_of-with_value_other}
+use Rattle.ac_pool.proofs.ContentsLaws.{value_of-with_value_same, value_of-with_value_other, with_value-same}
 use Rattle.ac_balance.specs.declared.links.Node.{Node}
 use Rattle.ac_base.specs.Rows.{Row}
 use Rattle.ac_balance.specs.Trees.{Tree, leaf, node, height}
@@ -80,6 +80,16 @@ module _ {X : Type 0} where
   unfolding with_parent
   with_parent-writes c None to = record { here = λ b e. cc; there = λ b n. refl }
   with_parent-writes c (Some a) to = parent_written-writes c a to (value_of c a) refl
+
+  pub no_parent : (c : Contents (Node X)) (to : Option Name) → with_parent c None to ≡ c
+  unfolding with_parent
+  no_parent c to = refl
+
+  -- a tree has the parent already
+  pub with_parent-already : (c : Contents (Node X)) (p : Name) (t : Tree X) → Stands (value_of c) (Some p) t → with_parent c (root t) (Some p) ≡ c
+  unfolding with_parent
+  with_parent-already c p leaf h = refl
+  with_parent-already c p (node l x r) h = ap (parent_written c x.name (Some p)) h.0 ∙ with_value-same c x.name _ h.0
 
   sides_written-writes : (c : Contents (Node X)) (a : Name) (l r : Option Name) (h : ℕ) (o : Option (Node X)) → value_of c a ≡ o → Writes (value_of c) (value_of (sides_written c a l r h o)) (Some a) (sides_put l r h)
   sides_written-writes c a l r h None is = record { here = λ b e. let none : value_of c b ≡ None = ap (value_of c) (sym (some_name a b e)) ∙ is in none ∙ ap (option_map (sides_put l r h)) (sym none); there = λ b n. refl }

@@ -1,15 +1,15 @@
 -- The turns by names do what the turns of trees say.
-use Rattle.std.proofs.Common.{◌≡◌, ℕ, ◌+◌, ◌-◌, ◌^◌, ◌<◌, max, Bool, true, false, nat_le, nat_lt, if◌then◌else◌, Some, refl, sym, ap, ◌∙◌, subst, inl, inr, arith}
+use Rattle.std.proofs.Common.{◌≡◌, ℕ, ◌+◌, ◌-◌, ◌^◌, ◌<◌, max, Bool, true, false, nat_le, nat_lt, if◌then◌else◌, Option, Some, None, refl, sym, ap, ◌∙◌, subst, inl, inr, arith}
 use Rattle.std.specs.Option.{option_map}
 use Rattle.ac_base.specs.declared.name.Name.{Name}
 use Rattle.ac_pool.specs.Contents.{Contents, value_of, IsSound}
 use Rattle.ac_balance.specs.declared.links.Node.{Node}
 use Rattle.ac_base.specs.Rows.{Row}
 use Rattle.ac_balance.specs.Trees.{Tree, leaf, node, height, twice_left, from_left, twice_right, from_right, balanced}
-use Rattle.ac_balance.specs.TreeFields.{linked, root, Stands, left_of, right_of, high, above, with_parent, with_sides, fastened_at, fastened, hung, turned_left, turned_right, Made, Measured, made, measured, laid, twice_left_in, from_left_in, twice_right_in, from_right_in, balanced_in}
+use Rattle.ac_balance.specs.TreeFields.{linked, root, Stands, left_of, right_of, high, above, with_parent, with_sides, adopted, fastened_at, fastened, with_links, turned_left, turned_right, Made, Measured, made, measured, laid, twice_left_in, from_left_in, twice_right_in, from_right_in, balanced_in}
 use Rattle.ac_balance.specs.Climbing.{Has, Once, Hangs, Keeps}
 use Rattle.ac_balance.proofs.Keeping.{keeps_then, keeps_parent, keeps_sides}
-use Rattle.ac_balance.proofs.Standing.{Nodes, some_name, sides_put, Stands-same, Stands-moved, with_links-is, with_parent-writes, with_sides-writes, IsAt, IsAt-same, Hangs-same, high-is, Becomes, fastened_at-becomes, fastened-becomes, left-is, right-is}
+use Rattle.ac_balance.proofs.Standing.{Nodes, some_name, sides_put, Stands-same, Stands-moved, with_links-is, with_parent-writes, no_parent, with_parent-already, root_has, with_sides-writes, IsAt, IsAt-same, Hangs-same, high-is, Becomes, fastened_at-becomes, fastened-becomes, left-is, right-is}
 
 module _ {X : Type 0} where
   -- the tree has become t, and m names its topmost row
@@ -92,29 +92,48 @@ module _ {X : Type 0} where
     aside : (a : Name) → (Has a t → ⊥) → value_of d a ≡ value_of c a
     keeps : Keeps c d
 
-  hung-is : (c : Contents (Node X)) (l : Tree X) (x : Row Name X) (r : Tree X) (p : Name) (h : ℕ) → Once (node l x r) → h ≡ max (height l) (height r) + 1
-      → IsAt (value_of c) x → Hangs (value_of c) l → Hangs (value_of c) r → Hung c (hung c x.name p (root l) (root r) h) p (node l x r)
-  unfolding hung fastened_at
-  hung-is c l x r p h once is at hl hr =
-      let t = node l x r in let d = fastened_at c x.name (root l) (root r) h in let e = with_parent d (Some x.name) (Some p) in
-      let one = fastened_at-becomes c l x r h once is at hl hr in let two = with_parent-writes d (Some x.name) (Some p) in
-      subst (λ z. Hung c z p t) (with_links-is (with_parent (with_parent c (root l) (Some x.name)) (root r) (Some x.name)) x.name p (root l) (root r) h) (record {
-        stands = Stands-moved (value_of d) (value_of e) one.hangs.parent (Some p) t once two.here (λ a k n. two.there a n) one.hangs.stands;
-        aside = λ a n. two.there a (λ q. n (inl (sym (some_name x.name a q)))) ∙ one.aside a n;
-        keeps = keeps_then c d e one.keeps (keeps_parent d (Some x.name) (Some p));
-      })
+  -- of two sides of the node x, p and q are those that it isn't the parent of yet
+  pub record Adopting (c : Contents (Node X)) (x : Name) (l r : Tree X) (p q : Option Name) : Type 0 where
+    pub left : with_parent c p (Some x) ≡ with_parent c (root l) (Some x)
+    pub right : (o : Option Name) → ((a : Name) → o ≡ Some a → Has a r → ⊥) → with_parent (with_parent c o (Some x)) q (Some x) ≡ with_parent (with_parent c o (Some x)) (root r) (Some x)
 
-  turned_right-gives : (c : Contents (Node X)) (a : Tree X) (y : Row Name X) (b : Tree X) (x : Row Name X) (r : Tree X) → let all = node a y (node b x r) in Once all → height all < 2 ^ 32
-      → Hangs (value_of c) (node a y b) → IsAt (value_of c) x → Hangs (value_of c) r → Balances c (turned_right c (root a) y.name (root b) x.name (root r)) all
+  pub both_new : (c : Contents (Node X)) (x : Name) (l r : Tree X) → Adopting c x l r (root l) (root r)
+  both_new c x l r = record { left = refl; right = λ o n. refl }
+
+  pub left_new : (c : Contents (Node X)) (x : Name) (l r : Tree X) → Stands (value_of c) (Some x) r → Adopting c x l r (root l) None
+  left_new c x l r h = record {
+    left = refl;
+    right = λ o n. let d = with_parent c o (Some x) in
+        no_parent d (Some x) ∙ sym (with_parent-already d x r (Stands-same (value_of c) (value_of d) (Some x) r (λ a k. (with_parent-writes c o (Some x)).there a (λ e. n a e k)) h));
+  }
+
+  pub right_new : (c : Contents (Node X)) (x : Name) (l r : Tree X) → Stands (value_of c) (Some x) l → Adopting c x l r None (root r)
+  right_new c x l r h = record { left = no_parent c (Some x) ∙ sym (with_parent-already c x l h); right = λ o n. refl }
+
+  hung-is : (c : Contents (Node X)) (l : Tree X) (x : Row Name X) (r : Tree X) (p q : Option Name) (up : Name) (h : ℕ) → Once (node l x r) → h ≡ max (height l) (height r) + 1 → adopted c x.name p q ≡ adopted c x.name (root l) (root r)
+      → IsAt (value_of c) x → Hangs (value_of c) l → Hangs (value_of c) r → Hung c (with_links (adopted c x.name p q) x.name up (root l) (root r) h) up (node l x r)
+  unfolding fastened_at
+  hung-is c l x r p q up h once is new at hl hr =
+      let t = node l x r in let d = fastened_at c x.name (root l) (root r) h in let e = with_parent d (Some x.name) (Some up) in
+      let one = fastened_at-becomes c l x r h once is at hl hr in let two = with_parent-writes d (Some x.name) (Some up) in
+      subst (λ z. Hung c (with_links z x.name up (root l) (root r) h) up t) (sym new)
+      (subst (λ z. Hung c z up t) (with_links-is (adopted c x.name (root l) (root r)) x.name up (root l) (root r) h) (record {
+        stands = Stands-moved (value_of d) (value_of e) one.hangs.parent (Some up) t once two.here (λ a k n. two.there a n) one.hangs.stands;
+        aside = λ a n. two.there a (λ q. n (inl (sym (some_name x.name a q)))) ∙ one.aside a n;
+        keeps = keeps_then c d e one.keeps (keeps_parent d (Some x.name) (Some up));
+      }))
+
+  turned_right-gives : (c : Contents (Node X)) (a : Tree X) (y : Row Name X) (b : Tree X) (x : Row Name X) (r : Tree X) (q : Option Name) → adopted c x.name (root b) q ≡ adopted c x.name (root b) (root r) → let all = node a y (node b x r) in Once all → height all < 2 ^ 32
+      → Hangs (value_of c) (node a y b) → IsAt (value_of c) x → Hangs (value_of c) r → Balances c (turned_right c (root a) y.name (root b) x.name (root r) q) all
   unfolding turned_right
-  turned_right-gives c a y b x r once few hy atx hr =
+  turned_right-gives c a y b x r q new once few hy atx hr =
       let parts = parts_of (value_of c) a y b hy in let t = node b x r in
       let ea = high-is c a parts.1 in let eb = high-is c b parts.2 in let er = high-is c r hr in
       let low = above (high c (root b)) (high c (root r)) in let h = above (high c (root a)) low in
       let low_is : low ≡ max (height b) (height r) + 1 = omega (arith, eb, er, few) in
       let is : h ≡ max (height a) (max (height b) (height r) + 1) + 1 = omega (arith, low_is, ea, few) in
-      let d = hung c x.name y.name (root b) (root r) low in let e = with_sides d y.name (root a) (Some x.name) h in
-      let one = hung-is c b x r y.name low once.4 low_is atx parts.2 hr in let two = with_sides-writes d y.name (root a) (Some x.name) h in
+      let d = with_links (adopted c x.name (root b) q) x.name y.name (root b) (root r) low in let e = with_sides d y.name (root a) (Some x.name) h in
+      let one = hung-is c b x r (root b) q y.name low once.4 low_is new atx parts.2 hr in let two = with_sides-writes d y.name (root a) (Some x.name) h in
       let other : (k : Name) → (k ≡ y.name → ⊥) → value_of e k ≡ value_of d k = λ k n. two.there k (λ q. n (sym (some_name y.name k q))) in
       let here : value_of d y.name ≡ value_of c y.name = one.aside y.name once.1 in
       record {
@@ -134,17 +153,17 @@ module _ {X : Type 0} where
         high = is;
       }
 
-  turned_left-gives : (c : Contents (Node X)) (l : Tree X) (x : Row Name X) (a : Tree X) (y : Row Name X) (b : Tree X) → let all = node (node l x a) y b in Once all → height all < 2 ^ 32
-      → Hangs (value_of c) l → IsAt (value_of c) x → Hangs (value_of c) (node a y b) → Balances c (turned_left c (root l) x.name (root a) y.name (root b)) all
+  turned_left-gives : (c : Contents (Node X)) (l : Tree X) (x : Row Name X) (a : Tree X) (y : Row Name X) (b : Tree X) (p : Option Name) → adopted c x.name p (root a) ≡ adopted c x.name (root l) (root a) → let all = node (node l x a) y b in Once all → height all < 2 ^ 32
+      → Hangs (value_of c) l → IsAt (value_of c) x → Hangs (value_of c) (node a y b) → Balances c (turned_left c (root l) x.name (root a) y.name (root b) p) all
   unfolding turned_left
-  turned_left-gives c l x a y b once few hl atx hy =
+  turned_left-gives c l x a y b p new once few hl atx hy =
       let parts = parts_of (value_of c) a y b hy in let t = node l x a in
       let el = high-is c l hl in let ea = high-is c a parts.1 in let eb = high-is c b parts.2 in
       let low = above (high c (root l)) (high c (root a)) in let h = above low (high c (root b)) in
       let low_is : low ≡ max (height l) (height a) + 1 = omega (arith, el, ea, few) in
       let is : h ≡ max (max (height l) (height a) + 1) (height b) + 1 = omega (arith, low_is, eb, few) in
-      let d = hung c x.name y.name (root l) (root a) low in let e = with_sides d y.name (Some x.name) (root b) h in
-      let one = hung-is c l x a y.name low once.3 low_is atx hl parts.1 in let two = with_sides-writes d y.name (Some x.name) (root b) h in
+      let d = with_links (adopted c x.name p (root a)) x.name y.name (root l) (root a) low in let e = with_sides d y.name (Some x.name) (root b) h in
+      let one = hung-is c l x a p (root a) y.name low once.3 low_is new atx hl parts.1 in let two = with_sides-writes d y.name (Some x.name) (root b) h in
       let other : (k : Name) → (k ≡ y.name → ⊥) → value_of e k ≡ value_of d k = λ k n. two.there k (λ q. n (sym (some_name y.name k q))) in
       let here : value_of d y.name ≡ value_of c y.name = one.aside y.name once.0 in
       record {
@@ -164,20 +183,20 @@ module _ {X : Type 0} where
         high = is;
       }
 
-  from_left-gives : (c : Contents (Node X)) (sound : IsSound c) (l : Tree X) (x : Row Name X) (r : Tree X) → Hangs (value_of c) l → IsAt (value_of c) x → Hangs (value_of c) r
-      → Once (from_left l x r) → height (from_left l x r) < 2 ^ 32 → Balances c (from_left_in c (root l) x.name (root r)) (from_left l x r)
+  from_left-gives : (c : Contents (Node X)) (sound : IsSound c) (l : Tree X) (x : Row Name X) (r : Tree X) (p q : Option Name) → Adopting c x.name l r p q → Hangs (value_of c) l → IsAt (value_of c) x → Hangs (value_of c) r
+      → Once (from_left l x r) → height (from_left l x r) < 2 ^ 32 → Balances c (from_left_in c (root l) x.name (root r) q) (from_left l x r)
   unfolding from_left_in
-  from_left-gives c sound leaf x r hl atx hr once few = balances c _ _ (record { becomes = fastened-becomes c leaf x r once few atx hl hr; top = refl })
-  from_left-gives c sound (node a y b) x r hl atx hr once few =
+  from_left-gives c sound leaf x r p q new hl atx hr once few = balances c _ _ (record { becomes = fastened-becomes c leaf x r once few atx hl hr; top = refl })
+  from_left-gives c sound (node a y b) x r p q new hl atx hr once few =
       let parts = parts_of (value_of c) a y b hl in let el = left-is c sound a y b hl in let er = right-is c sound a y b hl in
       let ha : high c (left_of c y.name) ≡ height a = ap (high c) el ∙ high-is c a parts.1 in
       let hb : high c (right_of c y.name) ≡ height b = ap (high c) er ∙ high-is c b parts.2 in
-      let is : from_left_in c (Some y.name) x.name (root r)
-      ≡ (if nat_le (height b) (height a) then turned_right c (root a) y.name (root b) x.name (root r) else measured (twice_left_in c (root a) y.name (root b) x.name (root r)))
-      = λ i. if nat_le (hb i) (ha i) then turned_right c (el i) y.name (er i) x.name (root r) else measured (twice_left_in c (el i) y.name (er i) x.name (root r)) in
+      let is : from_left_in c (Some y.name) x.name (root r) q
+      ≡ (if nat_le (height b) (height a) then turned_right c (root a) y.name (root b) x.name (root r) q else measured (twice_left_in c (root a) y.name (root b) x.name (root r)))
+      = λ i. if nat_le (hb i) (ha i) then turned_right c (el i) y.name (er i) x.name (root r) q else measured (twice_left_in c (el i) y.name (er i) x.name (root r)) in
       subst (λ m. Balances c m (from_left (node a y b) x r)) (sym is)
       (chosen (Balances c) (nat_le (height b) (height a)) _ _ (node a y (node b x r)) (twice_left a y b x r)
-      (λ o f. turned_right-gives c a y b x r o f hl atx hr)
+      (λ o f. turned_right-gives c a y b x r q (new.right (root b) (λ k e h. o.4.2 k (root_has b k e) h)) o f hl atx hr)
       (λ o f. balances c _ _ (twice_left-gives c sound a y b x r o f parts.0 parts.1 parts.2 atx hr)) once few)
 
   twice_right-gives : (c : Contents (Node X)) (sound : IsSound c) (l : Tree X) (x : Row Name X) (a : Tree X) (y : Row Name X) (b : Tree X) → let t = twice_right l x a y b in Once t → height t < 2 ^ 32
@@ -193,37 +212,44 @@ module _ {X : Type 0} where
         top = refl;
       }
 
-  from_right-gives : (c : Contents (Node X)) (sound : IsSound c) (l : Tree X) (x : Row Name X) (r : Tree X) → Hangs (value_of c) l → IsAt (value_of c) x → Hangs (value_of c) r
-      → Once (from_right l x r) → height (from_right l x r) < 2 ^ 32 → Balances c (from_right_in c (root l) x.name (root r)) (from_right l x r)
+  from_right-gives : (c : Contents (Node X)) (sound : IsSound c) (l : Tree X) (x : Row Name X) (r : Tree X) (p q : Option Name) → Adopting c x.name l r p q → Hangs (value_of c) l → IsAt (value_of c) x → Hangs (value_of c) r
+      → Once (from_right l x r) → height (from_right l x r) < 2 ^ 32 → Balances c (from_right_in c (root l) x.name (root r) p) (from_right l x r)
   unfolding from_right_in
-  from_right-gives c sound l x leaf hl atx hr once few = balances c _ _ (record { becomes = fastened-becomes c l x leaf once few atx hl hr; top = refl })
-  from_right-gives c sound l x (node a y b) hl atx hr once few =
+  from_right-gives c sound l x leaf p q new hl atx hr once few = balances c _ _ (record { becomes = fastened-becomes c l x leaf once few atx hl hr; top = refl })
+  from_right-gives c sound l x (node a y b) p q new hl atx hr once few =
       let parts = parts_of (value_of c) a y b hr in let el = left-is c sound a y b hr in let er = right-is c sound a y b hr in
       let ha : high c (left_of c y.name) ≡ height a = ap (high c) el ∙ high-is c a parts.1 in
       let hb : high c (right_of c y.name) ≡ height b = ap (high c) er ∙ high-is c b parts.2 in
-      let is : from_right_in c (root l) x.name (Some y.name)
-      ≡ (if nat_le (height a) (height b) then turned_left c (root l) x.name (root a) y.name (root b) else measured (twice_right_in c (root l) x.name (root a) y.name (root b)))
-      = λ i. if nat_le (ha i) (hb i) then turned_left c (root l) x.name (el i) y.name (er i) else measured (twice_right_in c (root l) x.name (el i) y.name (er i)) in
+      let is : from_right_in c (root l) x.name (Some y.name) p
+      ≡ (if nat_le (height a) (height b) then turned_left c (root l) x.name (root a) y.name (root b) p else measured (twice_right_in c (root l) x.name (root a) y.name (root b)))
+      = λ i. if nat_le (ha i) (hb i) then turned_left c (root l) x.name (el i) y.name (er i) p else measured (twice_right_in c (root l) x.name (el i) y.name (er i)) in
       subst (λ m. Balances c m (from_right l x (node a y b))) (sym is)
       (chosen (Balances c) (nat_le (height a) (height b)) _ _ (node (node l x a) y b) (twice_right l x a y b)
-      (λ o f. turned_left-gives c l x a y b o f hl atx hr)
+      (λ o f. turned_left-gives c l x a y b p (ap (λ d. with_parent d (root a) (Some x.name)) new.left) o f hl atx hr)
       (λ o f. balances c _ _ (twice_right-gives c sound l x a y b o f hl atx parts.1 parts.0 parts.2)) once few)
 
-  laid-gives : (c : Contents (Node X)) (l : Tree X) (x : Row Name X) (r : Tree X) → Hangs (value_of c) l → IsAt (value_of c) x → Hangs (value_of c) r
-      → Once (node l x r) → height (node l x r) < 2 ^ 32 → Balances c (laid c (root l) x.name (root r) (above (height l) (height r))) (node l x r)
-  laid-gives c l x r hl atx hr once few =
-      let h : above (height l) (height r) ≡ max (height l) (height r) + 1 = omega (arith, few) in
-      record { becomes = fastened_at-becomes c l x r _ once h atx hl hr; top = refl; high = h }
+  laid-gives : (c : Contents (Node X)) (l : Tree X) (x : Row Name X) (r : Tree X) (p q : Option Name) → Adopting c x.name l r p q → Hangs (value_of c) l → IsAt (value_of c) x → Hangs (value_of c) r
+      → Once (node l x r) → height (node l x r) < 2 ^ 32 → Balances c (laid c (root l) x.name (root r) p q (above (height l) (height r))) (node l x r)
+  unfolding fastened_at
+  laid-gives c l x r p q new hl atx hr once few =
+      let n = above (height l) (height r) in
+      let h : n ≡ max (height l) (height r) + 1 = omega (arith, few) in
+      let same : adopted c x.name p q ≡ adopted c x.name (root l) (root r) = ap (λ d. with_parent d q (Some x.name)) new.left ∙ new.right (root l) (λ k e h. once.2 k (root_has l k e) h) in
+      record {
+        becomes = subst (λ d. Becomes c (with_sides d x.name (root l) (root r) n) (node l x r)) (sym same) (fastened_at-becomes c l x r n once h atx hl hr);
+        top = refl;
+        high = h;
+      }
 
-  pub balanced-gives : (c : Contents (Node X)) (sound : IsSound c) (l : Tree X) (x : Row Name X) (r : Tree X) → Hangs (value_of c) l → IsAt (value_of c) x → Hangs (value_of c) r
-      → Once (balanced l x r) → height (balanced l x r) < 2 ^ 32 → Balances c (balanced_in c (root l) x.name (root r)) (balanced l x r)
+  pub balanced-gives : (c : Contents (Node X)) (sound : IsSound c) (l : Tree X) (x : Row Name X) (r : Tree X) (p q : Option Name) → Adopting c x.name l r p q → Hangs (value_of c) l → IsAt (value_of c) x → Hangs (value_of c) r
+      → Once (balanced l x r) → height (balanced l x r) < 2 ^ 32 → Balances c (balanced_in c (root l) x.name (root r) p q) (balanced l x r)
   unfolding balanced_in
-  balanced-gives c sound l x r hl atx hr once few =
-      let el = high-is c l hl in let er = high-is c r hr in let o = root l in let p = root r in
+  balanced-gives c sound l x r p q new hl atx hr once few =
+      let el = high-is c l hl in let er = high-is c r hr in let m = root l in let o = root r in let a = x.name in
       subst (λ m. Balances c m (balanced l x r))
-      (λ i. if nat_lt 1 (sym el i - sym er i) then from_left_in c o x.name p else if nat_lt 1 (sym er i - sym el i) then from_right_in c o x.name p else laid c o x.name p (above (sym el i) (sym er i)))
+      (λ i. if nat_lt 1 (sym el i - sym er i) then from_left_in c m a o q else if nat_lt 1 (sym er i - sym el i) then from_right_in c m a o p else laid c m a o p q (above (sym el i) (sym er i)))
       (chosen (Balances c) (nat_lt 1 (height l - height r)) _ _ (from_left l x r) (if nat_lt 1 (height r - height l) then from_right l x r else node l x r)
-      (λ k f. from_left-gives c sound l x r hl atx hr k f)
+      (λ k f. from_left-gives c sound l x r p q new hl atx hr k f)
       (λ k f. chosen (Balances c) (nat_lt 1 (height r - height l)) _ _ (from_right l x r) (node l x r)
-      (λ k f. from_right-gives c sound l x r hl atx hr k f)
-      (λ k f. laid-gives c l x r hl atx hr k f) k f) once few)
+      (λ k f. from_right-gives c sound l x r p q new hl atx hr k f)
+      (λ k f. laid-gives c l x r p q new hl atx hr k f) k f) once few)

@@ -108,10 +108,6 @@ module _ {X : Type 0} where
   unfoldable pub fastened : Contents (Node X) → Name → Option Name → Option Name → Contents (Node X)
   fastened c a l r = fastened_at c a l r (above (high c l) (high (with_parent c l (Some a)) r))
 
-  -- and hangs under the node p
-  unfoldable pub hung : Contents (Node X) → Name → Name → Option Name → Option Name → ℕ → Contents (Node X)
-  hung c a p l r h = with_links (with_parent (with_parent c l (Some a)) r (Some a)) a p l r h
-
   abbrev pub made : Contents (Node X) → Name → Made X
   made c a = record { nodes = c; top = a }
 
@@ -121,9 +117,13 @@ module _ {X : Type 0} where
   abbrev pub measured : Made X → Measured X
   measured m = made_at m.nodes m.top (high m.nodes (Some m.top))
 
-  -- the node between two sides, h high itself
-  abbrev pub laid : Contents (Node X) → Option Name → Name → Option Name → ℕ → Measured X
-  laid c l x r h = made_at (fastened_at c x l r h) x h
+  -- these two have the node as their parent
+  abbrev pub adopted : Contents (Node X) → Name → Option Name → Option Name → Contents (Node X)
+  adopted c x p q = with_parent (with_parent c p (Some x)) q (Some x)
+
+  -- the node between two sides, h high itself, of which p and q get it as their parent
+  abbrev pub laid : Contents (Node X) → Option Name → Name → Option Name → Option Name → Option Name → ℕ → Measured X
+  laid c l x r p q h = made_at (with_sides (adopted c x p q) x l r h) x h
 
   -- the turns of `Trees`, by names
   unfoldable pub twice_left_in : Contents (Node X) → Option Name → Name → Option Name → Name → Option Name → Made X
@@ -131,37 +131,38 @@ module _ {X : Type 0} where
   twice_left_in c a y (Some z) x r = made (fastened (fastened (fastened c y a (left_of c z)) x (right_of c z) r) z (Some y) (Some x)) z
 
   -- y, which has its outer side already, comes above x
-  unfoldable pub turned_right : Contents (Node X) → Option Name → Name → Option Name → Name → Option Name → Measured X
-  turned_right c a y b x r =
+  unfoldable pub turned_right : Contents (Node X) → Option Name → Name → Option Name → Name → Option Name → Option Name → Measured X
+  turned_right c a y b x r q =
       let low = above (high c b) (high c r) in let h = above (high c a) low in
-      made_at (with_sides (hung c x y b r low) y a (Some x) h) y h
+      made_at (with_sides (with_links (adopted c x b q) x y b r low) y a (Some x) h) y h
 
-  unfoldable pub from_left_in : Contents (Node X) → Option Name → Name → Option Name → Measured X
-  from_left_in c None x r = measured (made (fastened c x None r) x)
-  from_left_in c (Some y) x r =
-      if nat_le (high c (right_of c y)) (high c (left_of c y)) then turned_right c (left_of c y) y (right_of c y) x r
+  unfoldable pub from_left_in : Contents (Node X) → Option Name → Name → Option Name → Option Name → Measured X
+  from_left_in c None x r q = measured (made (fastened c x None r) x)
+  from_left_in c (Some y) x r q =
+      if nat_le (high c (right_of c y)) (high c (left_of c y)) then turned_right c (left_of c y) y (right_of c y) x r q
       else measured (twice_left_in c (left_of c y) y (right_of c y) x r)
 
   unfoldable pub twice_right_in : Contents (Node X) → Option Name → Name → Option Name → Name → Option Name → Made X
   twice_right_in c l x None y b = made (fastened (fastened c y None b) x l (Some y)) x
   twice_right_in c l x (Some z) y b = made (fastened (fastened (fastened c x l (left_of c z)) y (right_of c z) b) z (Some x) (Some y)) z
 
-  unfoldable pub turned_left : Contents (Node X) → Option Name → Name → Option Name → Name → Option Name → Measured X
-  turned_left c l x a y b =
+  unfoldable pub turned_left : Contents (Node X) → Option Name → Name → Option Name → Name → Option Name → Option Name → Measured X
+  turned_left c l x a y b p =
       let low = above (high c l) (high c a) in let h = above low (high c b) in
-      made_at (with_sides (hung c x y l a low) y (Some x) b h) y h
+      made_at (with_sides (with_links (adopted c x p a) x y l a low) y (Some x) b h) y h
 
-  unfoldable pub from_right_in : Contents (Node X) → Option Name → Name → Option Name → Measured X
-  from_right_in c l x None = measured (made (fastened c x l None) x)
-  from_right_in c l x (Some y) =
-      if nat_le (high c (left_of c y)) (high c (right_of c y)) then turned_left c l x (left_of c y) y (right_of c y)
+  unfoldable pub from_right_in : Contents (Node X) → Option Name → Name → Option Name → Option Name → Measured X
+  from_right_in c l x None p = measured (made (fastened c x l None) x)
+  from_right_in c l x (Some y) p =
+      if nat_le (high c (left_of c y)) (high c (right_of c y)) then turned_left c l x (left_of c y) y (right_of c y) p
       else measured (twice_right_in c l x (left_of c y) y (right_of c y))
 
-  unfoldable pub balanced_in : Contents (Node X) → Option Name → Name → Option Name → Measured X
-  balanced_in c l x r =
-      if nat_lt 1 (high c l - high c r) then from_left_in c l x r
-      else if nat_lt 1 (high c r - high c l) then from_right_in c l x r
-      else laid c l x r (above (high c l) (high c r))
+  -- p and q are the sides whose parent isn't the node yet
+  unfoldable pub balanced_in : Contents (Node X) → Option Name → Name → Option Name → Option Name → Option Name → Measured X
+  balanced_in c l x r p q =
+      if nat_lt 1 (high c l - high c r) then from_left_in c l x r q
+      else if nat_lt 1 (high c r - high c l) then from_right_in c l x r p
+      else laid c l x r p q (above (high c l) (high c r))
 
   abbrev pub is_left_in : Contents (Node X) → Option Name → Name → Bool
   is_left_in c None a = false
@@ -173,7 +174,7 @@ module _ {X : Type 0} where
   beside_link on_left (Some n) = if on_left then n.right else n.left
 
   unfoldable pub settled_with : Contents (Node X) → Name → Bool → Option Name → Option Name → Measured X
-  settled_with c x on_left o beside = if on_left then balanced_in c o x beside else balanced_in c beside x o
+  settled_with c x on_left o beside = if on_left then balanced_in c o x beside o None else balanced_in c beside x o None o
 
   unfoldable pub settled_in : Contents (Node X) → Name → Bool → Option Name → Measured X
   settled_in c x on_left o = settled_with c x on_left o (name_in c (beside_link on_left (value_of c x)))

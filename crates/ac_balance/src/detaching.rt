@@ -31,7 +31,14 @@ fn join<T>(links: &mut Links<T>, left_side: Option<Name>, right_side: Option<Nam
     cut_first(links, top, first);
     let before = side_of(&links.nodes, left_side);
     let behind = side_of(&links.nodes, links.root);
-    let whole = balance(&mut links.nodes, before, first, behind);
+    let whole = balance(
+        &mut links.nodes,
+        before,
+        first,
+        behind,
+        before.top,
+        behind.top,
+    );
     whole.top
 }
 

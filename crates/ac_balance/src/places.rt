@@ -79,9 +79,9 @@ fn settle<T>(nodes: &mut Pool<Node<T>>, name: Name, is_left: bool, part: Side, b
     ensures height { result.height ≡ (settled_with nodes.old name is_left part.top beside.top).high }
 {
     if is_left {
-        return balance(nodes, part, name, beside);
+        return balance(nodes, part, name, beside, part.top, None);
     }
-    balance(nodes, beside, name, part)
+    balance(nodes, beside, name, part, None, part.top)
 }
 
 /// A place one step further up: how high the part for it is, and how high the node was that it has at the top.

@@ -1,6 +1,6 @@
 //! The turns that keep the two sides of each node within one of each other in height.
 ghost use Rattle.std.specs.Prelude.{◌≡◌, Some};
-ghost use Rattle.ac_balance.specs.TreeFields.{high, above, fastened, fastened_at, hung, turned_left, turned_right, twice_left_in, from_left_in, twice_right_in, from_right_in, balanced_in};
+ghost use Rattle.ac_balance.specs.TreeFields.{high, above, fastened, fastened_at, turned_left, turned_right, twice_left_in, from_left_in, twice_right_in, from_right_in, balanced_in};
 
 use crate::links::{
     Node, Side, adopt, left, right, set_links, set_parent, set_sides, side_of, sides_of,
@@ -14,41 +14,6 @@ fn above(left: u32, right: u32) -> u32
     ensures { result ≡ above left right }
 {
     left.max(right).saturating_add(1)
-}
-
-/// Gives the name's node these two sides and this height.
-#[inline(always)]
-#[tactic(auto, unfolding(crate::specs::TreeFields::fastened_at))]
-fn lay<T>(
-    nodes: &mut Pool<Node<T>>,
-    name: Name,
-    left: Option<Name>,
-    right: Option<Name>,
-    height: u32,
-)
-    ensures { nodes.new ≡ fastened_at nodes.old name left right height }
-{
-    set_parent(nodes, left, Some(name));
-    set_parent(nodes, right, Some(name));
-    set_sides(nodes, name, left, right, height);
-}
-
-/// Gives the name's node these two sides and this height, and hangs it under another.
-#[tactic(auto, unfolding(crate::specs::TreeFields::hung))]
-#[inline(always)]
-fn hang<T>(
-    nodes: &mut Pool<Node<T>>,
-    name: Name,
-    parent: Name,
-    left: Option<Name>,
-    right: Option<Name>,
-    height: u32,
-)
-    ensures { nodes.new ≡ hung nodes.old name parent left right height }
-{
-    set_parent(nodes, left, Some(name));
-    set_parent(nodes, right, Some(name));
-    set_links(nodes, name, parent, left, right, height);
 }
 
 /// Gives the name's node these two sides.
@@ -86,7 +51,7 @@ fn twice_left<T>(
     middle
 }
 
-/// The topmost node of the left side comes above the node.
+/// The topmost node of the left side comes above the node. `new_right` is the right side where its parent isn't set yet.
 #[tactic(auto, unfolding(crate::specs::TreeFields::turned_right))]
 #[inline(always)]
 fn turn_right<T>(
@@ -96,16 +61,19 @@ fn turn_right<T>(
     inner: Side,
     at: Name,
     right_side: Side,
+    new_right: Option<Name>,
 ) -> Side
     requires outer { outer.height ≡ high nodes.old outer.top }
     requires inner { inner.height ≡ high nodes.old inner.top }
     requires right { right_side.height ≡ high nodes.old right_side.top }
-    ensures nodes { nodes.new ≡ (turned_right nodes.old outer.top top inner.top at right_side.top).nodes }
-    ensures top { result.top ≡ Some (turned_right nodes.old outer.top top inner.top at right_side.top).top }
-    ensures height { result.height ≡ (turned_right nodes.old outer.top top inner.top at right_side.top).high }
+    ensures nodes { nodes.new ≡ (turned_right nodes.old outer.top top inner.top at right_side.top new_right).nodes }
+    ensures top { result.top ≡ Some (turned_right nodes.old outer.top top inner.top at right_side.top new_right).top }
+    ensures height { result.height ≡ (turned_right nodes.old outer.top top inner.top at right_side.top new_right).high }
 {
     let low = above(inner.height, right_side.height);
-    hang(nodes, at, top, inner.top, right_side.top, low);
+    set_parent(nodes, inner.top, Some(at));
+    set_parent(nodes, new_right, Some(at));
+    set_links(nodes, at, top, inner.top, right_side.top, low);
     let height = above(outer.height, low);
     set_sides(nodes, top, outer.top, Some(at), height);
     Side {
@@ -122,11 +90,12 @@ fn from_left<T>(
     left_side: Option<Name>,
     at: Name,
     right_side: Side,
+    new_right: Option<Name>,
 ) -> Side
     requires { right_side.height ≡ high nodes.old right_side.top }
-    ensures nodes { nodes.new ≡ (from_left_in nodes.old left_side at right_side.top).nodes }
-    ensures top { result.top ≡ Some (from_left_in nodes.old left_side at right_side.top).top }
-    ensures height { result.height ≡ (from_left_in nodes.old left_side at right_side.top).high }
+    ensures nodes { nodes.new ≡ (from_left_in nodes.old left_side at right_side.top new_right).nodes }
+    ensures top { result.top ≡ Some (from_left_in nodes.old left_side at right_side.top new_right).top }
+    ensures height { result.height ≡ (from_left_in nodes.old left_side at right_side.top new_right).high }
 {
     let Some(top) = left_side else {
         fasten(nodes, at, None, right_side.top);
@@ -144,7 +113,15 @@ fn from_left<T>(
         );
         return side_of(nodes, Some(top));
     }
-    turn_right(nodes, sides.left, top, sides.right, at, right_side)
+    turn_right(
+        nodes,
+        sides.left,
+        top,
+        sides.right,
+        at,
+        right_side,
+        new_right,
+    )
 }
 
 #[tactic(auto, unfolding(crate::specs::TreeFields::twice_right_in))]
@@ -181,16 +158,19 @@ fn turn_left<T>(
     inner: Side,
     top: Name,
     outer: Side,
+    new_left: Option<Name>,
 ) -> Side
     requires left { left_side.height ≡ high nodes.old left_side.top }
     requires inner { inner.height ≡ high nodes.old inner.top }
     requires outer { outer.height ≡ high nodes.old outer.top }
-    ensures nodes { nodes.new ≡ (turned_left nodes.old left_side.top at inner.top top outer.top).nodes }
-    ensures top { result.top ≡ Some (turned_left nodes.old left_side.top at inner.top top outer.top).top }
-    ensures height { result.height ≡ (turned_left nodes.old left_side.top at inner.top top outer.top).high }
+    ensures nodes { nodes.new ≡ (turned_left nodes.old left_side.top at inner.top top outer.top new_left).nodes }
+    ensures top { result.top ≡ Some (turned_left nodes.old left_side.top at inner.top top outer.top new_left).top }
+    ensures height { result.height ≡ (turned_left nodes.old left_side.top at inner.top top outer.top new_left).high }
 {
     let low = above(left_side.height, inner.height);
-    hang(nodes, at, top, left_side.top, inner.top, low);
+    set_parent(nodes, new_left, Some(at));
+    set_parent(nodes, inner.top, Some(at));
+    set_links(nodes, at, top, left_side.top, inner.top, low);
     let height = above(low, outer.height);
     set_sides(nodes, top, Some(at), outer.top, height);
     Side {
@@ -207,11 +187,12 @@ fn from_right<T>(
     left_side: Side,
     at: Name,
     right_side: Option<Name>,
+    new_left: Option<Name>,
 ) -> Side
     requires { left_side.height ≡ high nodes.old left_side.top }
-    ensures nodes { nodes.new ≡ (from_right_in nodes.old left_side.top at right_side).nodes }
-    ensures top { result.top ≡ Some (from_right_in nodes.old left_side.top at right_side).top }
-    ensures height { result.height ≡ (from_right_in nodes.old left_side.top at right_side).high }
+    ensures nodes { nodes.new ≡ (from_right_in nodes.old left_side.top at right_side new_left).nodes }
+    ensures top { result.top ≡ Some (from_right_in nodes.old left_side.top at right_side new_left).top }
+    ensures height { result.height ≡ (from_right_in nodes.old left_side.top at right_side new_left).high }
 {
     let Some(top) = right_side else {
         fasten(nodes, at, left_side.top, None);
@@ -229,32 +210,37 @@ fn from_right<T>(
         );
         return side_of(nodes, Some(top));
     }
-    turn_left(nodes, left_side, at, sides.left, top, sides.right)
+    turn_left(nodes, left_side, at, sides.left, top, sides.right, new_left)
 }
 
 /// Puts a node between two sides whose heights differ by at most two, and gives the whole part.
-#[inline(always)]
+/// `new_left` and `new_right` are the sides where their parent isn't set yet.
 #[tactic(auto, unfolding(crate::specs::TreeFields::balanced_in))]
+#[inline(always)]
 pub(crate) fn balance<T>(
     nodes: &mut Pool<Node<T>>,
     left_side: Side,
     at: Name,
     right_side: Side,
+    new_left: Option<Name>,
+    new_right: Option<Name>,
 ) -> Side
     requires left { left_side.height ≡ high nodes.old left_side.top }
     requires right { right_side.height ≡ high nodes.old right_side.top }
-    ensures nodes { nodes.new ≡ (balanced_in nodes.old left_side.top at right_side.top).nodes }
-    ensures top { result.top ≡ Some (balanced_in nodes.old left_side.top at right_side.top).top }
-    ensures height { result.height ≡ (balanced_in nodes.old left_side.top at right_side.top).high }
+    ensures nodes { nodes.new ≡ (balanced_in nodes.old left_side.top at right_side.top new_left new_right).nodes }
+    ensures top { result.top ≡ Some (balanced_in nodes.old left_side.top at right_side.top new_left new_right).top }
+    ensures height { result.height ≡ (balanced_in nodes.old left_side.top at right_side.top new_left new_right).high }
 {
     if left_side.height.saturating_sub(right_side.height) > 1 {
-        return from_left(nodes, left_side.top, at, right_side);
+        return from_left(nodes, left_side.top, at, right_side, new_right);
     }
     if right_side.height.saturating_sub(left_side.height) > 1 {
-        return from_right(nodes, left_side, at, right_side.top);
+        return from_right(nodes, left_side, at, right_side.top, new_left);
     }
     let height = above(left_side.height, right_side.height);
-    lay(nodes, at, left_side.top, right_side.top, height);
+    set_parent(nodes, new_left, Some(at));
+    set_parent(nodes, new_right, Some(at));
+    set_sides(nodes, at, left_side.top, right_side.top, height);
     Side {
         top: Some(at),
         height,

@@ -22,6 +22,6 @@ returns g c = λ t u b.
     let p = b.right in
     let k = c.cut_first.ensures u (subst (λ o. Part c.args.links.now.nodes o u) c.in-Some.is p) (c.leftmost-first.ensures u (record { top = sym c.in-Some.is ∙ p.top; hangs = p.hangs; sound = p.sound })) in
     let m = c.cut_first.new.links in let first = c.leftmost-first.result in let it = c.balance-whole in
-    let same : balanced_in m.nodes c.side_of-before.result.top first c.side_of-behind.result.top ≡ balanced_in m.nodes c.args.left_side first m.root
-    = λ i. balanced_in m.nodes (c.side_of-before.ensures.top i) first (c.side_of-behind.ensures.top i) in
+    let same : balanced_in m.nodes c.side_of-before.result.top first c.side_of-behind.result.top c.side_of-before.result.top c.side_of-behind.result.top ≡ balanced_in m.nodes c.args.left_side first m.root c.args.left_side m.root
+    = λ i. balanced_in m.nodes (c.side_of-before.ensures.top i) first (c.side_of-behind.ensures.top i) (c.side_of-before.ensures.top i) (c.side_of-behind.ensures.top i) in
     joined_both c.args.links.now m c.args.left_side c.args.right_side t u first it.new.nodes it.result.top b k (it.ensures.nodes ∙ (λ i. (same i).nodes)) (it.ensures.top ∙ (λ i. Some (same i).top))
