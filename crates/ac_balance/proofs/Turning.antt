@@ -6,7 +6,7 @@ use Rattle.ac_pool.specs.Contents.{Contents, value_of, IsSound}
 use Rattle.ac_balance.specs.declared.links.Node.{Node}
 use Rattle.ac_base.specs.Rows.{Row}
 use Rattle.ac_balance.specs.Trees.{Tree, leaf, node, height, twice_left, from_left, twice_right, from_right, balanced}
-use Rattle.ac_balance.specs.TreeFields.{linked, root, Stands, left_of, right_of, high, above, with_parent, with_sides, adopted, fastened_at, fastened, with_links, turned_left, turned_right, Made, Measured, made, measured, laid, twice_left_in, from_left_in, twice_right_in, from_right_in, balanced_in}
+use Rattle.ac_balance.specs.TreeFields.{linked, root, Stands, left_of, right_of, high, above, with_parent, with_sides, adopted, fastened_at, fastened, with_links, turned_left, turned_right, Made, Measured, measured, laid, twice_left_in, from_left_in, twice_right_in, from_right_in, balanced_in}
 use Rattle.ac_balance.specs.Climbing.{Has, Once, Hangs, Keeps}
 use Rattle.ac_balance.proofs.Keeping.{keeps_then, keeps_parent, keeps_sides}
 use Rattle.ac_balance.proofs.Standing.{Nodes, some_name, sides_put, Stands-same, Stands-moved, with_links-is, with_parent-writes, no_parent, with_parent-already, root_has, with_sides-writes, IsAt, IsAt-same, Hangs-same, high-is, Becomes, fastened_at-becomes, fastened-becomes, left-is, right-is}
