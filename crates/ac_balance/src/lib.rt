@@ -20,8 +20,8 @@ pub use index::{OrderIndex, Present};
 pub use keyed::Keyed;
 pub use law::steps_of_searches;
 #[doc(hidden)]
-pub use links::{BothSides, Links, Node, Side};
+pub use links::{Links, Node};
 #[doc(hidden)]
-pub use places::{NodeLinks, Place, Risen};
+pub use places::Place;
 #[doc(hidden)]
 pub use search::Spot;

@@ -20,14 +20,14 @@ pub struct Node<T> {
 
 /// A part of the tree by its topmost node, with its height.
 #[derive(Clone, Copy)]
-pub struct Side {
+pub(crate) struct Side {
     pub top: Option<Name>,
     pub height: u32,
 }
 
 /// The parts on the two sides of a node.
 #[derive(Clone, Copy)]
-pub struct BothSides {
+pub(crate) struct BothSides {
     pub left: Side,
     pub right: Side,
 }

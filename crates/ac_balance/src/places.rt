@@ -43,7 +43,7 @@ pub(crate) fn is_on_left<T>(nodes: &Pool<Node<T>>, above: Option<Name>, name: Na
 
 /// The links around a node, but for the one to the part on one of its sides.
 #[derive(Clone, Copy)]
-pub struct NodeLinks {
+pub(crate) struct NodeLinks {
     pub above: u32,
     pub beside: u32,
     pub height: u32,
@@ -86,7 +86,7 @@ fn settle<T>(nodes: &mut Pool<Node<T>>, name: Name, is_left: bool, part: Side, b
 
 /// A place one step further up: how high the part for it is, and how high the node was that it has at the top.
 #[derive(Clone, Copy)]
-pub struct Risen {
+pub(crate) struct Risen {
     pub place: Place,
     pub height: u32,
     pub was: u32,
