@@ -1,29 +1,30 @@
 -- A walk in preorder: where the next node is, and how many it meets.
 use Rattle.std.proofs.Common.{◌≡◌, ℕ, ◌+◌, ◌-◌, ◌<◌, ◌≤◌, ◌⊎◌, List, [], ◌∷◌, ◌++◌, length, drop, true, false, true≢false, Option, Some, None, is_some, refl, sym, ap, ◌∙◌, subst, inl, inr, arith, append-nil, append_assoc}
-use Rattle.std.specs.Option.{ForSome}
+use Rattle.std.specs.Option.{ForSome, option_map}
 use Rattle.std.proofs.lemmas.Option.{none-some}
 use Rattle.std.proofs.lemmas.List.{length-append}
-use Rattle.std.proofs.Math.Seq.{drop-append-add}
+use Rattle.std.proofs.Math.Seq.{drop-append_seam}
 use Rattle.ac_base.specs.declared.name.Name.{Name}
 use Rattle.ac_base.specs.Rows.{Row, row}
-use Rattle.ac_pool.specs.Contents.{IsLive, live_count}
+use Rattle.ac_pool.specs.Contents.{value_of, IsLive, live_count}
 use Rattle.ac_chain.specs.Rows as chain
 use Rattle.ac_chain.specs.ChainFields.{first_or, IsOnce, HasName}
-use Rattle.ac_chain.proofs.Cuts.{HasName-right}
+use Rattle.ac_chain.proofs.Cuts.{HasName-right, has_live}
 use Rattle.ac_chain.proofs.Puts.{place_cut}
 use Rattle.ac_model.specs.Rows.{Node, node}
 use Rattle.ac_model.specs.Objects.{plains}
 use Rattle.ac_model.specs.Outline.{run_of, subtree_length}
+use Rattle.ac_tree.specs.declared.links.TreeNode.{TreeNode}
 use Rattle.ac_tree.specs.declared.links.Links.{Links}
 use Rattle.ac_tree.specs.Forests.{Forest, bare, grove, Step, under, after, outline, size, first_in, Has, plugged, parent_in, depth_in, before_in, after_in}
 use Rattle.ac_tree.specs.TreeFields.{StandsFor, forest_in, IsForest, first_of, next_of, parent_of}
 use Rattle.ac_tree.specs.TreeCursors.{serial_in}
 use Rattle.ac_tree.specs.Walking.{Passes, Follows}
-use Rattle.ac_tree.proofs.Places.{parted, plugged_has, around_has, placed, outline_plugged, once_rows, size_is, has}
+use Rattle.ac_tree.proofs.Places.{parted, plugged_has, around_has, placed, outline_plugged, once_rows, size_is, named, has}
 use Rattle.ac_tree.proofs.Standing.{some_name}
 use Rattle.ac_tree.proofs.Forests.{links_at, live_of, forest-is, parent_has}
 use Rattle.ac_tree.proofs.Outlines.{position_run}
-use Rattle.ac_tree.proofs.Holes.{under_of, length_seen}
+use Rattle.ac_tree.proofs.Holes.{under_of, length_seen, hole_place}
 use Rattle.ac_tree.proofs.Counting.{node_depth, root_depth, deeper, elder_size}
 
 module _ {X : Type 0} where
@@ -82,11 +83,12 @@ module _ {X : Type 0} where
     pub first : first_of l (Some x.name) ≡ first_in below
     pub next : next_of l x.name ≡ first_in rest
     pub parent : parent_of l x.name ≡ parent_in (inner ++ outer)
+    pub value : option_map (λ (n : TreeNode X). n.value) (value_of l.nodes x.name) ≡ Some x.value
 
   led : (l : Links X) (outer inner : List (Step X)) (x : Row Name X) (below rest : Forest X) → StandsFor l (plugged outer (plugged inner (grove x below rest))) → Led l outer inner x below rest
   led l outer inner x below rest s =
       let k = links_at l (inner ++ outer) x below rest (subst (λ z. StandsFor l z) (sym (plugged-append inner outer (grove x below rest))) s) in
-      record { first = k.first; next = k.next; parent = k.parent }
+      record { first = k.first; next = k.next; parent = k.parent; value = ap (option_map (λ (n : TreeNode X). n.value)) k.node }
 
   pub passing_start : (l : Links X) (top : Option Name) (outer inner : List (Step X)) (x : Row Name X) (below rest : Forest X) (a : Name) → StandsFor l (plugged outer (plugged inner (grove x below rest))) → parent_in outer ≡ top → x.name ≡ a
       → Passing l top (first_or (outline (depth_in inner) rest ++ after_in inner) None) (Some a)
@@ -195,14 +197,20 @@ module _ {X : Type 0} where
       child_none below rest (depth_in inner) (after_in inner) child result (is ∙ ap (λ n. first_of l (Some n)) (sym named) ∙ (led l outer inner x below rest s).first) none (p outer inner x below rest s up named)
 
   -- a list is cut in one way before a name
-  cut_same : (xs ys us vs : List (Row Name (Node X))) (r q : Row Name (Node X)) → xs ++ r ∷ ys ≡ us ++ q ∷ vs → r.name ≡ q.name → IsOnce (xs ++ r ∷ ys) → ys ≡ vs
+  record Cut_same (xs ys us vs : List (Row Name (Node X))) (r q : Row Name (Node X)) : Type 0 where
+    pub count : length xs ≡ length us
+    pub row : r ≡ q
+    pub rest : ys ≡ vs
+
+  cut_same : (xs ys us vs : List (Row Name (Node X))) (r q : Row Name (Node X)) → xs ++ r ∷ ys ≡ us ++ q ∷ vs → r.name ≡ q.name → IsOnce (xs ++ r ∷ ys) → Cut_same xs ys us vs r q
   cut_same xs ys us vs r q e same once =
       let left = place_cut (Some r.name) xs (r ∷ ys) once refl in
       let right = place_cut (Some r.name) us (q ∷ vs) (subst (λ z. IsOnce z) e once) (ap Some same) in
       let at : length xs ≡ length us = sym left ∙ ap (chain.place_of (Some r.name)) e ∙ right in
-      sym (drop-append-add xs (r ∷ ys) 1) ∙ (λ i. drop (at i + 1) (e i)) ∙ drop-append-add us (q ∷ vs) 1
+      let both : r ∷ ys ≡ q ∷ vs = sym (drop-append_seam xs (r ∷ ys)) ∙ (λ i. drop (at i) (e i)) ∙ drop-append_seam us (q ∷ vs) in
+      record { count = at; row = cc; rest = cc }
 
-  first_row : (depth : ℕ) (t : Forest X) → first_or (outline depth t) None ≡ first_in t
+  pub first_row : (depth : ℕ) (t : Forest X) → first_or (outline depth t) None ≡ first_in t
   first_row depth bare = refl
   first_row depth (grove x below rest) = refl
 
@@ -223,8 +231,8 @@ module _ {X : Type 0} where
     pub place_is : place ≡ first_or left None
     pub count_is : count ≡ length before + 1
 
-  pub subtree_start : (l : Links X) → IsForest l → (top : Option Name) → ForSome top (IsLive l.nodes) → (place : Option Name) → place ≡ first_of l top → Subtree_counted l top place 1
-  subtree_start l s top live place is =
+  unfoldable pub counted_start : (l : Links X) → IsForest l → (top : Option Name) → ForSome top (IsLive l.nodes) → (place : Option Name) → place ≡ first_of l top → Subtree_counted l top place 1
+  counted_start l s top live place is =
       let u = under_of l s top live in
       let run : length (run_of (plains (outline 2 (forest_in l))) (serial_in top)) ≡ size u.below =
       ap (λ z. length (run_of (plains (outline 2 z)) (serial_in top))) (forest-is l (plugged u.steps u.below) u.stands)
@@ -249,17 +257,42 @@ module _ {X : Type 0} where
       let few = elder_size k.outer k.below in let all = k.stands.count in
       (omega (arith, rows, are, both, total, counted), omega (arith, total, few, all))
 
-  record Turned (l : Links X) (top place : Option Name) (count : ℕ) (name : Name) : Type 0 where
-    pub live : IsLive l.nodes name
-    pub less : count < nodes_in l top
-    pub more : (next : Option Name) → Follows l top name next → Subtree_counted l top next (count + 1)
+  -- how many rows stand before a place within another
+  before_length : (inner outer : List (Step X)) → length (before_in (inner ++ outer)) ≡ length (before_in inner) + length (before_in outer)
+  before_length [] outer = omega arith
+  before_length (under x rest ∷ inner) outer =
+      let up = before_length inner outer in
+      let one = length-append (before_in inner) (row x.name (node (depth_in inner) x.value) ∷ []) in
+      let all = length-append (before_in (inner ++ outer)) (row x.name (node (depth_in (inner ++ outer)) x.value) ∷ []) in omega (arith, up, one, all)
+  before_length (after x below ∷ inner) outer =
+      let d = depth_in inner in let f = depth_in (inner ++ outer) in
+      let up = before_length inner outer in
+      let one = length-append (before_in inner) (row x.name (node d x.value) ∷ outline (d + 1) below) in
+      let all = length-append (before_in (inner ++ outer)) (row x.name (node f x.value) ∷ outline (f + 1) below) in
+      let a = size_is (d + 1) below in let b = size_is (f + 1) below in omega (arith, up, one, all, a, b)
 
-  turned : (l : Links X) (top place : Option Name) (count : ℕ) → Subtree_counted l top place count → (name : Name) → place ≡ Some name → Turned l top place count name
-  turned l top place count k name at = by_left k.left k.is (sym k.place_is ∙ at)
+  -- the place of a node among all rows
+  index_there : (l : Links X) (steps : List (Step X)) (x : Row Name X) (below rest : Forest X) → StandsFor l (plugged steps (grove x below rest)) → chain.index_of x.name (outline 2 (forest_in l)) ≡ length (before_in steps)
+  index_there l steps x below rest s = hole_place l (parent_in steps) (Some x.name) (record { steps = steps; rest = grove x below rest; stands = s; parent_is = refl; before_is = refl })
+
+  -- the node to which the walk has come
+  pub record Turned (l : Links X) (top place : Option Name) (count : ℕ) (k : Subtree_counted l top place count) (name : Name) : Type 0 where
+    pub at : Row Name (Node X)
+    pub left : List (Row Name (Node X))
+    pub is : k.left ≡ at ∷ left
+    pub named : at.name ≡ name
+    pub value : option_map (λ (n : TreeNode X). n.value) (value_of l.nodes name) ≡ Some at.value.element
+    pub live : IsLive l.nodes name
+    pub index : chain.index_of name (outline 2 (forest_in l)) ≡ length k.before + length (before_in k.outer)
+    pub next_is : (next : Option Name) → Follows l top name next → next ≡ first_or left None
+
+  pub turned : (l : Links X) (top place : Option Name) (count : ℕ) (k : Subtree_counted l top place count) (name : Name) → place ≡ Some name → Turned l top place count k name
+  turned l top place count k name at = by_left k.left refl (sym k.place_is ∙ at)
     where
-      by_left : (left : List (Row Name (Node X))) → outline 2 k.below ≡ k.before ++ left → first_or left None ≡ Some name → Turned l top place count name
-      by_left [] is first = absurd (none-some name first)
-      by_left (r ∷ left) is first =
+      by_left : (left : List (Row Name (Node X))) → k.left ≡ left → first_or left None ≡ Some name → Turned l top place count k name
+      by_left [] e first = absurd (none-some name first)
+      by_left (r ∷ left) e first =
+          let is : outline 2 k.below ≡ k.before ++ r ∷ left = k.is ∙ ap (λ z. k.before ++ z) e in
           let named : r.name ≡ name = some_name r.name name first in
           let there : Has name k.below = has name 2 k.below (subst (λ z. HasName name z) (sym is) (HasName-right name k.before (r ∷ left) (inl (sym named)))) in
           let p = placed name [] k.below there in
@@ -268,34 +301,70 @@ module _ {X : Type 0} where
           let tail = (outline (d + 1) p.below ++ outline d p.rest) ++ after_in p.steps in
           let rows : outline 2 k.below ≡ before_in p.steps ++ q ∷ tail = sym (ap (outline 2) p.is) ∙ outline_plugged p.steps (grove p.at p.below p.rest) in
           let once = once_rows 2 k.below (parted k.outer k.below k.stands.once).once in
-          let same : left ≡ tail = cut_same k.before left (before_in p.steps) tail r q (sym is ∙ rows) (named ∙ sym p.named) (subst (λ z. IsOnce z) is once) in
-          let size_of = size_is 2 k.below in let are = ap length is in let both = length-append k.before (r ∷ left) in let total = k.total in let counted = k.count_is in
-          let one = length-append k.before (r ∷ []) in
+          let c = cut_same k.before left (before_in p.steps) tail r q (sym is ∙ rows) (named ∙ sym p.named) (subst (λ z. IsOnce z) is once) in
+          let stands : StandsFor l (plugged k.outer (plugged p.steps (grove p.at p.below p.rest))) = subst (λ z. StandsFor l (plugged k.outer z)) (sym p.is) k.stands in
           record {
+            at = r;
+            left = left;
+            is = e;
+            named = named;
+            value = ap (λ n. option_map (λ (m : TreeNode X). m.value) (value_of l.nodes n)) (sym p.named) ∙ (led l k.outer p.steps p.at p.below p.rest stands).value ∙ ap (λ (z : Row Name (Node X)). Some z.value.element) (sym c.row);
             live = live_of l (plugged k.outer k.below) k.stands name (plugged_has k.outer k.below name there);
-            less = omega (arith, size_of, are, both, total, counted);
-            more = λ next f. record {
-              outer = k.outer;
-              below = k.below;
-              before = k.before ++ r ∷ [];
-              left = left;
-              stands = k.stands;
-              top_is = k.top_is;
-              total = k.total;
-              is = is ∙ sym (append_assoc k.before (r ∷ []) left);
-              place_is = f k.outer p.steps p.at p.below p.rest (subst (λ z. StandsFor l (plugged k.outer z)) (sym p.is) k.stands) k.top_is p.named ∙ sym (ap (λ z. first_or z None) same);
-              count_is = omega (arith, counted, one);
-            };
+            index = ap (λ n. chain.index_of n (outline 2 (forest_in l))) (sym p.named)
+                ∙ index_there l (p.steps ++ k.outer) p.at p.below p.rest (subst (λ z. StandsFor l z) (sym (plugged-append p.steps k.outer (grove p.at p.below p.rest))) stands)
+                ∙ before_length p.steps k.outer ∙ ap (λ n. n + length (before_in k.outer)) (sym c.count);
+            next_is = λ next f. f k.outer p.steps p.at p.below p.rest stands k.top_is p.named ∙ sym (ap (λ z. first_or z None) c.rest);
           }
+
+  -- and the walk after it
+  unfoldable pub moved_on : (l : Links X) (top place : Option Name) (count : ℕ) (k : Subtree_counted l top place count) (name : Name) (t : Turned l top place count k name) (next : Option Name) → next ≡ first_or t.left None → Subtree_counted l top next (count + 1)
+  moved_on l top place count k name t next e = record {
+    outer = k.outer;
+    below = k.below;
+    before = k.before ++ t.at ∷ [];
+    left = t.left;
+    stands = k.stands;
+    top_is = k.top_is;
+    total = k.total;
+    is = k.is ∙ ap (λ z. k.before ++ z) t.is ∙ sym (append_assoc k.before (t.at ∷ []) t.left);
+    place_is = e;
+    count_is = let counted = k.count_is in let one = length-append k.before (t.at ∷ []) in omega (arith, counted, one);
+  }
+
+  -- each node stands later among the rows
+  pub further : (l : Links X) → IsForest l → (top place : Option Name) (count : ℕ) (k : Subtree_counted l top place count) (name : Name) (t : Turned l top place count k name) (next : Option Name) → next ≡ first_or t.left None
+      → length (outline 2 (forest_in l)) - chain.place_of next (outline 2 (forest_in l)) < length (outline 2 (forest_in l)) - chain.index_of name (outline 2 (forest_in l))
+  unfolding moved_on
+  further l s top place count k name t next e = by_left t.left refl
+    where
+      inside : chain.index_of name (outline 2 (forest_in l)) < length (outline 2 (forest_in l))
+      inside = has_live name (outline 2 (forest_in l)) (named name 2 (forest_in l) (s.all name t.live))
+
+      by_left : (left : List (Row Name (Node X))) → t.left ≡ left
+          → length (outline 2 (forest_in l)) - chain.place_of next (outline 2 (forest_in l)) < length (outline 2 (forest_in l)) - chain.index_of name (outline 2 (forest_in l))
+      by_left [] is =
+          let none : next ≡ None = e ∙ ap (λ z. first_or z None) is in
+          let at : chain.place_of next (outline 2 (forest_in l)) ≡ length (outline 2 (forest_in l)) = ap (λ p. chain.place_of p (outline 2 (forest_in l))) none in
+          let low = inside in omega (arith, at, low)
+      by_left (q ∷ left) is =
+          let some : next ≡ Some q.name = e ∙ ap (λ z. first_or z None) is in
+          let m = moved_on l top place count k name t next e in
+          let u = turned l top next (count + 1) m q.name some in
+          let at : chain.place_of next (outline 2 (forest_in l)) ≡ chain.index_of q.name (outline 2 (forest_in l)) = ap (λ p. chain.place_of p (outline 2 (forest_in l))) some in
+          let one = length-append k.before (t.at ∷ []) in
+          let low = inside in let here = t.index in let there = u.index in omega (arith, at, one, low, here, there)
 
   pub subtree_live : (l : Links X) (top place : Option Name) (count : ℕ) → Subtree_counted l top place count → (name : Name) → place ≡ Some name → IsLive l.nodes name
   subtree_live l top place count k name at = (turned l top place count k name at).live
 
   pub subtree_below : (l : Links X) (top place : Option Name) (count : ℕ) → Subtree_counted l top place count → (name : Name) → place ≡ Some name → (count < nodes_in l top) × (nodes_in l top - (count + 1) < nodes_in l top - count)
-  subtree_below l top place count k name at = let less = (turned l top place count k name at).less in (less, omega (arith, less))
+  subtree_below l top place count k name at =
+      let t = turned l top place count k name at in
+      let rows = size_is 2 k.below in let are = ap length (k.is ∙ ap (λ z. k.before ++ z) t.is) in let both = length-append k.before (t.at ∷ t.left) in let total = k.total in let counted = k.count_is in
+      let less : count < nodes_in l top = omega (arith, rows, are, both, total, counted) in (less, omega (arith, less))
 
   pub subtree_more : (l : Links X) (top place : Option Name) (count : ℕ) → Subtree_counted l top place count → (name : Name) → place ≡ Some name → (next : Option Name) → Follows l top name next → Subtree_counted l top next (count + 1)
-  subtree_more l top place count k name at next f = (turned l top place count k name at).more next f
+  subtree_more l top place count k name at next f = let t = turned l top place count k name at in moved_on l top place count k name t next (t.next_is next f)
 
   pub subtree_end : (l : Links X) (top : Option Name) (count : ℕ) → Subtree_counted l top None count → count ≡ nodes_in l top
   subtree_end l top count k = by_left k.left k.is k.place_is

@@ -33,7 +33,7 @@ use Rattle.ac_tree.proofs.Outlines.{seen, at_depth, tops, elders, family, parent
 use Rattle.ac_tree.proofs.Judging.{at_node, needed, may_at}
 use Rattle.ac_tree.proofs.Looking.{alone_at, At_place, at_place, parent_serial}
 
-in_middle : (xs : List Spot) (s : Spot) (ys : List Spot) → is_in s.name (xs ++ s ∷ ys) ≡ true
+pub in_middle : (xs : List Spot) (s : Spot) (ys : List Spot) → is_in s.name (xs ++ s ∷ ys) ≡ true
 in_middle [] s ys = ap (λ b. b || is_in s.name ys) (eq-eqb s.name s.name refl)
 in_middle (x ∷ xs) s ys = or_last (x.name == s.name) (is_in s.name (xs ++ s ∷ ys)) (in_middle xs s ys)
   where
@@ -58,7 +58,7 @@ module _ {X : Type 0} where
   pub length_seen : (rows : List (Row Name (Node X))) → length (seen rows) ≡ length rows
   length_seen rows = length-map (plains rows) spot ∙ length-map rows (λ (r : Row Name (Node X)). row r.name.serial r.value)
 
-  pub under_root : (l : Links X) → IsForest l → Under l None
+  unfoldable pub under_root : (l : Links X) → IsForest l → Under l None
   under_root l s = record {
     steps = [];
     below = forest_in l;
@@ -124,7 +124,7 @@ module _ {X : Type 0} where
       ∙ place_there (before_in steps) r ((outline (depth_in steps + 1) below ++ outline (depth_in steps) rest) ++ after_in steps) (before_out x.name.serial steps alone.around)
 
   -- the place of a hole in the chain's words
-  hole_place : (l : Links X) (parent before : Option Name) (h : Hole l parent before) → chain.place_of (place_at h) (outline 2 (forest_in l)) ≡ length (before_in h.steps)
+  pub hole_place : (l : Links X) (parent before : Option Name) (h : Hole l parent before) → chain.place_of (place_at h) (outline 2 (forest_in l)) ≡ length (before_in h.steps)
   hole_place l parent before h =
       let ys = outline (depth_in h.steps) h.rest ++ after_in h.steps in
       let rows : outline 2 (forest_in l) ≡ before_in h.steps ++ ys = ap (outline 2) (forest-is l (plugged h.steps h.rest) h.stands) ∙ outline_plugged h.steps h.rest in
@@ -138,7 +138,7 @@ module _ {X : Type 0} where
     pub depth : depth_at hole ≡ depth_of (plain o).rows (serial_in parent) + 1
 
 module _ {X : Type 0} (l : Links X) (s : IsForest l) (o : Object Name (Node X)) (rows_is : o.rows ≡ outline 2 (forest_in l)) where
-  rows_under : (node_name : Option Name) (u : Under l node_name) → o.rows ≡ outline 2 (plugged u.steps u.below)
+  pub rows_under : (node_name : Option Name) (u : Under l node_name) → o.rows ≡ outline 2 (plugged u.steps u.below)
   rows_under node_name u = rows_is ∙ ap (outline 2) (forest-is l (plugged u.steps u.below) u.stands)
 
   pub named_live : (a : Name) → IsNamed o a → IsLive l.nodes a
@@ -150,10 +150,10 @@ module _ {X : Type 0} (l : Links X) (s : IsForest l) (o : Object Name (Node X)) 
   children_under : (node_name : Option Name) (u : Under l node_name) → children_of (plain o).rows (serial_in node_name) ≡ tops (u.depth + 1) u.below
   children_under node_name u = ap (λ k. children_of (plains k) (serial_in node_name)) (rows_under node_name u) ∙ position_children (outline 2 (plugged u.steps u.below)) (serial_in node_name) u.depth u.below u.position
 
-  start_under : (node_name : Option Name) (u : Under l node_name) → run_start (plain o).rows (serial_in node_name) ≡ length (before_in u.steps)
+  pub start_under : (node_name : Option Name) (u : Under l node_name) → run_start (plain o).rows (serial_in node_name) ≡ length (before_in u.steps)
   start_under node_name u = ap (λ k. run_start (plains k) (serial_in node_name)) (rows_under node_name u) ∙ u.start
 
-  run_under : (node_name : Option Name) (u : Under l node_name) → length (run_of (plain o).rows (serial_in node_name)) ≡ size u.below
+  pub run_under : (node_name : Option Name) (u : Under l node_name) → length (run_of (plain o).rows (serial_in node_name)) ≡ size u.below
   run_under node_name u =
       ap (λ k. length (run_of (plains k) (serial_in node_name))) (rows_under node_name u)
       ∙ ap length (position_run (outline 2 (plugged u.steps u.below)) (serial_in node_name) u.depth u.below u.position)

@@ -12,6 +12,7 @@ pub mod Outlines
 pub mod Places
 pub mod Putting
 pub mod Replacing
+pub mod Searching
 pub mod Spots
 pub mod Standing
 pub mod Steps

@@ -5,4 +5,5 @@ pub mod TreeCursors
 pub mod Inserting
 pub mod Children
 pub mod Removing
+pub mod Searching
 pub mod Walking

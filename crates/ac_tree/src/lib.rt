@@ -2,6 +2,7 @@
 #![tactic(auto)]
 
 mod counts;
+mod finding;
 mod growing;
 mod links;
 mod preorder;

@@ -12,6 +12,7 @@ mod deletions;
 mod insertions;
 mod looking;
 mod moves;
+mod searches;
 mod values;
 
 use crate::links::Links;

@@ -1,9 +1,9 @@
 use Rattle.std.proofs.Common.{subst, arith}
-use Rattle.ac_tree.proofs.Following.{Subtree_counted, subtree_start, subtree_most, subtree_below, subtree_live, subtree_more, subtree_end}
+use Rattle.ac_tree.proofs.Following.{Subtree_counted, counted_start, subtree_most, subtree_below, subtree_live, subtree_more, subtree_end}
 use Rattle.ac_tree.proofs.counts.count_subtree.Goals as goal
 
 pub loop-place-init : goal.loop-place-init
-loop-place-init g c = subtree_start c.args.links.now c.requires.forest c.args.node c.requires.live c.first_child-place.result c.first_child-place.ensures
+loop-place-init g c = counted_start c.args.links.now c.requires.forest c.args.node c.requires.live c.first_child-place.result c.first_child-place.ensures
 
 pub overflow_add-count : goal.overflow_add-count
 overflow_add-count g c =

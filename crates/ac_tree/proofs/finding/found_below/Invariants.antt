@@ -1,0 +1,13 @@
+use Rattle.std.proofs.Common.{◌-◌, length}
+use Rattle.ac_chain.specs.Rows.{place_of}
+use Rattle.ac_tree.specs.Searching.{found_in, rows_below}
+use Rattle.ac_tree.specs.TreeCursors.{serial_in}
+use Rattle.ac_tree.specs.TreeRows.{rows_of}
+use Rattle.ac_tree.proofs.Searching.{Seeking}
+use Rattle.ac_tree.proofs.finding.found_below.Given as goal
+
+abbrev pub invariant-loop-place : goal.invariant-loop-place
+invariant-loop-place g l = Seeking l.fn.links l.fn.top g.T.Elem.is_same l.fn.e (found_in g.T.Elem.is_same l.fn.e (rows_below (rows_of l.fn.links).rows (serial_in l.fn.top))) l.place
+
+abbrev pub decreases-loop-place : goal.decreases-loop-place
+decreases-loop-place g l = length (rows_of l.fn.links).rows - place_of l.place (rows_of l.fn.links).rows

@@ -1,0 +1,46 @@
+//! Searches for a value among the nodes of a subtree, and among those above a node.
+ghost use Rattle.std.specs.Prelude.{◌≡◌};
+ghost use Rattle.std.specs.Option.{ForSome};
+ghost use Rattle.ac_pool.specs.Contents.{IsLive};
+ghost use Rattle.ac_tree.specs.Searching.{found_in, rows_below, rows_on, rows_up};
+ghost use Rattle.ac_tree.specs.TreeCursors.{serial_in};
+ghost use Rattle.ac_tree.specs.TreeFields.{IsForest};
+ghost use Rattle.ac_tree.specs.TreeRows.{rows_of};
+
+use crate::links::Links;
+use crate::preorder::following;
+use ac_base::{Elem, Name};
+
+/// The first node in preorder with an equal value among those below a node, or below the root at none.
+fn found_below<T: Elem>(links: &Links<T>, top: Option<Name>, e: &T) -> Option<Name>
+    requires forest { IsForest links.now }
+    requires live { ForSome top (IsLive links.now.nodes) }
+    ensures { result ≡ found_in T.is_same e.now (rows_below (rows_of links.now).rows (serial_in top)) }
+{
+    let mut place = links.first_child(top);
+    while let Some(name) = place {
+        if links.at(name).same(e) {
+            return place;
+        }
+        place = following(links, top, name);
+    }
+    None
+}
+
+/// The same with the node itself, which is met first.
+pub fn found_on<T: Elem>(links: &Links<T>, node: Option<Name>, e: &T) -> Option<Name>
+    requires forest { IsForest links.now }
+    requires live { ForSome node (IsLive links.now.nodes) }
+    ensures { result ≡ found_in T.is_same e.now (rows_on (rows_of links.now).rows (serial_in node)) }
+{
+    match node {
+        Some(name) => {
+            if links.at(name).same(e) {
+                Some(name)
+            } else {
+                found_below(links, Some(name), e)
+            }
+        }
+        None => found_below(links, None, e),
+    }
+}

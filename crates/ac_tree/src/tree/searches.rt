@@ -1,0 +1,21 @@
+//! Searches for an element.
+ghost use Rattle.std.specs.Prelude.{◌≡◌};
+ghost use Rattle.ac_model.specs.Forms.{Looks};
+ghost use Rattle.ac_model.specs.Objects.{plain};
+ghost use Rattle.ac_model.specs.Trees as trees;
+ghost use Rattle.ac_tree.specs.TreeCursors.{seen_by, NodeMarks};
+
+use super::Tree;
+use super::cursors::node_in;
+use crate::finding::{found_on, found_up};
+use ac_base::{Cursor, Elem, Fault};
+use ac_model::allowed;
+
+impl<T: Elem> Tree<T> {
+    /// Find (A.18.10): the first in preorder.
+    pub fn find(&self, e: &T) -> Cursor
+        ensures { NodeMarks self.now.object result (trees.find_call T.is_same (plain self.now.object) e.now) }
+    {
+        self.named(found_on(&self.links, None, e))
+    }
+}
