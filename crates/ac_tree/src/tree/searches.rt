@@ -18,4 +18,11 @@ impl<T: Elem> Tree<T> {
     {
         self.named(found_on(&self.links, None, e))
     }
+
+    /// Contains (A.18.10).
+    pub fn contains(&self, e: &T) -> bool
+        ensures { result ≡ trees.contains_call T.is_same (plain self.now.object) e.now }
+    {
+        found_on(&self.links, None, e).is_some()
+    }
 }
