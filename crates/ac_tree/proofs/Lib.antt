@@ -1,3 +1,4 @@
+pub mod Ancestors
 pub mod Children
 pub mod Counting
 pub mod Following

@@ -49,10 +49,10 @@ module _ {X : Type 0} where
   abbrev same_node : (X → X → Bool) → Node X → Node X → Bool
   same_node same m n = same m.element n.element
 
-  hit_first : (same : X → X → Bool) (e : X) (r : Row Name (Node X)) (rest : List (Row Name (Node X))) → same r.value.element e ≡ true → found_in same e (r ∷ rest) ≡ Some r.name
+  pub hit_first : (same : X → X → Bool) (e : X) (r : Row Name (Node X)) (rest : List (Row Name (Node X))) → same r.value.element e ≡ true → found_in same e (r ∷ rest) ≡ Some r.name
   hit_first same e r rest h = first_found (same_node same) (node 0 e) r rest h
 
-  missed_first : (same : X → X → Bool) (e : X) (r : Row Name (Node X)) (rest : List (Row Name (Node X))) → same r.value.element e ≡ false → found_in same e (r ∷ rest) ≡ found_in same e rest
+  pub missed_first : (same : X → X → Bool) (e : X) (r : Row Name (Node X)) (rest : List (Row Name (Node X))) → same r.value.element e ≡ false → found_in same e (r ∷ rest) ≡ found_in same e rest
   missed_first same e r rest h = first_passed (same_node same) (node 0 e) r rest h
 
   -- depths are of no account

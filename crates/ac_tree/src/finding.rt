@@ -44,3 +44,19 @@ pub fn found_on<T: Elem>(links: &Links<T>, node: Option<Name>, e: &T) -> Option<
         None => found_below(links, None, e),
     }
 }
+
+/// The nearest node with an equal value from this one upwards.
+pub fn found_up<T: Elem>(links: &Links<T>, node: Option<Name>, e: &T) -> Option<Name>
+    requires forest { IsForest links.now }
+    requires live { ForSome node (IsLive links.now.nodes) }
+    ensures { result ≡ found_in T.is_same e.now (rows_up (rows_of links.now).rows (serial_in node)) }
+{
+    let mut place = node;
+    while let Some(name) = place {
+        if links.at(name).same(e) {
+            return place;
+        }
+        place = links.parent(name);
+    }
+    None
+}

@@ -33,4 +33,12 @@ impl<T: Elem> Tree<T> {
         allowed(self.needs_node(c))?;
         Ok(self.named(found_on(&self.links, node_in(c), e)))
     }
+
+    /// Ancestor_Find (A.18.10): the nearest upwards, from the node itself on, and never the root.
+    pub fn ancestor_find(&self, c: Cursor, e: &T) -> Result<Cursor, Fault>
+        ensures { Looks (NodeMarks self.now.object) (λ o. trees.ancestor_find_call T.is_same o (seen_by self.now c) e.now) self.now result }
+    {
+        allowed(self.needs_node(c))?;
+        Ok(self.named(found_up(&self.links, node_in(c), e)))
+    }
 }
