@@ -17,7 +17,7 @@ use Rattle.ac_chain.proofs.Marks.{among_has, has_among, judged_none}
 use Rattle.ac_chain.proofs.Looks.{bool_is}
 use Rattle.ac_model.specs.Rows.{Node, is_named}
 use Rattle.ac_model.specs.Objects.{Object, plain, plains}
-use Rattle.ac_model.specs.Letters.{Mark, no_mark, mark_at, stale_mark, is_same_name, is_among, judged_in, reason_if, designates}
+use Rattle.ac_model.specs.Letters.{Mark, no_mark, mark_at, stale_mark, is_same_name, is_among, judged_in, reason_if, designates, may}
 use Rattle.ac_model.specs.Cursors.{cursor_at, name_in}
 use Rattle.ac_model.specs.Outline.{Spot}
 use Rattle.ac_model.specs.Trees.{root_name, tree_mark, is_node, needs_node, may_node, needs_element, is_root, mark_of_spot}
@@ -115,7 +115,7 @@ module _ {X : Type 0} (l : Links X) (s : IsForest l) (o : Object Name (Node X)) 
   in_rows : (a : Name) → IsLive l.nodes a → HasName a o.rows
   in_rows a h = subst (λ k. HasName a k) (sym rows_is) (named a 2 (forest_in l) (s.all a h))
 
-  live_in : (a : Name) → HasName a o.rows → IsLive l.nodes a
+  pub live_in : (a : Name) → HasName a o.rows → IsLive l.nodes a
   live_in a h = live_of l (forest_in l) s a (has a 2 (forest_in l) (subst (λ k. HasName a k) rows_is h))
 
   pub live_is : (a : Name) → is_some (value_of l.nodes a) ≡ is_among (names o.rows) a
@@ -218,6 +218,25 @@ module _ {X : Type 0} (l : Links X) (s : IsForest l) (o : Object Name (Node X)) 
           stale_none true = refl
           stale_none false = refl
       by_test false = of_serial a.serial (object == o.number) (a.serial == 0) (is_named (plains o.rows) a.serial) refl (λ e. ap (is_named (plains o.rows)) (eqb-true a.serial 0 e) ∙ root_unnamed)
+
+  -- a cursor at an element, or at none, where the root is no element
+  pub element_judged : (object : ℕ) (a : Name) → judged_in o.number object (is_among (names o.rows) a) ≡ may (plain o) (tree_mark o (At object a))
+  element_judged object a =
+      by_tests (object == o.number) (is_same_name a root_name) (is_among (names o.rows) a) refl (λ t. named_true a o.rows (among_has a o.rows t))
+      (λ t. ap (is_named (plains o.rows)) (eqb-true a.serial 0 (and_right (a.slot == 0) (a.serial == 0) t)) ∙ root_unnamed)
+    where
+      and_right : (b c : Bool) → (b && c) ≡ true → c ≡ true
+      and_right true c e = e
+      and_right false c e = absurd (true≢false (sym e))
+
+      by_tests : (same root there : Bool) → (object == o.number) ≡ same → (there ≡ true → is_named (plains o.rows) a.serial ≡ true) → (root ≡ true → is_named (plains o.rows) a.serial ≡ false)
+          → judged_in o.number object there ≡ may (plain o) (if (object == o.number) && not (root || there) then stale_mark object else mark_at object a.serial)
+      by_tests true true true e h k = absurd (true≢false (sym (h refl) ∙ k refl))
+      by_tests true false true e h k = let is = h refl in rw (e, is) (sym (cond-true _ _ _ e))
+      by_tests true true false e h k = let is = k refl in rw (e, is) (sym (is_dead (plain o) object e))
+      by_tests true false false e h k = rw e (sym (is_dead (plain o) object e))
+      by_tests false true there e h k = rw e (sym (foreign (plain o) object (is_named (plains o.rows) a.serial) e))
+      by_tests false false there e h k = rw e (sym (foreign (plain o) object (is_named (plains o.rows) a.serial) e))
 
   -- a cursor that designates an element
   pub record At_element (c : Cursor) : Type 0 where

@@ -8,6 +8,7 @@ pub mod Inserting
 pub mod Judging
 pub mod Leaves
 pub mod Looking
+pub mod Loops
 pub mod Objects
 pub mod Outlines
 pub mod Places

@@ -11,6 +11,7 @@ mod cursors;
 mod deletions;
 mod insertions;
 mod looking;
+mod loops;
 mod moves;
 mod searches;
 mod values;

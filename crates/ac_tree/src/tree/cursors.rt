@@ -2,7 +2,7 @@
 ghost use Rattle.std.specs.Prelude.{◌≡◌, ◌∷◌};
 ghost use Rattle.ac_base.specs.Rows.{names};
 ghost use Rattle.ac_model.specs.Cursors as cursors;
-ghost use Rattle.ac_model.specs.Letters.{is_among, is_same_name};
+ghost use Rattle.ac_model.specs.Letters.{is_among, is_same_name, may};
 ghost use Rattle.ac_model.specs.Objects.{plain};
 ghost use Rattle.ac_model.specs.Trees as trees;
 ghost use Rattle.ac_tree.specs.TreeCursors.{seen_by, node_of, node_in, cursor_of_node, is_root_cursor};
@@ -100,6 +100,17 @@ impl<T> Tree<T> {
         match c {
             Cursor::NoElement => None,
             Cursor::At { object, name } => self.judged(object, name),
+        }
+    }
+
+    /// Why a cursor that may be No_Element is refused, where the root is no element.
+    pub(crate) fn may_element(&self, c: Cursor) -> Option<Reason>
+        ensures { result ≡ may (plain self.now.object) (seen_by self.now c) }
+    {
+        let _links = &self.links;
+        match c {
+            Cursor::NoElement => None,
+            Cursor::At { object, name } => judge(self.number(), object, self.is_live(name)),
         }
     }
 
