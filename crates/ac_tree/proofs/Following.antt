@@ -28,17 +28,17 @@ use Rattle.ac_tree.proofs.Holes.{under_of, length_seen, hole_place}
 use Rattle.ac_tree.proofs.Counting.{node_depth, root_depth, deeper, elder_size}
 
 module _ {X : Type 0} where
-  plugged-append : (inner outer : List (Step X)) (t : Forest X) → plugged (inner ++ outer) t ≡ plugged outer (plugged inner t)
+  pub plugged-append : (inner outer : List (Step X)) (t : Forest X) → plugged (inner ++ outer) t ≡ plugged outer (plugged inner t)
   plugged-append [] outer t = refl
   plugged-append (under x rest ∷ inner) outer t = plugged-append inner outer (grove x t rest)
   plugged-append (after x below ∷ inner) outer t = plugged-append inner outer (grove x below t)
 
-  parent_top : (inner outer : List (Step X)) → parent_in inner ≡ None → parent_in (inner ++ outer) ≡ parent_in outer
+  pub parent_top : (inner outer : List (Step X)) → parent_in inner ≡ None → parent_in (inner ++ outer) ≡ parent_in outer
   parent_top [] outer e = refl
   parent_top (under x rest ∷ inner) outer e = absurd (none-some x.name (sym e))
   parent_top (after x below ∷ inner) outer e = parent_top inner outer e
 
-  parent_within : (inner outer : List (Step X)) (b : Name) → parent_in inner ≡ Some b → parent_in (inner ++ outer) ≡ Some b
+  pub parent_within : (inner outer : List (Step X)) (b : Name) → parent_in inner ≡ Some b → parent_in (inner ++ outer) ≡ Some b
   parent_within [] outer b e = absurd (none-some b e)
   parent_within (under x rest ∷ inner) outer b e = e
   parent_within (after x below ∷ inner) outer b e = parent_within inner outer b e

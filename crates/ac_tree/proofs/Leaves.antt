@@ -1,6 +1,6 @@
--- What a tree is after a leaf went.
-use Rattle.std.proofs.Common.{◌≡◌, ℕ, ◌+◌, ◌<◌, true, false, true≢false, List, ◌∷◌, ◌++◌, length, Option, Some, None, is_some, is_none, IsTrue, refl, sym, ap, ◌∙◌, subst, inl, arith}
-use Rattle.std.proofs.Math.Seq.{take-append_seam, drop-append-add}
+-- What a tree is after a leaf went, or all that stands at a place.
+use Rattle.std.proofs.Common.{◌≡◌, ℕ, ◌+◌, ◌<◌, true, false, true≢false, List, [], ◌∷◌, ◌++◌, length, Option, Some, None, is_some, is_none, IsTrue, refl, sym, ap, ◌∙◌, subst, inl, inr, arith, append_assoc}
+use Rattle.std.proofs.Math.Seq.{take-append_seam, drop-append_seam, drop-append-add}
 use Rattle.ac_base.specs.declared.limit.Limit.{Limit}
 use Rattle.ac_base.specs.declared.limit.Limit.TheVariants.{Unbounded, Bounded}
 use Rattle.ac_base.specs.declared.name.Name.{Name}
@@ -11,7 +11,7 @@ use Rattle.ac_pool.specs.Contents as pool
 use Rattle.ac_pool.specs.Contents.{Contents, taken, IsLive}
 use Rattle.ac_pool.proofs.ContentsLaws.{taken_live}
 use Rattle.ac_chain.specs.ChainFields.{HasName}
-use Rattle.ac_chain.proofs.Cuts.{HasName-put}
+use Rattle.ac_chain.proofs.Cuts.{HasName-left, HasName-right, HasName-either}
 use Rattle.ac_chain.proofs.Grows.{all_from}
 use Rattle.ac_chain.proofs.Marks.{has_among}
 use Rattle.ac_model.specs.Containers.{HasSlots}
@@ -44,7 +44,7 @@ some_none (Some a) h = sym h
 
 module _ {X : Type 0} where
   pub removed_is : (l : Links X) (steps : List (Step X)) (x : Row Name X) (rest : Forest X) (u : Links X) (d : Contents (TreeNode X)) (p q n : Option Name) → StandsFor l (plugged steps (grove x bare rest))
-      → p ≡ parent_in steps → q ≡ prev_in steps → n ≡ first_in rest → u ≡ closed l p q n → d ≡ taken u.nodes x.name → pool.IsSound d → Removed l steps rest (links d u.first u.last)
+      → p ≡ parent_in steps → q ≡ prev_in steps → n ≡ first_in rest → u ≡ closed l p q n → d ≡ taken u.nodes x.name → pool.IsSound d → Removed l steps rest 1 (links d u.first u.last)
   removed_is l steps x rest u d p q n s pe qe ne is gone sound =
       let k = closed l (parent_in steps) (prev_in steps) (first_in rest) in
       let same : u ≡ k = is ∙ (λ i. closed l (pe i) (qe i) (ne i)) in
@@ -87,45 +87,76 @@ module _ {X : Type 0} where
             ∙ ap (λ (n : Name). place_of (plains (outline 2 (plugged k.steps (grove k.at k.below k.rest)))) n.serial) (sym k.named) ∙ place_at_place k.steps k.at k.below k.rest k.alone;
       }
 
-  pub leaf_tree : (limit : Limit) (l m : Links X) (steps : List (Step X)) (x : Row Name X) (rest : Forest X) → IsTree limit l → StandsFor l (plugged steps (grove x bare rest)) → Removed l steps rest m → IsTree limit m
-  leaf_tree limit l m steps x rest t s r =
-      let all = size_is 2 (plugged steps (grove x bare rest)) in
-      let were = ap (λ (z : Forest X). length (outline 2 z)) (forest-is l (plugged steps (grove x bare rest)) s) in
-      let less : size (plugged steps (grove x bare rest)) ≡ size (plugged steps rest) + 1 = plugged_size steps rest (grove x bare rest) 1 (omega arith) in
-      let few = t.sequence.within_greatest in
-      tree_from limit m (plugged steps rest) r.stands t.sequence.is_limit (omega (arith, all, were, less, few)) (slots limit t.sequence.has_slots r.spare)
+  -- the sizes before and after nodes went
+  record Sizes (l m : Links X) (t u : Forest X) (steps : List (Step X)) (count : ℕ) : Type 0 where
+    pub old : length (outline 2 (forest_in l)) ≡ size (plugged steps t)
+    pub new : length (outline 2 (forest_in m)) ≡ size (plugged steps u)
+    pub less : size (plugged steps t) ≡ size (plugged steps u) + count
+
+  sizes : (l m : Links X) (t u : Forest X) (steps : List (Step X)) (count : ℕ) → StandsFor l (plugged steps t) → size t ≡ size u + count → Removed l steps u count m → Sizes l m t u steps count
+  sizes l m t u steps count s less r = record {
+    old = ap (λ (z : Forest X). length (outline 2 z)) (forest-is l (plugged steps t) s) ∙ size_is 2 (plugged steps t);
+    new = ap (λ (z : Forest X). length (outline 2 z)) (forest-is m (plugged steps u) r.stands) ∙ size_is 2 (plugged steps u);
+    less = plugged_size steps u t count less;
+  }
+
+  -- a tree from which nodes went
+  pub thinned_tree : (limit : Limit) (l m : Links X) (steps : List (Step X)) (t u : Forest X) (count : ℕ) → IsTree limit l → StandsFor l (plugged steps t) → size t ≡ size u + count → Removed l steps u count m → IsTree limit m
+  thinned_tree limit l m steps t u count is s less r =
+      let k = sizes l m t u steps count s less r in
+      let old = k.old in let fewer = k.less in let few = is.sequence.within_greatest in
+      tree_from limit m (plugged steps u) r.stands is.sequence.is_limit (omega (arith, old, fewer, few)) (slots limit is.sequence.has_slots r.spare)
     where
-      slots : (limit : Limit) → HasSlots limit (length (rows_of l).rows) l.nodes.spare → m.nodes.spare ≡ l.nodes.spare + 1 → HasSlots limit (size (plugged steps rest)) m.nodes.spare
+      slots : (limit : Limit) → HasSlots limit (length (rows_of l).rows) l.nodes.spare → m.nodes.spare ≡ l.nodes.spare + count → HasSlots limit (size (plugged steps u)) m.nodes.spare
       slots Unbounded h e = tt
       slots (Bounded most) h e =
-          let all = size_is 2 (plugged steps (grove x bare rest)) in
-          let were = ap (λ (z : Forest X). length (outline 2 z)) (forest-is l (plugged steps (grove x bare rest)) s) in
-          let less : size (plugged steps (grove x bare rest)) ≡ size (plugged steps rest) + 1 = plugged_size steps rest (grove x bare rest) 1 (omega arith) in
+          let k = sizes l m t u steps count s less r in
+          let old = k.old in let fewer = k.less in
           let sum : length (rows_of l).rows + l.nodes.spare ≡ most = h in
-          omega (arith, all, were, less, sum, e)
+          omega (arith, old, fewer, sum, e)
 
-  cut_one : (xs : List (Row ℕ (Node X))) (r : Row ℕ (Node X)) (ys : List (Row ℕ (Node X))) → cut (xs ++ r ∷ ys) (length xs) 1 ≡ xs ++ ys
-  cut_one xs r ys = λ i. take-append_seam xs (r ∷ ys) i ++ drop-append-add xs (r ∷ ys) 1 i
+  pub thinned_slots : (l m : Links X) (steps : List (Step X)) (t u : Forest X) (count : ℕ) → StandsFor l (plugged steps t) → size t ≡ size u + count → Removed l steps u count m
+      → length (outline 2 (forest_in m)) + m.nodes.spare ≡ length (outline 2 (forest_in l)) + l.nodes.spare
+  thinned_slots l m steps t u count s less r =
+      let k = sizes l m t u steps count s less r in
+      let old = k.old in let new = k.new in let fewer = k.less in let spare = r.spare in omega (arith, old, new, fewer, spare)
 
-  pub leaf_after : (g : GuardCounts) (limit : Limit) (l m : Links X) (steps : List (Step X)) (x : Row Name X) (rest : Forest X) (at : ℕ) → StandsFor l (plugged steps (grove x bare rest)) → Removed l steps rest m
-      → at ≡ length (before_in steps) → IsAfter (tree_object g limit l) (tree_object g limit m) (with_rows (plain (tree_object g limit l)) (cut (plain (tree_object g limit l)).rows at 1))
-  leaf_after g limit l m steps x rest at s r place =
-      let d = depth_in steps in let ys = outline d rest ++ after_in steps in let q = row x.name (node d x.value) in
-      let old : outline 2 (forest_in l) ≡ before_in steps ++ q ∷ ys = ap (outline 2) (forest-is l (plugged steps (grove x bare rest)) s) ∙ outline_plugged steps (grove x bare rest) in
-      let new : outline 2 (forest_in m) ≡ before_in steps ++ ys = ap (outline 2) (forest-is m (plugged steps rest) r.stands) ∙ outline_plugged steps rest in
-      let rows : plains (outline 2 (forest_in m)) ≡ cut (plains (outline 2 (forest_in l))) at 1 =
-      ap plains new ∙ plains-append (before_in steps) ys ∙ sym (cut_one (plains (before_in steps)) (row x.name.serial q.value) (plains ys))
-      ∙ sym ((λ i. cut (plains (old i)) ((place ∙ sym (length-plains (before_in steps))) i) 1) ∙ ap (λ z. cut z (length (plains (before_in steps))) 1) (plains-append (before_in steps) (q ∷ ys))) in
+  cut_middle : (xs mid ys : List (Row ℕ (Node X))) → cut (xs ++ (mid ++ ys)) (length xs) (length mid) ≡ xs ++ ys
+  cut_middle xs mid ys = λ i. take-append_seam xs (mid ++ ys) i ++ (drop-append-add xs (mid ++ ys) (length mid) ∙ drop-append_seam mid ys) i
+
+  -- the rows that went stood side by side at the place
+  pub thinned_after : (g : GuardCounts) (limit : Limit) (l m : Links X) (steps : List (Step X)) (t u : Forest X) (count : ℕ) (mid : List (Row Name (Node X))) (at n : ℕ) → StandsFor l (plugged steps t) → Removed l steps u count m
+      → outline (depth_in steps) t ≡ mid ++ outline (depth_in steps) u → at ≡ length (before_in steps) → n ≡ length mid
+      → IsAfter (tree_object g limit l) (tree_object g limit m) (with_rows (plain (tree_object g limit l)) (cut (plain (tree_object g limit l)).rows at n))
+  thinned_after g limit l m steps t u count mid at n s r parts place long =
+      let d = depth_in steps in let ys = outline d u ++ after_in steps in
+      let old : outline 2 (forest_in l) ≡ before_in steps ++ (mid ++ ys) =
+      ap (outline 2) (forest-is l (plugged steps t) s) ∙ outline_plugged steps t ∙ ap (λ z. before_in steps ++ (z ++ after_in steps)) parts ∙ ap (λ z. before_in steps ++ z) (append_assoc mid (outline d u) (after_in steps)) in
+      let new : outline 2 (forest_in m) ≡ before_in steps ++ ys = ap (outline 2) (forest-is m (plugged steps u) r.stands) ∙ outline_plugged steps u in
+      let rows : plains (outline 2 (forest_in m)) ≡ cut (plains (outline 2 (forest_in l))) at n =
+      ap plains new ∙ plains-append (before_in steps) ys ∙ sym (cut_middle (plains (before_in steps)) (plains mid) (plains ys))
+      ∙ sym ((λ i. cut (plains (old i)) ((place ∙ sym (length-plains (before_in steps))) i) ((long ∙ sym (length-plains mid)) i))
+      ∙ ap (λ z. cut z (length (plains (before_in steps))) (length (plains mid))) (plains-append (before_in steps) (mid ++ ys) ∙ ap (λ z. plains (before_in steps) ++ z) (plains-append mid ys))) in
       record {
         plainly = λ i. record { number = g.number; limit = limit; capacity = None; next = r.next i; rows = rows i; cursor_guards = g.cursor_guards; element_guards = g.element_guards };
-        slots = all_from (λ name. name.serial < l.nodes.next_serial → IsTrue (is_among (names (outline 2 (forest_in l))) name)) (outline 2 (forest_in m)) (λ a t lt.
-            has_among a (outline 2 (forest_in l)) (subst (λ z. HasName a z) (sym old) (HasName-put a (before_in steps) q ys (subst (λ z. HasName a z) new t))));
+        slots = all_from (λ name. name.serial < l.nodes.next_serial → IsTrue (is_among (names (outline 2 (forest_in l))) name)) (outline 2 (forest_in m)) (λ a h lt.
+            has_among a (outline 2 (forest_in l)) (subst (λ z. HasName a z) (sym old) (had a (subst (λ z. HasName a z) new h))));
       }
+    where
+      had : (a : Name) → HasName a (before_in steps ++ (outline (depth_in steps) u ++ after_in steps)) → HasName a (before_in steps ++ (mid ++ (outline (depth_in steps) u ++ after_in steps)))
+      had a h = elim (HasName-either a (before_in steps) (outline (depth_in steps) u ++ after_in steps) h) [
+        | inl p ↦ HasName-left a (before_in steps) (mid ++ (outline (depth_in steps) u ++ after_in steps)) p
+        | inr q ↦ HasName-right a (before_in steps) (mid ++ (outline (depth_in steps) u ++ after_in steps)) (HasName-right a mid (outline (depth_in steps) u ++ after_in steps) q)
+      ]
 
-  pub leaf_slots : (l m : Links X) (steps : List (Step X)) (x : Row Name X) (rest : Forest X) → StandsFor l (plugged steps (grove x bare rest)) → Removed l steps rest m
+  -- of a leaf
+  pub leaf_tree : (limit : Limit) (l m : Links X) (steps : List (Step X)) (x : Row Name X) (rest : Forest X) → IsTree limit l → StandsFor l (plugged steps (grove x bare rest)) → Removed l steps rest 1 m → IsTree limit m
+  leaf_tree limit l m steps x rest is s r = thinned_tree limit l m steps (grove x bare rest) rest 1 is s (omega arith) r
+
+  pub leaf_after : (g : GuardCounts) (limit : Limit) (l m : Links X) (steps : List (Step X)) (x : Row Name X) (rest : Forest X) (at : ℕ) → StandsFor l (plugged steps (grove x bare rest)) → Removed l steps rest 1 m
+      → at ≡ length (before_in steps) → IsAfter (tree_object g limit l) (tree_object g limit m) (with_rows (plain (tree_object g limit l)) (cut (plain (tree_object g limit l)).rows at 1))
+  leaf_after g limit l m steps x rest at s r place = thinned_after g limit l m steps (grove x bare rest) rest 1 (row x.name (node (depth_in steps) x.value) ∷ []) at 1 s r refl place refl
+
+  pub leaf_slots : (l m : Links X) (steps : List (Step X)) (x : Row Name X) (rest : Forest X) → StandsFor l (plugged steps (grove x bare rest)) → Removed l steps rest 1 m
       → length (outline 2 (forest_in m)) + m.nodes.spare ≡ length (outline 2 (forest_in l)) + l.nodes.spare
-  leaf_slots l m steps x rest s r =
-      let old = ap (λ (z : Forest X). length (outline 2 z)) (forest-is l (plugged steps (grove x bare rest)) s) in let a = size_is 2 (plugged steps (grove x bare rest)) in
-      let new = ap (λ (z : Forest X). length (outline 2 z)) (forest-is m (plugged steps rest) r.stands) in let b = size_is 2 (plugged steps rest) in
-      let less : size (plugged steps (grove x bare rest)) ≡ size (plugged steps rest) + 1 = plugged_size steps rest (grove x bare rest) 1 (omega arith) in
-      let spare = r.spare in omega (arith, old, a, new, b, less, spare)
+  leaf_slots l m steps x rest s r = thinned_slots l m steps (grove x bare rest) rest 1 s (omega arith) r

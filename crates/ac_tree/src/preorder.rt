@@ -9,7 +9,7 @@ use crate::links::{Links, is_same};
 use ac_base::Name;
 
 /// The node above, unless it is the top.
-fn above<T>(links: &Links<T>, top: Option<Name>, name: Name) -> Option<Name>
+pub(crate) fn above<T>(links: &Links<T>, top: Option<Name>, name: Name) -> Option<Name>
     ensures top { parent_of links.now name ≡ top → result ≡ None }
     ensures within { (parent_of links.now name ≡ top → ⊥) → result ≡ parent_of links.now name }
     ensures parent { ForSome result (λ b. parent_of links.now name ≡ Some b) }
