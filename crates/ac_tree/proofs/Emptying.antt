@@ -83,9 +83,13 @@ module _ {X : Type 0} where
           → (outer : List (Step X)) × (u : Forest X) × StandsFor l (plugged outer u) × (first_in u ≡ next) × (first_leaf t ≡ later (Some name) (first_leaf u))
       by_part steps t outer bare h first leads = absurd (none-some name first)
       by_part steps t outer (grove x below rest) h first leads =
-          let named = some_name x.name name first in
-          (under x rest ∷ outer, below, h, sym (is ∙ ap (λ n. first_of l (Some n)) (sym named) ∙ (links_at l outer x below rest h).first),
-            leads ∙ sym (ap (λ p. later (Some p) (first_leaf below)) (sym named) ∙ later_name x.name (first_leaf below)))
+          let named = some_name x.name name first in (
+            under x rest ∷ outer,
+            below,
+            h,
+            sym (is ∙ ap (λ n. first_of l (Some n)) (sym named) ∙ (links_at l outer x below rest h).first),
+            leads ∙ sym (ap (λ p. later (Some p) (first_leaf below)) (sym named) ∙ later_name x.name (first_leaf below)),
+          )
 
   pub descend_end : (l : Links X) (from leaf place : Option Name) → Descending l from leaf place → place ≡ None → Leads l from leaf
   descend_end l from leaf place k none = λ steps t h e. let m = k.leads steps t h e in by_part t m.1 (m.3 ∙ none) m.4

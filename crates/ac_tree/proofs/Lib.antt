@@ -1,6 +1,7 @@
 pub mod Ancestors
 pub mod Children
 pub mod Counting
+pub mod Deleting
 pub mod Emptying
 pub mod Following
 pub mod Forests
