@@ -12,6 +12,7 @@ use super::cursors::node_in;
 use crate::clearing::{remove_below, remove_subtree};
 use ac_base::{Class, Cursor, Fault, Reason, first_reason};
 use ac_model::{allowed, name_in, reason_if};
+use std::mem;
 
 impl<T> Tree<T> {
     fn is_childless(&self, position: Cursor) -> bool
@@ -73,8 +74,8 @@ impl<T: Drop> Tree<T> {
         ensures slots { length_of self.new.object + self.new.spare ≡ length_of self.old.object + self.old.spare }
     {
         allowed(self.refuses_subtree(*position))?;
-        self.take_subtree(*position);
-        *position = Cursor::NoElement;
+        let top = mem::replace(position, Cursor::NoElement);
+        self.take_subtree(top);
         Ok(())
     }
 
