@@ -1,6 +1,6 @@
 -- A walk from a node upwards: the rows that are above it, and what a search among them has found so far.
 use Rattle.std.proofs.Common.{◌≡◌, ◌≢◌, ℕ, ◌+◌, Bool, true, false, ◌&&◌, ◌||◌, List, [], ◌∷◌, ◌++◌, filter, reverse, Option, Some, None, refl, sym, ap, ◌∙◌, subst, inl, inr, arith, eq-eqb, ne_eqb, eqb-true, append-nil}
-use Rattle.std.specs.Prelude.{◌==◌, map}
+use Rattle.std.specs.Prelude.{◌==◌}
 use Rattle.std.specs.Option.{ForSome, option_map}
 use Rattle.std.proofs.lemmas.Bool.{cond-true, cond-false, cases_Bool}
 use Rattle.std.proofs.lemmas.List.{reverse-append}
@@ -11,7 +11,7 @@ use Rattle.ac_pool.specs.Contents.{value_of, IsLive}
 use Rattle.ac_chain.proofs.Searches.{some_value}
 use Rattle.ac_model.specs.Rows.{Node, node}
 use Rattle.ac_model.specs.Objects.{plains}
-use Rattle.ac_model.specs.Outline.{Spot, root, spots, path_to, is_in, is_in_subtree, run_of}
+use Rattle.ac_model.specs.Outline.{Spot, root, spots, path_to, is_in, is_in_subtree}
 use Rattle.ac_tree.specs.declared.links.TreeNode.{TreeNode}
 use Rattle.ac_tree.specs.declared.links.Links.{Links}
 use Rattle.ac_tree.specs.Forests.{Forest, bare, grove, Step, under, after, outline, Has, plugged, parent_in, depth_in, before_in, after_in}
@@ -19,7 +19,7 @@ use Rattle.ac_tree.specs.TreeFields.{StandsFor, forest_in, IsForest, parent_of}
 use Rattle.ac_tree.specs.TreeCursors.{serial_in}
 use Rattle.ac_tree.specs.Searching.{found_in, rows_up}
 use Rattle.ac_tree.proofs.Places.{parted, plugged_has, around_has, outline_plugged}
-use Rattle.ac_tree.proofs.Forests.{live_of, links_at, forest-is, parent_has}
+use Rattle.ac_tree.proofs.Forests.{live_of, forest-is, parent_has}
 use Rattle.ac_tree.proofs.Outlines.{seen, seen-append, forest_out, position_run, node_position}
 use Rattle.ac_tree.proofs.Holes.{in_middle}
 use Rattle.ac_tree.proofs.Looking.{alone_at, at_place}

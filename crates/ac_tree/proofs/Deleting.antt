@@ -1,27 +1,25 @@
 -- What a tree is after all that is below a node went, or the node with it.
-use Rattle.std.proofs.Common.{◌≡◌, ℕ, suc, ◌+◌, ◌-◌, ◌<◌, List, [], ◌∷◌, ◌++◌, length, Option, Some, None, IsTrue, refl, sym, ap, ◌∙◌, subst, arith, append-nil}
-use Rattle.std.specs.Option.{ForSome}
+use Rattle.std.proofs.Common.{◌≡◌, ℕ, suc, ◌+◌, ◌<◌, List, [], ◌∷◌, length, Option, None, IsTrue, refl, sym, ap, ◌∙◌, subst, arith, append-nil}
 use Rattle.ac_base.specs.declared.limit.Limit.{Limit}
 use Rattle.ac_base.specs.declared.name.Name.{Name}
 use Rattle.ac_base.specs.declared.cursor.Cursor.{Cursor}
 use Rattle.ac_base.specs.Guards.{GuardCounts}
 use Rattle.ac_base.specs.Rows.{Row, row, names}
-use Rattle.ac_pool.specs.Contents.{IsLive}
 use Rattle.ac_chain.specs.ChainFields.{HasName}
 use Rattle.ac_chain.proofs.Grows.{all_from}
 use Rattle.ac_model.specs.Rows.{Node, node}
 use Rattle.ac_model.specs.Objects.{plain, plains, with_rows}
-use Rattle.ac_model.specs.Letters.{mark_at, name_of, is_among}
+use Rattle.ac_model.specs.Letters.{name_of, is_among}
 use Rattle.ac_model.specs.Cursors.{name_in}
 use Rattle.ac_model.specs.Calls.{IsAfter}
 use Rattle.ac_model.specs.Outline.{run_of, run_start, subtree_start, subtree_length}
 use Rattle.ac_model.specs.Trees.{tree_mark, needs_node, needs_element, without_run, without_subtree}
 use Rattle.ac_tree.specs.declared.links.Links.{Links}
-use Rattle.ac_tree.specs.Forests.{Forest, bare, grove, outline, size, plugged, depth_in, before_in}
+use Rattle.ac_tree.specs.Forests.{bare, grove, outline, size, plugged, depth_in, before_in}
 use Rattle.ac_tree.specs.TreeFields.{forest_in}
 use Rattle.ac_tree.specs.TreeRows.{tree_object, IsTree}
 use Rattle.ac_tree.specs.TreeCursors.{node_in, serial_in}
-use Rattle.ac_tree.specs.Removing.{Removed, Clears, Uproots}
+use Rattle.ac_tree.specs.Removing.{Clears, Uproots}
 use Rattle.ac_tree.proofs.Places.{size_is}
 use Rattle.ac_tree.proofs.Forests.{forest-is}
 use Rattle.ac_tree.proofs.Outlines.{position_run, node_position, node_start}

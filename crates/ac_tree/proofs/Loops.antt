@@ -4,7 +4,7 @@ use Rattle.std.specs.Prelude.{slice_get, if◌then◌else◌}
 use Rattle.std.proofs.lemmas.Option.{none-some}
 use Rattle.ac_base.specs.declared.name.Name.{Name}
 use Rattle.ac_base.specs.declared.cursor.Cursor.{Cursor}
-use Rattle.ac_base.specs.declared.cursor.Cursor.TheVariants.{NoElement, At}
+use Rattle.ac_base.specs.declared.cursor.Cursor.TheVariants.{At}
 use Rattle.ac_base.specs.FirstReason.{first_reason}
 use Rattle.ac_base.specs.Rows.{Row, row, names}
 use Rattle.ac_pool.specs.Contents.{IsLive}
@@ -19,7 +19,7 @@ use Rattle.ac_model.specs.Calls.{Looking}
 use Rattle.ac_model.specs.Sequences as sequences
 use Rattle.ac_model.specs.Trees.{tree_mark}
 use Rattle.ac_tree.specs.declared.links.Links.{Links}
-use Rattle.ac_tree.specs.Forests.{Forest, grove, Step, outline, plugged, depth_in, before_in, after_in}
+use Rattle.ac_tree.specs.Forests.{grove, outline, plugged, depth_in, before_in, after_in}
 use Rattle.ac_tree.specs.TreeFields.{forest_in, IsForest, first_of}
 use Rattle.ac_tree.specs.TreeCursors.{NodeMarks}
 use Rattle.ac_tree.specs.Walking.{Follows}

@@ -19,14 +19,14 @@ use Rattle.ac_model.specs.Rows.{Node, node}
 use Rattle.ac_model.specs.Objects.{Object, plain, plains}
 use Rattle.ac_model.specs.Letters.{name_of}
 use Rattle.ac_model.specs.Cursors.{cursor_at}
-use Rattle.ac_model.specs.Calls.{Looking, Same}
+use Rattle.ac_model.specs.Calls.{Looking}
 use Rattle.ac_model.specs.Outline.{spot, run_of, run_start, subtree_length, subtree_start, path_to, is_in}
 use Rattle.ac_model.specs.Trees as trees
 use Rattle.ac_model.specs.Trees.{tree_mark, needs_node, mark_of_spot, found_among, rows_from}
 use Rattle.ac_model.proofs.Plains.{plains-take, plains-drop, plains-reverse}
 use Rattle.ac_tree.specs.declared.links.TreeNode.{TreeNode}
 use Rattle.ac_tree.specs.declared.links.Links.{Links}
-use Rattle.ac_tree.specs.Forests.{Forest, bare, grove, Step, outline, plugged, depth_in, before_in, after_in}
+use Rattle.ac_tree.specs.Forests.{Forest, bare, grove, outline, plugged, depth_in, before_in, after_in}
 use Rattle.ac_tree.specs.TreeFields.{forest_in, IsForest, first_of}
 use Rattle.ac_tree.specs.TreeCursors.{node_in, serial_in, NodeMarks}
 use Rattle.ac_tree.specs.Searching.{found_in, rows_below, rows_on, rows_up}
@@ -37,7 +37,7 @@ use Rattle.ac_tree.proofs.Outlines.{position_run, node_start, serial_of, spot_na
 use Rattle.ac_tree.proofs.Holes.{Under, under_of, under_root, length_seen}
 use Rattle.ac_tree.proofs.Judging.{at_node, mark_named, spot_mark, named_mark}
 use Rattle.ac_tree.proofs.Looking.{at_place}
-use Rattle.ac_tree.proofs.Following.{Subtree_counted, counted_start, subtree_live, Turned, turned, moved_on, further}
+use Rattle.ac_tree.proofs.Following.{Subtree_counted, counted_start, subtree_live, turned, moved_on, further}
 
 -- the first of two that is found
 abbrev either : Option Name → Option Name → Option Name

@@ -1,8 +1,8 @@
-use Rattle.std.proofs.Common.{◌<◌, Some, refl, sym, subst, ◌∙◌}
+use Rattle.std.proofs.Common.{◌<◌, refl, sym, subst, ◌∙◌}
 use Rattle.ac_tree.specs.Searching.{found_in, rows_up}
 use Rattle.ac_tree.specs.TreeCursors.{serial_in}
 use Rattle.ac_tree.specs.TreeRows.{rows_of}
-use Rattle.ac_tree.proofs.Ancestors.{Rising, rise_hit, rise_more, rise_end}
+use Rattle.ac_tree.proofs.Ancestors.{rise_hit, rise_more, rise_end}
 use Rattle.ac_tree.proofs.Counting.{node_depth}
 use Rattle.ac_tree.proofs.Following.{climb_less}
 use Rattle.ac_tree.proofs.finding.found_up.Goals as goal

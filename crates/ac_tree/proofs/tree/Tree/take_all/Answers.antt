@@ -1,15 +1,12 @@
-use Rattle.std.proofs.Common.{◌≡◌, ◌+◌, None, length, sym, ap, subst}
+use Rattle.std.proofs.Common.{◌≡◌, ◌+◌, length, ap, subst}
 use Rattle.std.proofs.lemmas.Option.{none-some}
 use Rattle.ac_model.specs.Calls.{IsAfter}
 use Rattle.ac_model.specs.Containers.{Container}
 use Rattle.ac_model.specs.Objects.{Object, plain, length_of}
 use Rattle.ac_model.specs.Common as common
-use Rattle.ac_model.specs.Trees as trees
-use Rattle.ac_model.specs.Trees.{needs_element, needs_node, tree_mark}
 use Rattle.ac_tree.specs.Forests.{outline}
 use Rattle.ac_tree.specs.TreeFields.{forest_in}
 use Rattle.ac_tree.specs.TreeRows.{tree_object}
-use Rattle.ac_tree.proofs.Looking.{live_needed, node_live}
 use Rattle.ac_tree.proofs.Deleting.{all_gone}
 use Rattle.ac_tree.proofs.tree.Tree.take_all.Goals as goal
 
