@@ -65,6 +65,66 @@ fn a_bounded_tree_uses_its_memory_again(rt: HostRuntime) {
     assert!(rt; holds(&tree, root, &[1, 3]));
 }
 
+/// Two children of the root, 1 and 2, and a 2 below the first. The answer is the first one's cursor, and the last one's.
+fn branched(tree: &mut Tree<i64>) -> Option<(Cursor, Cursor)> {
+    let root = tree.root();
+    tree.append_child(root, 1, 1).ok()?;
+    tree.append_child(root, 2, 1).ok()?;
+    let first = tree.first_child(root).ok()?;
+    tree.append_child(first, 2, 1).ok()?;
+    Some((first, tree.last_child(root).ok()?))
+}
+
+#[test]
+fn swapped_elements_leave_their_children(rt: HostRuntime) {
+    let mut tree = made(&rt, rt.alloc(), Limit::Unbounded);
+    let Some((first, last)) = branched(&mut tree) else {
+        panic!(rt; "no memory");
+    };
+    assert!(rt; tree.swap(first, last).is_ok());
+    assert!(rt; holds(&tree, tree.root(), &[2, 1]));
+    assert!(rt; holds(&tree, first, &[2]));
+}
+
+#[test]
+fn a_search_meets_nodes_in_preorder_and_upwards(rt: HostRuntime) {
+    let mut tree = made(&rt, rt.alloc(), Limit::Unbounded);
+    let Some((first, last)) = branched(&mut tree) else {
+        panic!(rt; "no memory");
+    };
+    let inner = tree.find(&2);
+    assert!(rt; tree.parent(inner).ok() == Some(first));
+    assert!(rt; tree.find_in_subtree(last, &2).ok() == Some(last));
+    assert!(rt; tree.ancestor_find(inner, &1).ok() == Some(first));
+    assert!(rt; !tree.contains(&3));
+}
+
+#[test]
+fn a_loop_meets_each_element_once(rt: HostRuntime) {
+    let mut tree = made(&rt, rt.alloc(), Limit::Unbounded);
+    let Some((first, last)) = branched(&mut tree) else {
+        panic!(rt; "no memory");
+    };
+    assert!(rt; tree.first() == first);
+    let inner = tree.next(first).unwrap_or(Cursor::NoElement);
+    assert!(rt; tree.element(inner).ok() == Some(&2));
+    assert!(rt; tree.next(inner).ok() == Some(last));
+    assert!(rt; tree.next(last).ok() == Some(Cursor::NoElement));
+}
+
+#[test]
+fn a_subtree_goes_with_all_below_it(rt: HostRuntime) {
+    let mut tree = made(&rt, rt.alloc(), Limit::Unbounded);
+    let Some((mut first, last)) = branched(&mut tree) else {
+        panic!(rt; "no memory");
+    };
+    assert!(rt; tree.delete_subtree(&mut first).is_ok());
+    assert!(rt; first == Cursor::NoElement);
+    assert!(rt; tree.first_child(tree.root()).ok() == Some(last));
+    assert!(rt; tree.delete_children(tree.root()).is_ok());
+    assert!(rt; tree.is_empty());
+}
+
 /// So many nodes, each the only child of the one before, and the last one's cursor.
 fn deepen(tree: &mut Tree<i64>, n: u64) -> Cursor {
     let mut c = tree.root();
@@ -82,9 +142,12 @@ fn deepen(tree: &mut Tree<i64>, n: u64) -> Cursor {
 }
 
 #[test]
-fn a_deep_tree_is_counted_within_the_stack(rt: HostRuntime) {
+fn a_deep_tree_is_walked_and_goes_within_the_stack(rt: HostRuntime) {
     let mut tree = made(&rt, rt.alloc(), Limit::Unbounded);
     let deepest = deepen(&mut tree, 100_000);
     assert!(rt; tree.depth(deepest).ok() == Some(100_001));
     assert!(rt; tree.subtree_node_count(tree.root()).ok() == Some(100_001));
+    assert!(rt; tree.ancestor_find(deepest, &2).ok() == Some(Cursor::NoElement));
+    assert!(rt; tree.clear().is_ok());
+    assert!(rt; tree.node_count() == 1);
 }
