@@ -92,7 +92,7 @@ module _ {X : Type 0} where
   depth_low (under x rest ∷ steps) = let up = depth_low steps in omega arith
   depth_low (after x below ∷ steps) = depth_low steps
 
-  depth_size : (steps : List (Step X)) (t : Forest X) → depth_in steps + size t ≤ size (plugged steps t) + 2
+  pub depth_size : (steps : List (Step X)) (t : Forest X) → depth_in steps + size t ≤ size (plugged steps t) + 2
   depth_size [] t = omega arith
   depth_size (under x rest ∷ steps) t = let up = depth_size steps (grove x t rest) in omega arith
   depth_size (after x below ∷ steps) t = let up = depth_size steps (grove x below t) in omega arith

@@ -197,12 +197,12 @@ module _ {X : Type 0} where
       child_none below rest (depth_in inner) (after_in inner) child result (is ∙ ap (λ n. first_of l (Some n)) (sym named) ∙ (led l outer inner x below rest s).first) none (p outer inner x below rest s up named)
 
   -- a list is cut in one way before a name
-  record Cut_same (xs ys us vs : List (Row Name (Node X))) (r q : Row Name (Node X)) : Type 0 where
+  pub record Cut_same (xs ys us vs : List (Row Name (Node X))) (r q : Row Name (Node X)) : Type 0 where
     pub count : length xs ≡ length us
     pub row : r ≡ q
     pub rest : ys ≡ vs
 
-  cut_same : (xs ys us vs : List (Row Name (Node X))) (r q : Row Name (Node X)) → xs ++ r ∷ ys ≡ us ++ q ∷ vs → r.name ≡ q.name → IsOnce (xs ++ r ∷ ys) → Cut_same xs ys us vs r q
+  pub cut_same : (xs ys us vs : List (Row Name (Node X))) (r q : Row Name (Node X)) → xs ++ r ∷ ys ≡ us ++ q ∷ vs → r.name ≡ q.name → IsOnce (xs ++ r ∷ ys) → Cut_same xs ys us vs r q
   cut_same xs ys us vs r q e same once =
       let left = place_cut (Some r.name) xs (r ∷ ys) once refl in
       let right = place_cut (Some r.name) us (q ∷ vs) (subst (λ z. IsOnce z) e once) (ap Some same) in

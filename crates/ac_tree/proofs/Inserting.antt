@@ -82,6 +82,7 @@ module _ {X : Type 0} where
       rows-are m (plugged steps u) s ∙ (λ i. chained (all i) (next i) (spare i)) ∙ sym (ap (λ (c : Chained (Node X)). inserted c (place_at h) r) (rows-are l (plugged steps t) h.stands)) in
       subst (λ (z : Links X). Inserted l parent before h v z a) (sym same) (record {
         hole = record { steps = after (row a v) bare ∷ steps; rest = t; stands = s; parent_is = h.parent_is; before_is = h.before_is };
+        stands = s;
         place = refl;
         depth = refl;
         rows = rows;

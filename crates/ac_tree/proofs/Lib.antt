@@ -1,4 +1,5 @@
 pub mod Ancestors
+pub mod Assigning
 pub mod Children
 pub mod Counting
 pub mod Deleting
@@ -9,12 +10,14 @@ pub mod Holes
 pub mod Inserting
 pub mod Judging
 pub mod Leaves
+pub mod Levels
 pub mod Looking
 pub mod Loops
 pub mod Objects
 pub mod Outlines
 pub mod Places
 pub mod Putting
+pub mod Refilling
 pub mod Replacing
 pub mod Searching
 pub mod Spots

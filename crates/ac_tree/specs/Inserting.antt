@@ -8,7 +8,7 @@ use Rattle.ac_chain.specs.ChainFields.{first_or}
 use Rattle.ac_chain.specs.Put.{IsPut, IsFirst, HasFirst}
 use Rattle.ac_model.specs.Rows.{Node, node}
 use Rattle.ac_tree.specs.declared.links.Links.{Links}
-use Rattle.ac_tree.specs.Forests.{Forest, first_in, outline, Step, plugged, parent_in, depth_in, after_in}
+use Rattle.ac_tree.specs.Forests.{Forest, bare, grove, first_in, outline, Step, plugged, parent_in, depth_in, after_in}
 use Rattle.ac_tree.specs.TreeFields.{StandsFor, IsForest}
 use Rattle.ac_tree.specs.TreeRows.{rows_of}
 
@@ -30,6 +30,7 @@ module _ {X : Type 0} where
 
   pub record Inserted (l : Links X) (parent before : Option Name) (h : Hole l parent before) (v : X) (m : Links X) (a : Name) : Type 0 where
     pub hole : Hole m parent before
+    pub stands : StandsFor m (plugged h.steps (grove (row a v) bare h.rest))
     pub place : place_at hole ≡ place_at h
     pub depth : depth_at hole ≡ depth_at h
     pub rows : rows_of m ≡ inserted (rows_of l) (place_at h) (row a (node (depth_at h) v))

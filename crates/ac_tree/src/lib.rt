@@ -2,6 +2,7 @@
 #![tactic(auto)]
 
 mod clearing;
+mod copying;
 mod counts;
 mod finding;
 mod growing;

@@ -136,6 +136,13 @@ impl<T> Links<T> {
         }
     }
 
+    /// How many nodes there are.
+    pub fn count(&self) -> u64
+        ensures { result ≡ live_count self.now.nodes }
+    {
+        self.nodes.live()
+    }
+
     /// The value of a live name's node.
     pub fn at(&self, name: Name) -> &T
         requires { IsLive self.now.nodes name }
