@@ -7,6 +7,7 @@ ghost use Rattle.ac_model.specs.Objects.{empty_object, plain, length_of};
 ghost use Rattle.ac_model.specs.Outline.{IsValidTree};
 ghost use Rattle.ac_model.specs.Trees as trees;
 
+mod copies;
 mod cursors;
 mod deletions;
 mod insertions;
