@@ -1,5 +1,5 @@
 -- Nodes that give way to copies of another tree's.
-use Rattle.std.proofs.Common.{◌≡◌, ℕ, ◌+◌, ◌-◌, ◌<◌, ◌≤◌, ◌^◌, true, List, [], ◌∷◌, length, reverse, Option, None, refl, sym, ap, ◌∙◌, subst, arith}
+use Rattle.std.proofs.Common.{◌≡◌, ℕ, ◌+◌, ◌-◌, ◌<◌, ◌≤◌, ◌^◌, true, List, [], ◌∷◌, length, reverse, None, refl, sym, ap, ◌∙◌, subst, arith}
 use Rattle.std.specs.Prelude.{map, max}
 use Rattle.std.proofs.lemmas.List.{length-map, length-reverse, reverse-reverse}
 use Rattle.ac_base.specs.Growth.{pow8}
@@ -7,7 +7,7 @@ use Rattle.ac_base.specs.declared.name.Name.{Name}
 use Rattle.ac_base.specs.declared.limit.TheConstants.{GREATEST_LENGTH}
 use Rattle.ac_base.specs.Rows.{Row, values}
 use Rattle.ac_pool.specs.Contents.{live_count}
-use Rattle.ac_chain.specs.Rows.{Chained, chained, cleared, reserved}
+use Rattle.ac_chain.specs.Rows.{chained, cleared}
 use Rattle.ac_chain.proofs.Refills.{Ready, ready, Refilled}
 use Rattle.ac_model.specs.Rows.{Node, fresh}
 use Rattle.ac_model.specs.Objects.{plains}
@@ -17,7 +17,7 @@ use Rattle.ac_model.proofs.Plains.{length-plains}
 use Rattle.ac_tree.specs.declared.copying.Leveled.{Leveled}
 use Rattle.ac_tree.specs.declared.links.Links.{Links}
 use Rattle.ac_tree.specs.Copying.{in_node, nodes_in, levels_in}
-use Rattle.ac_tree.specs.Forests.{Forest, bare, outline, size}
+use Rattle.ac_tree.specs.Forests.{bare, outline}
 use Rattle.ac_tree.specs.Inserting.{Reserves}
 use Rattle.ac_tree.specs.Removing.{Clears}
 use Rattle.ac_tree.specs.TreeFields.{StandsFor, forest_in, IsForest}
@@ -26,7 +26,6 @@ use Rattle.ac_tree.proofs.Places.{size_is}
 use Rattle.ac_tree.proofs.Forests.{forest-is, is_forest}
 use Rattle.ac_tree.proofs.Outlines.{is_outlined}
 use Rattle.ac_tree.proofs.Levels.{nodes_reverse}
-use Rattle.ac_tree.proofs.Refilling.{Filled}
 
 module _ {X : Type 0} where
   levels_are : (items : List (Leveled X)) → levels_in items ≡ map (λ (n : Node X). n.depth) (nodes_in items)

@@ -1,14 +1,14 @@
 -- A walk in preorder that knows the depth at which it is, and the copies that it makes.
-use Rattle.std.proofs.Common.{◌≡◌, ℕ, suc, ◌+◌, ◌-◌, ◌<◌, ◌≤◌, List, [], ◌∷◌, ◌++◌, length, reverse, Option, Some, None, is_some, true, false, refl, sym, ap, ◌∙◌, subst, inl, inr, arith, append-nil, append_assoc}
+use Rattle.std.proofs.Common.{◌≡◌, ℕ, ◌+◌, ◌-◌, ◌<◌, ◌≤◌, List, [], ◌∷◌, ◌++◌, length, reverse, Option, Some, None, is_some, true, false, refl, sym, ap, ◌∙◌, subst, inl, arith, append-nil, append_assoc}
 use Rattle.std.specs.Option.{ForSome, option_map}
 use Rattle.std.proofs.lemmas.Option.{none-some}
 use Rattle.std.proofs.lemmas.List.{length-append, map-append, reverse-append}
 use Rattle.ac_base.specs.declared.name.Name.{Name}
 use Rattle.ac_base.specs.Rows.{Row, row, values}
-use Rattle.ac_pool.specs.Contents.{value_of, IsLive, live_count}
+use Rattle.ac_pool.specs.Contents.{value_of, IsLive}
 use Rattle.ac_chain.specs.Rows as chain
 use Rattle.ac_chain.specs.ChainFields.{first_or, IsOnce, HasName}
-use Rattle.ac_chain.proofs.Cuts.{has_live, HasName-right}
+use Rattle.ac_chain.proofs.Cuts.{HasName-right}
 use Rattle.ac_chain.proofs.Puts.{place_cut}
 use Rattle.ac_chain.proofs.Searches.{some_value}
 use Rattle.ac_model.specs.Rows.{Node, node}
@@ -18,7 +18,7 @@ use Rattle.ac_tree.specs.declared.copying.Leveled.{Leveled}
 use Rattle.ac_tree.specs.declared.links.TreeNode.{TreeNode}
 use Rattle.ac_tree.specs.declared.links.Links.{Links}
 use Rattle.ac_tree.specs.Copying.{in_node, nodes_in}
-use Rattle.ac_tree.specs.Forests.{Forest, bare, grove, Step, under, after, outline, first_in, plugged, parent_in, depth_in, before_in, after_in}
+use Rattle.ac_tree.specs.Forests.{Forest, bare, grove, Step, under, after, outline, plugged, depth_in, before_in, after_in}
 use Rattle.ac_tree.specs.TreeFields.{StandsFor, forest_in, IsForest, first_of, next_of, parent_of}
 use Rattle.ac_tree.specs.Walking.{Passes, Follows}
 use Rattle.ac_tree.proofs.Places.{outline_plugged, once_rows, plugged_has, has}
@@ -27,7 +27,7 @@ use Rattle.ac_tree.proofs.Forests.{links_at, live_of}
 use Rattle.ac_tree.proofs.Outlines.{position_depth, node_position}
 use Rattle.ac_tree.proofs.Counting.{node_depth, root_depth, deeper}
 use Rattle.ac_tree.proofs.Looking.{at_place}
-use Rattle.ac_tree.proofs.Following.{Climbs, climbs_start, climbs_hit, climbs_more, climbs_end, climb_less, cut_same, first_row}
+use Rattle.ac_tree.proofs.Following.{Climbs, climbs_start, climbs_hit, climbs_more, climb_less, cut_same, first_row}
 
 module _ {X : Type 0} where
   -- siblings are as deep as one another, and a child is one deeper

@@ -4,9 +4,9 @@ use Rattle.std.specs.Prelude.{nat_le}
 use Rattle.std.specs.List.{insert}
 use Rattle.std.proofs.lemmas.Bool.{leb-true}
 use Rattle.std.proofs.lemmas.Option.{none-some}
-use Rattle.std.proofs.lemmas.List.{length-append, length-map, map-append, reverse-append, length-reverse}
+use Rattle.std.proofs.lemmas.List.{length-append, length-map, reverse-append, length-reverse}
 use Rattle.ac_base.specs.declared.name.Name.{Name}
-use Rattle.ac_base.specs.Rows.{Row, row}
+use Rattle.ac_base.specs.Rows.{row}
 use Rattle.ac_pool.specs.Contents.{live_count}
 use Rattle.ac_chain.specs.Rows as chain
 use Rattle.ac_chain.specs.Rows.{inserted}
@@ -19,9 +19,9 @@ use Rattle.ac_model.proofs.Plains.{plains-append, fresh-append}
 use Rattle.ac_tree.specs.declared.copying.Leveled.{Leveled}
 use Rattle.ac_tree.specs.declared.links.Links.{Links}
 use Rattle.ac_tree.specs.Copying.{in_node, nodes_in, levels_in, up_of, raised_by}
-use Rattle.ac_tree.specs.Forests.{Forest, bare, grove, Step, under, after, outline, size, plugged, parent_in, depth_in, before_in, after_in}
-use Rattle.ac_tree.specs.Inserting.{Hole, place_at, depth_at, Inserts}
-use Rattle.ac_tree.specs.TreeFields.{StandsFor, forest_in, IsForest, parent_of}
+use Rattle.ac_tree.specs.Forests.{Forest, bare, grove, Step, under, after, outline, plugged, parent_in, depth_in, after_in}
+use Rattle.ac_tree.specs.Inserting.{Hole, place_at, Inserts}
+use Rattle.ac_tree.specs.TreeFields.{StandsFor, IsForest, parent_of}
 use Rattle.ac_tree.specs.TreeRows.{rows_of}
 use Rattle.ac_tree.proofs.Standing.{some_name}
 use Rattle.ac_tree.proofs.Forests.{links_at, forest-is, is_forest}

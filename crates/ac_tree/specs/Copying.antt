@@ -1,5 +1,5 @@
 -- Nodes that are copied with their depths, and put as the nodes of another tree.
-use Rattle.std.specs.Prelude.{◌≡◌, ℕ, zero, suc, List, map, Option, Some, None}
+use Rattle.std.specs.Prelude.{ℕ, zero, suc, List, map, Option, Some, None}
 use Rattle.ac_base.specs.declared.name.Name.{Name}
 use Rattle.ac_model.specs.Rows.{Node, node}
 use Rattle.ac_model.specs.Objects.{plains}

@@ -1,4 +1,4 @@
-use Rattle.std.proofs.Common.{◌<◌, refl, sym, subst, ◌∙◌}
+use Rattle.std.proofs.Common.{◌<◌, sym, subst, ◌∙◌}
 use Rattle.ac_tree.proofs.Counting.{node_depth}
 use Rattle.ac_tree.proofs.Following.{climbs_end}
 use Rattle.ac_tree.proofs.Levels.{Climbs_at, level_start, level_hit, level_sibling, level_low, level_more, level_less}
