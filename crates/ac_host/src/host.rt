@@ -20,13 +20,14 @@ use crate::written::{write_line, write_refusal};
 use ac_base::{Fault, Reason};
 use ac_check::{Operation, ResolvedArg, ResolvedDecl, ResolvedStmt, ResolvedStmts};
 use ac_io::Sink;
-use ac_objects::{DeclareFault, LoopKey, Objects, UpdateKey, ViewKey};
+use ac_objects::{DeclareFault, Frame, LoopKey, Objects, UpdateKey, ViewKey};
 use ac_syntax::ViewKind;
 
 /// A script that runs: what its names hold, and the line that is made next.
 #[derive(Drop)]
 pub struct Host {
     pub(crate) objects: Objects,
+    pub(crate) frame: Frame,
     pub(crate) text: Vec<u8>,
 }
 
@@ -45,8 +46,18 @@ impl Host {
             (λ guards e. commanded guards e (calls_at line target object operation args.now)) result }
         ensures leaves { Leaves self.old.objects self.new.objects }
     {
-        let answer = self.objects.call(target, object, operation, args);
-        write_line(&self.objects, line, answer, &mut self.text, sink)
+        let done = self
+            .objects
+            .call(target, object, operation, args, &mut self.frame);
+        write_line(
+            &self.objects,
+            object,
+            line,
+            done,
+            &self.frame.reply.said,
+            &mut self.text,
+            sink,
+        )
     }
 
     fn run_set<K: Sink>(
@@ -61,8 +72,16 @@ impl Host {
             (λ guards e. commanded guards e (sets_at line target from.now)) result }
         ensures leaves { Leaves self.old.objects self.new.objects }
     {
-        let answer = self.objects.set(target, from);
-        write_line(&self.objects, line, answer, &mut self.text, sink)
+        let done = self.objects.set(target, from, &mut self.frame);
+        write_line(
+            &self.objects,
+            target,
+            line,
+            done,
+            &self.frame.reply.said,
+            &mut self.text,
+            sink,
+        )
     }
 
     fn run_sum<K: Sink>(
@@ -79,8 +98,18 @@ impl Host {
             (λ guards e. commanded guards e (sums_at line target from minus number)) result }
         ensures leaves { Leaves self.old.objects self.new.objects }
     {
-        let answer = self.objects.sum(target, from, minus, number);
-        write_line(&self.objects, line, answer, &mut self.text, sink)
+        let done = self
+            .objects
+            .sum(target, from, minus, number, &mut self.frame);
+        write_line(
+            &self.objects,
+            target,
+            line,
+            done,
+            &self.frame.reply.said,
+            &mut self.text,
+            sink,
+        )
     }
 
     /// Runs the body of a loop once for each element still to come.

@@ -10,7 +10,7 @@ use crate::host::Host;
 use ac_base::NoMemory;
 use ac_check::{Checked, ResolvedDecl};
 use ac_io::Sink;
-use ac_objects::Objects;
+use ac_objects::{Frame, Objects};
 use std::alloc::Global;
 
 impl Host {
@@ -20,6 +20,7 @@ impl Host {
     {
         Host {
             objects: Objects::starting_at(alloc, 1),
+            frame: Frame::new(),
             text: Vec::new(alloc),
         }
     }

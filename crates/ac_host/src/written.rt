@@ -1,12 +1,11 @@
 //! The line of a command.
-ghost use Rattle.std.specs.Prelude.{◌≡◌, ◌≢◌, ◌∷◌, ◌++◌, [], false, codes, decimal, Some, Err, OnOk};
+ghost use Rattle.std.specs.Prelude.{◌≡◌, ◌≢◌, ℕ, ◌∷◌, ◌++◌, [], false, codes, decimal, Some, Err, OnOk};
 ghost use Rattle.ac_base.specs.declared.fault.Fault.TheVariants as fault;
-ghost use Rattle.ac_meaning.specs.Answers.{line, lines_text, answers_list, answers_raised};
-ghost use Rattle.ac_meaning.specs.Answers as meant;
+ghost use Rattle.ac_meaning.specs.Answers.{Answer, line, lines_text, answers_list, answers_raised};
 ghost use Rattle.ac_meaning.specs.Commands.{Performed};
 ghost use Rattle.ac_meaning.specs.Environment.{State, object_at};
 ghost use Rattle.ac_meaning.specs.Holdings.{Held, listing_of};
-ghost use Rattle.ac_objects.specs.Performs.{Performs};
+ghost use Rattle.ac_objects.specs.Performs.{Performs, answered};
 ghost use Rattle.ac_objects.specs.Shown.{Shows};
 ghost use Rattle.ac_objects.specs.World.{World, state_of};
 ghost use Rattle.ac_syntax.specs.Canonical.{literal_text};
@@ -16,25 +15,27 @@ ghost use Rattle.ac_host.specs.Writing.{Writes};
 use crate::end::HostEnd;
 use crate::line::{begin_line, reason_line, value_line};
 use crate::short::{write_integer, write_words};
-use ac_base::{Fault, Reason, Value};
+use ac_base::{Cursor, Fault, Reason, Value};
 use ac_io::{Sink, add_last, pass};
-use ac_objects::{Answer, Objects};
+use ac_objects::{Objects, Said};
 
 /// Writes what a command answered, or why it was refused.
 #[inline(always)]
 pub fn write_line<K: Sink>(
     objects: &Objects,
+    object: usize,
     number: u64,
-    answer: Result<Answer, Fault>,
+    done: Result<(), Fault>,
+    said: &Said,
     text: &mut Vec<u8>,
     sink: &mut K,
 ) -> Result<(), HostEnd>
-    ensures writes { (p : Performed) (old : World) → Performs p old objects.now answer →
+    ensures writes { (p : Performed) (old : World) → Performs p object old objects.now (answered said.now done) →
         Writes K.held K.faults K.room K.counts_failures sink.old sink.new (lines_text (line number p.answer ∷ [])) result }
-    ensures answered { OnOk result (answer ≢ Err fault.NoMemory) }
+    ensures answered { OnOk result (done ≢ Err fault.NoMemory) }
 {
-    match answer {
-        Ok(answer) => write_answer(objects, number, &answer, text, sink),
+    match done {
+        Ok(()) => write_answer(objects, object, number, said, text, sink),
         Err(Fault::Raised(reason)) => write_refusal(number, reason, text, sink),
         Err(Fault::NoMemory) => Err(HostEnd::NoMemory),
     }
@@ -43,17 +44,18 @@ pub fn write_line<K: Sink>(
 #[inline(always)]
 fn write_answer<K: Sink>(
     objects: &Objects,
+    object: usize,
     number: u64,
-    answer: &Answer,
+    said: &Said,
     text: &mut Vec<u8>,
     sink: &mut K,
 ) -> Result<(), HostEnd>
-    ensures { (e : State) (answered : meant.Answer) → state_of objects.now ≡ e → Shows e answer.now answered →
+    ensures { (e : State) (answered : Answer) → state_of objects.now ≡ e → Shows e object said.now answered →
         Writes K.held K.faults K.room K.counts_failures sink.old sink.new (lines_text (line number answered ∷ [])) result }
 {
-    match answer {
-        Answer::Listing(place) => write_listing(objects, number, *place, text, sink),
-        _ => write_short(number, answer, text, sink),
+    match said {
+        Said::Listing => write_listing(objects, number, object, text, sink),
+        _ => write_short(number, said, text, sink),
     }
 }
 
@@ -79,38 +81,41 @@ fn write_listing<K: Sink>(
 #[inline(always)]
 fn write_short<K: Sink>(
     number: u64,
-    answer: &Answer,
+    said: &Said,
     text: &mut Vec<u8>,
     sink: &mut K,
 ) -> Result<(), HostEnd>
-    requires { is_listing answer.now ≡ false }
-    ensures { (e : State) (answered : meant.Answer) → Shows e answer.now answered →
+    requires { is_listing said.now ≡ false }
+    ensures { (e : State) (object : ℕ) (answered : Answer) → Shows e object said.now answered →
         Writes K.held K.faults K.room K.counts_failures sink.old sink.new (lines_text (line number answered ∷ [])) result }
 {
-    write_shown(number, answer, text, sink)
+    write_shown(number, said, text, sink)
 }
 
 /// Writes the line of a command, as its answer is shown.
 #[inline(always)]
 fn write_shown<K: Sink>(
     number: u64,
-    answer: &Answer,
+    said: &Said,
     text: &mut Vec<u8>,
     sink: &mut K,
 ) -> Result<(), HostEnd>
-    requires { is_listing answer.now ≡ false }
+    requires { is_listing said.now ≡ false }
     ensures { Writes K.held K.faults K.room K.counts_failures sink.old sink.new
-        (decimal number ++ (codes ": " ++ (shown_text answer.now ++ 10 ∷ []))) result }
+        (decimal number ++ (codes ": " ++ (shown_text said.now ++ 10 ∷ []))) result }
 {
-    match answer {
-        Answer::Done => write_words(*b"                    : ok\n", number, sink),
-        Answer::Value(value) => write_value(number, value, text, sink),
-        Answer::Truth(true) => write_words(*b"                    : true\n", number, sink),
-        Answer::Truth(false) => write_words(*b"                    : false\n", number, sink),
-        Answer::Place(true) => write_words(*b"                    : cursor\n", number, sink),
-        Answer::Place(false) => write_words(*b"                    : no_element\n", number, sink),
-        Answer::Listing(_) => unreachable!(),
-        Answer::Stalled => write_words(*b"                    : stalled\n", number, sink),
+    match said {
+        Said::Done => write_words(*b"                    : ok\n", number, sink),
+        Said::Value(value) => write_value(number, value, text, sink),
+        Said::Truth(true) => write_words(*b"                    : true\n", number, sink),
+        Said::Truth(false) => write_words(*b"                    : false\n", number, sink),
+        Said::Place(Cursor::At { .. }) => {
+            write_words(*b"                    : cursor\n", number, sink)
+        }
+        Said::Place(Cursor::NoElement) => {
+            write_words(*b"                    : no_element\n", number, sink)
+        }
+        Said::Listing => unreachable!(),
     }
 }
 

@@ -4,6 +4,7 @@ use Rattle.ac_base.specs.declared.fault.Fault.{Fault}
 use Rattle.ac_base.specs.declared.fault.Fault.TheVariants as fault
 use Rattle.ac_base.specs.declared.fault.NoMemory.{NoMemory}
 use Rattle.ac_base.specs.declared.reason.Reason.{Reason}
+use Rattle.ac_model.specs.Calls.{Done}
 use Rattle.ac_model.specs.Letters.{Mark}
 use Rattle.ac_check.specs.declared.operation.Operation.{Operation}
 use Rattle.ac_check.specs.declared.resolved.ResolvedArg.{ResolvedArg}
@@ -15,14 +16,13 @@ use Rattle.ac_meaning.specs.Holdings.{Held}
 use Rattle.ac_meaning.specs.Replies as replies
 use Rattle.ac_meaning.specs.Stays.{StateStays}
 use Rattle.ac_meaning.proofs.CommandsStay.{command_stays}
-use Rattle.ac_objects.specs.declared.answer.Answer.{Answer}
 use Rattle.ac_objects.specs.declared.reply.Said.{Said}
 use Rattle.ac_objects.specs.declared.reply.Said.TheVariants as said
 use Rattle.ac_objects.specs.declared.reply.Reply.{Reply}
-use Rattle.ac_objects.specs.Performs.{Performs}
+use Rattle.ac_objects.specs.Performs.{Performs, answered}
 use Rattle.ac_objects.specs.Shown.{Shows}
 use Rattle.ac_objects.specs.Standing.{ElementsStand}
-use Rattle.ac_objects.specs.Steps.{SaysAt, SaidKnown, placed_of, IsCalledAt, CalledAt, Gives, IsPerformed, PerformsAt, reply_in, faulted, if_integer, sum_given}
+use Rattle.ac_objects.specs.Steps.{AssignsTo, SaidKnown, placed_of, IsCalledAt, CalledAt, IsPerformed, PerformsAt, reply_in, faulted, if_integer, sum_given}
 use Rattle.ac_objects.specs.World.{World, state_of, Persists}
 use Rattle.ac_objects.proofs.Lasting.{elements_last}
 
@@ -92,8 +92,8 @@ variable_objects : (e : State) (args : List ResolvedArg) (p : Option replies.Pla
 variable_objects e args None place = refl
 variable_objects e args (Some p) place = to_objects e p.mark (place_in (slice_get args p.place)) place
 
-says_still : (e now : State) (object : ℕ) (s : Said) (answer : meant.Answer) → object_at now object ≡ object_at e object → SaysAt e object s answer →
-    SaysAt now object s answer
+says_still : (e now : State) (object : ℕ) (s : Said) (answer : meant.Answer) → object_at now object ≡ object_at e object → Shows e object s answer →
+    Shows now object s answer
 says_still e now object said.Done answer same h = h
 says_still e now object (said.Value v) answer same h = h
 says_still e now object (said.Truth is_true) answer same h = h
@@ -138,12 +138,51 @@ stand_after object op args h old mid s there k stand =
     subst ElementsStand (sym k.after)
     (elements_last (state_of old) _ (call_stays (state_of old) object op args h there k.reason k.goes) stand)
 
-pub sets_given : (e : State) (target : ℕ) (answer : meant.Answer) (old new : World) (result : Result Answer NoMemory) →
-    Gives (assigned e (Some target) answer) answer old new result → Performs (assigned_from e target answer) old new (faulted result)
-sets_given e target answer old new (Ok shown) g =
-    subst (λ p. Performs p old new (Ok shown)) (sym (unless_none e answer (assigned e (Some target) answer) g.0))
-    (g.1, subst (λ now. Shows now shown answer) g.1 g.2)
-sets_given e target answer old new (Err x) g = tt
+-- what was said is shown still, once it was given to a target: a listing is given to none
+shown_after : (e : State) (target : Option ℕ) (object : ℕ) (s : Said) (answer : meant.Answer) → Shows e object s answer →
+    Shows (assigned e target answer).after object s answer
+shown_after e None object s answer h = h
+shown_after e (Some place) object said.Done answer h = h
+shown_after e (Some place) object (said.Value v) answer h = h
+shown_after e (Some place) object (said.Truth is_true) answer h = h
+shown_after e (Some place) object (said.Place c) answer h = h
+shown_after e (Some place) object said.Listing answer h =
+    let there : object_at (assigned e (Some place) answer).after object ≡ object_at e object = ap (λ a. object_at (assigned e (Some place) a).after object) h.2 in
+    (h.0, there ∙ h.1, h.2)
+
+-- a call whose answer was given to its target
+pub call_given : (target : Option ℕ) (object : ℕ) (op : Operation) (args : List ResolvedArg) (h : Held) (old mid new : World) (s : Said) (result : Result Done NoMemory) →
+    object_at (state_of old) object ≡ Some h → IsPerformed (reply_in (state_of old) h op args) object args old mid s →
+    AssignsTo (assigned (state_of mid) target (reply_in (state_of old) h op args).answer) mid new result →
+    Performs (called (state_of old) target object op args) object old new (answered s (faulted result))
+call_given target object op args h old mid new s (Ok done) there k g =
+    let e = state_of old in
+    let r = reply_in e h op args in
+    let given = assigned (after_call e object args r) target r.answer in
+    let same : assigned (state_of mid) target r.answer ≡ given = ap (λ m. assigned m target r.answer) k.after in
+    let shown = subst (λ m. Shows m object s r.answer) k.after k.says in
+    subst (λ p. Performs p object old new (Ok s)) (sym (called_made e target object op args h there k.reason k.goes (sym (ap (λ (a : Assigned). a.reason) same) ∙ g.0)))
+    (g.1 ∙ ap (λ (a : Assigned). a.after) same, shown_after (after_call e object args r) target object s r.answer shown)
+call_given target object op args h old mid new s (Err f) there k g = tt
+
+-- a call that wasn't made
+pub call_refused : (target : Option ℕ) (object : ℕ) (op : Operation) (args : List ResolvedArg) (h : Held) (old new : World) (f : Fault) →
+    object_at (state_of old) object ≡ Some h → PerformsAt (reply_in (state_of old) h op args) object args old new (Err f) →
+    Performs (called (state_of old) target object op args) object old new (Err f)
+call_refused target object op args h old new (fault.Raised reason) there k =
+    let e = state_of old in
+    subst (λ p. Performs p object old new (Err (fault.Raised reason)))
+    (sym (called_by e target object op args h there ∙ refused e target object args (reply_in e h op args) reason k.0))
+    (refl, ap state_of k.1, k.1)
+call_refused target object op args h old new fault.NoMemory there k = tt
+
+pub sets_given : (e : State) (target : ℕ) (s : Said) (answer : meant.Answer) (old new : World) (result : Result Done NoMemory) →
+    Shows e target s answer → AssignsTo (assigned e (Some target) answer) old new result →
+    Performs (assigned_from e target answer) target old new (answered s (faulted result))
+sets_given e target s answer old new (Ok done) shows g =
+    subst (λ p. Performs p target old new (Ok s)) (sym (unless_none e answer (assigned e (Some target) answer) g.0))
+    (g.1, shown_after e (Some target) target s answer shows)
+sets_given e target s answer old new (Err x) shows g = tt
 
 sum_by : (e : State) (target : ℕ) (n : ℤ) (b : Bool) → is_integer n ≡ b → sum_given e target (if b then Some n else None) ≡ sum_assigned e target n
 sum_by e target n true f = rw (f, sum_assigned) refl

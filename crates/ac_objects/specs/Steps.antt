@@ -13,9 +13,8 @@ use Rattle.ac_check.specs.declared.resolved.ResolvedArg.{ResolvedArg}
 use Rattle.ac_meaning.specs.Answers as meant
 use Rattle.ac_meaning.specs.Commands.{Performed, says, Assigned, source_place, source_of, source_set, arguments as meant_arguments, after_call, mark_set, value_set, is_integer, assigned_from}
 use Rattle.ac_meaning.specs.Environment.{State, binds_object, bound_at, object_at, with_bound}
-use Rattle.ac_meaning.specs.Holdings.{Held, listing_of, number_of, reply_of, element_value, write}
+use Rattle.ac_meaning.specs.Holdings.{Held, number_of, reply_of, element_value, write}
 use Rattle.ac_meaning.specs.Replies as replies
-use Rattle.ac_objects.specs.declared.answer.Answer.{Answer}
 use Rattle.ac_objects.specs.declared.argument.Argument.{Argument}
 use Rattle.ac_objects.specs.declared.argument.Argument.TheVariants as argument
 use Rattle.ac_objects.specs.declared.argument.Arguments.{Arguments}
@@ -75,14 +74,6 @@ SaidKnown w (said.Truth _) = ⊤
 SaidKnown w (said.Place c) = IsKnown w c
 SaidKnown w said.Listing = ⊤
 
--- the answer is the meaning's, where the object of the call has this place
-abbrev pub SaysAt : State → ℕ → Said → meant.Answer → Type 0
-SaysAt e object said.Done answer = answer ≡ meant.answers_ok
-SaysAt e object (said.Value v) answer = answer ≡ meant.answers_value v
-SaysAt e object (said.Truth is_true) answer = answer ≡ meant.answers_truth is_true
-SaysAt e object (said.Place c) answer = answer ≡ meant.answers_place (plain_mark c)
-SaysAt e object said.Listing answer = (h : Held) × (object_at e object ≡ Some h) × (answer ≡ meant.answers_list (listing_of h))
-
 -- the variable that is set, without slots, and its cursor is known
 abbrev pub placed_of : Option Placed → Option replies.Placed
 placed_of None = None
@@ -97,7 +88,7 @@ pub record IsCalledAt (r : replies.Reply Held) (object : ℕ) (source : Option �
   pub goes : r.stalls ≡ false
   pub reason : r.reason ≡ None
   pub after : state_of new ≡ source_set (with_bound (state_of old) object (binds_object r.after)) source r.source
-  pub says : SaysAt (state_of new) object made.said r.answer
+  pub says : Shows (state_of new) object made.said r.answer
   pub variable : r.variable ≡ placed_of made.variable
   pub said_known : SaidKnown new made.said
   pub placed_known : PlacedKnown new made.variable
@@ -196,17 +187,12 @@ abbrev pub source_or : Option ℕ → Option ℕ → Option ℕ
 source_or later None = later
 source_or later (Some place) = Some place
 
--- an answer is given to a target, and shown
-abbrev pub Gives : Assigned → meant.Answer → (old new : World) → Result Answer NoMemory → Type 0
-Gives a answer old new (Ok shown) = (a.reason ≡ None) × (state_of new ≡ a.after) × Shows (state_of new) shown answer
-Gives a answer old new (Err _) = ⊤
-
 -- a call with the variable among its arguments, but for its target
 pub record IsPerformed (r : replies.Reply Held) (object : ℕ) (args : List ResolvedArg) (old new : World) (said : Said) : Type 0 where
   pub goes : r.stalls ≡ false
   pub reason : r.reason ≡ None
   pub after : state_of new ≡ after_call (state_of old) object args r
-  pub says : SaysAt (state_of new) object said r.answer
+  pub says : Shows (state_of new) object said r.answer
   pub known : SaidKnown new said
 
 abbrev pub PerformsAt : replies.Reply Held → (object : ℕ) → List ResolvedArg → (old new : World) → Result Said Fault → Type 0
@@ -219,8 +205,8 @@ abbrev pub reply_in : State → Held → Operation → List ResolvedArg → repl
 reply_in e h operation args = reply_of h (source_of e (source_place e args)) operation (meant_arguments e args)
 
 -- want of memory as a fault
-abbrev pub faulted : Result Answer NoMemory → Result Answer Fault
-faulted (Ok answer) = Ok answer
+abbrev pub faulted : Result Done NoMemory → Result Done Fault
+faulted (Ok done) = Ok done
 faulted (Err _) = Err fault.NoMemory
 
 -- a sum, where it is an integer of a script

@@ -1,7 +1,6 @@
 //! A script's objects and variables, and what becomes of them when its commands and blocks run.
 #![tactic(auto)]
 
-mod answer;
 mod argument;
 mod assigning;
 mod blocks;
@@ -10,6 +9,7 @@ mod calling;
 mod capacity_calls;
 mod common_calls;
 mod element;
+mod frame;
 mod giving;
 mod guarding;
 mod held;
@@ -44,11 +44,11 @@ mod vector_calls;
 mod views;
 mod walking;
 
-pub use answer::Answer;
 pub use argument::{Argument, Arguments};
 pub use blocks::{DeclareFault, LoopKey, UpdateKey, ViewKey};
 pub use bound::Bound;
 pub use element::ScriptElement;
+pub use frame::Frame;
 pub use keyed_set::KeyedSet;
 pub use map::Map;
 pub use object::Object;

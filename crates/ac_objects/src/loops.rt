@@ -81,7 +81,7 @@ impl Objects {
             return Ok(false);
         }
         let following = self.next_at(key.object, key.backward, key.coming);
-        self.name_turn(key.names, turn_bound(elements, key.object, key.coming))?;
+        self.name_turn(key.names, elements, key.object, key.coming)?;
         key.coming = following;
         Ok(true)
     }
@@ -121,16 +121,17 @@ fn turn_bound(elements: bool, object: usize, at: Cursor) -> Bound
     }
 }
 
-/// Puts over what a name holds. What a turn's name holds is written where that of the turn before stood, and the rest of its place,
+/// Puts what the name of a turn holds over what a name holds. That of a turn before is written over in place, and the rest of its place,
 /// which is as large as an object, is left alone.
 #[inline(always)]
-fn put_over(held: &mut Bound, bound: Bound)
-    ensures { held.new ≡ bound }
+fn put_turn(held: &mut Bound, elements: bool, object: usize, at: Cursor)
+    ensures bound { bound_of held.new ≡ turn_bound elements object (plain_mark at) }
+    ensures cursor { cursor_in held.new ≡ at }
 {
-    match bound {
-        Bound::Cursor(at) => put_cursor(held, at),
-        Bound::Element { object, at } => put_element(held, object, at),
-        other => *held = other,
+    if elements {
+        put_element(held, object, at);
+    } else {
+        put_cursor(held, at);
     }
 }
 
@@ -140,7 +141,7 @@ fn put_cursor(held: &mut Bound, at: Cursor)
 {
     match held {
         Bound::Cursor(place) => *place = at,
-        _ => *held = Bound::Cursor(at),
+        _ => put_whole(held, Bound::Cursor(at)),
     }
 }
 
@@ -156,15 +157,41 @@ fn put_element(held: &mut Bound, object: usize, at: Cursor)
             *its_object = object;
             *its_place = at;
         }
-        _ => *held = Bound::Element { object, at },
+        _ => put_whole(held, Bound::Element { object, at }),
     }
 }
 
+#[cold]
+#[inline(never)]
+fn put_whole(held: &mut Bound, bound: Bound)
+    ensures { held.new ≡ bound }
+{
+    *held = bound;
+}
+
 impl Objects {
-    /// Puts a turn's name, which is no object's, behind so many names. Where one name stands there, as that of the turn before,
-    /// it takes its place.
+    /// Puts a turn's name behind so many names. Where one name stands there, as that of the turn before, it takes its place.
     #[inline(always)]
-    fn name_turn(&mut self, names: usize, bound: Bound) -> Result<(), NoMemory>
+    fn name_turn(&mut self, names: usize, elements: bool, object: usize, at: Cursor) -> Result<(), NoMemory>
+        requires names { names ≤ length self.old.bounds }
+        requires known { IsKnown self.old at }
+        ensures named { IfOk result (λ _. state_of self.new
+            ≡ with_name (leaving names (state_of self.old)) (turn_bound elements object (plain_mark at))) }
+        ensures counts { take names (counts_of (state_of self.new)) ≡ take names (counts_of (state_of self.old)) }
+        ensures names { names ≤ length self.new.bounds }
+        ensures persists { Persists self.old self.new }
+    {
+        if self.names() - names == 1 {
+            self.replace_last(names, elements, object, at);
+            return Ok(());
+        }
+        self.name_anew(names, turn_bound(elements, object, at))
+    }
+
+    /// Puts a name that is no object's behind so many names, in place of all that stand there.
+    #[cold]
+    #[inline(never)]
+    fn name_anew(&mut self, names: usize, bound: Bound) -> Result<(), NoMemory>
         requires names { names ≤ length self.old.bounds }
         requires no_object { object_in (bound_of bound) ≡ None }
         requires known { IsKnown self.old (cursor_in bound) }
@@ -173,27 +200,22 @@ impl Objects {
         ensures names { names ≤ length self.new.bounds }
         ensures persists { Persists self.old self.new }
     {
-        if self.names() - names == 1 {
-            self.replace_last(names, bound);
-            return Ok(());
-        }
         self.leave_scope(names);
         self.add(bound)?;
         Ok(())
     }
 
-    /// Puts a name that is no object's in the place of the last one.
+    /// Puts a turn's name in the place of the last one.
     #[inline(always)]
-    fn replace_last(&mut self, last: usize, bound: Bound)
+    fn replace_last(&mut self, last: usize, elements: bool, object: usize, at: Cursor)
         requires last { length self.old.bounds ≡ last + 1 }
-        requires no_object { object_in (bound_of bound) ≡ None }
-        requires known { IsKnown self.old (cursor_in bound) }
-        ensures named { state_of self.new ≡ with_name (leaving last (state_of self.old)) (bound_of bound) }
+        requires known { IsKnown self.old at }
+        ensures named { state_of self.new ≡ with_name (leaving last (state_of self.old)) (turn_bound elements object (plain_mark at)) }
         ensures counts { take last (counts_of (state_of self.new)) ≡ take last (counts_of (state_of self.old)) }
         ensures names { last ≤ length self.new.bounds }
         ensures persists { Persists self.old self.new }
     {
-        put_over(&mut self.bounds[last], bound);
+        put_turn(&mut self.bounds[last], elements, object, at);
     }
 
     /// The cursor at which a loop over the object at the place begins.

@@ -4,16 +4,15 @@ ghost use Rattle.ac_meaning.specs.Commands.{called, set_from, summed, sum_of, va
 ghost use Rattle.ac_meaning.specs.Elements.{integer_in};
 ghost use Rattle.ac_meaning.specs.Environment.{object_at};
 ghost use Rattle.ac_meaning.specs.Holdings.{Held};
-ghost use Rattle.ac_objects.specs.Performs.{Performs};
+ghost use Rattle.ac_objects.specs.Performs.{Performs, answered};
 ghost use Rattle.ac_objects.specs.Standing.{IsObject, ElementsStand, counts_of};
 ghost use Rattle.ac_objects.specs.Steps.{PerformsAt, PlacedKnown, placed_of, reply_in, faulted, if_integer, sum_given};
 ghost use Rattle.ac_objects.specs.World.{state_of, world, Persists};
 
-use crate::answer::Answer;
-use crate::argument::Arguments;
 use crate::bound::Bound;
+use crate::frame::Frame;
 use crate::reading::said_of;
-use crate::reply::{Reply, Said};
+use crate::reply::Said;
 use ac_base::{Fault, NoMemory, Reason, Value};
 use ac_check::{Operation, ResolvedArg};
 use ac_cursor::TagMint;
@@ -50,7 +49,7 @@ impl Objects {
         }
     }
 
-    /// Makes a call on the object at this place, and gives its answer to the target.
+    /// Makes a call on the object at this place, and gives its answer, which stands in the frame, to the target.
     #[inline(always)]
     pub fn call(
         &mut self,
@@ -58,17 +57,20 @@ impl Objects {
         object: usize,
         operation: Operation,
         args: &[ResolvedArg],
-    ) -> Result<Answer, Fault>
+        frame: &mut Frame,
+    ) -> Result<(), Fault>
         requires stand { ElementsStand (state_of self.old) }
-        ensures performed { Performs (called (state_of self.old) target object operation args.now) self.old self.new result }
+        ensures performed { Performs (called (state_of self.old) target object operation args.now) object self.old self.new
+            (answered frame.new.reply.said result) }
         ensures persists { Persists self.old self.new }
         ensures counts { counts_of (state_of self.new) ≡ counts_of (state_of self.old) }
     {
         if !self.is_object(object) {
-            return Ok(Answer::Done);
+            frame.reply.said = Said::Done;
+            return Ok(());
         }
-        match self.perform(object, operation, args) {
-            Ok(said) => faulted(self.give(target, object, said)),
+        match self.perform(object, operation, args, frame) {
+            Ok(()) => faulted(self.give(target, &frame.reply.said)),
             Err(fault) => Err(fault),
         }
     }
@@ -80,25 +82,25 @@ impl Objects {
         object: usize,
         operation: Operation,
         args: &[ResolvedArg],
-    ) -> Result<Said, Fault>
+        frame: &mut Frame,
+    ) -> Result<(), Fault>
         requires stand { ElementsStand (state_of self.old) }
         requires object { IsObject (state_of self.old) object }
         ensures performed { (h : Held) → object_at (state_of self.old) object ≡ Some h →
-            PerformsAt (reply_in (state_of self.old) h operation args.now) object args.now self.old self.new result }
+            PerformsAt (reply_in (state_of self.old) h operation args.now) object args.now self.old self.new
+            (answered frame.new.reply.said result) }
         ensures persists { Persists self.old self.new }
         ensures counts { counts_of (state_of self.new) ≡ counts_of (state_of self.old) }
     {
         let source = self.source_place(args);
-        let mut read = Arguments::absent();
-        match self.read_arguments(args, &mut read) {
+        match self.read_arguments(args, &mut frame.arguments) {
             Ok(()) => {}
             Err(_) => return Err(Fault::NoMemory),
         }
-        let mut reply = Reply::says(Said::Done);
-        match self.call_at(object, source, operation, &mut read, &mut reply) {
+        match self.call_at(object, source, operation, &mut frame.arguments, &mut frame.reply) {
             Ok(()) => {
-                self.set_variable(args, &reply.variable);
-                Ok(reply.said)
+                self.set_variable(args, &frame.reply.variable);
+                Ok(())
             }
             Err(fault) => Err(fault),
         }
@@ -106,14 +108,18 @@ impl Objects {
 
     /// Assigns a value, a cursor or what a name holds.
     #[inline(always)]
-    pub fn set(&mut self, target: usize, from: &ResolvedArg) -> Result<Answer, Fault>
+    pub fn set(&mut self, target: usize, from: &ResolvedArg, frame: &mut Frame) -> Result<(), Fault>
         requires stand { ElementsStand (state_of self.old) }
-        ensures performed { Performs (set_from (state_of self.old) target from.now) self.old self.new result }
+        ensures performed { Performs (set_from (state_of self.old) target from.now) target self.old self.new
+            (answered frame.new.reply.said result) }
         ensures persists { Persists self.old self.new }
         ensures counts { counts_of (state_of self.new) ≡ counts_of (state_of self.old) }
     {
         match self.read(from) {
-            Ok(read) => faulted(self.give(Some(target), target, said_of(read))),
+            Ok(read) => {
+                frame.reply.said = said_of(read);
+                faulted(self.give(Some(target), &frame.reply.said))
+            }
             Err(_) => Err(Fault::NoMemory),
         }
     }
@@ -126,38 +132,47 @@ impl Objects {
         from: usize,
         minus: bool,
         number: u64,
-    ) -> Result<Answer, Fault>
+        frame: &mut Frame,
+    ) -> Result<(), Fault>
         requires stand { ElementsStand (state_of self.old) }
-        ensures performed { Performs (summed (state_of self.old) target from minus number) self.old self.new result }
+        ensures performed { Performs (summed (state_of self.old) target from minus number) target self.old self.new
+            (answered frame.new.reply.said result) }
         ensures persists { Persists self.old self.new }
         ensures counts { counts_of (state_of self.new) ≡ counts_of (state_of self.old) }
     {
         match self.read_name(from) {
-            Ok(read) => self.put_sum(target, total(integer_of(read.into_value()), minus, number)),
+            Ok(read) => {
+                let sum = total(integer_of(read.into_value()), minus, number);
+                self.put_sum(target, sum, frame)
+            }
             Err(_) => Err(Fault::NoMemory),
         }
     }
 
     #[inline(always)]
-    fn put_sum(&mut self, target: usize, sum: Option<i64>) -> Result<Answer, Fault>
+    fn put_sum(&mut self, target: usize, sum: Option<i64>, frame: &mut Frame) -> Result<(), Fault>
         requires stand { ElementsStand (state_of self.old) }
-        ensures performed { Performs (sum_given (state_of self.old) target sum) self.old self.new result }
+        ensures performed { Performs (sum_given (state_of self.old) target sum) target self.old self.new
+            (answered frame.new.reply.said result) }
         ensures persists { Persists self.old self.new }
         ensures counts { counts_of (state_of self.new) ≡ counts_of (state_of self.old) }
     {
         match sum {
             None => Err(Fault::Raised(Reason::Overflow)),
-            Some(sum) => faulted(self.give(Some(target), target, Said::Value(Value::Int(sum)))),
+            Some(sum) => {
+                frame.reply.said = Said::Value(Value::Int(sum));
+                faulted(self.give(Some(target), &frame.reply.said))
+            }
         }
     }
 }
 
 #[inline(always)]
-fn faulted(given: Result<Answer, NoMemory>) -> Result<Answer, Fault>
+fn faulted(given: Result<(), NoMemory>) -> Result<(), Fault>
     ensures { result ≡ faulted given }
 {
     match given {
-        Ok(answer) => Ok(answer),
+        Ok(()) => Ok(()),
         Err(_) => Err(Fault::NoMemory),
     }
 }

@@ -4,9 +4,10 @@ ghost use Rattle.std.specs.Option.{ForSome};
 ghost use Rattle.ac_meaning.specs.Commands.{source_place, argument_in, argument, argument_of as argument_at, arguments, answer_in, answer_from};
 ghost use Rattle.ac_meaning.specs.Environment.{State, bound_at, value_in, binds_element};
 ghost use Rattle.ac_model.specs.Cursors.{plain_mark};
-ghost use Rattle.ac_objects.specs.Arguments.{argument_of, arguments_of, cursor_in, no_arguments};
+ghost use Rattle.ac_objects.specs.Arguments.{argument_of, arguments_of, cursor_in};
+ghost use Rattle.ac_objects.specs.Shown.{Shows};
 ghost use Rattle.ac_objects.specs.Standing.{IsObject, ElementsStand};
-ghost use Rattle.ac_objects.specs.Steps.{AllKnown, CanRead, answer_of, source_or, SaysAt, SaidKnown};
+ghost use Rattle.ac_objects.specs.Steps.{AllKnown, CanRead, answer_of, source_or, SaidKnown};
 ghost use Rattle.ac_check.specs.declared.resolved.ResolvedArg.{ResolvedArg as ArgData};
 ghost use Rattle.ac_objects.specs.World.{World, state_of, world, IsKnown};
 
@@ -29,7 +30,6 @@ impl Objects {
         read: &mut Arguments,
     ) -> Result<(), NoMemory>
         requires stand { ElementsStand (state_of self.now) }
-        requires absent { read.old ≡ no_arguments }
         ensures read { OnOk result (arguments_of read.new ≡ arguments (state_of self.now) args.now) }
         ensures known { OnOk result (AllKnown self.now read.new) }
     {
@@ -80,12 +80,14 @@ impl Objects {
         read: &mut Argument,
     ) -> Result<(), NoMemory>
         requires stand { ElementsStand (state_of self.now) }
-        requires absent { read.old ≡ Argument.Absent }
         ensures read { OnOk result (argument_of read.new ≡ argument_at (state_of self.now) (slice_get args.now place)) }
         ensures known { OnOk result (IsKnown self.now (cursor_in read.new)) }
     {
         match args.get(place) {
-            None => Ok(()),
+            None => {
+                leave_out(read);
+                Ok(())
+            }
             Some(arg) => {
                 *read = self.read(arg)?;
                 Ok(())
@@ -128,6 +130,17 @@ impl Objects {
     }
 }
 
+/// Leaves the argument out, whatever a command before had there.
+#[inline(always)]
+fn leave_out(read: &mut Argument)
+    ensures { read.new ≡ Argument.Absent }
+{
+    match read {
+        Argument::Absent => {}
+        _ => *read = Argument::Absent,
+    }
+}
+
 /// A copy of the element that a name stands for.
 pub(crate) fn copy_element(
     bounds: &Vec<Bound>,
@@ -158,7 +171,7 @@ pub(crate) fn copy_value(alloc: Global, value: &Value) -> Result<Value, NoMemory
 /// What is assigned, where this was read.
 #[inline(always)]
 pub(crate) fn said_of(read: Argument) -> Said
-    ensures says { (e : State) (object : ℕ) → SaysAt e object result (answer_of read) }
+    ensures says { (e : State) (object : ℕ) → Shows e object result (answer_of read) }
     ensures known { (w : World) → IsKnown w (cursor_in read) → SaidKnown w result }
 {
     match read {

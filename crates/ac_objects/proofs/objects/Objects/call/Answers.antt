@@ -1,9 +1,31 @@
-use Rattle.std.proofs.Common.{refl}
-use Rattle.ac_objects.proofs.Performing.{stand_after}
+use Rattle.std.proofs.Common.{refl, sym, subst}
+use Rattle.ac_meaning.specs.Commands.{called}
+use Rattle.ac_objects.specs.Performs.{Performs, answered}
+use Rattle.ac_objects.specs.Steps.{reply_in}
+use Rattle.ac_objects.specs.World.{state_of}
+use Rattle.ac_objects.proofs.Performing.{call_given, call_refused, stand_after}
 use Rattle.ac_objects.proofs.objects.Objects.call.Goals as goal
 
 pub give-requires-clause-stand : goal.give-requires-clause-stand
 give-requires-clause-stand c =
     let o = c.if-not-is_object.ensures.yes refl in
-    stand_after c.args.object c.args.operation c.args.args.now o.held c.args.self.now c.perform.new.self c.in-Ok.said o.there
+    stand_after c.args.object c.args.operation c.args.args.now o.held c.args.self.now c.perform.new.self c.perform.new.frame.reply.said o.there
     (c.in-Ok.ensures.performed o.held o.there) c.requires.stand
+
+pub returns-in-Ok-clause-performed : goal.returns-in-Ok-clause-performed
+returns-in-Ok-clause-performed c =
+    let old = c.args.self.now in
+    let a = c.args in
+    let said = c.perform.new.frame.reply.said in
+    let o = c.if-not-is_object.ensures.yes refl in
+    let k = c.in-Ok.ensures.performed o.held o.there in
+    let answer = (reply_in (state_of old) o.held a.operation a.args.now).answer in
+    subst (λ r. Performs (called (state_of old) a.target a.object a.operation a.args.now) a.object old c.give.new.self (answered said r)) (sym c.faulted.ensures)
+    (call_given a.target a.object a.operation a.args.now o.held old c.perform.new.self c.give.new.self said c.give.result o.there k
+    (c.give.ensures.given a.object answer k.says))
+
+pub returns-in-Err-clause-performed : goal.returns-in-Err-clause-performed
+returns-in-Err-clause-performed c =
+    let a = c.args in
+    let o = c.if-not-is_object.ensures.yes refl in
+    call_refused a.target a.object a.operation a.args.now o.held a.self.now c.perform.new.self c.in-Err.fault o.there (c.in-Err.ensures.performed o.held o.there)

@@ -1,7 +1,7 @@
 use Rattle.std.proofs.Common.{sym, subst}
 use Rattle.ac_meaning.specs.Commands.{answer_from, set_from}
-use Rattle.ac_objects.specs.Performs.{Performs}
-use Rattle.ac_objects.specs.Steps.{SaysAt}
+use Rattle.ac_objects.specs.Performs.{Performs, answered}
+use Rattle.ac_objects.specs.Shown.{Shows}
 use Rattle.ac_objects.specs.World.{state_of}
 use Rattle.ac_objects.proofs.Performing.{sets_given}
 use Rattle.ac_objects.proofs.objects.Objects.set.Goals as goal
@@ -15,6 +15,7 @@ returns-in-Ok-clause-performed c =
     let e = state_of old in
     let target = c.args.target in
     let answer = answer_from e c.args.from.now in
-    subst (λ r. Performs (set_from e target c.args.from.now) old c.give.new.self r) (sym c.faulted.ensures)
-    (sets_given e target answer old c.give.new.self c.give.result
-    (c.give.ensures.given answer (subst (λ a. SaysAt e target c.said_of.result a) c.in-Ok.ensures.said (c.said_of.ensures.says e target))))
+    let said = c.said_of.result in
+    let shows = subst (λ a. Shows e target said a) c.in-Ok.ensures.said (c.said_of.ensures.says e target) in
+    subst (λ r. Performs (set_from e target c.args.from.now) target old c.give.new.self (answered said r)) (sym c.faulted.ensures)
+    (sets_given e target said answer old c.give.new.self c.give.result shows (c.give.ensures.given target answer shows))

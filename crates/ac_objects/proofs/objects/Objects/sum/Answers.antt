@@ -4,7 +4,7 @@ use Rattle.ac_meaning.specs.Commands.{sum_of}
 use Rattle.ac_meaning.specs.Elements.{integer_in}
 use Rattle.ac_meaning.specs.Environment.{bound_at, value_at}
 use Rattle.ac_meaning.specs.Replies.{Argument}
-use Rattle.ac_objects.specs.Performs.{Performs}
+use Rattle.ac_objects.specs.Performs.{Performs, answered}
 use Rattle.ac_objects.specs.Steps.{if_integer, sum_given}
 use Rattle.ac_objects.specs.World.{state_of}
 use Rattle.ac_objects.proofs.Names.{value_read}
@@ -21,4 +21,4 @@ returns-in-Ok-clause-performed c =
     let number = to_z-of_z {w = w64} {z = c.integer_of.result} fits ∙ (c.integer_of.ensures ∙ ap integer_in value) in
     let is = ap (sum_given e a.target) (c.total.ensures ∙ ap (λ n. if_integer (sum_of a.minus n a.number)) number)
     ∙ sum_is e a.target (sum_of a.minus (integer_in (value_at e a.from)) a.number) in
-    subst (λ p. Performs p old c.put_sum.new.self c.put_sum.result) is c.put_sum.ensures.performed
+    subst (λ p. Performs p a.target old c.put_sum.new.self (answered c.put_sum.new.frame.reply.said c.put_sum.result)) is c.put_sum.ensures.performed

@@ -4,7 +4,7 @@ use Rattle.ac_meaning.specs.Environment.{with_name}
 use Rattle.ac_objects.specs.Standing.{counts_of}
 use Rattle.ac_objects.specs.World.{World, bound_of, state_of}
 use Rattle.ac_objects.proofs.InScope.{counts_left, counts_turned}
-use Rattle.ac_objects.proofs.objects.Objects.name_turn.Goals as goal
+use Rattle.ac_objects.proofs.objects.Objects.name_anew.Goals as goal
 
 pub returns-in_err-add-clause-counts : goal.returns-in_err-add-clause-counts
 returns-in_err-add-clause-counts c =
