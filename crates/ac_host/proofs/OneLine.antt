@@ -1,14 +1,13 @@
 -- What is written of a line that is added in pieces.
-use Rattle.std.proofs.Common.{◌≡◌, ◌≢◌, ◌-◌, ◌≤◌, ℕ, Bool, true, false, not, true≢false, if◌then◌else◌, List, [], ◌∷◌, ◌++◌, length, refl, sym, ap, subst, ◌∙◌, Option, Some, None, IfSome, Result, Ok, Err, IsOk, IsErrAnd, codes, decimal, append_assoc, append-nil}
+use Rattle.std.proofs.Common.{◌≡◌, ◌≢◌, ◌-◌, ◌≤◌, ℕ, Bool, true, false, true≢false, List, [], ◌∷◌, ◌++◌, length, refl, sym, ap, subst, ◌∙◌, Option, Some, None, IfSome, Result, Ok, Err, IsOk, IsErrAnd, codes, decimal, append_assoc, append-nil}
 use Rattle.std.proofs.lemmas.Result.{err_from_is_err_and}
+use Rattle.ac_base.specs.declared.cursor.Cursor.TheVariants as cursor
 use Rattle.ac_io.specs.Pieces.{Adds}
 use Rattle.ac_io.proofs.Telling.{adds_broken, written_whole, written_room}
-use Rattle.ac_model.specs.Letters.{is_no_mark}
-use Rattle.ac_meaning.specs.Answers.{Line, line, line_text, lines_text, answer_text, answers_list}
-use Rattle.ac_meaning.specs.Answers as meant
+use Rattle.ac_meaning.specs.Answers.{Line, Answer, line, line_text, lines_text, answer_text, answers_list}
 use Rattle.ac_meaning.specs.Environment.{State}
-use Rattle.ac_objects.specs.declared.answer.Answer.{Answer}
-use Rattle.ac_objects.specs.declared.answer.Answer.TheVariants.{Done, Value, Truth, Place, Listing, Stalled}
+use Rattle.ac_objects.specs.declared.reply.Said.{Said}
+use Rattle.ac_objects.specs.declared.reply.Said.TheVariants.{Done, Value, Truth, Place, Listing}
 use Rattle.ac_objects.specs.Shown.{Shows}
 use Rattle.ac_host.specs.declared.end.HostEnd.{HostEnd}
 use Rattle.ac_host.specs.declared.end.HostEnd.TheVariants.{WriteFault, NoMemory}
@@ -83,21 +82,16 @@ listed_line number text begun is =
 
 -- the line of any other answer
 
-place_shown : (somewhere nowhere : Bool) → somewhere ≡ not nowhere →
-    (if somewhere then codes "cursor" else codes "no_element") ≡ (if nowhere then codes "no_element" else codes "cursor")
-place_shown somewhere true is = rw is refl
-place_shown somewhere false is = rw is refl
+shown_is : (e : State) (object : ℕ) (said : Said) (answered : Answer) → is_listing said ≡ false → Shows e object said answered →
+    shown_text said ≡ answer_text answered
+shown_is e object Done answered short s = rw s refl
+shown_is e object (Value v) answered short s = rw s refl
+shown_is e object (Truth is_true) answered short s = rw s refl
+shown_is e object (Place cursor.NoElement) answered short s = rw s refl
+shown_is e object (Place (cursor.At it name)) answered short s = rw s refl
+shown_is e object Listing answered short s = absurd (true≢false short)
 
-shown_is : (e : State) (answer : Answer) (answered : meant.Answer) → is_listing answer ≡ false → Shows e answer answered →
-    shown_text answer ≡ answer_text answered
-shown_is e Done answered short s = rw s refl
-shown_is e (Value v) answered short s = rw s refl
-shown_is e (Truth is_true) answered short s = rw s refl
-shown_is e (Place is_somewhere) answered short s = place_shown is_somewhere (is_no_mark s.0) s.2 ∙ sym (ap answer_text s.1)
-shown_is e (Listing place) answered short s = absurd (true≢false short)
-shown_is e Stalled answered short s = rw s refl
-
-pub shown_line : (number : ℕ) (e : State) (answer : Answer) (answered : meant.Answer) → is_listing answer ≡ false → Shows e answer answered →
-    decimal number ++ (codes ": " ++ (shown_text answer ++ 10 ∷ [])) ≡ lines_text (line number answered ∷ [])
-shown_line number e answer answered short s =
-    ap (λ t. decimal number ++ (codes ": " ++ (t ++ 10 ∷ []))) (shown_is e answer answered short s) ∙ sym (one_line (line number answered))
+pub shown_line : (number : ℕ) (e : State) (object : ℕ) (said : Said) (answered : Answer) → is_listing said ≡ false → Shows e object said answered →
+    decimal number ++ (codes ": " ++ (shown_text said ++ 10 ∷ [])) ≡ lines_text (line number answered ∷ [])
+shown_line number e object said answered short s =
+    ap (λ t. decimal number ++ (codes ": " ++ (t ++ 10 ∷ []))) (shown_is e object said answered short s) ∙ sym (one_line (line number answered))
