@@ -172,7 +172,13 @@ fn put_whole(held: &mut Bound, bound: Bound)
 impl Objects {
     /// Puts a turn's name behind so many names. Where one name stands there, as that of the turn before, it takes its place.
     #[inline(always)]
-    fn name_turn(&mut self, names: usize, elements: bool, object: usize, at: Cursor) -> Result<(), NoMemory>
+    fn name_turn(
+        &mut self,
+        names: usize,
+        elements: bool,
+        object: usize,
+        at: Cursor,
+    ) -> Result<(), NoMemory>
         requires names { names ≤ length self.old.bounds }
         requires known { IsKnown self.old at }
         ensures named { IfOk result (λ _. state_of self.new

@@ -92,6 +92,7 @@ impl<T> Sequence<T> {
         }
     }
 
+    #[inline(always)]
     pub fn next(&self, c: Cursor) -> Result<Cursor, Fault>
         ensures { Looks (Marks (rows_of self.now).object) (λ o. sequences.next_call o (seen_by (rows_of self.now) c))
             (rows_of self.now) result }

@@ -42,6 +42,7 @@ impl<T: ScriptElement> RowObject for Sequence<T> {
         Sequence::last(self)
     }
 
+    #[inline(always)]
     fn next(&self, c: Cursor) -> Result<Cursor, Fault> {
         Sequence::next(self, c)
     }
