@@ -20,7 +20,8 @@ use Rattle.ac_objects.specs.declared.reply.Placed.{Placed}
 use Rattle.ac_objects.specs.declared.reply.Reply.{Reply}
 use Rattle.ac_objects.specs.Arguments.{arguments_of}
 use Rattle.ac_objects.specs.Called.{AgreesWith, Tells, Places, HeldAfter, Called, CalledWith, Lasts}
-use Rattle.ac_objects.specs.Steps.{AllKnown, Advances, CalledIn, CalledInBoth, SaysAt, SaidKnown, placed_of, PlacedKnown, CalledAt, CallsIn, CanCall, CalledBounds, CanCallIn}
+use Rattle.ac_objects.specs.Shown.{Shows}
+use Rattle.ac_objects.specs.Steps.{AllKnown, Advances, CalledIn, CalledInBoth, SaidKnown, placed_of, PlacedKnown, CalledAt, CallsIn, CanCall, CalledBounds, CanCallIn}
 use Rattle.ac_objects.specs.World.{world, state_of, held_of, IsSound, memory_of}
 use Rattle.ac_objects.proofs.Memory.{all_agree_in}
 use Rattle.ac_objects.proofs.Places.{same_some, get_own, get_other, set_same, set_around, found_or}
@@ -55,7 +56,7 @@ numbers_apart bs i j source args c apart o s here there same =
 -- what is answered and set
 
 says_in : (bs : List Bound) (n i : ℕ) (o : Object) → slice_get bs i ≡ Some (bound.Object o) → (s : Said) (answer : meant.Answer) → Tells o s answer →
-    SaysAt (state_of (world bs n)) i s answer
+    Shows (state_of (world bs n)) i s answer
 says_in bs n i o there said.Done answer h = h
 says_in bs n i o there (said.Value v) answer h = h
 says_in bs n i o there (said.Truth is_true) answer h = h

@@ -19,6 +19,6 @@ returns-in-Ok-clause-performed c =
     let value = c.into_value.ensures ∙ (ap (λ (x : Argument). x.value) c.in-Ok.ensures.read ∙ value_read e (bound_at e a.from)) in
     let fits : SFits w64 c.integer_of.result = search rules in
     let number = to_z-of_z {w = w64} {z = c.integer_of.result} fits ∙ (c.integer_of.ensures ∙ ap integer_in value) in
-    let is = ap (sum_given e a.target) (c.total.ensures ∙ ap (λ n. if_integer (sum_of a.minus n a.number)) number)
+    let is = ap (sum_given e a.target) (c.total-sum.ensures ∙ ap (λ n. if_integer (sum_of a.minus n a.number)) number)
     ∙ sum_is e a.target (sum_of a.minus (integer_in (value_at e a.from)) a.number) in
     subst (λ p. Performs p a.target old c.put_sum.new.self (answered c.put_sum.new.frame.reply.said c.put_sum.result)) is c.put_sum.ensures.performed

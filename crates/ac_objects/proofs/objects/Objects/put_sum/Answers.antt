@@ -1,0 +1,25 @@
+use Rattle.std.proofs.Common.{◌≡◌, rules, sym, ap, subst, to_z, of_z, w64}
+use Rattle.ac_base.specs.declared.value.Value.TheVariants as value
+use Rattle.ac_meaning.specs.Answers.{answers_integer}
+use Rattle.ac_meaning.specs.Commands.{assigned_from}
+use Rattle.ac_objects.specs.declared.reply.Said.TheVariants as said
+use Rattle.ac_objects.specs.Performs.{Performs, answered}
+use Rattle.ac_objects.specs.Shown.{Shows}
+use Rattle.ac_objects.specs.Steps.{sum_given}
+use Rattle.ac_objects.specs.World.{state_of}
+use Rattle.ac_objects.proofs.Performing.{sets_given}
+use Rattle.ac_objects.proofs.objects.Objects.put_sum.Goals as goal
+
+pub returns-in-Some-clause-performed : goal.returns-in-Some-clause-performed
+returns-in-Some-clause-performed c =
+    let old = c.args.self.now in
+    let e = state_of old in
+    let a = c.args in
+    let n = c.in-Some.sum in
+    let same : to_z w64 (of_z w64 n) ≡ n = search rules in
+    let says = said.Value (value.Int (to_z w64 (of_z w64 n))) in
+    let answer = answers_integer n in
+    let shows : Shows e a.target says answer = ap answers_integer (sym same) in
+    subst (λ s. Performs (sum_given e a.target s) a.target old c.give.new.self (answered says c.faulted.result)) (sym c.in-Some.is)
+    (subst (λ r. Performs (assigned_from e a.target answer) a.target old c.give.new.self (answered says r)) (sym c.faulted.ensures)
+    (sets_given e a.target says answer old c.give.new.self c.give.result shows (c.give.ensures.given a.target answer shows)))
