@@ -134,7 +134,8 @@ pub fn refill<T: Elem>(
     requires source { IsForest source.now }
     ensures put { IfOk result (λ _. IsRefilled (rows_of links.old) (values (rows_of source.now).rows) (rows_of links.new)) }
     ensures refused { IfErr result (λ _. links.new ≡ links.old) }
-    ensures slots { length (rows_of source.now).rows ≤ slots_in (rows_of links.old) → slots_in (rows_of links.new) ≡ slots_in (rows_of links.old) }
+    ensures slots { length (rows_of source.now).rows ≤ slots_in (rows_of links.old) →
+        slots_in (rows_of links.new) ≡ slots_in (rows_of links.old) }
     ensures grown { IfOk result (λ _.
         slots_in (rows_of links.new) ≤ max (slots_in (rows_of links.old)) (pow8 (length (rows_of links.new).rows))) }
     ensures forest { IsForest links.new }

@@ -28,7 +28,8 @@ impl<T: Elem> Tree<T> {
 
     /// Find_In_Subtree (A.18.10): the first in preorder from the node itself on.
     pub fn find_in_subtree(&self, c: Cursor, e: &T) -> Result<Cursor, Fault>
-        ensures { Looks (NodeMarks self.now.object) (λ o. trees.find_in_subtree_call T.is_same o (seen_by self.now c) e.now) self.now result }
+        ensures { Looks (NodeMarks self.now.object) (λ o. trees.find_in_subtree_call T.is_same o (seen_by self.now c) e.now)
+            self.now result }
     {
         allowed(self.needs_node(c))?;
         Ok(self.named(found_on(&self.links, node_in(c), e)))
