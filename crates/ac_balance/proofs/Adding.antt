@@ -14,17 +14,18 @@ use Rattle.ac_balance.specs.declared.links.Links.{Links}
 use Rattle.ac_balance.specs.declared.search.Spot.{Spot}
 use Rattle.ac_balance.specs.Trees.{Tree, leaf, node, in_order, Balanced, Step, plugged, before, after}
 use Rattle.ac_balance.specs.TreeFields.{alone, root, Stands, place, links}
-use Rattle.ac_balance.specs.Climbing.{Has, HasName, above_in, Climbing, Closed, Closes}
+use Rattle.ac_balance.specs.Climbing.{Has, above_in, Climbing, Closed, Closes}
+use Rattle.ac_pool.specs.NamedRows.{HasName}
 use Rattle.ac_balance.specs.Seeking.{Seeking, Seeks}
 use Rattle.ac_balance.specs.Indexed.{Each, IsAscending, Indexed, indexed, entry, with_row}
 use Rattle.ac_balance.specs.Indexed as index
 use Rattle.ac_balance.specs.IndexFields.{StandsFor, rows_in, IsOrderIndex}
-use Rattle.ac_balance.proofs.Names.{IsAround, once_added, around_has, named, HasName-right}
+use Rattle.ac_balance.proofs.Names.{IsAround, once_added, around_has, named}
+use Rattle.ac_pool.proofs.Cuts.{HasName-right, insert-cut, HasName-put}
 use Rattle.ac_balance.proofs.Opening.{added_opens}
 use Rattle.ac_balance.proofs.Climbs.{plugged-order}
 use Rattle.ac_balance.proofs.Sides.{led-sides, each-weaker}
 use Rattle.ac_balance.proofs.Searches.{probes}
-use Rattle.ac_balance.proofs.Cuts.{insert-cut, HasName-put}
 use Rattle.ac_balance.proofs.Indexes.{view_of, index_from, view-is, named_live, live_in}
 
 -- rows with one more in between

@@ -10,7 +10,8 @@ use Rattle.ac_base.specs.Rows.{Row}
 use Rattle.ac_balance.specs.Trees.{Tree, height, Level, Balanced, Step, on_left, on_right, side_of, joined, plugged}
 use Rattle.ac_balance.specs.TreeFields.{node_with, linked, root, Stands, with_parent, side_written, with_side, links, attached}
 use Rattle.ac_pool.specs.Link.{link_of}
-use Rattle.ac_balance.specs.Climbing.{Has, HasName, Once, name_of, above_in, Framed, IsSide, Open, Climbed, Relinks, Closes}
+use Rattle.ac_balance.specs.Climbing.{Has, Once, name_of, above_in, Framed, IsSide, Open, Climbed, Relinks, Closes}
+use Rattle.ac_pool.specs.NamedRows.{HasName}
 use Rattle.ac_balance.proofs.Keeping.{keeps_then, keeps_parent, keeps_side, sound_still}
 use Rattle.ac_balance.proofs.Standing.{Stands-same, Stands-moved, root_has, with_parent-writes}
 use Rattle.ac_balance.proofs.Names.{IsAround, plugged_once, named, part_has}

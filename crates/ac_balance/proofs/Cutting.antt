@@ -8,12 +8,13 @@ use Rattle.ac_balance.specs.declared.links.Links.{Links}
 use Rattle.ac_balance.specs.declared.places.Place.{Place}
 use Rattle.ac_balance.specs.Trees.{Tree, leaf, node, in_order, height, Level, Balanced, Step, on_left, plugged, before, after, tall}
 use Rattle.ac_balance.specs.TreeFields.{root, Stands, right_of, with_parent, place_in, is_left_in, links}
-use Rattle.ac_balance.specs.Climbing.{HasName, Once, above_in, IsSide, IsRooted, Climbing, Closes, Relinks, IsMendable, Mends}
+use Rattle.ac_pool.specs.NamedRows.{HasName, IsOnce}
+use Rattle.ac_balance.specs.Climbing.{Once, above_in, IsSide, IsRooted, Climbing, Closes, Relinks, IsMendable, Mends}
 use Rattle.ac_balance.specs.Walking.{first_name, Placed}
 use Rattle.ac_balance.specs.Detaching.{Part, KeepsValue, CutOff}
 use Rattle.ac_balance.proofs.Standing.{some_name, with_parent-writes, root_has, right-is}
 use Rattle.ac_balance.proofs.Keeping.{keeps_parent, sound_still}
-use Rattle.ac_balance.proofs.Names.{IsOnce, once_from, once_rows, named}
+use Rattle.ac_balance.proofs.Names.{once_from, once_rows, named}
 use Rattle.ac_balance.proofs.Climbs.{plugged-order, plugged-fits, plugged-height, first_near}
 use Rattle.ac_balance.proofs.Opening.{cut, rooted-in}
 use Rattle.ac_balance.proofs.Closing.{moved}

@@ -17,17 +17,19 @@ use Rattle.ac_balance.specs.declared.links.Node.{Node}
 use Rattle.ac_balance.specs.declared.links.Links.{Links}
 use Rattle.ac_balance.specs.Trees.{Tree, leaf, node, in_order, Step, on_left, on_right, plugged, before, after}
 use Rattle.ac_balance.specs.TreeFields.{Stands, tree_in, read, links}
-use Rattle.ac_balance.specs.Climbing.{Has, HasName, Once, Closed}
+use Rattle.ac_balance.specs.Climbing.{Has, Once, Closed}
+use Rattle.ac_pool.specs.NamedRows.{HasName, index_of, name_at, name_before, IsOnce}
 use Rattle.ac_balance.specs.Seeking.{Stood}
 use Rattle.ac_balance.specs.Walking.{first_name, last_name, AtNode, IsAtNode}
-use Rattle.ac_balance.specs.Indexed.{Indexed, indexed, index_of, name_at, name_before, value_at, IsThere, no_rows, reserved, cleared, IsSound}
+use Rattle.ac_balance.specs.Indexed.{Indexed, indexed, value_at, IsThere, no_rows, reserved, cleared, IsSound}
 use Rattle.ac_balance.specs.IndexFields.{StandsFor, rows_in, IsOrderIndex}
-use Rattle.ac_balance.proofs.Names.{IsOnce, has, once_rows, apart, height_le}
+use Rattle.ac_balance.proofs.Names.{has, once_rows, height_le}
+use Rattle.ac_pool.proofs.Cuts.{apart, index_past, live_has, once_at, index_of-cut, slice_get-cut}
 use Rattle.ac_balance.proofs.Standing.{Stands-same, Stands-live}
 use Rattle.ac_balance.proofs.Reading.{read-is}
 use Rattle.ac_balance.proofs.Climbs.{plugged-order}
 use Rattle.ac_balance.proofs.Opening.{cut}
-use Rattle.ac_balance.proofs.Cuts.{index_past, live_has, once_at, index_of-cut, slice_get-cut, name_at-after, name_before-cut}
+use Rattle.ac_balance.proofs.Ends.{name_at-after, name_before-cut}
 
 module _ {K V : Type 0} where
   abbrev pub view_of : Links (Entry K V) → Indexed K V

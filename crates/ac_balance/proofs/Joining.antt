@@ -10,19 +10,20 @@ use Rattle.ac_balance.specs.declared.links.Links.{Links}
 use Rattle.ac_pool.specs.Link.{name_in}
 use Rattle.ac_balance.specs.Trees.{Tree, node, in_order, height, Balanced, balanced, on_right, plugged, before, after}
 use Rattle.ac_balance.specs.TreeFields.{root, linked, left_of, right_of, parent_of, parent_link, is_left_in, balanced_in, place_in, links}
-use Rattle.ac_balance.specs.Climbing.{Has, HasName, Once, Hangs, above_in, Framed, IsSide, IsRooted, Climbing, Closed, Closes, Relinks, Keeps}
+use Rattle.ac_balance.specs.Climbing.{Has, Once, Hangs, above_in, Framed, IsSide, IsRooted, Climbing, Closed, Closes, Relinks, Keeps}
+use Rattle.ac_pool.specs.NamedRows.{HasName, IsOnce}
 use Rattle.ac_balance.specs.Indexed.{without}
 use Rattle.ac_balance.specs.Detaching.{CutOff, Beside, Joined, Detached}
 use Rattle.ac_pool.proofs.SlotNames.{linked_name}
 use Rattle.ac_balance.proofs.Standing.{Hangs-same}
 use Rattle.ac_balance.proofs.Keeping.{sound_still}
-use Rattle.ac_balance.proofs.Names.{IsOnce, HasName-left, HasName-right, HasName-either, once-append, once_from, once_rows, named, has, plugged_once, height_le}
+use Rattle.ac_pool.proofs.Cuts.{HasName-left, HasName-right, HasName-either, once-append, remove-cut, once_cut}
+use Rattle.ac_balance.proofs.Names.{once_from, once_rows, named, has, plugged_once, height_le}
 use Rattle.ac_balance.proofs.Turns.{balanced-order}
 use Rattle.ac_balance.proofs.Turning.{Balances, both_new, balanced-gives}
 use Rattle.ac_balance.proofs.Climbs.{plugged-order, plugged-fits, settled-step}
 use Rattle.ac_balance.proofs.Opening.{cut, rooted-in}
 use Rattle.ac_balance.proofs.Rising.{Framed-same, relinks_then, above-live, side-is}
-use Rattle.ac_balance.proofs.Cuts.{remove-cut, once_cut}
 use Rattle.ac_balance.proofs.Walks.{own_links}
 use Rattle.ac_balance.proofs.Indexes.{Located, place_of_row}
 

@@ -1,7 +1,7 @@
 pub mod Adding
 pub mod Climbs
 pub mod Closing
-pub mod Cuts
+pub mod Ends
 pub mod Cutting
 pub mod Heights
 pub mod Indexes

@@ -4,47 +4,11 @@ use Rattle.std.proofs.lemmas.List.{length-append}
 use Rattle.ac_base.specs.declared.name.Name.{Name}
 use Rattle.ac_base.specs.Rows.{Row}
 use Rattle.ac_balance.specs.Trees.{Tree, leaf, node, in_order, height, Step, on_left, on_right, side_of, joined, plugged}
-use Rattle.ac_balance.specs.Climbing.{Has, HasName, Once, name_of}
+use Rattle.ac_balance.specs.Climbing.{Has, Once, name_of}
+use Rattle.ac_pool.specs.NamedRows.{HasName, IsOnce}
+use Rattle.ac_pool.proofs.Cuts.{HasName-left, HasName-right, HasName-either, once_left, once_right, apart, once-append, once_put}
 
 module _ {X : Type 0} where
-  abbrev pub IsOnce : List (Row Name X) → Type 0
-  IsOnce [] = Unit {0}
-  IsOnce (r ∷ rows) = (HasName r.name rows → ⊥) × IsOnce rows
-
-  pub HasName-left : (a : Name) (xs ys : List (Row Name X)) → HasName a xs → HasName a (xs ++ ys)
-  HasName-left a [] ys h = absurd h
-  HasName-left a (x ∷ xs) ys h = elim h [ inl e ↦ inl e | inr t ↦ inr (HasName-left a xs ys t) ]
-
-  pub HasName-right : (a : Name) (xs ys : List (Row Name X)) → HasName a ys → HasName a (xs ++ ys)
-  HasName-right a [] ys h = h
-  HasName-right a (x ∷ xs) ys h = inr (HasName-right a xs ys h)
-
-  pub HasName-either : (a : Name) (xs ys : List (Row Name X)) → HasName a (xs ++ ys) → HasName a xs ⊎ HasName a ys
-  HasName-either a [] ys h = inr h
-  HasName-either a (x ∷ xs) ys h = elim h [ inl e ↦ inl (inl e) | inr t ↦ elim (HasName-either a xs ys t) [ inl l ↦ inl (inr l) | inr r ↦ inr r ] ]
-
-  pub once_left : (xs ys : List (Row Name X)) → IsOnce (xs ++ ys) → IsOnce xs
-  once_left [] ys h = tt
-  once_left (x ∷ xs) ys h = (λ t. h.0 (HasName-left x.name xs ys t), once_left xs ys h.1)
-
-  pub once_right : (xs ys : List (Row Name X)) → IsOnce (xs ++ ys) → IsOnce ys
-  once_right [] ys h = h
-  once_right (x ∷ xs) ys h = once_right xs ys h.1
-
-  pub apart : (xs ys : List (Row Name X)) → IsOnce (xs ++ ys) → (a : Name) → HasName a xs → HasName a ys → ⊥
-  apart [] ys h a l r = absurd l
-  apart (x ∷ xs) ys h a l r = elim l [
-    | inl e ↦ h.0 (HasName-right x.name xs ys (subst (λ n. HasName n ys) e r))
-    | inr t ↦ apart xs ys h.1 a t r
-  ]
-
-  pub once-append : (xs ys : List (Row Name X)) → IsOnce xs → IsOnce ys → ((a : Name) → HasName a xs → HasName a ys → ⊥) → IsOnce (xs ++ ys)
-  once-append [] ys p q n = q
-  once-append (x ∷ xs) ys p q n = (
-    λ t. elim (HasName-either x.name xs ys t) [ inl l ↦ p.0 l | inr r ↦ n x.name (inl refl) r ],
-    once-append xs ys p.1 q (λ a l r. n a (inr l) r),
-  )
-
   -- the tree's names are its rows' names
   pub named : (a : Name) (t : Tree X) → Has a t → HasName a (in_order t)
   named a leaf h = h
@@ -120,12 +84,6 @@ module _ {X : Type 0} where
   pub plugged_le : (steps : List (Step X)) (t : Tree X) → length (in_order t) ≤ length (in_order (plugged steps t))
   plugged_le [] t = omega arith
   plugged_le (s ∷ steps) t = let up = plugged_le steps (joined s t) in let here = joined_le s t in omega (arith, up, here)
-
-  pub once_put : (xs : List (Row Name X)) (r : Row Name X) (ys : List (Row Name X)) → IsOnce (xs ++ ys) → (HasName r.name (xs ++ ys) → ⊥) → IsOnce (xs ++ r ∷ ys)
-  once_put xs r ys h n = once-append xs (r ∷ ys) (once_left xs ys h) (λ q. n (HasName-right r.name xs ys q), once_right xs ys h) (λ a l q. elim q [
-    | inl e ↦ n (HasName-left r.name xs ys (subst (λ k. HasName k xs) e l))
-    | inr t ↦ apart xs ys h a l t
-  ])
 
   -- a row with a new name
   pub once_added : (t u : Tree X) (xs : List (Row Name X)) (x : Row Name X) (ys : List (Row Name X)) → in_order t ≡ xs ++ ys → in_order u ≡ xs ++ x ∷ ys → Once t → (Has x.name t → ⊥) → Once u

@@ -9,7 +9,8 @@ use Rattle.ac_base.specs.Rows.{Row}
 use Rattle.ac_balance.specs.Trees.{Tree, leaf, node, in_order, height, Level, Balanced, balanced, Step, on_left, on_right, side_of, joined, settled, plugged, tall, Fits}
 use Rattle.ac_balance.specs.TreeFields.{root, Stands, left_link, parent_link, height_of, high, beside_link, balanced_in, parent_of, is_left_in, settled_with, settled_in, risen}
 use Rattle.ac_pool.specs.Link.{link_of, name_in}
-use Rattle.ac_balance.specs.Climbing.{Has, Once, Hangs, name_of, above_in, Framed, IsSide, IsRooted, Open, Climbing, Climbed, HasName, Relinks}
+use Rattle.ac_balance.specs.Climbing.{Has, Once, Hangs, name_of, above_in, Framed, IsSide, IsRooted, Open, Climbing, Climbed, Relinks}
+use Rattle.ac_pool.specs.NamedRows.{HasName}
 use Rattle.ac_pool.proofs.SlotNames.{linked_name}
 use Rattle.ac_balance.proofs.Keeping.{keeps_itself, keeps_then, sound_still}
 use Rattle.ac_balance.proofs.Standing.{Nodes, some_name, Stands-same, high-is, linked_root}

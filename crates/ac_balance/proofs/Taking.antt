@@ -16,15 +16,16 @@ use Rattle.ac_balance.specs.declared.links.Node.{Node}
 use Rattle.ac_balance.specs.declared.links.Links.{Links}
 use Rattle.ac_balance.specs.declared.search.Spot.{Spot}
 use Rattle.ac_balance.specs.TreeFields.{alone, links}
-use Rattle.ac_balance.specs.Climbing.{HasName, Closed, Closes, Keeps}
+use Rattle.ac_pool.specs.NamedRows.{HasName, IsOnce}
+use Rattle.ac_balance.specs.Climbing.{Closed, Closes, Keeps}
 use Rattle.ac_balance.specs.Seeking.{Seeks, Stood}
 use Rattle.ac_balance.specs.Detaching.{Detached}
 use Rattle.ac_balance.specs.Indexed.{Each, IsAscending, indexed, entry, value_at, without, with_row, taken, row_of, first_where, without_row, with_new_row}
 use Rattle.ac_balance.specs.IndexFields.{StandsFor, rows_in, IsOrderIndex}
-use Rattle.ac_balance.proofs.Names.{IsOnce, named}
+use Rattle.ac_balance.proofs.Names.{named}
 use Rattle.ac_balance.proofs.Standing.{Stands-same}
 use Rattle.ac_balance.proofs.Keeping.{keeps_value, keeps_then, sound_still}
-use Rattle.ac_balance.proofs.Cuts.{cut, remove-cut, HasName-cut, once_gone}
+use Rattle.ac_pool.proofs.Cuts.{cut, remove-cut, HasName-cut, once_gone}
 use Rattle.ac_balance.proofs.Indexes.{view_of, index_from, view-is, named_live, rows_once, values_are}
 use Rattle.ac_balance.proofs.Adding.{Vacant, vacant, put_has, put_length}
 use Rattle.ac_balance.proofs.Searched.{sought_rows}

@@ -15,7 +15,7 @@ use Rattle.ac_pool.proofs.SlotNames.{linked_name}
 use Rattle.ac_balance.proofs.Names.{plugged_once, height_le, plugged_le}
 use Rattle.ac_balance.proofs.Rising.{left_to, side-is, above-live, falls}
 use Rattle.ac_balance.proofs.Opening.{cut, root-joined}
-use Rattle.ac_balance.proofs.Cuts.{last_name-append, last_name-cut}
+use Rattle.ac_balance.proofs.Ends.{last_name-append, last_name-cut}
 
 module _ {X : Type 0} where
   -- a part on the way down to the first row

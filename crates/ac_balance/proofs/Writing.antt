@@ -15,18 +15,18 @@ use Rattle.ac_balance.specs.declared.links.Node.{Node}
 use Rattle.ac_balance.specs.declared.links.Links.{Links}
 use Rattle.ac_balance.specs.Trees.{node, in_order, height, Balanced, plugged, before, after}
 use Rattle.ac_balance.specs.TreeFields.{node_with, linked, root, Stands, links}
-use Rattle.ac_balance.specs.Climbing.{Has, HasName, above_in, Framed, Closed}
-use Rattle.ac_balance.specs.Indexed.{IsAscending, Indexed, indexed, entry, index_of, key_of, value_at, value_put, with_rows, with_value, key_put, with_changed}
+use Rattle.ac_balance.specs.Climbing.{Has, above_in, Framed, Closed}
+use Rattle.ac_pool.specs.NamedRows.{HasName, index_of, IsOnce}
+use Rattle.ac_balance.specs.Indexed.{IsAscending, Indexed, indexed, entry, key_of, value_at, value_put, with_rows, with_value, key_put, with_changed}
 use Rattle.ac_balance.specs.IndexFields.{StandsFor, rows_in, IsOrderIndex}
-use Rattle.ac_balance.proofs.Names.{IsOnce, IsAround, plugged_once, once_from, once_put}
+use Rattle.ac_balance.proofs.Names.{IsAround, plugged_once, once_from}
+use Rattle.ac_pool.proofs.Cuts.{once_put, set-cut, once_cut, once_gone, HasName-cut, HasName-put, HasName-right}
 use Rattle.ac_balance.proofs.Standing.{Stands-same}
 use Rattle.ac_balance.proofs.Keeping.{keeps_value, sound_still}
 use Rattle.ac_balance.proofs.Climbs.{plugged-fits, plugged-balanced}
 use Rattle.ac_balance.proofs.Opening.{cut, mend, root-top}
 use Rattle.ac_balance.proofs.Rising.{Framed-same}
 use Rattle.ac_balance.proofs.Sides.{each-weaker, ascending-right, before-less}
-use Rattle.ac_balance.proofs.Cuts.{set-cut, once_cut, once_gone, HasName-cut, HasName-put}
-use Rattle.ac_balance.proofs.Names.{HasName-right}
 use Rattle.ac_balance.proofs.Indexes.{view_of, index_from, view-is, Located, located, place_of_row, row_located, values_are, cut_order}
 use Rattle.ac_balance.proofs.Adding.{ascending-put}
 use Rattle.ac_balance.proofs.Taking.{ascending-cut}

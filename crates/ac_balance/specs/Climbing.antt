@@ -3,6 +3,7 @@ use Rattle.std.specs.Prelude.{◌≡◌, ℕ, ◌+◌, ◌^◌, ◌≤◌, ◌�
 use Rattle.ac_base.specs.declared.name.Name.{Name}
 use Rattle.ac_base.specs.Rows.{Row}
 use Rattle.ac_pool.specs.Contents.{Contents, value_of, live_count, IsSound}
+use Rattle.ac_pool.specs.NamedRows.{HasName}
 use Rattle.ac_balance.specs.declared.links.Node.{Node}
 use Rattle.ac_balance.specs.declared.links.Links.{Links}
 use Rattle.ac_balance.specs.declared.places.Place.{Place}
@@ -13,10 +14,6 @@ module _ {X : Type 0} where
   abbrev pub Has : Name → Tree X → Type 0
   Has a leaf = ⊥
   Has a (node l x r) = (a ≡ x.name) ⊎ (Has a l ⊎ Has a r)
-
-  abbrev pub HasName : Name → List (Row Name X) → Type 0
-  HasName a [] = ⊥
-  HasName a (r ∷ rows) = (a ≡ r.name) ⊎ HasName a rows
 
   -- each name stands once
   abbrev pub Once : Tree X → Type 0

@@ -7,7 +7,8 @@ use Rattle.ac_balance.specs.declared.links.Node.{Node}
 use Rattle.ac_balance.specs.declared.links.Links.{Links}
 use Rattle.ac_balance.specs.Trees.{Tree, in_order, height, Level, Balanced}
 use Rattle.ac_balance.specs.TreeFields.{root}
-use Rattle.ac_balance.specs.Climbing.{Has, HasName, Once, Hangs, Relinks, Closed}
+use Rattle.ac_balance.specs.Climbing.{Has, Once, Hangs, Relinks, Closed}
+use Rattle.ac_pool.specs.NamedRows.{HasName}
 use Rattle.ac_balance.specs.Indexed.{without}
 use Rattle.ac_balance.specs.Walking.{first_name}
 

@@ -7,7 +7,8 @@ use Rattle.ac_balance.specs.declared.entry.Entry.{Entry}
 use Rattle.ac_balance.specs.declared.links.Links.{Links}
 use Rattle.ac_balance.specs.Trees.{in_order}
 use Rattle.ac_balance.specs.TreeFields.{tree_in}
-use Rattle.ac_balance.specs.Climbing.{HasName, Closed}
+use Rattle.ac_pool.specs.NamedRows.{HasName}
+use Rattle.ac_balance.specs.Climbing.{Closed}
 use Rattle.ac_balance.specs.Indexed.{IsAscending}
 
 module _ {K V : Type 0} where

@@ -8,6 +8,7 @@ use Rattle.ac_base.specs.declared.name.Name.{Name}
 use Rattle.ac_base.specs.Growth.{pow8}
 use Rattle.ac_base.specs.Rows.{Row, row, row_code}
 use Rattle.ac_pool.specs.Names.{name_cmp}
+use Rattle.ac_pool.specs.NamedRows.{index_of, name_at, name_before}
 use Rattle.ac_balance.specs.declared.entry.Entry.{Entry}
 
 pub record Indexed (K V : Type 0) : Type 0 where
@@ -22,19 +23,6 @@ abbrev pub entry_code : {K V : Type 0} → Coded K → Coded V → Coded (Entry 
 entry_code {K} {V} k v = code_by (K × V) (coded× k v) (λ e. (e.key, e.value)) (λ p. entry p.0 p.1) (λ _. refl)
 
 module _ {X : Type 0} where
-  -- the place of the name's row, or the number of rows where there is none
-  abbrev pub index_of : Name → List (Row Name X) → ℕ
-  index_of a [] = 0
-  index_of a (r ∷ rs) = if eq_by_cmp name_cmp a r.name then 0 else suc (index_of a rs)
-
-  -- the name of the row at the place i, and of the row before it
-  abbrev pub name_at : List (Row Name X) → ℕ → Option Name
-  name_at rows i = option_map (λ (r : Row Name X). r.name) (slice_get rows i)
-
-  abbrev pub name_before : List (Row Name X) → ℕ → Option Name
-  name_before rows zero = None
-  name_before rows (suc i) = name_at rows i
-
   abbrev pub value_at : List (Row Name X) → Name → Option X
   value_at rows a = option_map (λ (r : Row Name X). r.value) (slice_get rows (index_of a rows))
 

@@ -7,7 +7,7 @@ use Rattle.ac_balance.specs.declared.links.Node.{Node}
 use Rattle.ac_balance.specs.Trees.{Tree, node, in_order, Step, plugged, before, after}
 use Rattle.ac_balance.specs.TreeFields.{root, Stands}
 use Rattle.ac_balance.specs.Climbing.{Once}
-use Rattle.ac_balance.specs.Indexed.{name_at, name_before}
+use Rattle.ac_pool.specs.NamedRows.{name_at, name_before}
 
 -- the first of the two names that there is
 abbrev pub or_else : Option Name → Option Name → Option Name

@@ -15,10 +15,12 @@ use Rattle.ac_pool.proofs.ContentsLaws.{live_value, value_of-added_same, value_o
 use Rattle.ac_chain.specs.declared.links.Node.{Node}
 use Rattle.ac_chain.specs.declared.links.Links.{Links}
 use Rattle.ac_base.specs.Rows.{Row, row, names}
-use Rattle.ac_chain.specs.Rows.{Chained, chained, index_of, place_of, IsLive, value_of, name_at, name_before, next_name, prev_name, cleared, no_rows, reserved, inserted, removed, IsFresh, IsSound, walk_from, WalksInOrder}
-use Rattle.ac_chain.specs.ChainFields.{node, node_with, links, first_or, last_or, HasName, IsOnce, Linked, StandsFor, walked, rows_in, IsChain, next_of, prev_of, before_in, link_before, linked_before, attached, unlinked}
+use Rattle.ac_chain.specs.Rows.{Chained, chained, place_of, IsLive, value_of, next_name, prev_name, cleared, no_rows, reserved, inserted, removed, IsFresh, IsSound, walk_from, WalksInOrder}
+use Rattle.ac_pool.specs.NamedRows.{index_of, name_at, name_before, HasName, IsOnce}
+use Rattle.ac_chain.specs.ChainFields.{node, node_with, links, first_or, last_or, Linked, StandsFor, walked, rows_in, IsChain, next_of, prev_of, before_in, link_before, linked_before, attached, unlinked}
 use Rattle.ac_pool.specs.Link.{link_of, name_in}
-use Rattle.ac_chain.proofs.Cuts.{apart, index_of-cut, name_at_has, HasName-left, HasName-right, HasName-cut, HasName-put, once_cut, once_gone, once_put, has_live, live_has, Cut, cut, cut-row, split, once_at, remove-cut, insert-cut, name_at-first, name_at-after, name_before-cut}
+use Rattle.ac_pool.proofs.Cuts.{apart, index_of-cut, name_at_has, HasName-left, HasName-right, HasName-cut, HasName-put, once_cut, once_gone, once_put, has_live, live_has, Cut, cut, cut-row, once_at, remove-cut, insert-cut}
+use Rattle.ac_chain.proofs.Ends.{split, name_at-first, name_at-after, name_before-cut}
 use Rattle.ac_chain.proofs.Linking.{in_slot, last_has, Linked-same, Linked-at, Linked-live, walked-is, next_linked, prev_linked}
 use Rattle.ac_pool.proofs.SlotNames.{linked_name}
 use Rattle.ac_chain.proofs.Writes.{attached-is}

@@ -2,7 +2,8 @@
 use Rattle.std.proofs.Common.{◌≡◌, suc, ◌-◌, ◌<◌, Bool, true, false, not, List, ◌∷◌, length, Option, Some, None, is_none, is_some, refl, sym, ap, ◌∙◌, subst, arith, []}
 use Rattle.std.proofs.lemmas.Bool.{and_parts}
 use Rattle.ac_base.specs.declared.name.Name.{Name}
-use Rattle.ac_chain.specs.Rows.{Chained, index_of, place_of, name_at, next_name, IsLive, IsSound, value_of}
+use Rattle.ac_chain.specs.Rows.{Chained, place_of, next_name, IsLive, IsSound, value_of}
+use Rattle.ac_pool.specs.NamedRows.{index_of, name_at}
 use Rattle.ac_chain.specs.ChainFields.{first_or}
 use Rattle.ac_chain.proofs.Moves.{once_from}
 use Rattle.ac_base.specs.Rows.{Row, values}

@@ -5,10 +5,12 @@ use Rattle.std.proofs.lemmas.Bool.{cases_eq}
 use Rattle.std.proofs.lemmas.List.{drop_all, take-append-drop}
 use Rattle.std.proofs.Math.Seq.{take-append_seam, drop-append_seam, drop-append-add}
 use Rattle.ac_base.specs.declared.name.Name.{Name}
-use Rattle.ac_chain.specs.Rows as chain
-use Rattle.ac_chain.specs.Rows.{Chained, IsLive, IsSound, place_of, index_of, removed, next_name, name_before}
-use Rattle.ac_chain.specs.ChainFields.{first_or, HasName, IsOnce}
-use Rattle.ac_chain.proofs.Cuts.{split, apart, index_here, index_of-cut, remove-cut, name_at-after, live_has, has_live, HasName-left, HasName-right, HasName-either}
+use Rattle.ac_pool.specs.NamedRows as pool
+use Rattle.ac_chain.specs.Rows.{Chained, IsLive, IsSound, place_of, removed, next_name}
+use Rattle.ac_pool.specs.NamedRows.{index_of, name_before, HasName, IsOnce}
+use Rattle.ac_chain.specs.ChainFields.{first_or}
+use Rattle.ac_chain.proofs.Ends.{split, name_at-after}
+use Rattle.ac_pool.proofs.Cuts.{apart, index_here, index_of-cut, remove-cut, live_has, has_live, HasName-left, HasName-right, HasName-either}
 use Rattle.ac_chain.proofs.Moves.{once_from}
 use Rattle.ac_chain.proofs.Linking.{first_has}
 use Rattle.ac_base.specs.Rows.{Row}
@@ -60,7 +62,7 @@ module _ {X : Type 0} where
             is = ap (λ (d : Chained X). d.rows) r ∙ (λ i. remove (rows i) (index i)) ∙ remove-cut c.before x rest;
             at = c.at;
             many = omega arith;
-            named = n ∙ (λ i. chain.name_at (rows i) (step i)) ∙ name_at-after c.before x rest;
+            named = n ∙ (λ i. pool.name_at (rows i) (step i)) ∙ name_at-after c.before x rest;
             next = ap (λ (d : Chained X). d.next_serial) r ∙ c.next;
             spare = omega arith;
             sound = sound;
@@ -122,7 +124,7 @@ module _ {X : Type 0} where
   none_last [] e = refl
   none_last (r ∷ rows) e = absurd (there r rows e)
     where
-      there : (r : Row Name X) (rows : List (Row Name X)) → None ≡ chain.name_at (r ∷ rows) (length rows) → ⊥
+      there : (r : Row Name X) (rows : List (Row Name X)) → None ≡ pool.name_at (r ∷ rows) (length rows) → ⊥
       there r [] e = let k : None ≡ Some r.name = e in cc
       there r (q ∷ rows) e = there q rows e
 
@@ -167,6 +169,6 @@ module _ {X : Type 0} where
     | inr right ↦ subst (λ zs. HasName a zs) (take-append-drop (i + n) rows) (HasName-right a (take (i + n) rows) (drop (i + n) rows) right)
   ]
 
-  pub first_place : (rows : List (Row Name X)) (place : Option Name) → place ≡ chain.name_at rows 0 → place_of place rows ≡ 0
+  pub first_place : (rows : List (Row Name X)) (place : Option Name) → place ≡ pool.name_at rows 0 → place_of place rows ≡ 0
   first_place [] place e = ap (λ p. place_of {X = X} p []) e
   first_place (r ∷ rows) place e = ap (λ p. place_of p (r ∷ rows)) e ∙ index_here r.name r rows refl

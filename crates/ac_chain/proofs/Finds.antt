@@ -5,9 +5,9 @@ use Rattle.std.specs.List.{list_any}
 use Rattle.std.specs.Option.{option_map, ForSome}
 use Rattle.std.proofs.lemmas.Option.{none-some}
 use Rattle.ac_base.specs.declared.name.Name.{Name}
-use Rattle.ac_chain.specs.Rows.{Chained, index_of, place_of, name_at, name_before, IsLive}
-use Rattle.ac_chain.specs.ChainFields.{HasName, IsOnce}
-use Rattle.ac_chain.proofs.Cuts.{index_here, name_at_has, has_live, HasName-left, HasName-right}
+use Rattle.ac_chain.specs.Rows.{Chained, place_of, IsLive}
+use Rattle.ac_pool.specs.NamedRows.{index_of, name_at, name_before, HasName, IsOnce}
+use Rattle.ac_pool.proofs.Cuts.{index_here, name_at_has, has_live, HasName-left, HasName-right}
 use Rattle.ac_chain.proofs.Chains.{index_at}
 use Rattle.ac_base.specs.Rows.{Row, row, names, values}
 use Rattle.ac_model.specs.Letters.{mark_of, mark_for}

@@ -5,8 +5,8 @@ use Rattle.std.proofs.lemmas.Bool.{cond-false}
 use Rattle.std.proofs.lemmas.List.{reverse-append}
 use Rattle.ac_base.specs.declared.name.Name.{Name}
 use Rattle.ac_chain.specs.Rows.{Chained}
-use Rattle.ac_chain.specs.ChainFields.{HasName}
-use Rattle.ac_chain.proofs.Cuts.{HasName-left, HasName-right, HasName-either}
+use Rattle.ac_pool.specs.NamedRows.{HasName}
+use Rattle.ac_pool.proofs.Cuts.{HasName-left, HasName-right, HasName-either}
 use Rattle.ac_model.specs.Rows as model
 use Rattle.ac_base.specs.Rows.{Row, row, names}
 use Rattle.ac_model.specs.Rows.{fresh, put}

@@ -1,6 +1,6 @@
 pub mod Chains
 pub mod Compares
-pub mod Cuts
+pub mod Ends
 pub mod Deletes
 pub mod Finds
 pub mod Grows

@@ -7,8 +7,9 @@ use Rattle.ac_pool.specs.PoolFields.{name_at}
 use Rattle.ac_chain.specs.declared.links.Node.{Node}
 use Rattle.ac_base.specs.Rows.{Row}
 use Rattle.ac_pool.specs.Link.{link_of}
-use Rattle.ac_chain.specs.ChainFields.{node, node_with, first_or, last_or, HasName, IsOnce, Linked, walked, walked_on, next_of, prev_of}
-use Rattle.ac_chain.proofs.Cuts.{HasName-left, HasName-right, once_left, once_right, apart}
+use Rattle.ac_chain.specs.ChainFields.{node, node_with, first_or, last_or, Linked, walked, walked_on, next_of, prev_of}
+use Rattle.ac_pool.specs.NamedRows.{HasName, IsOnce}
+use Rattle.ac_pool.proofs.Cuts.{HasName-left, HasName-right, once_left, once_right, apart}
 use Rattle.ac_pool.proofs.SlotNames.{linked_name}
 
 abbrev pub Nodes : Type 0 → Type 0

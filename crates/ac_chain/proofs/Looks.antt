@@ -4,7 +4,7 @@ use Rattle.std.specs.Prelude.{◌==◌, slice_get}
 use Rattle.std.specs.Option.{option_map}
 use Rattle.std.proofs.lemmas.List.{length-map}
 use Rattle.ac_base.specs.declared.name.Name.{Name}
-use Rattle.ac_chain.specs.Rows.{name_at, name_before}
+use Rattle.ac_pool.specs.NamedRows.{name_at, name_before}
 use Rattle.ac_base.specs.Rows.{Row, values}
 use Rattle.ac_model.specs.Objects.{plains}
 

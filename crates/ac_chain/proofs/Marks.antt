@@ -8,9 +8,9 @@ use Rattle.ac_base.specs.declared.cursor.Cursor.{Cursor}
 use Rattle.ac_base.specs.declared.cursor.Cursor.TheVariants.{At}
 use Rattle.ac_pool.proofs.NameLaws.{same_name}
 use Rattle.ac_chain.specs.Rows as chain
-use Rattle.ac_chain.specs.Rows.{Chained, index_of, IsLive, IsSound, name_at}
-use Rattle.ac_chain.specs.ChainFields.{HasName}
-use Rattle.ac_chain.proofs.Cuts.{has_live, index_here, index_past, name_at_has}
+use Rattle.ac_chain.specs.Rows.{Chained, IsLive, IsSound}
+use Rattle.ac_pool.specs.NamedRows.{index_of, name_at, HasName}
+use Rattle.ac_pool.proofs.Cuts.{has_live, index_here, index_past, name_at_has}
 use Rattle.ac_base.specs.Rows.{Row, row, names}
 use Rattle.ac_model.specs.Rows.{is_named, place_of, value_at}
 use Rattle.ac_model.specs.Objects.{Object, plain_row}

@@ -7,9 +7,11 @@ use Rattle.std.proofs.lemmas.List.{length-map}
 use Rattle.std.proofs.Math.Seq.{drop-append_seam}
 use Rattle.ac_base.specs.declared.name.Name.{Name}
 use Rattle.ac_chain.specs.Rows as chain
-use Rattle.ac_chain.specs.Rows.{Chained, place_of, name_at, IsLive, IsSound, IsFresh, inserted, reserved, index_of}
-use Rattle.ac_chain.specs.ChainFields.{first_or, HasName, IsOnce}
-use Rattle.ac_chain.proofs.Cuts.{insert-cut, live_has, has_live, HasName-right, HasName-cut, name_at-first}
+use Rattle.ac_chain.specs.Rows.{Chained, place_of, IsLive, IsSound, IsFresh, inserted, reserved}
+use Rattle.ac_pool.specs.NamedRows.{name_at, index_of, HasName, IsOnce}
+use Rattle.ac_chain.specs.ChainFields.{first_or}
+use Rattle.ac_pool.proofs.Cuts.{insert-cut, live_has, has_live, HasName-right, HasName-cut}
+use Rattle.ac_chain.proofs.Ends.{name_at-first}
 use Rattle.ac_chain.proofs.Linking.{first_has}
 use Rattle.ac_chain.proofs.Moves.{once_from}
 use Rattle.ac_base.specs.Rows.{Row, row}

@@ -3,8 +3,9 @@ use Rattle.std.proofs.Common.{◌≡◌, ℕ, ◌+◌, ◌<◌, ◌≤◌, ◌^�
 use Rattle.std.specs.Option.{option_map}
 use Rattle.ac_base.specs.declared.limit.Limit.{Limit}
 use Rattle.ac_base.specs.declared.name.Name.{Name}
-use Rattle.ac_chain.specs.Rows.{Chained, IsLive, IsSound, value_of, index_of, removed, cleared, next_name}
-use Rattle.ac_chain.proofs.Cuts.{cut, cut-row, live_has}
+use Rattle.ac_chain.specs.Rows.{Chained, IsLive, IsSound, value_of, removed, cleared, next_name}
+use Rattle.ac_pool.specs.NamedRows.{index_of}
+use Rattle.ac_pool.proofs.Cuts.{cut, cut-row, live_has}
 use Rattle.ac_base.specs.Rows.{Row}
 use Rattle.ac_base.specs.Limits.{is_past}
 use Rattle.ac_base.specs.declared.limit.TheConstants.{GREATEST_LENGTH}

@@ -6,9 +6,11 @@ use Rattle.std.specs.Option.{option_map}
 use Rattle.ac_base.specs.declared.name.Name.{Name}
 use Rattle.ac_chain.specs.declared.links.Links.{Links}
 use Rattle.ac_base.specs.Rows.{Row}
-use Rattle.ac_chain.specs.Rows.{Chained, chained, index_of, place_of, IsLive, name_at, next_name, put_at, moved_rows, moved}
-use Rattle.ac_chain.specs.ChainFields.{first_or, HasName, IsOnce, StandsFor, rows_in, IsChain, linked_before, unlinked}
-use Rattle.ac_chain.proofs.Cuts.{apart, live_has, Cut, cut, cut-row, split, slice_get-cut, remove-cut, insert-cut, index_of-cut, name_at-after}
+use Rattle.ac_chain.specs.Rows.{Chained, chained, place_of, IsLive, next_name, put_at, moved_rows, moved}
+use Rattle.ac_pool.specs.NamedRows.{index_of, name_at, HasName, IsOnce}
+use Rattle.ac_chain.specs.ChainFields.{first_or, StandsFor, rows_in, IsChain, linked_before, unlinked}
+use Rattle.ac_pool.proofs.Cuts.{apart, live_has, Cut, cut, cut-row, slice_get-cut, remove-cut, insert-cut, index_of-cut}
+use Rattle.ac_chain.proofs.Ends.{split, name_at-after}
 use Rattle.ac_chain.proofs.Standing.{unlinked-keeps, linked_before-keeps}
 use Rattle.ac_chain.proofs.Chains.{view_of, rows_in-is, IsChain-from, moved_stands, placed}
 

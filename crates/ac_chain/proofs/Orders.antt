@@ -8,9 +8,11 @@ use Rattle.std.specs.Option.{option_map}
 use Rattle.ac_base.specs.declared.name.Name.{Name}
 use Rattle.ac_pool.proofs.NameLaws.{cases_name}
 use Rattle.ac_base.specs.Rows.{Row, names}
-use Rattle.ac_chain.specs.Rows.{Chained, chained, with_rows, index_of, IsLive, name_at, next_name, moved, links_swapped, reversed, IsOrderOf, Reorders}
-use Rattle.ac_chain.specs.ChainFields.{first_or, HasName, IsOnce}
-use Rattle.ac_chain.proofs.Cuts.{apart, HasName-left, HasName-right, HasName-either, HasName-put, HasName-cut, once_cut, once_gone, once_put, name_at_has, has_live, live_has, Cut, cut, index_here, index_past, index_of-cut, slice_get-cut, name_at-first}
+use Rattle.ac_chain.specs.Rows.{Chained, chained, with_rows, IsLive, next_name, moved, links_swapped, reversed, IsOrderOf, Reorders}
+use Rattle.ac_pool.specs.NamedRows.{index_of, name_at, HasName, IsOnce}
+use Rattle.ac_chain.specs.ChainFields.{first_or}
+use Rattle.ac_pool.proofs.Cuts.{apart, HasName-left, HasName-right, HasName-either, HasName-put, HasName-cut, once_cut, once_gone, once_put, name_at_has, has_live, live_has, Cut, cut, index_here, index_past, index_of-cut, slice_get-cut}
+use Rattle.ac_chain.proofs.Ends.{name_at-first}
 use Rattle.ac_chain.proofs.Linking.{first_has}
 use Rattle.ac_chain.proofs.Moves.{same_head, same_tail, move, moved_itself, moved_before_next, next_name-cut}
 

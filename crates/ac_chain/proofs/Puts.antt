@@ -5,9 +5,11 @@ use Rattle.std.specs.Prelude.{max}
 use Rattle.std.specs.List.{insert}
 use Rattle.std.proofs.Math.Nat.{le-max_left, le-max_right}
 use Rattle.ac_base.specs.declared.name.Name.{Name}
-use Rattle.ac_chain.specs.Rows.{Chained, IsLive, IsSound, IsFresh, place_of, inserted, reserved, chained, index_of}
-use Rattle.ac_chain.specs.ChainFields.{first_or, HasName, IsOnce}
-use Rattle.ac_chain.proofs.Cuts.{split, apart, index_of-cut, insert-cut, live_has, has_live, HasName-right, HasName-put}
+use Rattle.ac_chain.specs.Rows.{Chained, IsLive, IsSound, IsFresh, place_of, inserted, reserved, chained}
+use Rattle.ac_pool.specs.NamedRows.{index_of, HasName, IsOnce}
+use Rattle.ac_chain.specs.ChainFields.{first_or}
+use Rattle.ac_chain.proofs.Ends.{split}
+use Rattle.ac_pool.proofs.Cuts.{apart, index_of-cut, insert-cut, live_has, has_live, HasName-right, HasName-put}
 use Rattle.ac_chain.proofs.Moves.{once_from}
 use Rattle.ac_base.specs.Rows.{Row, row}
 use Rattle.ac_model.specs.Rows.{fresh}

@@ -9,9 +9,11 @@ use Rattle.std.proofs.Math.Nat.{le-max_left}
 use Rattle.ac_base.specs.declared.name.Name.{Name}
 use Rattle.ac_base.specs.Growth.{pow8}
 use Rattle.ac_chain.specs.Rows as chain
-use Rattle.ac_chain.specs.Rows.{Chained, IsLive, IsSound, index_of, name_before, prev_name, reserved, cleared}
-use Rattle.ac_chain.specs.ChainFields.{HasName, IsOnce, last_or}
-use Rattle.ac_chain.proofs.Cuts.{apart, index_of-cut, name_before-cut, slice_get-cut, has_live, HasName-right}
+use Rattle.ac_chain.specs.Rows.{Chained, IsLive, IsSound, prev_name, reserved, cleared}
+use Rattle.ac_pool.specs.NamedRows.{index_of, name_before, HasName, IsOnce}
+use Rattle.ac_chain.specs.ChainFields.{last_or}
+use Rattle.ac_pool.proofs.Cuts.{apart, index_of-cut, slice_get-cut, has_live, HasName-right}
+use Rattle.ac_chain.proofs.Ends.{name_before-cut}
 use Rattle.ac_chain.proofs.Chains.{index_at}
 use Rattle.ac_chain.proofs.Moves.{once_from}
 use Rattle.ac_base.specs.Rows.{Row, values}

@@ -11,9 +11,11 @@ use Rattle.ac_base.specs.declared.name.Name.{Name}
 use Rattle.ac_base.specs.declared.fault.Fault.{Fault}
 use Rattle.ac_base.specs.declared.fault.Fault.TheVariants as fault
 use Rattle.ac_base.specs.declared.cursor.Cursor.{Cursor}
-use Rattle.ac_chain.specs.Rows.{Chained, index_of, place_of, name_at, IsLive, IsSound, moved, moved_rows}
-use Rattle.ac_chain.specs.ChainFields.{HasName, IsOnce, first_or}
-use Rattle.ac_chain.proofs.Cuts.{live_has, has_live, cut as cut_at, cut-row, name_at_has, index_of-cut, apart, once_cut, HasName-put, HasName-cut, HasName-right}
+use Rattle.ac_chain.specs.Rows.{Chained, place_of, IsLive, IsSound, moved, moved_rows}
+use Rattle.ac_pool.specs.NamedRows.{index_of, name_at, HasName, IsOnce}
+use Rattle.ac_chain.specs.ChainFields.{first_or}
+use Rattle.ac_pool.proofs.Cuts.{live_has, has_live, cut-row, name_at_has, index_of-cut, apart, once_cut, HasName-put, HasName-cut, HasName-right}
+use Rattle.ac_pool.proofs.Cuts.{cut as cut_at}
 use Rattle.ac_chain.proofs.Chains.{index_at}
 use Rattle.ac_chain.proofs.Moves.{once_from, move, moved_itself}
 use Rattle.ac_model.specs.Rows as model

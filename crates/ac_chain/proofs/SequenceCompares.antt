@@ -4,7 +4,8 @@ use Rattle.std.proofs.lemmas.Option.{none-some}
 use Rattle.ac_base.specs.declared.limit.Limit.{Limit}
 use Rattle.ac_base.specs.declared.name.Name.{Name}
 use Rattle.ac_base.specs.Guards.{GuardCounts}
-use Rattle.ac_chain.specs.Rows.{Chained, name_at}
+use Rattle.ac_chain.specs.Rows.{Chained}
+use Rattle.ac_pool.specs.NamedRows.{name_at}
 use Rattle.ac_base.specs.Rows.{Row, values}
 use Rattle.ac_model.specs.Rows.{is_ascending}
 use Rattle.ac_model.specs.Objects.{Object, plain}

@@ -3,7 +3,7 @@ use Rattle.std.proofs.Common.{◌≡◌, ℕ, ◌-◌, length, Option, Some, Non
 use Rattle.ac_base.specs.declared.limit.Limit.{Limit}
 use Rattle.ac_base.specs.declared.name.Name.{Name}
 use Rattle.ac_chain.specs.Rows.{Chained, IsLive, IsSound, place_of}
-use Rattle.ac_chain.specs.ChainFields.{HasName}
+use Rattle.ac_pool.specs.NamedRows.{HasName}
 use Rattle.ac_base.specs.Guards.{GuardCounts}
 use Rattle.ac_base.specs.declared.cursor.Cursor.{Cursor}
 use Rattle.ac_model.specs.Rows.{cut}

@@ -9,8 +9,9 @@ use Rattle.ac_base.specs.declared.cursor.Cursor.{Cursor}
 use Rattle.ac_base.specs.declared.cursor.Cursor.TheVariants.{NoElement, At}
 use Rattle.ac_base.specs.Guards.{GuardCounts}
 use Rattle.ac_base.specs.FirstReason.{first_reason}
-use Rattle.ac_chain.specs.Rows.{Chained, index_of, place_of, name_at, name_before, IsLive, IsSound}
-use Rattle.ac_chain.proofs.Cuts.{has_live}
+use Rattle.ac_chain.specs.Rows.{Chained, place_of, IsLive, IsSound}
+use Rattle.ac_pool.specs.NamedRows.{index_of, name_at, name_before}
+use Rattle.ac_pool.proofs.Cuts.{has_live}
 use Rattle.ac_chain.proofs.Moves.{once_from}
 use Rattle.ac_base.specs.Rows.{Row, names}
 use Rattle.ac_model.specs.Objects.{Object, plain}

@@ -13,9 +13,9 @@ use Rattle.ac_base.specs.Guards.{GuardCounts}
 use Rattle.ac_base.specs.declared.cursor.Cursor.{Cursor}
 use Rattle.ac_base.specs.declared.cursor.Cursor.TheVariants.{NoElement, At}
 use Rattle.ac_base.specs.Growth.{pow8}
-use Rattle.ac_chain.specs.Rows.{Chained, IsLive, IsSound, place_of, index_of, name_at}
-use Rattle.ac_chain.specs.ChainFields.{HasName}
-use Rattle.ac_chain.proofs.Cuts.{has_live, live_has, index_here}
+use Rattle.ac_chain.specs.Rows.{Chained, IsLive, IsSound, place_of}
+use Rattle.ac_pool.specs.NamedRows.{index_of, name_at, HasName}
+use Rattle.ac_pool.proofs.Cuts.{has_live, live_has, index_here}
 use Rattle.ac_base.specs.Rows.{Row, names}
 use Rattle.ac_model.specs.Rows.{fresh, put}
 use Rattle.ac_base.specs.Limits.{is_past}

@@ -6,9 +6,10 @@ use Rattle.ac_base.specs.declared.name.Name.{Name}
 use Rattle.ac_base.specs.declared.cursor.Cursor.{Cursor}
 use Rattle.ac_base.specs.declared.cursor.Cursor.TheVariants.{NoElement, At}
 use Rattle.ac_base.specs.Guards.{GuardCounts}
-use Rattle.ac_chain.specs.Rows.{Chained, index_of, IsLive, IsSound, links_swapped, moved, reversed}
-use Rattle.ac_chain.specs.ChainFields.{HasName}
-use Rattle.ac_chain.proofs.Cuts.{live_has, cut as cut_at, cut-row}
+use Rattle.ac_chain.specs.Rows.{Chained, IsLive, IsSound, links_swapped, moved, reversed}
+use Rattle.ac_pool.specs.NamedRows.{index_of, HasName}
+use Rattle.ac_pool.proofs.Cuts.{live_has, cut-row}
+use Rattle.ac_pool.proofs.Cuts.{cut as cut_at}
 use Rattle.ac_chain.proofs.Moves.{once_from}
 use Rattle.ac_chain.proofs.Orders.{length_moved, live_moved}
 use Rattle.ac_model.specs.Rows.{with_exchanged_rows}

@@ -10,8 +10,9 @@ use Rattle.ac_base.specs.declared.cursor.Cursor.TheVariants.{At}
 use Rattle.ac_base.specs.Guards.{GuardCounts}
 use Rattle.ac_base.specs.FirstReason.{first_reason}
 use Rattle.ac_chain.specs.Rows as chain
-use Rattle.ac_chain.specs.Rows.{Chained, index_of, IsLive, IsSound, name_at, name_before, next_name, prev_name}
-use Rattle.ac_chain.proofs.Cuts.{live_has, has_live}
+use Rattle.ac_chain.specs.Rows.{Chained, IsLive, IsSound, next_name, prev_name}
+use Rattle.ac_pool.specs.NamedRows.{index_of, name_at, name_before}
+use Rattle.ac_pool.proofs.Cuts.{live_has, has_live}
 use Rattle.ac_chain.proofs.Chains.{index_at}
 use Rattle.ac_chain.proofs.Moves.{once_from}
 use Rattle.ac_base.specs.Rows.{Row, names, values}

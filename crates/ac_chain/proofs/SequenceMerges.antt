@@ -5,7 +5,7 @@ use Rattle.ac_base.specs.declared.limit.Limit.{Limit}
 use Rattle.ac_base.specs.declared.name.Name.{Name}
 use Rattle.ac_base.specs.Guards.{GuardCounts}
 use Rattle.ac_chain.specs.Rows.{Chained}
-use Rattle.ac_chain.proofs.Cuts.{live_has, has_live}
+use Rattle.ac_pool.proofs.Cuts.{live_has, has_live}
 use Rattle.ac_base.specs.Rows.{Row}
 use Rattle.ac_model.specs.Rows.{fresh, merged}
 use Rattle.ac_model.specs.Objects.{Object, plain, length_of, contents, grown, capacity_after}

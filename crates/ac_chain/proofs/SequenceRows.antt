@@ -5,7 +5,7 @@ use Rattle.ac_base.specs.declared.limit.Limit.TheVariants.{Unbounded, Bounded}
 use Rattle.ac_base.specs.declared.name.Name.{Name}
 use Rattle.ac_base.specs.Guards.{GuardCounts}
 use Rattle.ac_chain.specs.Rows.{Chained, IsSound}
-use Rattle.ac_chain.specs.ChainFields.{HasName}
+use Rattle.ac_pool.specs.NamedRows.{HasName}
 use Rattle.ac_base.specs.Rows.{Row, names}
 use Rattle.ac_model.specs.Objects.{plain, plains, with_rows}
 use Rattle.ac_model.specs.Letters.{is_among}

@@ -6,7 +6,7 @@ use Rattle.ac_base.specs.declared.name.Name.{Name}
 use Rattle.ac_base.specs.Guards.{GuardCounts}
 use Rattle.ac_base.specs.Rows.{names}
 use Rattle.ac_chain.specs.Rows.{Chained, IsSound, Reorders}
-use Rattle.ac_chain.specs.ChainFields.{HasName}
+use Rattle.ac_pool.specs.NamedRows.{HasName}
 use Rattle.ac_model.specs.Rows as model
 use Rattle.ac_model.specs.Objects.{plains}
 use Rattle.ac_chain.specs.Sorting.{IsSortedOrder}

@@ -9,8 +9,9 @@ use Rattle.ac_base.specs.declared.cursor.Cursor.TheVariants.{At}
 use Rattle.ac_base.specs.declared.fault.NoMemory.{NoMemory}
 use Rattle.ac_base.specs.Guards.{GuardCounts}
 use Rattle.ac_base.specs.declared.cursor.Cursor.{Cursor}
-use Rattle.ac_chain.specs.Rows.{Chained, IsSound, value_of, index_of, removed}
-use Rattle.ac_chain.proofs.Cuts.{live_has}
+use Rattle.ac_chain.specs.Rows.{Chained, IsSound, value_of, removed}
+use Rattle.ac_pool.specs.NamedRows.{index_of}
+use Rattle.ac_pool.proofs.Cuts.{live_has}
 use Rattle.ac_base.specs.Rows.{Row}
 use Rattle.ac_model.specs.Rows.{value_at, put}
 use Rattle.ac_model.specs.Rows as model

@@ -8,7 +8,7 @@ use Rattle.ac_base.specs.declared.cursor.Cursor.TheVariants.{NoElement, At}
 use Rattle.ac_base.specs.Guards.{GuardCounts}
 use Rattle.ac_base.specs.declared.name.Name.{Name}
 use Rattle.ac_chain.specs.Rows.{Chained, IsLive}
-use Rattle.ac_chain.proofs.Cuts.{has_live}
+use Rattle.ac_pool.proofs.Cuts.{has_live}
 use Rattle.ac_base.specs.Rows.{names}
 use Rattle.ac_model.specs.Objects.{Object}
 use Rattle.ac_model.specs.Letters.{is_among, mark_of}

@@ -6,9 +6,9 @@ use Rattle.ac_base.specs.declared.name.Name.{Name}
 use Rattle.ac_base.specs.declared.cursor.Cursor.{Cursor}
 use Rattle.ac_base.specs.Guards.{GuardCounts}
 use Rattle.ac_chain.specs.Rows as chain
-use Rattle.ac_chain.specs.Rows.{Chained, index_of, IsLive, IsSound, values_swapped, values_exchanged}
-use Rattle.ac_chain.specs.ChainFields.{IsOnce}
-use Rattle.ac_chain.proofs.Cuts.{has_live, live_has, once_at}
+use Rattle.ac_chain.specs.Rows.{Chained, IsLive, IsSound, values_swapped, values_exchanged}
+use Rattle.ac_pool.specs.NamedRows.{index_of, IsOnce}
+use Rattle.ac_pool.proofs.Cuts.{has_live, live_has, once_at}
 use Rattle.ac_chain.proofs.Moves.{once_from}
 use Rattle.ac_base.specs.Rows.{row}
 use Rattle.ac_model.specs.Rows.{with_value, with_some_value, with_exchanged_values}

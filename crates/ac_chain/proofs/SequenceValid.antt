@@ -6,7 +6,7 @@ use Rattle.ac_base.specs.declared.limit.Limit.TheVariants.{Unbounded, Bounded}
 use Rattle.ac_base.specs.declared.name.Name.{Name}
 use Rattle.ac_base.specs.Guards.{GuardCounts}
 use Rattle.ac_chain.specs.Rows.{Chained}
-use Rattle.ac_chain.proofs.Cuts.{has_live}
+use Rattle.ac_pool.proofs.Cuts.{has_live}
 use Rattle.ac_chain.proofs.Moves.{once_from}
 use Rattle.ac_base.specs.Limits.{is_past}
 use Rattle.ac_model.specs.Objects.{Object, plain, IsValid, CapacityFits}

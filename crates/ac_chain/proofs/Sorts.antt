@@ -14,9 +14,9 @@ use Rattle.ac_base.specs.declared.fault.NoMemory.{NoMemory}
 use Rattle.ac_base.specs.Order.{IsWeakOrder}
 use Rattle.ac_base.specs.declared.name.Name.{Name}
 use Rattle.ac_base.specs.Rows.{names}
-use Rattle.ac_chain.specs.Rows.{Chained, place_of, name_at, next_name, IsLive, IsSound, value_of, IsOrderOf, Reorders}
-use Rattle.ac_chain.specs.ChainFields.{HasName, IsOnce}
-use Rattle.ac_chain.proofs.Cuts.{has_live, name_at_has, once_at}
+use Rattle.ac_chain.specs.Rows.{Chained, place_of, next_name, IsLive, IsSound, value_of, IsOrderOf, Reorders}
+use Rattle.ac_pool.specs.NamedRows.{name_at, HasName, IsOnce}
+use Rattle.ac_pool.proofs.Cuts.{has_live, name_at_has, once_at}
 use Rattle.ac_chain.proofs.Chains.{index_at}
 use Rattle.ac_chain.proofs.Moves.{once_from}
 use Rattle.ac_chain.specs.declared.sort.Keyed.{Keyed}

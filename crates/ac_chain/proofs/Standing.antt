@@ -10,8 +10,10 @@ use Rattle.ac_chain.specs.declared.links.Node.{Node}
 use Rattle.ac_chain.specs.declared.links.Links.{Links}
 use Rattle.ac_base.specs.Rows.{Row}
 use Rattle.ac_pool.specs.Link.{link_of}
-use Rattle.ac_chain.specs.ChainFields.{node, first_or, last_or, HasName, IsOnce, Linked, next_of, prev_of, next_written, prev_written, with_next, with_prev, joined, prev_link, before_in, link_before, linked_before, unlinked}
-use Rattle.ac_chain.proofs.Cuts.{last_or-append, HasName-left, HasName-right, once_left, apart, once-append, once_cut, once_put}
+use Rattle.ac_chain.specs.ChainFields.{node, first_or, last_or, Linked, next_of, prev_of, next_written, prev_written, with_next, with_prev, joined, prev_link, before_in, link_before, linked_before, unlinked}
+use Rattle.ac_pool.specs.NamedRows.{HasName, IsOnce}
+use Rattle.ac_chain.proofs.Ends.{last_or-append}
+use Rattle.ac_pool.proofs.Cuts.{HasName-left, HasName-right, once_left, apart, once-append, once_cut, once_put}
 use Rattle.ac_chain.proofs.Linking.{in_slot, Linked-at, Linked-left, Linked-right, next_put, prev_put, Writes, last_named, next_linked, prev_linked, Linked-join, Linked-aside}
 
 value_in : {X : Type 0} → Option (Node X) → Option X

@@ -5,9 +5,8 @@ use Rattle.std.specs.Option.{option_map}
 use Rattle.std.proofs.lemmas.Option.{none-some}
 use Rattle.std.proofs.lemmas.Bool.{cases_eq, cond-true, cond-false}
 use Rattle.ac_base.specs.declared.name.Name.{Name}
-use Rattle.ac_chain.specs.Rows.{index_of}
-use Rattle.ac_chain.specs.ChainFields.{HasName, IsOnce}
-use Rattle.ac_chain.proofs.Cuts.{index_here, index_past}
+use Rattle.ac_pool.specs.NamedRows.{index_of, HasName, IsOnce}
+use Rattle.ac_pool.proofs.Cuts.{index_here, index_past}
 use Rattle.ac_base.specs.Rows.{Row, row}
 use Rattle.ac_model.specs.Rows.{with_value}
 use Rattle.ac_model.specs.Objects.{plains}

@@ -9,8 +9,9 @@ use Rattle.ac_chain.specs.declared.links.Node.{Node}
 use Rattle.ac_chain.specs.declared.links.Links.{Links}
 use Rattle.ac_chain.specs.Rows as chain
 use Rattle.ac_pool.specs.Link.{link_of, name_in}
-use Rattle.ac_chain.specs.ChainFields.{node, node_with, links, first_or, last_or, HasName, IsOnce, Linked, rows_in, IsChain, next_written, prev_written, with_next, with_prev, joined, closed, unlinked}
-use Rattle.ac_chain.proofs.Cuts.{cut, live_has, HasName-left, HasName-right, once_gone}
+use Rattle.ac_chain.specs.ChainFields.{node, node_with, links, first_or, last_or, Linked, rows_in, IsChain, next_written, prev_written, with_next, with_prev, joined, closed, unlinked}
+use Rattle.ac_pool.specs.NamedRows.{HasName, IsOnce}
+use Rattle.ac_pool.proofs.Cuts.{cut, live_has, HasName-left, HasName-right, once_gone}
 use Rattle.ac_chain.proofs.Linking.{last_has, first_has}
 use Rattle.ac_pool.proofs.SlotNames.{linked_name}
 use Rattle.ac_chain.proofs.Standing.{joined-keeps, with_next-keeps, unlinked-is}

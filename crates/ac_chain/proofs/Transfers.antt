@@ -5,8 +5,9 @@ use Rattle.std.specs.Option.{ForSome}
 use Rattle.std.proofs.lemmas.List.{length-map, length-reverse, reverse-reverse}
 use Rattle.std.proofs.lemmas.Option.{none-some}
 use Rattle.ac_base.specs.declared.name.Name.{Name}
-use Rattle.ac_chain.specs.Rows.{Chained, chained, index_of, name_at, IsLive, IsSound, IsFresh, value_of, inserted, removed, reserved, cleared}
-use Rattle.ac_chain.proofs.Cuts.{index_here}
+use Rattle.ac_chain.specs.Rows.{Chained, chained, IsLive, IsSound, IsFresh, value_of, inserted, removed, reserved, cleared}
+use Rattle.ac_pool.specs.NamedRows.{index_of, name_at}
+use Rattle.ac_pool.proofs.Cuts.{index_here}
 use Rattle.ac_chain.proofs.Moves.{once_from}
 use Rattle.ac_model.specs.Lists.{one_value}
 use Rattle.ac_chain.specs.Put.{IsPut, IsFirst, HasGrown}

@@ -3,7 +3,7 @@ use Rattle.std.proofs.Common.{◌≡◌, ◌≢◌, ℕ, ◌+◌, ◌≤◌, Lis
 use Rattle.std.specs.Prelude.{◌==◌, if◌then◌else◌}
 use Rattle.std.proofs.lemmas.Bool.{cases_eq, cond-true, cond-false}
 use Rattle.ac_base.specs.declared.name.Name.{Name}
-use Rattle.ac_chain.specs.ChainFields.{HasName, IsOnce}
+use Rattle.ac_pool.specs.NamedRows.{HasName, IsOnce}
 use Rattle.ac_model.specs.Objects.{times}
 use Rattle.ac_model.specs.Objects.{plains}
 use Rattle.ac_base.specs.Rows.{Row}

@@ -9,9 +9,11 @@ use Rattle.ac_pool.proofs.ContentsLaws.{live_value, value_of-with_value_same, va
 use Rattle.ac_chain.specs.declared.links.Node.{Node}
 use Rattle.ac_chain.specs.declared.links.Links.{Links}
 use Rattle.ac_base.specs.Rows.{Row, row}
-use Rattle.ac_chain.specs.Rows.{chained, index_of, IsLive, with_value, values_swapped, values_exchanged}
-use Rattle.ac_chain.specs.ChainFields.{node, node_with, links, first_or, last_or, HasName, IsOnce, Linked, StandsFor, rows_in, IsChain, next_link, prev_link, value_written, with_node_value, links_written, with_links, exchanged_in}
-use Rattle.ac_chain.proofs.Cuts.{last_or-append, HasName-cut, HasName-put, HasName-right, once_cut, once_gone, once_put, live_has, cut}
+use Rattle.ac_chain.specs.Rows.{chained, IsLive, with_value, values_swapped, values_exchanged}
+use Rattle.ac_pool.specs.NamedRows.{index_of, HasName, IsOnce}
+use Rattle.ac_chain.specs.ChainFields.{node, node_with, links, first_or, last_or, Linked, StandsFor, rows_in, IsChain, next_link, prev_link, value_written, with_node_value, links_written, with_links, exchanged_in}
+use Rattle.ac_chain.proofs.Ends.{last_or-append}
+use Rattle.ac_pool.proofs.Cuts.{HasName-cut, HasName-put, HasName-right, once_cut, once_gone, once_put, live_has, cut}
 use Rattle.ac_chain.proofs.Linking.{Nodes, Linked-same}
 use Rattle.ac_chain.proofs.Chains.{view_of, rows_in-is, IsChain-from, node_at, value_at, live_in, live_from}
 

@@ -6,9 +6,11 @@ use Rattle.std.proofs.lemmas.List.{reverse-append, reverse-reverse, length-rever
 use Rattle.std.proofs.lemmas.Option.{none-some}
 use Rattle.ac_base.specs.declared.name.Name.{Name}
 use Rattle.ac_base.specs.Rows.{Row}
-use Rattle.ac_chain.specs.Rows.{Chained, index_of, place_of, name_at, name_before, next_name, prev_name, IsLive, value_of}
-use Rattle.ac_chain.specs.ChainFields.{HasName, IsOnce, first_or, last_or}
-use Rattle.ac_chain.proofs.Cuts.{Cut, cut, cut-row, split, live_has, has_live, HasName-right, index_of-cut, apart, name_at-first, name_before-cut, last_or-append}
+use Rattle.ac_chain.specs.Rows.{Chained, place_of, next_name, prev_name, IsLive, value_of}
+use Rattle.ac_pool.specs.NamedRows.{index_of, name_at, name_before, HasName, IsOnce}
+use Rattle.ac_chain.specs.ChainFields.{first_or, last_or}
+use Rattle.ac_pool.proofs.Cuts.{Cut, cut, cut-row, live_has, has_live, HasName-right, index_of-cut, apart}
+use Rattle.ac_chain.proofs.Ends.{split, name_at-first, name_before-cut, last_or-append}
 use Rattle.ac_chain.proofs.Moves.{next_name-cut}
 use Rattle.ac_chain.specs.Search.{count_to}
 

@@ -3,6 +3,7 @@ use Rattle.std.specs.Prelude.{◌≡◌, ℕ, zero, suc, ◌⊎◌, List, [], �
 use Rattle.ac_base.specs.declared.name.Name.{Name}
 use Rattle.ac_pool.specs.Contents.{Contents, value_of, IsLive, live_count, with_value, swapped, IsSound}
 use Rattle.ac_pool.specs.Link.{link_of, name_in}
+use Rattle.ac_pool.specs.NamedRows.{HasName, IsOnce}
 use Rattle.ac_chain.specs.declared.links.Node.{Node}
 use Rattle.ac_chain.specs.declared.links.Links.{Links}
 use Rattle.ac_base.specs.Rows.{Row, row}
@@ -26,14 +27,6 @@ module _ {X : Type 0} where
   abbrev pub last_or : Option Name → List (Row Name X) → Option Name
   last_or o [] = o
   last_or o (r ∷ rows) = last_or (Some r.name) rows
-
-  abbrev pub HasName : Name → List (Row Name X) → Type 0
-  HasName a [] = ⊥
-  HasName a (r ∷ rows) = (a ≡ r.name) ⊎ HasName a rows
-
-  abbrev pub IsOnce : List (Row Name X) → Type 0
-  IsOnce [] = Unit {0}
-  IsOnce (r ∷ rows) = (HasName r.name rows → ⊥) × IsOnce rows
 
   -- each row's node is linked with the rows before and after it, the first with p and the last with n
   abbrev pub Linked : (Name → Option (Node X)) → Option Name → List (Row Name X) → Option Name → Type 0

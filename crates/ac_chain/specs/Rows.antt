@@ -6,6 +6,7 @@ use Rattle.std.specs.Coded.{Coded, code_by, coded×, coded_ℕ, coded_list}
 use Rattle.std.specs.Ordering.{eq_by_cmp}
 use Rattle.ac_base.specs.declared.name.Name.{Name}
 use Rattle.ac_pool.specs.Names.{name_cmp}
+use Rattle.ac_pool.specs.NamedRows.{index_of, name_at, name_before}
 use Rattle.ac_base.specs.Growth.{pow8}
 use Rattle.ac_base.specs.Rows.{Row, row, names, row_code}
 
@@ -25,11 +26,6 @@ module _ {X : Type 0} where
   abbrev pub slots_in : Chained X → ℕ
   slots_in c = length c.rows + c.spare
 
-  -- the place of the name's row, or the number of rows where there is none
-  abbrev pub index_of : Name → List (Row Name X) → ℕ
-  index_of a [] = 0
-  index_of a (r ∷ rs) = if eq_by_cmp name_cmp a r.name then 0 else suc (index_of a rs)
-
   -- the place before which a row is put: before the name's, or at the end
   abbrev pub place_of : Option Name → List (Row Name X) → ℕ
   place_of None rows = length rows
@@ -41,14 +37,6 @@ module _ {X : Type 0} where
   -- the value under the name, if the name is live
   abbrev pub value_of : Chained X → Name → Option X
   value_of c a = option_map (λ (r : Row Name X). r.value) (slice_get c.rows (index_of a c.rows))
-
-  -- the name of the row at the place i, and of the row before it
-  abbrev pub name_at : List (Row Name X) → ℕ → Option Name
-  name_at rows i = option_map (λ (r : Row Name X). r.name) (slice_get rows i)
-
-  abbrev pub name_before : List (Row Name X) → ℕ → Option Name
-  name_before rows zero = None
-  name_before rows (suc i) = name_at rows i
 
   -- the name of the row after the name's, and of the one before it
   abbrev pub next_name : Chained X → Name → Option Name

@@ -4,7 +4,7 @@ use Rattle.std.specs.Option.{option_map}
 use Rattle.ac_base.specs.declared.name.Name.{Name}
 use Rattle.ac_base.specs.declared.cursor.Cursor.{Cursor}
 use Rattle.ac_base.specs.declared.cursor.Cursor.TheVariants.{NoElement, At}
-use Rattle.ac_chain.specs.Rows.{index_of, name_at, name_before}
+use Rattle.ac_pool.specs.NamedRows.{index_of, name_at, name_before}
 use Rattle.ac_base.specs.Rows.{Row}
 
 module _ {T : Type 0} where

@@ -3,7 +3,8 @@ ghost use Rattle.std.specs.Prelude.{◌≡◌, ◌≢◌, ℕ, ◌+◌, ◌-◌,
 ghost use Rattle.std.specs.Option.{ForSome};
 ghost use Rattle.std.specs.Borrow.{sem};
 ghost use Rattle.ac_base.specs.Rows.{row, names};
-ghost use Rattle.ac_chain.specs.Rows.{Chained, index_of, IsLive, value_of, name_at, name_before, next_name, prev_name, no_rows, reserved, inserted, removed, cleared, values_swapped, links_swapped, moved, reversed, WalksInOrder, IsOrderOf, Reorders, IsFresh, IsSound};
+ghost use Rattle.ac_chain.specs.Rows.{Chained, IsLive, value_of, next_name, prev_name, no_rows, reserved, inserted, removed, cleared, values_swapped, links_swapped, moved, reversed, WalksInOrder, IsOrderOf, Reorders, IsFresh, IsSound};
+ghost use Rattle.ac_pool.specs.NamedRows.{index_of, name_at, name_before};
 
 use crate::links::{Links, Node};
 use ac_base::{Name, NoMemory};

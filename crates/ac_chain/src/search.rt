@@ -2,7 +2,8 @@
 ghost use Rattle.std.specs.Prelude.{◌≡◌, Some, drop, reverse, take};
 ghost use Rattle.std.specs.Option.{ForSome};
 ghost use Rattle.ac_base.specs.Rows.{values};
-ghost use Rattle.ac_chain.specs.Rows.{IsLive, IsSound, name_at, place_of};
+ghost use Rattle.ac_chain.specs.Rows.{IsLive, IsSound, place_of};
+ghost use Rattle.ac_pool.specs.NamedRows.{name_at};
 ghost use Rattle.ac_chain.specs.Search.{found_in, count_to, start_of, end_of};
 ghost use Rattle.ac_model.specs.Rows.{is_ascending};
 ghost use Rattle.ac_model.specs.Sequences as sequences;

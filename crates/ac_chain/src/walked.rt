@@ -1,6 +1,7 @@
 //! What is walked over by names, as a chain is: rows in order, each a name with its value.
 ghost use Rattle.std.specs.Prelude.{◌≡◌, ◌↔◌, IsTrue, Some, length};
-ghost use Rattle.ac_chain.specs.Rows.{Chained, IsLive, IsSound, name_at, name_before, next_name, prev_name, value_of};
+ghost use Rattle.ac_chain.specs.Rows.{Chained, IsLive, IsSound, next_name, prev_name, value_of};
+ghost use Rattle.ac_pool.specs.NamedRows.{name_at, name_before};
 
 use crate::chain::Chain;
 use ac_base::Name;

@@ -14,9 +14,9 @@ use Rattle.ac_base.specs.Rows.{Row, row, names}
 use Rattle.ac_buckets.specs.Pairs as buckets
 use Rattle.ac_buckets.specs.Pairs.{Bucketed}
 use Rattle.ac_chain.specs.Rows as chain
-use Rattle.ac_chain.specs.Rows.{Chained, IsLive, IsSound, IsFresh, index_of, inserted, removed, value_of}
-use Rattle.ac_chain.specs.ChainFields.{IsOnce}
-use Rattle.ac_chain.proofs.Cuts.{Cut, has_live, remove-cut, once_gone}
+use Rattle.ac_chain.specs.Rows.{Chained, IsLive, IsSound, IsFresh, inserted, removed, value_of}
+use Rattle.ac_pool.specs.NamedRows.{index_of, IsOnce}
+use Rattle.ac_pool.proofs.Cuts.{Cut, has_live, remove-cut, once_gone}
 use Rattle.ac_chain.proofs.Moves.{once_from}
 use Rattle.ac_chain.proofs.Marks.{value_live}
 use Rattle.ac_model.specs.Keyed.{by_arrival, another_is_like}

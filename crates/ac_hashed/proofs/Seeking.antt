@@ -10,7 +10,7 @@ use Rattle.ac_buckets.specs.declared.walk.Place.{Place}
 use Rattle.ac_buckets.specs.Pairs.{Bucketed}
 use Rattle.ac_buckets.specs.Places.{names_left, IsPlace, Begins, IsNext}
 use Rattle.ac_chain.specs.Rows.{Chained, IsLive, value_of}
-use Rattle.ac_chain.proofs.Cuts.{has_live}
+use Rattle.ac_pool.proofs.Cuts.{has_live}
 use Rattle.ac_model.specs.Letters.{is_among, is_same_name}
 use Rattle.ac_model.specs.Objects.{plains}
 use Rattle.ac_model.proofs.Counts.{count, count_implied}

@@ -10,10 +10,11 @@ use Rattle.ac_base.specs.declared.reason.Reason.TheVariants.{DeadCursor}
 use Rattle.ac_base.specs.Guards.{GuardCounts}
 use Rattle.ac_base.specs.Rows.{Row, row, names}
 use Rattle.ac_chain.specs.Rows as chain
-use Rattle.ac_chain.specs.Rows.{Chained, IsLive, IsSound, index_of, inserted, removed, IsFresh}
+use Rattle.ac_chain.specs.Rows.{Chained, IsLive, IsSound, inserted, removed, IsFresh}
+use Rattle.ac_pool.specs.NamedRows.{index_of}
 use Rattle.ac_chain.specs.Sequence.{object_of}
 use Rattle.ac_chain.proofs.Marks.{judged_by_name, marked_live, place_live}
-use Rattle.ac_chain.proofs.Cuts.{live_has}
+use Rattle.ac_pool.proofs.Cuts.{live_has}
 use Rattle.ac_chain.proofs.Moved.{removed_cut, removed_slots}
 use Rattle.ac_chain.proofs.Puts.{put_none, put_one}
 use Rattle.ac_chain.proofs.SequenceDeletes.{cut_after}

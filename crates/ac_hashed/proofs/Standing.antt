@@ -3,8 +3,9 @@ use Rattle.std.proofs.Common.{◌≡◌, ◌+◌, ◌-◌, ◌≤◌, ℕ, zero,
 use Rattle.std.specs.Prelude.{slice_get, option_map, if◌then◌else◌}
 use Rattle.ac_base.specs.declared.name.Name.{Name}
 use Rattle.ac_base.specs.Rows.{Row, row}
-use Rattle.ac_chain.specs.Rows.{Chained, IsLive, IsSound, index_of, name_before, next_name, prev_name, value_of}
-use Rattle.ac_chain.proofs.Cuts.{Cut, cut, cut-row, live_has, has_live}
+use Rattle.ac_chain.specs.Rows.{Chained, IsLive, IsSound, next_name, prev_name, value_of}
+use Rattle.ac_pool.specs.NamedRows.{index_of, name_before}
+use Rattle.ac_pool.proofs.Cuts.{Cut, cut, cut-row, live_has, has_live}
 use Rattle.ac_chain.proofs.Moves.{once_from}
 use Rattle.ac_chain.proofs.Marks.{among_has, has_among, place_live, value_live}
 use Rattle.ac_chain.proofs.Valid.{times_once}

@@ -9,11 +9,11 @@ use Rattle.ac_base.specs.declared.name.Name.{Name}
 use Rattle.ac_base.specs.Order.{are_level, IsTied}
 use Rattle.ac_base.specs.Rows.{Row, row, names, values}
 use Rattle.ac_balance.specs.declared.entry.Entry.{Entry}
-use Rattle.ac_balance.specs.Climbing.{HasName}
+use Rattle.ac_pool.specs.NamedRows.{HasName, index_of, IsOnce}
+use Rattle.ac_pool.specs.NamedRows as pool
 use Rattle.ac_balance.specs.Indexed as tree
-use Rattle.ac_balance.specs.Indexed.{IsSound, IsThere, IsFresh, entry, index_of, key_of}
-use Rattle.ac_balance.proofs.Cuts.{has_live, live_has, index_here, index_past}
-use Rattle.ac_balance.proofs.Names.{IsOnce}
+use Rattle.ac_balance.specs.Indexed.{IsSound, IsThere, IsFresh, entry, key_of}
+use Rattle.ac_pool.proofs.Cuts.{has_live, live_has, index_here, index_past}
 use Rattle.ac_model.specs.Letters.{is_among, is_same_name}
 use Rattle.ac_model.specs.Objects.{plain_row, plains}
 use Rattle.ac_model.specs.Rows.{cut, put, place_of, with_value}
@@ -84,14 +84,14 @@ module _ {V : Type 0} where
   pub alone : (less : V → V → Bool) (x : tree.Indexed V Nothing) (a : Name) → IsSound less x → IsThere x a → Alone a x.rows
   alone less x a s h b t e = s.serials b a (has_live b x.rows t) h e
 
-  has_place : (a : Name) (rows : List (Kept V)) → HasName a rows → (i : ℕ) × (tree.name_at rows i ≡ Some a)
+  has_place : (a : Name) (rows : List (Kept V)) → HasName a rows → (i : ℕ) × (pool.name_at rows i ≡ Some a)
   has_place a [] h = absurd h
   has_place a (r ∷ rows) h = elim h [
     | inl e ↦ (0, ap Some (sym e))
     | inr t ↦ let p = has_place a rows t in (suc p.0, p.1)
   ]
 
-  once_from : (rows : List (Kept V)) → ((i j : ℕ) (a : Name) → tree.name_at rows i ≡ Some a → tree.name_at rows j ≡ Some a → i ≡ j) → IsOnce rows
+  once_from : (rows : List (Kept V)) → ((i j : ℕ) (a : Name) → pool.name_at rows i ≡ Some a → pool.name_at rows j ≡ Some a → i ≡ j) → IsOnce rows
   once_from [] h = tt
   once_from (r ∷ rows) h = (
     λ t. let p = has_place r.name rows t in let e : 0 ≡ suc p.0 = h 0 (suc p.0) r.name refl p.1 in omega (arith, e),
@@ -113,26 +113,26 @@ module _ {V : Type 0} where
   name_mapped None = refl
   name_mapped (Some r) = refl
 
-  pub named_at : (rows : List (Kept V)) (i : ℕ) → option_map (λ (r : Row Name V). r.name) (slice_get (rows_of rows) i) ≡ tree.name_at rows i
+  pub named_at : (rows : List (Kept V)) (i : ℕ) → option_map (λ (r : Row Name V). r.name) (slice_get (rows_of rows) i) ≡ pool.name_at rows i
   named_at rows i = ap (option_map (λ (r : Row Name V). r.name)) (slice_get-map row_in rows i) ∙ name_mapped (slice_get rows i)
 
   pub next_is : (x : tree.Indexed V Nothing) (a : Name) → Alone a x.rows → tree.next_name x a ≡ name_after (ascent x) a
   next_is x a h = sym (ap (λ i. option_map (λ (r : Row Name V). r.name) (slice_get (rows_of x.rows) (i + 1))) (place_is a x.rows h) ∙ named_at x.rows (index_of a x.rows + 1))
 
-  up_to_is : (x : tree.Indexed V Nothing) (i : ℕ) → tree.name_before x.rows i ≡ name_up_to (ascent x) i
+  up_to_is : (x : tree.Indexed V Nothing) (i : ℕ) → pool.name_before x.rows i ≡ name_up_to (ascent x) i
   up_to_is x zero = refl
   up_to_is x (suc i) = sym (named_at x.rows i)
 
   pub before_is : (x : tree.Indexed V Nothing) (a : Name) → Alone a x.rows → tree.prev_name x a ≡ name_before (ascent x) a
   before_is x a h = up_to_is x (index_of a x.rows) ∙ ap (name_up_to (ascent x)) (sym (place_is a x.rows h))
 
-  last_of : (rows : List (Kept V)) → tree.name_before rows (length rows) ≡ option_map (λ (r : Row Name V). r.name) (slice_get (rows_of rows) (length (rows_of rows) - 1))
+  last_of : (rows : List (Kept V)) → pool.name_before rows (length rows) ≡ option_map (λ (r : Row Name V). r.name) (slice_get (rows_of rows) (length (rows_of rows) - 1))
   last_of [] = refl
   last_of (r ∷ rows) =
       let same : length (rows_of rows) ≡ length rows = length-map rows row_in in let e : length (rows_of (r ∷ rows)) - 1 ≡ length rows = omega (arith, same) in
       sym (ap (λ i. option_map (λ (y : Row Name V). y.name) (slice_get (rows_of (r ∷ rows)) i)) e ∙ named_at (r ∷ rows) (length rows))
 
-  pub last_is : (x : tree.Indexed V Nothing) → tree.name_before x.rows (length x.rows) ≡ last_name (ascent x)
+  pub last_is : (x : tree.Indexed V Nothing) → pool.name_before x.rows (length x.rows) ≡ last_name (ascent x)
   last_is x = last_of x.rows
 
   -- searches

@@ -14,10 +14,10 @@ use Rattle.ac_base.specs.Growth.{pow8}
 use Rattle.ac_base.specs.Limits.{is_past}
 use Rattle.ac_base.specs.Rows.{Row, row, values}
 use Rattle.ac_balance.specs.declared.entry.Entry.{Entry}
-use Rattle.ac_balance.specs.Climbing.{HasName}
+use Rattle.ac_pool.specs.NamedRows.{HasName, index_of}
 use Rattle.ac_balance.specs.Indexed as tree
-use Rattle.ac_balance.specs.Indexed.{IsSound, IsThere, IsFresh, entry, index_of, key_of}
-use Rattle.ac_balance.proofs.Cuts.{live_has}
+use Rattle.ac_balance.specs.Indexed.{IsSound, IsThere, IsFresh, entry, key_of}
+use Rattle.ac_pool.proofs.Cuts.{live_has}
 use Rattle.ac_model.specs.Keyed.{ascending, added, with_reordered}
 use Rattle.ac_base.proofs.Powers.{pow8-enough}
 use Rattle.ac_model.specs.Objects.{plains, capacity_after}

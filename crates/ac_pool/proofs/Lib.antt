@@ -1,5 +1,6 @@
 pub mod Cells
 pub mod ContentsLaws
+pub mod Cuts
 pub mod Entries
 pub mod Laid
 pub mod NameLaws

@@ -3,6 +3,7 @@ pub mod CellLends
 pub mod ChunkLends
 pub mod Contents
 pub mod Link
+pub mod NamedRows
 pub mod Names
 pub mod PoolFields
 pub mod PoolLends

@@ -5,7 +5,7 @@ use Rattle.ac_base.specs.declared.name.Name.{Name}
 use Rattle.ac_base.specs.declared.cursor.Cursor.{Cursor}
 use Rattle.ac_base.specs.Guards.{GuardCounts}
 use Rattle.ac_base.specs.Rows.{Row, row, names}
-use Rattle.ac_chain.specs.ChainFields.{HasName}
+use Rattle.ac_pool.specs.NamedRows.{HasName}
 use Rattle.ac_chain.proofs.Grows.{all_from}
 use Rattle.ac_model.specs.Rows.{Node, node}
 use Rattle.ac_model.specs.Objects.{plain, plains, with_rows}

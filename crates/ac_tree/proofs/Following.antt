@@ -7,9 +7,11 @@ use Rattle.std.proofs.Math.Seq.{drop-append_seam}
 use Rattle.ac_base.specs.declared.name.Name.{Name}
 use Rattle.ac_base.specs.Rows.{Row, row}
 use Rattle.ac_pool.specs.Contents.{value_of, IsLive, live_count}
+use Rattle.ac_pool.specs.NamedRows as pool
 use Rattle.ac_chain.specs.Rows as chain
-use Rattle.ac_chain.specs.ChainFields.{first_or, IsOnce, HasName}
-use Rattle.ac_chain.proofs.Cuts.{HasName-right, has_live}
+use Rattle.ac_chain.specs.ChainFields.{first_or}
+use Rattle.ac_pool.specs.NamedRows.{IsOnce, HasName}
+use Rattle.ac_pool.proofs.Cuts.{HasName-right, has_live}
 use Rattle.ac_chain.proofs.Puts.{place_cut}
 use Rattle.ac_model.specs.Rows.{Node, node}
 use Rattle.ac_model.specs.Objects.{plains}
@@ -272,7 +274,7 @@ module _ {X : Type 0} where
       let a = size_is (d + 1) below in let b = size_is (f + 1) below in omega (arith, up, one, all, a, b)
 
   -- the place of a node among all rows
-  index_there : (l : Links X) (steps : List (Step X)) (x : Row Name X) (below rest : Forest X) → StandsFor l (plugged steps (grove x below rest)) → chain.index_of x.name (outline 2 (forest_in l)) ≡ length (before_in steps)
+  index_there : (l : Links X) (steps : List (Step X)) (x : Row Name X) (below rest : Forest X) → StandsFor l (plugged steps (grove x below rest)) → pool.index_of x.name (outline 2 (forest_in l)) ≡ length (before_in steps)
   index_there l steps x below rest s = hole_place l (parent_in steps) (Some x.name) (record { steps = steps; rest = grove x below rest; stands = s; parent_is = refl; before_is = refl })
 
   -- the node to which the walk has come
@@ -283,7 +285,7 @@ module _ {X : Type 0} where
     pub named : at.name ≡ name
     pub value : option_map (λ (n : TreeNode X). n.value) (value_of l.nodes name) ≡ Some at.value.element
     pub live : IsLive l.nodes name
-    pub index : chain.index_of name (outline 2 (forest_in l)) ≡ length k.before + length (before_in k.outer)
+    pub index : pool.index_of name (outline 2 (forest_in l)) ≡ length k.before + length (before_in k.outer)
     pub next_is : (next : Option Name) → Follows l top name next → next ≡ first_or left None
 
   pub turned : (l : Links X) (top place : Option Name) (count : ℕ) (k : Subtree_counted l top place count) (name : Name) → place ≡ Some name → Turned l top place count k name
@@ -310,7 +312,7 @@ module _ {X : Type 0} where
             named = named;
             value = ap (λ n. option_map (λ (m : TreeNode X). m.value) (value_of l.nodes n)) (sym p.named) ∙ (led l k.outer p.steps p.at p.below p.rest stands).value ∙ ap (λ (z : Row Name (Node X)). Some z.value.element) (sym c.row);
             live = live_of l (plugged k.outer k.below) k.stands name (plugged_has k.outer k.below name there);
-            index = ap (λ n. chain.index_of n (outline 2 (forest_in l))) (sym p.named)
+            index = ap (λ n. pool.index_of n (outline 2 (forest_in l))) (sym p.named)
                 ∙ index_there l (p.steps ++ k.outer) p.at p.below p.rest (subst (λ z. StandsFor l z) (sym (plugged-append p.steps k.outer (grove p.at p.below p.rest))) stands)
                 ∙ before_length p.steps k.outer ∙ ap (λ n. n + length (before_in k.outer)) (sym c.count);
             next_is = λ next f. f k.outer p.steps p.at p.below p.rest stands k.top_is p.named ∙ sym (ap (λ z. first_or z None) c.rest);
@@ -333,15 +335,15 @@ module _ {X : Type 0} where
 
   -- each node stands later among the rows
   pub further : (l : Links X) → IsForest l → (top place : Option Name) (count : ℕ) (k : Subtree_counted l top place count) (name : Name) (t : Turned l top place count k name) (next : Option Name) → next ≡ first_or t.left None
-      → length (outline 2 (forest_in l)) - chain.place_of next (outline 2 (forest_in l)) < length (outline 2 (forest_in l)) - chain.index_of name (outline 2 (forest_in l))
+      → length (outline 2 (forest_in l)) - chain.place_of next (outline 2 (forest_in l)) < length (outline 2 (forest_in l)) - pool.index_of name (outline 2 (forest_in l))
   unfolding moved_on
   further l s top place count k name t next e = by_left t.left refl
     where
-      inside : chain.index_of name (outline 2 (forest_in l)) < length (outline 2 (forest_in l))
+      inside : pool.index_of name (outline 2 (forest_in l)) < length (outline 2 (forest_in l))
       inside = has_live name (outline 2 (forest_in l)) (named name 2 (forest_in l) (s.all name t.live))
 
       by_left : (left : List (Row Name (Node X))) → t.left ≡ left
-          → length (outline 2 (forest_in l)) - chain.place_of next (outline 2 (forest_in l)) < length (outline 2 (forest_in l)) - chain.index_of name (outline 2 (forest_in l))
+          → length (outline 2 (forest_in l)) - chain.place_of next (outline 2 (forest_in l)) < length (outline 2 (forest_in l)) - pool.index_of name (outline 2 (forest_in l))
       by_left [] is =
           let none : next ≡ None = e ∙ ap (λ z. first_or z None) is in
           let at : chain.place_of next (outline 2 (forest_in l)) ≡ length (outline 2 (forest_in l)) = ap (λ p. chain.place_of p (outline 2 (forest_in l))) none in
@@ -350,7 +352,7 @@ module _ {X : Type 0} where
           let some : next ≡ Some q.name = e ∙ ap (λ z. first_or z None) is in
           let m = moved_on l top place count k name t next e in
           let u = turned l top next (count + 1) m q.name some in
-          let at : chain.place_of next (outline 2 (forest_in l)) ≡ chain.index_of q.name (outline 2 (forest_in l)) = ap (λ p. chain.place_of p (outline 2 (forest_in l))) some in
+          let at : chain.place_of next (outline 2 (forest_in l)) ≡ pool.index_of q.name (outline 2 (forest_in l)) = ap (λ p. chain.place_of p (outline 2 (forest_in l))) some in
           let one = length-append k.before (t.at ∷ []) in
           let low = inside in let here = t.index in let there = u.index in omega (arith, at, one, low, here, there)
 

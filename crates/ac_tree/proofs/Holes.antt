@@ -11,7 +11,7 @@ use Rattle.ac_base.specs.declared.cursor.Cursor.TheVariants.{NoElement, At}
 use Rattle.ac_base.specs.Rows.{Row, row}
 use Rattle.ac_pool.specs.Contents.{IsLive}
 use Rattle.ac_chain.specs.Rows as chain
-use Rattle.ac_chain.specs.ChainFields.{HasName, IsOnce}
+use Rattle.ac_pool.specs.NamedRows.{HasName, IsOnce}
 use Rattle.ac_chain.proofs.Marks.{among_has, has_among}
 use Rattle.ac_chain.proofs.Looks.{bool_is}
 use Rattle.ac_chain.proofs.Puts.{place_cut}

@@ -10,8 +10,8 @@ use Rattle.ac_pool.specs.Contents.{Contents, value_of, added, live_count}
 use Rattle.ac_pool.proofs.ContentsLaws.{value_of-added_same, value_of-added_other, entries-reserved, reserved_kept, reserved_grown}
 use Rattle.ac_pool.specs.Link.{name_in}
 use Rattle.ac_chain.specs.Rows.{Chained, chained, place_of, inserted, reserved, IsFresh}
-use Rattle.ac_chain.specs.ChainFields.{HasName, IsOnce}
-use Rattle.ac_chain.proofs.Cuts.{live_has, insert-cut}
+use Rattle.ac_pool.specs.NamedRows.{HasName, IsOnce}
+use Rattle.ac_pool.proofs.Cuts.{live_has, insert-cut}
 use Rattle.ac_chain.proofs.Puts.{place_cut}
 use Rattle.ac_pool.proofs.SlotNames.{linked_name}
 use Rattle.ac_model.specs.Rows.{Node, node}

@@ -12,7 +12,7 @@ use Rattle.ac_base.specs.FirstReason.{earlier}
 use Rattle.ac_base.proofs.FirstReason.{none_found}
 use Rattle.ac_base.specs.Rows.{Row, names}
 use Rattle.ac_pool.specs.Contents.{value_of, IsLive}
-use Rattle.ac_chain.specs.ChainFields.{HasName}
+use Rattle.ac_pool.specs.NamedRows.{HasName}
 use Rattle.ac_chain.proofs.Marks.{among_has, has_among, judged_none}
 use Rattle.ac_chain.proofs.Looks.{bool_is}
 use Rattle.ac_model.specs.Rows.{Node, is_named}

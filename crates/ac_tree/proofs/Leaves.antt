@@ -10,8 +10,8 @@ use Rattle.ac_base.specs.Rows.{Row, row, names}
 use Rattle.ac_pool.specs.Contents as pool
 use Rattle.ac_pool.specs.Contents.{Contents, taken, IsLive}
 use Rattle.ac_pool.proofs.ContentsLaws.{taken_live}
-use Rattle.ac_chain.specs.ChainFields.{HasName}
-use Rattle.ac_chain.proofs.Cuts.{HasName-left, HasName-right, HasName-either}
+use Rattle.ac_pool.specs.NamedRows.{HasName}
+use Rattle.ac_pool.proofs.Cuts.{HasName-left, HasName-right, HasName-either}
 use Rattle.ac_chain.proofs.Grows.{all_from}
 use Rattle.ac_chain.proofs.Marks.{has_among}
 use Rattle.ac_model.specs.Containers.{HasSlots}

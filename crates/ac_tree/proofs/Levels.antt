@@ -6,9 +6,11 @@ use Rattle.std.proofs.lemmas.List.{length-append, map-append, reverse-append}
 use Rattle.ac_base.specs.declared.name.Name.{Name}
 use Rattle.ac_base.specs.Rows.{Row, row, values}
 use Rattle.ac_pool.specs.Contents.{value_of, IsLive}
+use Rattle.ac_pool.specs.NamedRows as pool
 use Rattle.ac_chain.specs.Rows as chain
-use Rattle.ac_chain.specs.ChainFields.{first_or, IsOnce, HasName}
-use Rattle.ac_chain.proofs.Cuts.{HasName-right}
+use Rattle.ac_chain.specs.ChainFields.{first_or}
+use Rattle.ac_pool.specs.NamedRows.{IsOnce, HasName}
+use Rattle.ac_pool.proofs.Cuts.{HasName-right}
 use Rattle.ac_chain.proofs.Puts.{place_cut}
 use Rattle.ac_chain.proofs.Searches.{some_value}
 use Rattle.ac_model.specs.Rows.{Node, node}
@@ -106,7 +108,7 @@ module _ {X : Type 0} where
     pub live : IsLive l.nodes r.name
     pub value : option_map (λ (n : TreeNode X). n.value) (value_of l.nodes r.name) ≡ Some r.value.element
     pub is : r.value ≡ node (node_depth l (Some r.name)) r.value.element
-    pub index : chain.index_of r.name (outline 2 (forest_in l)) ≡ length before
+    pub index : pool.index_of r.name (outline 2 (forest_in l)) ≡ length before
     pub next_is : (next : Option Name) → Follows l None r.name next → next ≡ first_or left None
 
   met : (l : Links X) → IsForest l → (before left : List (Row Name (Node X))) (r : Row Name (Node X)) → outline 2 (forest_in l) ≡ before ++ r ∷ left → Met l before left r
@@ -194,7 +196,7 @@ module _ {X : Type 0} where
         (by_rest r m r.rest refl (m.next_is next (subst (λ n. Follows l None n next) (sym r.named) f)))
       where
         by_rest : (r : At_row l place depth made name k) → Met l k.before r.rest r.at → (rest : List (Row Name (Node X))) → r.rest ≡ rest → next ≡ first_or r.rest None
-            → length (outline 2 (forest_in l)) - chain.place_of next (outline 2 (forest_in l)) < length (outline 2 (forest_in l)) - chain.index_of r.at.name (outline 2 (forest_in l))
+            → length (outline 2 (forest_in l)) - chain.place_of next (outline 2 (forest_in l)) < length (outline 2 (forest_in l)) - pool.index_of r.at.name (outline 2 (forest_in l))
         by_rest r m rest are first =
             let rows : outline 2 (forest_in l) ≡ (k.before ++ r.at ∷ []) ++ rest = k.is ∙ ap (λ z. k.before ++ z) (r.is ∙ ap (λ z. r.at ∷ z) are) ∙ sym (append_assoc k.before (r.at ∷ []) rest) in
             let place : chain.place_of next (outline 2 (forest_in l)) ≡ length (k.before ++ r.at ∷ []) =

@@ -8,8 +8,9 @@ use Rattle.ac_base.specs.declared.cursor.Cursor.TheVariants.{At}
 use Rattle.ac_base.specs.FirstReason.{first_reason}
 use Rattle.ac_base.specs.Rows.{Row, row, names}
 use Rattle.ac_pool.specs.Contents.{IsLive}
-use Rattle.ac_chain.specs.ChainFields.{first_or, HasName}
-use Rattle.ac_chain.proofs.Cuts.{HasName-right}
+use Rattle.ac_chain.specs.ChainFields.{first_or}
+use Rattle.ac_pool.specs.NamedRows.{HasName}
+use Rattle.ac_pool.proofs.Cuts.{HasName-right}
 use Rattle.ac_chain.proofs.Marks.{among_has, judged_none}
 use Rattle.ac_model.specs.Rows.{Node, node, place_of}
 use Rattle.ac_model.specs.Objects.{Object, plain, plains}

@@ -6,9 +6,10 @@ use Rattle.ac_base.specs.declared.limit.TheConstants.{GREATEST_LENGTH}
 use Rattle.ac_base.specs.declared.name.Name.{Name}
 use Rattle.ac_base.specs.Limits.{IsLimit}
 use Rattle.ac_pool.specs.Contents as pool
-use Rattle.ac_chain.specs.Rows.{chained, index_of, IsSound}
+use Rattle.ac_chain.specs.Rows.{chained, IsSound}
+use Rattle.ac_pool.specs.NamedRows.{index_of}
 use Rattle.ac_chain.specs.Sequence.{IsSequence}
-use Rattle.ac_chain.proofs.Cuts.{live_has, once_at}
+use Rattle.ac_pool.proofs.Cuts.{live_has, once_at}
 use Rattle.ac_model.specs.Containers.{HasSlots, first_spare}
 use Rattle.ac_tree.specs.declared.links.TreeNode.{TreeNode}
 use Rattle.ac_tree.specs.declared.links.Links.{Links}

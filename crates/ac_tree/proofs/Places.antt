@@ -4,8 +4,8 @@ use Rattle.std.proofs.lemmas.List.{length-append}
 use Rattle.ac_base.specs.declared.name.Name.{Name}
 use Rattle.ac_base.specs.Rows.{Row, row}
 use Rattle.ac_model.specs.Rows.{node}
-use Rattle.ac_chain.specs.ChainFields.{HasName, IsOnce}
-use Rattle.ac_chain.proofs.Cuts.{HasName-left, HasName-right, HasName-either, once-append}
+use Rattle.ac_pool.specs.NamedRows.{HasName, IsOnce}
+use Rattle.ac_pool.proofs.Cuts.{HasName-left, HasName-right, HasName-either, once-append}
 use Rattle.ac_tree.specs.Forests.{Forest, bare, grove, Step, under, after, outline, size, last_in, or_name, Has, Once, joined, plugged, parent_in, prev_in, name_of, side_of, depth_in, before_in, after_in}
 
 module _ {X : Type 0} where

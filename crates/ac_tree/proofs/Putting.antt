@@ -8,9 +8,10 @@ use Rattle.ac_base.specs.Growth.{pow8}
 use Rattle.ac_base.specs.Rows.{Row, row}
 use Rattle.ac_pool.specs.Contents.{live_count}
 use Rattle.ac_chain.specs.Rows.{Chained, IsSound, inserted, reserved, IsLive, slots_in}
-use Rattle.ac_chain.specs.ChainFields.{first_or, HasName}
+use Rattle.ac_chain.specs.ChainFields.{first_or}
+use Rattle.ac_pool.specs.NamedRows.{HasName}
 use Rattle.ac_chain.specs.Put.{IsPut, IsFirst, HasFirst}
-use Rattle.ac_chain.proofs.Cuts.{has_live, HasName-right}
+use Rattle.ac_pool.proofs.Cuts.{has_live, HasName-right}
 use Rattle.ac_chain.proofs.Puts.{Putting, putting_start, putting_more, putting_end, putting_count, putting_serials, put_none, first_start, first_more, copies_put, copies_slots, copies_grown, first_put, reserved_enough}
 use Rattle.ac_model.specs.Rows.{Node, node}
 use Rattle.ac_tree.specs.declared.links.Links.{Links}

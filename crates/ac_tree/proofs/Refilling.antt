@@ -11,7 +11,7 @@ use Rattle.ac_pool.specs.Contents.{live_count}
 use Rattle.ac_chain.specs.Rows as chain
 use Rattle.ac_chain.specs.Rows.{inserted}
 use Rattle.ac_chain.specs.ChainFields.{first_or}
-use Rattle.ac_chain.proofs.Cuts.{insert-cut}
+use Rattle.ac_pool.proofs.Cuts.{insert-cut}
 use Rattle.ac_model.specs.Rows.{Node, node, fresh}
 use Rattle.ac_model.specs.Objects.{plains}
 use Rattle.ac_model.specs.Outline.{follows}

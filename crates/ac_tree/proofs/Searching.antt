@@ -11,7 +11,8 @@ use Rattle.ac_base.specs.FirstReason.{first_reason}
 use Rattle.ac_base.specs.Rows.{Row, row}
 use Rattle.ac_pool.specs.Contents.{value_of, IsLive}
 use Rattle.ac_chain.specs.Rows as chain
-use Rattle.ac_chain.specs.ChainFields.{first_or, HasName}
+use Rattle.ac_chain.specs.ChainFields.{first_or}
+use Rattle.ac_pool.specs.NamedRows.{HasName}
 use Rattle.ac_chain.proofs.Finds.{any_found, take_had, drop_had}
 use Rattle.ac_chain.proofs.Grows.{reverse_has}
 use Rattle.ac_chain.proofs.Searches.{some_value, first_found, first_passed}

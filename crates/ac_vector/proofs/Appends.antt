@@ -8,10 +8,12 @@ use Rattle.std.proofs.lemmas.Bool.{cond-false}
 use Rattle.std.proofs.lemmas.Option.{none-some}
 use Rattle.ac_base.specs.declared.name.Name.{Name}
 use Rattle.ac_base.specs.Rows.{Row, row}
-use Rattle.ac_chain.specs.ChainFields.{first_or, HasName}
+use Rattle.ac_chain.specs.ChainFields.{first_or}
+use Rattle.ac_pool.specs.NamedRows.{HasName, name_at}
 use Rattle.ac_chain.specs.Put.{IsPut, HasFirst}
-use Rattle.ac_chain.specs.Rows.{Chained, IsFresh, IsLive, IsSound, inserted, name_at, place_of, reserved, slots_in, with_rows}
-use Rattle.ac_chain.proofs.Cuts.{split, live_has, has_live, HasName-right, slice_get-cut}
+use Rattle.ac_chain.specs.Rows.{Chained, IsFresh, IsLive, IsSound, inserted, place_of, reserved, slots_in, with_rows}
+use Rattle.ac_chain.proofs.Ends.{split}
+use Rattle.ac_pool.proofs.Cuts.{live_has, has_live, HasName-right, slice_get-cut}
 use Rattle.ac_chain.proofs.Puts.{put_none, put_one, put_length, reserved_enough, reserved_kept, reserved_put}
 use Rattle.ac_model.specs.Objects.{plains}
 use Rattle.ac_model.specs.Rows.{fresh}

@@ -12,9 +12,9 @@ use Rattle.ac_pool.specs.Contents as pool
 use Rattle.ac_pool.specs.Contents.{Contents, live_count, slot_count, added, taken}
 use Rattle.ac_pool.proofs.NameLaws.{cases_name}
 use Rattle.ac_pool.proofs.ContentsLaws.{live_value, value_of-added_same, value_of-added_other, live_count-added, fresh_is_dead, slot_count-no_values, slot_count-added, entries-reserved}
-use Rattle.ac_chain.specs.Rows.{Chained, chained, index_of, name_at, no_rows, inserted, cleared, IsFresh, IsSound}
-use Rattle.ac_chain.specs.ChainFields.{HasName, IsOnce}
-use Rattle.ac_chain.proofs.Cuts.{live_has, has_live, name_at_has, insert-cut}
+use Rattle.ac_chain.specs.Rows.{Chained, chained, no_rows, inserted, cleared, IsFresh, IsSound}
+use Rattle.ac_pool.specs.NamedRows.{index_of, name_at, HasName, IsOnce}
+use Rattle.ac_pool.proofs.Cuts.{live_has, has_live, name_at_has, insert-cut}
 use Rattle.ac_chain.proofs.Moves.{once_from}
 use Rattle.ac_vector.specs.ArrayFields.{rows_in, StandsFor, IsArray}
 use Rattle.ac_vector.proofs.NamesAt.{same_number, no_name, at_left, at_right, at_either, at_within, at_index, at_names}

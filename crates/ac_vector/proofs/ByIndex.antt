@@ -10,7 +10,7 @@ use Rattle.ac_base.specs.declared.name.Name.{Name}
 use Rattle.ac_base.specs.declared.reason.Reason.{Reason}
 use Rattle.ac_base.specs.declared.reason.Reason.TheVariants.{IndexRange}
 use Rattle.ac_base.specs.Rows.{Row, names}
-use Rattle.ac_chain.specs.Rows.{name_at}
+use Rattle.ac_pool.specs.NamedRows.{name_at}
 use Rattle.ac_chain.proofs.Marks.{marked_at}
 use Rattle.ac_model.specs.Calls.{Marks}
 use Rattle.ac_model.specs.Cursors.{cursor_at, mark, needs_cursor}

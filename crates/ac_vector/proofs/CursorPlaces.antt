@@ -4,7 +4,8 @@ use Rattle.ac_base.specs.declared.limit.Limit.{Limit}
 use Rattle.ac_base.specs.declared.cursor.Cursor.{Cursor}
 use Rattle.ac_base.specs.declared.name.Name.{Name}
 use Rattle.ac_base.specs.Guards.{GuardCounts}
-use Rattle.ac_chain.specs.Rows.{Chained, IsSound, index_of, place_of}
+use Rattle.ac_chain.specs.Rows.{Chained, IsSound, place_of}
+use Rattle.ac_pool.specs.NamedRows.{index_of}
 use Rattle.ac_chain.specs.Sequence.{object_of}
 use Rattle.ac_chain.proofs.SequenceDeletes.{cursor_place}
 use Rattle.ac_chain.proofs.SequenceStanding.{stands}

@@ -9,9 +9,9 @@ use Rattle.ac_pool.specs.Contents as pool
 use Rattle.ac_pool.specs.Contents.{Contents, value_of, IsLive, live_count, slot_count, taken}
 use Rattle.ac_pool.proofs.NameLaws.{cases_name}
 use Rattle.ac_pool.proofs.ContentsLaws.{value_of-taken_same, value_of-taken_other, live_count-taken, slot_count-taken, taken_live}
-use Rattle.ac_chain.specs.Rows.{Chained, chained, index_of, name_at, name_before, removed}
-use Rattle.ac_chain.specs.ChainFields.{IsOnce}
-use Rattle.ac_chain.proofs.Cuts.{name_at_has, HasName-right, apart, index_of-cut, remove-cut}
+use Rattle.ac_chain.specs.Rows.{Chained, chained, removed}
+use Rattle.ac_pool.specs.NamedRows.{index_of, name_at, name_before, IsOnce}
+use Rattle.ac_pool.proofs.Cuts.{name_at_has, HasName-right, apart, index_of-cut, remove-cut}
 use Rattle.ac_chain.proofs.Deletes.{last_split}
 use Rattle.ac_vector.specs.ArrayFields.{StandsFor, IsArray}
 use Rattle.ac_vector.proofs.NamesAt.{at_left, at_either, at_within}

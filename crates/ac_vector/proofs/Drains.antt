@@ -5,9 +5,9 @@ use Rattle.std.proofs.lemmas.List.{length-map, length-reverse, length-take, map-
 use Rattle.ac_base.specs.declared.fault.NoMemory.{NoMemory}
 use Rattle.ac_base.specs.declared.name.Name.{Name}
 use Rattle.ac_base.specs.Rows.{Row, row, values}
-use Rattle.ac_chain.specs.ChainFields.{IsOnce}
-use Rattle.ac_chain.specs.Rows.{Chained, chained, IsSound, cleared, index_of, name_before, removed, slots_in, value_of, with_rows}
-use Rattle.ac_chain.proofs.Cuts.{apart, index_of-cut, remove-cut, slice_get-cut}
+use Rattle.ac_pool.specs.NamedRows.{IsOnce, index_of, name_before}
+use Rattle.ac_chain.specs.Rows.{Chained, chained, IsSound, cleared, removed, slots_in, value_of, with_rows}
+use Rattle.ac_pool.proofs.Cuts.{apart, index_of-cut, remove-cut, slice_get-cut}
 use Rattle.ac_chain.proofs.Deletes.{last_split}
 use Rattle.ac_chain.proofs.Moved.{cleared_slots}
 use Rattle.ac_chain.proofs.Moves.{once_from}

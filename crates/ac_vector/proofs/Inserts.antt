@@ -20,10 +20,11 @@ use Rattle.ac_base.specs.Rows.{Row, names}
 use Rattle.ac_base.specs.Tampering.{forbids}
 use Rattle.ac_base.proofs.Earlier.{with_none_later}
 use Rattle.ac_chain.specs.Put.{IsPut, HasFirst}
-use Rattle.ac_chain.specs.Rows.{Chained, IsSound, name_at}
+use Rattle.ac_chain.specs.Rows.{Chained, IsSound}
+use Rattle.ac_pool.specs.NamedRows.{name_at}
 use Rattle.ac_chain.specs.Sequence.{object_of}
 use Rattle.ac_chain.proofs.Chains.{index_at}
-use Rattle.ac_chain.proofs.Cuts.{has_live}
+use Rattle.ac_pool.proofs.Cuts.{has_live}
 use Rattle.ac_chain.proofs.Marks.{has_among, place_live}
 use Rattle.ac_chain.proofs.Moves.{once_from}
 use Rattle.ac_chain.proofs.Puts.{put_length}

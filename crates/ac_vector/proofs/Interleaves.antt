@@ -5,11 +5,11 @@ use Rattle.std.proofs.Math.Seq.{take-append_seam, drop-append_seam}
 use Rattle.ac_base.specs.declared.name.Name.{Name}
 use Rattle.ac_base.specs.Rows.{Row, names, values}
 use Rattle.ac_pool.specs.Contents.{Contents, slot_count}
-use Rattle.ac_chain.specs.ChainFields.{HasName}
+use Rattle.ac_pool.specs.NamedRows.{HasName}
 use Rattle.ac_chain.specs.Merging.{IsMerged}
 use Rattle.ac_chain.specs.Put.{IsPut}
 use Rattle.ac_chain.specs.Rows.{Chained, IsSound, chained, reserved, slots_in, with_rows}
-use Rattle.ac_chain.proofs.Cuts.{HasName-either, has_live, live_has}
+use Rattle.ac_pool.proofs.Cuts.{HasName-either, has_live, live_has}
 use Rattle.ac_chain.proofs.Grows.{more_serials}
 use Rattle.ac_chain.proofs.Merges.{reserved_merged}
 use Rattle.ac_chain.proofs.Puts.{put_length, reserved_enough}

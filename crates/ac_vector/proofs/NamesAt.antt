@@ -5,9 +5,8 @@ use Rattle.std.specs.Option.{option_map}
 use Rattle.std.proofs.lemmas.Option.{slice_get-map}
 use Rattle.ac_base.specs.declared.name.Name.{Name}
 use Rattle.ac_base.specs.Rows.{Row, names}
-use Rattle.ac_chain.specs.Rows.{index_of, name_at}
-use Rattle.ac_chain.specs.ChainFields.{HasName}
-use Rattle.ac_chain.proofs.Cuts.{cut, cut-row}
+use Rattle.ac_pool.specs.NamedRows.{index_of, name_at, HasName}
+use Rattle.ac_pool.proofs.Cuts.{cut, cut-row}
 
 pub same_number : (i j : ℕ) → Some i ≡ Some j → i ≡ j
 same_number i j e = cc

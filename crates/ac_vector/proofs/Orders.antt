@@ -7,8 +7,8 @@ use Rattle.ac_base.specs.declared.fault.NoMemory.{NoMemory}
 use Rattle.ac_base.specs.declared.name.Name.{Name}
 use Rattle.ac_base.specs.Guards.{GuardCounts}
 use Rattle.ac_base.specs.Rows.{Row, row, values}
-use Rattle.ac_chain.specs.Rows.{Chained, IsSound, slots_in, index_of, value_of, with_rows, values_exchanged, values_swapped}
-use Rattle.ac_chain.specs.ChainFields.{HasName}
+use Rattle.ac_chain.specs.Rows.{Chained, IsSound, slots_in, value_of, with_rows, values_exchanged, values_swapped}
+use Rattle.ac_pool.specs.NamedRows.{index_of, HasName}
 use Rattle.ac_chain.specs.Sequence.{object_of, IsSequence}
 use Rattle.ac_chain.proofs.SequenceRows.{rows_after, sequence_same}
 use Rattle.ac_model.specs.Calls.{Changing, Done, IsAfter, Same}

@@ -5,8 +5,7 @@ use Rattle.ac_base.specs.Rows.{Row, names}
 use Rattle.ac_pool.specs.Contents.{Contents, value_of, IsLive, live_count, with_value, IsSound}
 use Rattle.ac_pool.proofs.NameLaws.{cases_name}
 use Rattle.ac_pool.proofs.ContentsLaws.{live_value, value_of-with_value_same, value_of-with_value_other, live_count-with_value, IsSound-with_value}
-use Rattle.ac_chain.specs.Rows.{name_at}
-use Rattle.ac_chain.specs.ChainFields.{HasName, IsOnce}
+use Rattle.ac_pool.specs.NamedRows.{name_at, HasName, IsOnce}
 use Rattle.ac_vector.specs.ArrayFields.{place_written, with_place, renumbered}
 use Rattle.ac_vector.proofs.NamesAt.{no_name}
 

@@ -11,8 +11,9 @@ use Rattle.ac_base.specs.Rows.{Row, row, names, values}
 use Rattle.ac_pool.specs.Contents.{Contents, slot_count}
 use Rattle.ac_pool.specs.Names.{name_cmp}
 use Rattle.std.specs.Ordering.{eq_by_cmp}
-use Rattle.ac_chain.specs.Rows.{Chained, chained, index_of, IsLive, value_of, with_rows, with_value, values_swapped, values_exchanged}
-use Rattle.ac_chain.proofs.Cuts.{live_has, Cut, cut, cut-row}
+use Rattle.ac_chain.specs.Rows.{Chained, chained, IsLive, value_of, with_rows, with_value, values_swapped, values_exchanged}
+use Rattle.ac_pool.specs.NamedRows.{index_of}
+use Rattle.ac_pool.proofs.Cuts.{live_has, Cut, cut, cut-row}
 use Rattle.ac_model.specs.Rows.{over}
 use Rattle.ac_vector.specs.ArrayFields.{IsArray}
 use Rattle.ac_vector.proofs.Arrays.{view_of, Leaves, leaves, old_stands, rewritten, length_values}

@@ -5,9 +5,9 @@ use Rattle.std.proofs.lemmas.List.{map-append, take-map, drop-map, length-map, t
 use Rattle.ac_base.specs.declared.name.Name.{Name}
 use Rattle.ac_base.specs.Rows.{Row, names, values}
 use Rattle.ac_pool.specs.Contents.{Contents, value_of, IsLive, slot_count}
-use Rattle.ac_chain.specs.Rows.{Chained, chained, name_at, with_rows}
-use Rattle.ac_chain.specs.ChainFields.{HasName, IsOnce}
-use Rattle.ac_chain.proofs.Cuts.{name_at_has, HasName-left, HasName-right, HasName-either, once_left, once_right, once-append, apart}
+use Rattle.ac_chain.specs.Rows.{Chained, chained, with_rows}
+use Rattle.ac_pool.specs.NamedRows.{name_at, HasName, IsOnce}
+use Rattle.ac_pool.proofs.Cuts.{name_at_has, HasName-left, HasName-right, HasName-either, once_left, once_right, once-append, apart}
 use Rattle.ac_vector.specs.ArrayFields.{StandsFor, IsArray, renumbered}
 use Rattle.ac_vector.specs.Turn.{turned}
 use Rattle.ac_vector.proofs.NamesAt.{same_number, at_left, at_either, at_index}

@@ -5,8 +5,8 @@ use Rattle.std.proofs.lemmas.List.{map-append, length-map, length-reverse, nil_f
 use Rattle.std.proofs.Math.Seq.{take-append_seam, drop-append_seam}
 use Rattle.ac_base.specs.declared.name.Name.{Name}
 use Rattle.ac_base.specs.Rows.{Row, names, values}
-use Rattle.ac_chain.specs.ChainFields.{HasName, IsOnce}
-use Rattle.ac_chain.proofs.Cuts.{HasName-cut, HasName-put, HasName-right, once_cut, once_gone, once_put}
+use Rattle.ac_pool.specs.NamedRows.{HasName, IsOnce}
+use Rattle.ac_pool.proofs.Cuts.{HasName-cut, HasName-put, HasName-right, once_cut, once_gone, once_put}
 use Rattle.ac_model.specs.Objects.{plain_row, plains}
 use Rattle.ac_model.specs.Rows.{merged}
 use Rattle.ac_model.proofs.Plains.{plains-append}

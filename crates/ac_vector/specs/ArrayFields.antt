@@ -4,7 +4,7 @@ use Rattle.ac_base.specs.declared.name.Name.{Name}
 use Rattle.ac_base.specs.Rows.{Row, row}
 use Rattle.ac_base.specs.Rows as rows
 use Rattle.ac_pool.specs.Contents.{Contents, value_of, live_count, slot_count, with_value, IsSound}
-use Rattle.ac_chain.specs.Rows.{name_at}
+use Rattle.ac_pool.specs.NamedRows.{name_at}
 
 module _ {X : Type 0} where
   -- each value under its name

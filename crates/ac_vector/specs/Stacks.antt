@@ -2,7 +2,7 @@
 use Rattle.std.specs.Prelude.{◌≡◌, ◌+◌, ◌⊎◌, Bool, true, false, List, [], ◌∷◌, ◌++◌, length, map, reverse, Option, Some, None}
 use Rattle.ac_base.specs.declared.name.Name.{Name}
 use Rattle.ac_base.specs.Rows.{Row, row, names, values}
-use Rattle.ac_chain.specs.ChainFields.{HasName, IsOnce}
+use Rattle.ac_pool.specs.NamedRows.{HasName, IsOnce}
 use Rattle.ac_model.specs.Objects.{plains}
 use Rattle.ac_model.specs.Rows.{merged}
 use Rattle.ac_vector.specs.declared.weaving.Line.{Line}

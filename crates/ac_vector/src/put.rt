@@ -1,7 +1,8 @@
 //! Values that are put into an array as new rows: behind the last one, and then the end is turned to its place.
 ghost use Rattle.std.specs.Prelude.{◌≡◌, ◌==◌, ◌+◌, ◌^◌, ◌<◌, ◌≤◌, ◌∷◌, ◌++◌, [], None, IfOk, IfErr, IsOk, length, replicate, if◌then◌else◌};
 ghost use Rattle.std.specs.Option.{ForSome};
-ghost use Rattle.ac_chain.specs.Rows.{IsLive, IsSound, name_at, place_of, reserved, slots_in};
+ghost use Rattle.ac_chain.specs.Rows.{IsLive, IsSound, place_of, reserved, slots_in};
+ghost use Rattle.ac_pool.specs.NamedRows.{name_at};
 ghost use Rattle.ac_chain.specs.Put.{IsPut, HasFirst};
 
 use crate::array::Array;

@@ -1,7 +1,7 @@
 //! Elements by an index, counted from 1.
 ghost use Rattle.std.specs.Prelude.{◌≡◌, ◌∷◌, [], ◌+◌, ◌<◌, None};
 ghost use Rattle.ac_base.specs.FirstReason.{first_reason};
-ghost use Rattle.ac_chain.specs.Rows.{name_at};
+ghost use Rattle.ac_pool.specs.NamedRows.{name_at};
 ghost use Rattle.ac_model.specs.Calls.{Same, Marks, Lends};
 ghost use Rattle.ac_model.specs.Containers.{Grows};
 ghost use Rattle.ac_model.specs.Cursors.{needs_cursor};

@@ -1,7 +1,7 @@
 use Rattle.std.proofs.Common.{sym, ap, ◌∙◌, ◌++◌, append-nil}
 use Rattle.ac_balance.specs.Trees.{node, in_order, before}
 use Rattle.ac_balance.specs.Walking.{last_name}
-use Rattle.ac_balance.proofs.Cuts.{last_name-append}
+use Rattle.ac_balance.proofs.Ends.{last_name-append}
 use Rattle.ac_balance.proofs.Walks.{left_stood, left_none}
 use Rattle.ac_balance.proofs.walk.predecessor.Goals as goal
 

@@ -1,7 +1,7 @@
 use Rattle.std.proofs.Common.{sym, ap, ◌∙◌, ◌++◌}
 use Rattle.ac_balance.specs.Trees.{node, in_order, after}
 use Rattle.ac_balance.specs.Walking.{first_name}
-use Rattle.ac_balance.proofs.Cuts.{first_name-append}
+use Rattle.ac_balance.proofs.Ends.{first_name-append}
 use Rattle.ac_balance.proofs.Walks.{right_stood, right_none}
 use Rattle.ac_balance.proofs.walk.successor.Goals as goal
 

@@ -1,5 +1,5 @@
 use Rattle.std.proofs.Common.{◌-◌, length}
-use Rattle.ac_chain.specs.Rows.{index_of}
+use Rattle.ac_pool.specs.NamedRows.{index_of}
 use Rattle.ac_chain.proofs.Compares.{Ascending}
 use Rattle.ac_chain.proofs.search.is_ascending.Given as goal
 

@@ -1,7 +1,7 @@
 use Rattle.std.proofs.Common.{◌≡◌, sym, ◌∙◌, subst}
 use Rattle.ac_balance.specs.Indexed.{IsThere, next_name}
 use Rattle.ac_balance.specs.IndexFields.{rows_in}
-use Rattle.ac_balance.proofs.Cuts.{live_has}
+use Rattle.ac_pool.proofs.Cuts.{live_has}
 use Rattle.ac_balance.proofs.Indexes.{located, at_node, next_located}
 use Rattle.ac_balance.proofs.index.OrderIndex.after.Goals as goal
 

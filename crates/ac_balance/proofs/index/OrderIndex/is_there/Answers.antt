@@ -3,7 +3,7 @@ use Rattle.std.specs.Prelude.{IsTrue}
 use Rattle.ac_pool.specs.Contents.{value_of}
 use Rattle.ac_balance.specs.Indexed.{IsThere, IsSound}
 use Rattle.ac_balance.specs.IndexFields.{rows_in}
-use Rattle.ac_balance.proofs.Cuts.{has_live}
+use Rattle.ac_pool.proofs.Cuts.{has_live}
 use Rattle.ac_balance.proofs.Indexes.{live_in, sound_of}
 use Rattle.ac_balance.proofs.Taking.{copied_some}
 use Rattle.ac_balance.proofs.index.OrderIndex.is_there.Goals as goal

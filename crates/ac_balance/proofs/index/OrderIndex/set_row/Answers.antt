@@ -2,7 +2,7 @@ use Rattle.std.proofs.Common.{◌≡◌, None, sym, subst}
 use Rattle.ac_base.specs.Order.{are_level}
 use Rattle.ac_balance.specs.Indexed.{IsThere, without, first_where, without_row, with_new_row}
 use Rattle.ac_balance.specs.IndexFields.{rows_in}
-use Rattle.ac_balance.proofs.Cuts.{live_has}
+use Rattle.ac_pool.proofs.Cuts.{live_has}
 use Rattle.ac_balance.proofs.Indexes.{view_of, sound_of}
 use Rattle.ac_balance.proofs.Taking.{stood_closed, detached_live, renewed, renewed_index}
 use Rattle.ac_balance.proofs.index.OrderIndex.set_row.Goals as goal

@@ -1,5 +1,6 @@
 use Rattle.std.proofs.Common.{◌≡◌, length, subst}
-use Rattle.ac_chain.specs.Rows.{IsSound, name_before}
+use Rattle.ac_chain.specs.Rows.{IsSound}
+use Rattle.ac_pool.specs.NamedRows.{name_before}
 use Rattle.ac_chain.proofs.Chains.{chain_sound, last_is}
 use Rattle.ac_chain.proofs.chain.Chain.last.Goals as goal
 

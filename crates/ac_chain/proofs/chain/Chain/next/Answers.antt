@@ -1,6 +1,7 @@
 use Rattle.std.proofs.Common.{◌≡◌, sym, ◌∙◌, subst, ℕ, ◌+◌, Some}
 use Rattle.ac_pool.specs.Contents.{value_of}
-use Rattle.ac_chain.specs.Rows.{IsLive, IsSound, name_at, next_name}
+use Rattle.ac_chain.specs.Rows.{IsLive, IsSound, next_name}
+use Rattle.ac_pool.specs.NamedRows.{name_at}
 use Rattle.ac_chain.specs.ChainFields.{rows_in, next_of}
 use Rattle.ac_chain.proofs.Chains.{chain_sound, next_is, next_in_order}
 use Rattle.ac_chain.proofs.chain.Chain.next.Goals as goal

@@ -1,6 +1,7 @@
 use Rattle.std.proofs.Common.{◌≡◌, sym, ◌∙◌, subst, ℕ, Some}
 use Rattle.ac_pool.specs.Contents.{value_of}
-use Rattle.ac_chain.specs.Rows.{IsLive, IsSound, name_at, name_before, prev_name}
+use Rattle.ac_chain.specs.Rows.{IsLive, IsSound, prev_name}
+use Rattle.ac_pool.specs.NamedRows.{name_at, name_before}
 use Rattle.ac_chain.specs.ChainFields.{rows_in, prev_of}
 use Rattle.ac_chain.proofs.Chains.{chain_sound, prev_is, prev_in_order}
 use Rattle.ac_chain.proofs.chain.Chain.prev.Goals as goal

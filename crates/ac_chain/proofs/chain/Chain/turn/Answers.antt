@@ -1,6 +1,6 @@
 use Rattle.std.proofs.Common.{◌-◌, ◌<◌, length, sym, ap, ◌∙◌, subst}
-use Rattle.ac_chain.specs.Rows.{Chained, chained, index_of}
-use Rattle.ac_chain.specs.ChainFields.{IsOnce}
+use Rattle.ac_chain.specs.Rows.{Chained, chained}
+use Rattle.ac_pool.specs.NamedRows.{index_of, IsOnce}
 use Rattle.ac_chain.proofs.Moves.{once_from}
 use Rattle.ac_chain.proofs.Orders.{Turned, turn_start, turned_live, turned_more, turned_falls, turned_all, live_at}
 use Rattle.ac_chain.proofs.chain.Chain.turn.Goals as goal

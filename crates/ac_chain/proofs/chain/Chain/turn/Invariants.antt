@@ -1,5 +1,6 @@
 use Rattle.std.proofs.Common.{◌≡◌, ◌-◌, length}
-use Rattle.ac_chain.specs.Rows.{index_of, IsSound}
+use Rattle.ac_pool.specs.NamedRows.{index_of}
+use Rattle.ac_chain.specs.Rows.{IsSound}
 use Rattle.ac_chain.proofs.Orders.{Turned}
 use Rattle.ac_chain.proofs.chain.Chain.turn.Given as goal
 

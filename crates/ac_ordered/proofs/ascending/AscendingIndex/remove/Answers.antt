@@ -2,7 +2,7 @@ use Rattle.std.proofs.Common.{rules, ◌≡◌, ◌+◌, true, Some, is_some, sy
 use Rattle.std.specs.Prelude.{option_map}
 use Rattle.ac_balance.specs.declared.entry.Entry.{Entry}
 use Rattle.ac_balance.specs.Indexed.{value_at}
-use Rattle.ac_balance.proofs.Cuts.{live_has}
+use Rattle.ac_pool.proofs.Cuts.{live_has}
 use Rattle.ac_model.specs.Rows.{cut, place_of}
 use Rattle.ac_setwork.specs.Indexed.{Becomes, is_there, value_of, plain_rows}
 use Rattle.ac_ordered.specs.Ascents.{Nothing, ascent}

@@ -2,7 +2,7 @@ use Rattle.std.proofs.Common.{◌≡◌, Bool, true, false, sym, subst}
 use Rattle.ac_base.specs.Order.{are_level}
 use Rattle.ac_model.specs.Keyed.{ascending, with_reordered, another_is_like}
 use Rattle.ac_setwork.specs.Indexed.{Becomes, is_there, plain_rows}
-use Rattle.ac_balance.proofs.Cuts.{live_has}
+use Rattle.ac_pool.proofs.Cuts.{live_has}
 use Rattle.ac_ordered.specs.Ascents.{ascent}
 use Rattle.ac_ordered.proofs.Ascents.{there_live, alone, once_in, none_left}
 use Rattle.ac_ordered.proofs.Becoming.{reordered_becomes}

@@ -1,6 +1,7 @@
 use Rattle.std.proofs.Common.{◌≡◌, ◌∷◌, ◌+◌, Some, sym, ap, ◌∙◌, subst, arith, to_z-of_z, w64}
 use Rattle.ac_base.specs.FirstReason.{first_reason}
-use Rattle.ac_chain.specs.Rows.{name_at, slots_in}
+use Rattle.ac_pool.specs.NamedRows.{name_at}
+use Rattle.ac_chain.specs.Rows.{slots_in}
 use Rattle.ac_chain.proofs.SequenceRefills.{source_is}
 use Rattle.ac_model.specs.Containers.{Container}
 use Rattle.ac_model.specs.Letters.{count_of, index_in, place_of_index, tampers_cursors}

@@ -1,5 +1,6 @@
 use Rattle.std.proofs.Common.{◌≡◌, ◌+◌, Some, sym, ap, ◌∙◌, subst, arith, to_z-of_z, w64}
-use Rattle.ac_chain.specs.Rows.{name_at, slots_in}
+use Rattle.ac_pool.specs.NamedRows.{name_at}
+use Rattle.ac_chain.specs.Rows.{slots_in}
 use Rattle.ac_chain.proofs.SequenceRefills.{source_is}
 use Rattle.ac_model.specs.Calls.{Changing, Marks}
 use Rattle.ac_model.specs.Containers.{Container}

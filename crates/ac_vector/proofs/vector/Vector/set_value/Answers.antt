@@ -1,7 +1,8 @@
 use Rattle.std.proofs.Common.{Some, ap, refl, ◌+◌}
 use Rattle.std.proofs.lemmas.List.{length-set}
 use Rattle.ac_base.specs.Rows.{row}
-use Rattle.ac_chain.specs.Rows.{index_of, slots_in}
+use Rattle.ac_pool.specs.NamedRows.{index_of}
+use Rattle.ac_chain.specs.Rows.{slots_in}
 use Rattle.ac_model.specs.Containers.{Container}
 use Rattle.ac_chain.proofs.SequenceLooks.{live_needed}
 use Rattle.ac_chain.proofs.SequenceSwaps.{set_sequence, set_after}

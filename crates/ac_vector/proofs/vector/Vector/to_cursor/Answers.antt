@@ -1,5 +1,6 @@
 use Rattle.std.proofs.Common.{Some, sym, ap, ◌∙◌, to_z-of_z, w64}
-use Rattle.ac_chain.specs.Rows.{name_at, slots_in}
+use Rattle.ac_pool.specs.NamedRows.{name_at}
+use Rattle.ac_chain.specs.Rows.{slots_in}
 use Rattle.ac_model.specs.Letters.{place_of_index}
 use Rattle.ac_model.specs.Containers.{Container}
 use Rattle.ac_vector.proofs.ByIndex.{past_cursor, index_cursor}

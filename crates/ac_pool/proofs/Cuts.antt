@@ -1,21 +1,30 @@
--- Lists of rows: which names are among them, and what each change leaves where the list is cut at a row.
+-- Rows under names: which names are among them, and what each change leaves where the list is cut at a row.
 use Rattle.std.proofs.Common.{◌≡◌, ◌≢◌, ℕ, zero, suc, ◌<◌, ◌⊎◌, true, List, [], ◌∷◌, ◌++◌, length, Some, refl, sym, ap, ◌∙◌, subst, inl, inr, arith}
 use Rattle.std.proofs.lemmas.Bool.{cond-true, cond-false}
 use Rattle.std.specs.List.{slice_get, slice_set, insert, remove}
 use Rattle.std.specs.Ordering.{eq_by_cmp}
 use Rattle.ac_base.specs.declared.name.Name.{Name}
-use Rattle.ac_pool.specs.Names.{name_cmp}
-use Rattle.ac_pool.proofs.NameLaws.{cases_name, ties_itself, ties_no_other}
 use Rattle.ac_base.specs.Rows.{Row}
-use Rattle.ac_balance.specs.Indexed.{index_of, name_at, name_before}
-use Rattle.ac_balance.specs.Climbing.{HasName}
-use Rattle.ac_balance.specs.Walking.{first_name, last_name}
-use Rattle.ac_balance.proofs.Names.{IsOnce, HasName-left, HasName-right, HasName-either, once_left, once_right, apart, once-append}
+use Rattle.ac_pool.specs.Names.{name_cmp}
+use Rattle.ac_pool.specs.NamedRows.{index_of, name_at, HasName, IsOnce}
+use Rattle.ac_pool.proofs.NameLaws.{cases_name, ties_itself, ties_no_other}
 
 some_name : (a b : Name) → Some a ≡ Some b → a ≡ b
 some_name a b e = cc
 
 module _ {X : Type 0} where
+  pub HasName-left : (a : Name) (xs ys : List (Row Name X)) → HasName a xs → HasName a (xs ++ ys)
+  HasName-left a [] ys h = absurd h
+  HasName-left a (x ∷ xs) ys h = elim h [ inl e ↦ inl e | inr t ↦ inr (HasName-left a xs ys t) ]
+
+  pub HasName-right : (a : Name) (xs ys : List (Row Name X)) → HasName a ys → HasName a (xs ++ ys)
+  HasName-right a [] ys h = h
+  HasName-right a (x ∷ xs) ys h = inr (HasName-right a xs ys h)
+
+  pub HasName-either : (a : Name) (xs ys : List (Row Name X)) → HasName a (xs ++ ys) → HasName a xs ⊎ HasName a ys
+  HasName-either a [] ys h = inr h
+  HasName-either a (x ∷ xs) ys h = elim h [ inl e ↦ inl (inl e) | inr t ↦ elim (HasName-either a xs ys t) [ inl l ↦ inl (inr l) | inr r ↦ inr r ] ]
+
   pub HasName-cut : (a : Name) (xs : List (Row Name X)) (r : Row Name X) (ys : List (Row Name X)) → HasName a (xs ++ r ∷ ys) → (a ≡ r.name) ⊎ HasName a (xs ++ ys)
   HasName-cut a xs r ys h = elim (HasName-either a xs (r ∷ ys) h) [
     | inl l ↦ inr (HasName-left a xs ys l)
@@ -25,12 +34,40 @@ module _ {X : Type 0} where
   pub HasName-put : (a : Name) (xs : List (Row Name X)) (r : Row Name X) (ys : List (Row Name X)) → HasName a (xs ++ ys) → HasName a (xs ++ r ∷ ys)
   HasName-put a xs r ys h = elim (HasName-either a xs ys h) [ inl l ↦ HasName-left a xs (r ∷ ys) l | inr t ↦ HasName-right a xs (r ∷ ys) (inr t) ]
 
+  pub once_left : (xs ys : List (Row Name X)) → IsOnce (xs ++ ys) → IsOnce xs
+  once_left [] ys h = tt
+  once_left (x ∷ xs) ys h = (λ t. h.0 (HasName-left x.name xs ys t), once_left xs ys h.1)
+
+  pub once_right : (xs ys : List (Row Name X)) → IsOnce (xs ++ ys) → IsOnce ys
+  once_right [] ys h = h
+  once_right (x ∷ xs) ys h = once_right xs ys h.1
+
+  pub apart : (xs ys : List (Row Name X)) → IsOnce (xs ++ ys) → (a : Name) → HasName a xs → HasName a ys → ⊥
+  apart [] ys h a l r = absurd l
+  apart (x ∷ xs) ys h a l r = elim l [
+    | inl e ↦ h.0 (HasName-right x.name xs ys (subst (λ n. HasName n ys) e r))
+    | inr t ↦ apart xs ys h.1 a t r
+  ]
+
+  pub once-append : (xs ys : List (Row Name X)) → IsOnce xs → IsOnce ys → ((a : Name) → HasName a xs → HasName a ys → ⊥) → IsOnce (xs ++ ys)
+  once-append [] ys p q n = q
+  once-append (x ∷ xs) ys p q n = (
+    λ t. elim (HasName-either x.name xs ys t) [ inl l ↦ p.0 l | inr r ↦ n x.name (inl refl) r ],
+    once-append xs ys p.1 q (λ a l r. n a (inr l) r),
+  )
+
   -- a row less, and one more
   pub once_cut : (xs : List (Row Name X)) (r : Row Name X) (ys : List (Row Name X)) → IsOnce (xs ++ r ∷ ys) → IsOnce (xs ++ ys)
   once_cut xs r ys h = once-append xs ys (once_left xs (r ∷ ys) h) (once_right xs (r ∷ ys) h).1 (λ a l q. apart xs (r ∷ ys) h a l (inr q))
 
   pub once_gone : (xs : List (Row Name X)) (r : Row Name X) (ys : List (Row Name X)) → IsOnce (xs ++ r ∷ ys) → HasName r.name (xs ++ ys) → ⊥
   once_gone xs r ys h t = elim (HasName-either r.name xs ys t) [ inl l ↦ apart xs (r ∷ ys) h r.name l (inl refl) | inr q ↦ (once_right xs (r ∷ ys) h).0 q ]
+
+  pub once_put : (xs : List (Row Name X)) (r : Row Name X) (ys : List (Row Name X)) → IsOnce (xs ++ ys) → (HasName r.name (xs ++ ys) → ⊥) → IsOnce (xs ++ r ∷ ys)
+  once_put xs r ys h n = once-append xs (r ∷ ys) (once_left xs ys h) (λ q. n (HasName-right r.name xs ys q), once_right xs ys h) (λ a l q. elim q [
+    | inl e ↦ n (HasName-left r.name xs ys (subst (λ k. HasName k xs) e l))
+    | inr t ↦ apart xs ys h a l t
+  ])
 
   pub index_here : (a : Name) (r : Row Name X) (rows : List (Row Name X)) → a ≡ r.name → index_of a (r ∷ rows) ≡ 0
   index_here a r rows e = cond-true _ _ _ (subst (λ n. eq_by_cmp name_cmp a n ≡ true) e (ties_itself a))
@@ -95,32 +132,8 @@ module _ {X : Type 0} where
   set-cut [] r q ys = refl
   set-cut (x ∷ xs) r q ys = ap (λ zs. x ∷ zs) (set-cut xs r q ys)
 
-  pub name_at-after : (xs : List (Row Name X)) (r : Row Name X) (ys : List (Row Name X)) → name_at (xs ++ r ∷ ys) (suc (length xs)) ≡ first_name ys
-  name_at-after [] r ys = refl
-  name_at-after (x ∷ xs) r ys = name_at-after xs r ys
-
-  name_at-last : (x : Row Name X) (xs ys : List (Row Name X)) → name_at (x ∷ xs ++ ys) (length xs) ≡ last_name (x ∷ xs)
-  name_at-last x [] ys = refl
-  name_at-last x (y ∷ xs) ys = name_at-last y xs ys
-
-  pub name_before-cut : (xs ys : List (Row Name X)) → name_before (xs ++ ys) (length xs) ≡ last_name xs
-  name_before-cut [] ys = refl
-  name_before-cut (x ∷ xs) ys = name_at-last x xs ys
-
-  pub first_name-append : (xs ys : List (Row Name X)) (a : Name) → first_name xs ≡ Some a → first_name (xs ++ ys) ≡ Some a
-  first_name-append [] ys a e = cc
-  first_name-append (x ∷ xs) ys a e = e
-
-  pub last_name-cut : (xs : List (Row Name X)) (r : Row Name X) → last_name (xs ++ r ∷ []) ≡ Some r.name
-  last_name-cut [] r = refl
-  last_name-cut (x ∷ []) r = refl
-  last_name-cut (x ∷ y ∷ xs) r = last_name-cut (y ∷ xs) r
-
-  pub last_name-append : (xs ys : List (Row Name X)) (a : Name) → last_name ys ≡ Some a → last_name (xs ++ ys) ≡ Some a
-  last_name-append [] ys a e = e
-  last_name-append (x ∷ xs) [] a e = cc
-  last_name-append (x ∷ []) (y ∷ ys) a e = e
-  last_name-append (x ∷ z ∷ xs) (y ∷ ys) a e = last_name-append (z ∷ xs) (y ∷ ys) a e
+  pub cut-row : (a : Name) (rows : List (Row Name X)) (k : Cut a rows) → slice_get rows (index_of a rows) ≡ Some k.at
+  cut-row a rows k = ap (slice_get rows) k.place ∙ ap (λ zs. slice_get zs (length k.before)) k.is ∙ slice_get-cut k.before k.at k.after
 
   pub name_at_has : (rows : List (Row Name X)) (i : ℕ) (a : Name) → name_at rows i ≡ Some a → HasName a rows
   name_at_has [] i a e = cc
