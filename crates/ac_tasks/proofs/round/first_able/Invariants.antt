@@ -1,0 +1,7 @@
+use Rattle.std.proofs.Common.{◌≡◌, ◌<◌, ◌≤◌, ℕ, false}
+use Rattle.ac_book.specs.Blocks.{present}
+use Rattle.ac_book.specs.Histories.{is_able}
+use Rattle.ac_tasks.proofs.round.first_able.Given as goal
+
+abbrev pub invariant-loop-task : goal.invariant-loop-task
+invariant-loop-task l = (k : ℕ) → l.from ≤ k → k < l.task → is_able (present l.book) k ≡ false
