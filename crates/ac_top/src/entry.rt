@@ -8,7 +8,6 @@ ghost use Rattle.ac_top.specs.Status.{number_of, IsAnswer, Counted};
 ghost use Rattle.ac_top.specs.Answers.{Answers, IfAsked, HasRoom};
 
 use crate::answering::answer_input;
-use crate::gate::Gate;
 use crate::generating::answer_size;
 use crate::line::refuse;
 use crate::mode::{Mode, Task};
@@ -16,6 +15,7 @@ use crate::status::Status;
 use crate::words::asked_for;
 use ac_io::{ReadEnd, Sink, Source, read_all};
 use ac_meaning::INPUT_LIMIT;
+use ac_tasks::Gate;
 use std::alloc::Global;
 use std::sync::Wait;
 use std::thread::Threads;

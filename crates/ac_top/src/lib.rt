@@ -3,7 +3,6 @@
 
 mod answering;
 mod entry;
-mod gate;
 mod generating;
 mod generator;
 mod law;
@@ -13,7 +12,7 @@ mod status;
 mod summary;
 mod words;
 
+pub use ac_tasks::{FreeGate, Gate};
 pub use entry::run;
-pub use gate::{FreeGate, Gate};
 pub use law::{asked_words, one_meaning};
 pub use status::Status;
