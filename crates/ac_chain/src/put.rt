@@ -10,6 +10,7 @@ use ac_base::{Elem, GREATEST_LENGTH, Name, NoMemory};
 use std::alloc::Global;
 
 /// So many copies of the element. None of them takes no memory.
+#[inline(always)]
 pub fn copies<T: Elem>(alloc: Global, e: &T, n: u64) -> Result<Vec<T>, NoMemory>
     ensures same { IfOk result (λ made. made.items ≡ replicate n e.now) }
     ensures none { n ≡ 0 → IsOk result }

@@ -38,6 +38,7 @@ fn fits<T, S: Sequence<T>>(s: &S, length: u64, more: u64) -> Option<Reason>
 }
 
 /// Why so many copies before a place are refused, where this reason was found for the place.
+#[inline(always)]
 pub fn refuses_copies<T, S: Sequence<T>>(s: &S, place: Option<Reason>, n: i64) -> Option<Reason>
     ensures { result ≡ first_reason (tampers_cursors (plain (S.seen s.now).object) ∷ place
         ∷ room_for_copies (plain (S.seen s.now).object) n) }

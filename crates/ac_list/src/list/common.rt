@@ -30,6 +30,7 @@ impl<T> Sequence<T> for List<T> {
 }
 
 impl<T: Elem> Puts<T> for List<T> {
+    #[inline(always)]
     fn put(&mut self, place: Option<Name>, e: T, n: u64) -> Result<Cursor, Fault> {
         match put_copies(&mut self.chain, self.alloc, place, e, n) {
             Ok(first) => Ok(named(self, first)),
