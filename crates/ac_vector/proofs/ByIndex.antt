@@ -18,6 +18,8 @@ use Rattle.ac_model.specs.Letters.{index_in, is_index, mark_for, mark_in, mark_o
 use Rattle.ac_model.specs.Objects.{Object, length_of, plain}
 use Rattle.ac_model.specs.Rows.{is_named}
 use Rattle.ac_model.specs.Vectors.{name_in, to_cursor_call}
+use Rattle.std.specs.Option.{option_map}
+use Rattle.ac_model.proofs.Plains.{length-plains}
 use Rattle.ac_model.proofs.Reasons.{not_if}
 
 not_true : (test : Bool) → not test ≡ false → test ≡ true
@@ -71,3 +73,19 @@ module _ {X : Type 0} where
   index_stands o index c h is =
       let at : mark o c ≡ mark_in (plain o) (place_of_index index) = is ∙ cond-true _ _ _ (is_index_there index (length_of (plain o)) h) in
       (ap (needs (plain o)) at ∙ needs_there (plain o) (place_of_index index) (place_within index (length_of (plain o)) h), ap name_of at)
+
+  -- the name of the row at an index, and the cursor that stands there
+  pub record AtIndex (o : Object Name X) (index : ℤ) : Type 0 where
+    pub name : Name
+    pub is : Some name ≡ name_at o.rows (place_of_index index)
+    pub stands : needs_cursor o (cursor_at o.number (Some name)) ≡ None
+    pub named : name_of (mark o (cursor_at o.number (Some name))) ≡ name_in (plain o) index
+
+  pub at_index : (o : Object Name X) (index : ℤ) → index_in index (length_of (plain o)) ≡ None → AtIndex o index
+  at_index o index h = elim (slice_get_cases o.rows (place_of_index index)).1 [
+    | inl at ↦
+        let is = sym (ap (option_map (λ (r : Row Name X). r.name)) at.2) in
+        let there = index_stands o index (cursor_at o.number (Some at.0.name)) h (index_cursor o index at.0.name (cursor_at o.number (Some at.0.name)) h is refl) in
+        record { name = at.0.name; is = is; stands = there.0; named = there.1 }
+    | inr past ↦ let within = place_within index (length_of (plain o)) h in absurd (omega (arith, past.0, length-plains o.rows))
+  ]

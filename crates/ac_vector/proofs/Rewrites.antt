@@ -1,22 +1,23 @@
 -- Other values under an array's names: one written, two exchanged, all of them.
-use Rattle.std.proofs.Common.{◌≡◌, ℕ, ◌<◌, ◌≤◌, List, [], ◌∷◌, length, get_or, set, Some, refl, sym, ap, ◌∙◌, subst, arith, if◌then◌else◌, suc}
+use Rattle.std.proofs.Common.{◌≡◌, ℕ, ◌<◌, ◌≤◌, List, [], ◌∷◌, length, get_or, set, Some, refl, sym, ap, ◌∙◌, subst, inl, inr, arith, if◌then◌else◌, suc}
 use Rattle.std.specs.List.{swap}
 use Rattle.std.specs.Option.{option_map}
 use Rattle.std.proofs.Math.Seq.{map-set_same}
 use Rattle.std.proofs.lemmas.List.{map-set, set-get_or, length-map}
 use Rattle.std.proofs.lemmas.List.Edits.{swap_is}
-use Rattle.std.proofs.lemmas.Option.{get_or_from_slice_get, slice_get-map}
+use Rattle.std.proofs.lemmas.Option.{get_or_from_slice_get, slice_get-map, slice_get_cases}
 use Rattle.ac_base.specs.declared.name.Name.{Name}
 use Rattle.ac_base.specs.Rows.{Row, row, names, values}
 use Rattle.ac_pool.specs.Contents.{Contents, slot_count}
 use Rattle.ac_pool.specs.Names.{name_cmp}
 use Rattle.std.specs.Ordering.{eq_by_cmp}
 use Rattle.ac_chain.specs.Rows.{Chained, chained, IsLive, value_of, with_rows, with_value, values_swapped, values_exchanged}
-use Rattle.ac_pool.specs.NamedRows.{index_of}
-use Rattle.ac_pool.proofs.Cuts.{live_has, Cut, cut, cut-row}
+use Rattle.ac_pool.specs.NamedRows.{index_of, name_at}
+use Rattle.ac_pool.proofs.Cuts.{live_has, has_live, name_at_has, Cut, cut, cut-row}
 use Rattle.ac_model.specs.Rows.{over}
 use Rattle.ac_vector.specs.ArrayFields.{IsArray}
-use Rattle.ac_vector.proofs.Arrays.{view_of, Leaves, leaves, old_stands, rewritten, length_values}
+use Rattle.ac_vector.proofs.Arrays.{view_of, Leaves, leaves, old_stands, rewritten, length_values, once_at}
+use Rattle.ac_vector.proofs.NamesAt.{at_index}
 
 module _ {X : Type 0} where
   -- a name's place is the same in rows of the same names
@@ -74,6 +75,19 @@ module _ {X : Type 0} where
         let k = cut a old.rows (live_has a old.rows live) in
         let s = old_stands h is in
         rewritten_array (set vs i w) n (set old.rows (index_of a old.rows) (row a w)) (names-set old.rows a k w) ((λ j. set (s.valued j) (at j) w) ∙ sym (values-set old.rows a k w)) refl
+
+    -- another value in the row at a place, whose name this is
+    pub placed_array : (a : Name) (i : ℕ) (w : X) → Some a ≡ name_at old.rows i → Leaves ns (set vs i w) p m n (with_value old a w)
+    placed_array a i w e =
+        let there = name_at_has old.rows i a (sym e) in
+        written_array a i w (once_at (old_stands h is) i (index_of a old.rows) a (sym e) (at_index old.rows a there)) (has_live a old.rows there)
+
+    -- there is a name at the place
+    pub there_array : (i : ℕ) (w : X) → i < length old.rows → (a : Name) × Leaves ns (set vs i w) p m n (with_value old a w)
+    there_array i w less = elim (slice_get_cases old.rows i).1 [
+      | inl at ↦ (at.0.name, placed_array at.0.name i w (sym (ap (option_map (λ (r : Row Name X). r.name)) at.2)))
+      | inr past ↦ absurd (omega (arith, past.0))
+    ]
 
     pub over_array : (ws us : List X) (l : ℕ) → ws ≡ us → length us ≡ length old.rows → l ≡ n → Leaves ns ws p m l (with_rows old (over old.rows us))
     over_array ws us l are long room = rewritten_array ws l (over old.rows us) (names-over old.rows us) (are ∙ sym (values-over old.rows us long)) room

@@ -5,7 +5,7 @@ ghost use Rattle.std.specs.Borrow.{sem};
 ghost use Rattle.std.specs.Ordering.{is_lt};
 ghost use Rattle.ac_base.specs.Rows.{row, values};
 ghost use Rattle.ac_chain.specs.Cut.{IsCut};
-ghost use Rattle.ac_chain.specs.Rows.{Chained, IsLive, value_of, no_rows, with_rows, reserved, inserted, removed, cleared, values_swapped, IsFresh, IsSound};
+ghost use Rattle.ac_chain.specs.Rows.{Chained, IsLive, value_of, no_rows, with_rows, reserved, inserted, removed, cleared, values_swapped, with_value, IsFresh, IsSound};
 ghost use Rattle.ac_pool.specs.NamedRows.{index_of, name_at, name_before};
 ghost use Rattle.ac_model.specs.Objects.{plains};
 ghost use Rattle.ac_model.specs.Rows.{over, sorted};
@@ -219,6 +219,10 @@ impl<T> Array<T> {
         ensures turned { self.new ≡ with_rows self.old (turned self.old.rows place count) }
         ensures sound { IsSound self.new }
     {
+        let len = self.len();
+        if place + count == len {
+            return;
+        }
         let _places = &self.places;
         turn_vector(&mut self.values, place as usize, count as usize);
         turn_vector(&mut self.names, place as usize, count as usize);
@@ -292,6 +296,16 @@ impl<T: Drop> Array<T> {
             names: Vec::with_capacity(alloc, n as usize)?,
             places: Pool::with_slots(alloc, n)?,
         })
+    }
+
+    /// Writes another value in the row at this place.
+    pub fn set_at(&mut self, place: u64, v: T)
+        requires { place < length self.old.rows }
+        ensures written { (a : Name) → Some a ≡ name_at self.old.rows place → self.new ≡ with_value self.old a v }
+        ensures sound { IsSound self.new }
+    {
+        let _places = &self.places;
+        self.values[place as usize] = v;
     }
 
     /// Drops all values, and keeps the slots.

@@ -2,12 +2,13 @@
 ghost use Rattle.std.specs.Prelude.{◌≡◌, ◌∷◌, [], ◌+◌, ◌<◌, None};
 ghost use Rattle.ac_base.specs.FirstReason.{first_reason};
 ghost use Rattle.ac_pool.specs.NamedRows.{name_at};
-ghost use Rattle.ac_model.specs.Calls.{Same, Marks, Lends};
+ghost use Rattle.ac_model.specs.Calls.{IsAfter, Same, Marks, Lends};
 ghost use Rattle.ac_model.specs.Containers.{Grows};
 ghost use Rattle.ac_model.specs.Cursors.{needs_cursor};
 ghost use Rattle.ac_model.specs.Forms.{Does, Looks, Refuses, seen_by};
 ghost use Rattle.ac_model.specs.Letters.{place_at, place_of_index, tampers_elements, index_in};
-ghost use Rattle.ac_model.specs.Objects.{plain, length_of};
+ghost use Rattle.ac_model.specs.Objects.{plain, length_of, with_rows};
+ghost use Rattle.ac_model.specs.Rows.{with_value};
 ghost use Rattle.ac_model.specs.Vectors as vectors;
 
 use super::Vector;
@@ -119,8 +120,18 @@ impl<T: Drop> Vector<T> {
         ensures spare { self.new.spare ≡ self.old.spare }
     {
         allowed(self.refuses_replace_index(index))?;
-        self.set_value(self.to_cursor(index), e);
+        self.set_index(index, e);
         Ok(())
+    }
+
+    /// Another value at an index in range.
+    fn set_index(&mut self, index: i64, e: T)
+        requires { index_in index (length_of (plain self.old.object)) ≡ None }
+        ensures written { IsAfter self.old.object self.new.object
+            (with_rows (plain self.old.object) (with_value (plain self.old.object).rows (vectors.name_in (plain self.old.object) index) e)) }
+        ensures spare { self.new.spare ≡ self.old.spare }
+    {
+        self.rows.set_at(place_of(index), e);
     }
 
     /// Why a replacement by an index is refused.
