@@ -100,6 +100,33 @@ fn a_search_meets_nodes_in_preorder_and_upwards(rt: HostRuntime) {
 }
 
 #[test]
+fn an_assigned_tree_has_the_same_depths(rt: HostRuntime) {
+    let mut tree = made(&rt, rt.alloc(), Limit::Unbounded);
+    let mut other = made(&rt, rt.alloc(), Limit::Unbounded);
+    assert!(rt; branched(&mut tree).is_some());
+    assert!(rt; other.append_child(other.root(), 9, 3).is_ok());
+    assert!(rt; !other.equal(&tree));
+    assert!(rt; other.assign(&tree).is_ok());
+    assert!(rt; other.equal(&tree));
+    assert!(rt; holds(&other, other.root(), &[1, 2]));
+    assert!(rt; holds(&other, other.first(), &[2]));
+}
+
+#[test]
+fn a_copy_stays_where_its_source_moves(rt: HostRuntime) {
+    let mut tree = made(&rt, rt.alloc(), Limit::Unbounded);
+    let mut other = made(&rt, rt.alloc(), Limit::Unbounded);
+    assert!(rt; branched(&mut tree).is_some());
+    let Ok(copy) = tree.copy(rt.alloc(), tag(&rt, 2), 0) else {
+        panic!(rt; "no memory");
+    };
+    assert!(rt; other.move_from(&mut tree).is_ok());
+    assert!(rt; tree.is_empty());
+    assert!(rt; other.equal(&copy));
+    assert!(rt; holds(&copy, copy.root(), &[1, 2]));
+}
+
+#[test]
 fn a_loop_meets_each_element_once(rt: HostRuntime) {
     let mut tree = made(&rt, rt.alloc(), Limit::Unbounded);
     let Some((first, last)) = branched(&mut tree) else {

@@ -53,7 +53,7 @@ module _ {X : Type 0} where
   pub emptied : (m p : Links X) → IsForest m → Clears m None p → StandsFor p bare
   emptied m p s c = (c [] (forest_in m) s refl refl).stands
 
-  cleared_rows : (m p : Links X) → IsForest m → Clears m None p → rows_of p ≡ cleared (rows_of m)
+  pub cleared_rows : (m p : Links X) → IsForest m → Clears m None p → rows_of p ≡ cleared (rows_of m)
   cleared_rows m p s c =
       let r = c [] (forest_in m) s refl refl in
       let count = size_is 2 (forest_in m) in let spare = r.spare in
@@ -98,3 +98,6 @@ module _ {X : Type 0} where
         slots = λ few. sum ∙ k.kept few;
         grown = subst (λ z. z ≤ max slots_l (pow8 (length (rows_of q).rows))) (sym sum) (subst (λ z. p.nodes.spare ≤ max slots_l (pow8 z)) total k.bound);
       }
+
+  pub emptied_forest : (m p : Links X) → IsForest m → Clears m None p → IsForest p
+  emptied_forest m p s c = is_forest p bare (emptied m p s c)

@@ -132,70 +132,101 @@ module _ {X : Type 0} where
       in_forest : (a : Name) → HasName a (outline 2 (forest_in l)) → IsLive l.nodes a
       in_forest a h = live_of l (forest_in l) s a (has a 2 (forest_in l) h)
 
-  -- the copies of the rows before the place
-  pub record Leveling (l : Links X) (place : Option Name) (depth : ℕ) (made : List (Leveled X)) : Type 0 where
+  -- a walk that knows its depth: the rows before the place, and those that are left
+  pub record Walk (l : Links X) (place : Option Name) (depth : ℕ) : Type 0 where
     pub before : List (Row Name (Node X))
     pub left : List (Row Name (Node X))
     pub is : outline 2 (forest_in l) ≡ before ++ left
     pub place_is : place ≡ first_or left None
     pub level : ForSome place (λ a. depth ≡ node_depth l (Some a))
-    pub copies : nodes_in made ≡ values before
 
-  pub leveling_start : (l : Links X) → IsForest l → (first : Option Name) → first ≡ first_of l None → Leveling l first 2 []
-  leveling_start l s first is = record {
-    before = [];
-    left = outline 2 (forest_in l);
-    is = refl;
-    place_is = is ∙ s.framed.0 ∙ sym (first_row 2 (forest_in l));
-    level = top_level l s first is;
-    copies = refl;
-  }
+  pub walk_start : (l : Links X) → IsForest l → (first : Option Name) → first ≡ first_of l None → (k : Walk l first 2) × (k.before ≡ []) × (k.left ≡ outline 2 (forest_in l))
+  walk_start l s first is = (
+    record {
+      before = [];
+      left = outline 2 (forest_in l);
+      is = refl;
+      place_is = is ∙ s.framed.0 ∙ sym (first_row 2 (forest_in l));
+      level = top_level l s first is;
+    },
+    refl,
+    refl,
+  )
 
-  record At_row (l : Links X) (place : Option Name) (depth : ℕ) (made : List (Leveled X)) (name : Name) (k : Leveling l place depth made) : Type 0 where
+  record At_row (l : Links X) (place : Option Name) (depth : ℕ) (name : Name) (k : Walk l place depth) : Type 0 where
     pub at : Row Name (Node X)
     pub rest : List (Row Name (Node X))
     pub is : k.left ≡ at ∷ rest
     pub named : at.name ≡ name
 
-  at_row : (l : Links X) (place : Option Name) (depth : ℕ) (made : List (Leveled X)) (name : Name) (k : Leveling l place depth made) → place ≡ Some name → At_row l place depth made name k
-  at_row l place depth made name k e = by_left k.left refl (sym k.place_is ∙ e)
+  at_row : (l : Links X) (place : Option Name) (depth : ℕ) (name : Name) (k : Walk l place depth) → place ≡ Some name → At_row l place depth name k
+  at_row l place depth name k e = by_left k.left refl (sym k.place_is ∙ e)
     where
-      by_left : (left : List (Row Name (Node X))) → k.left ≡ left → first_or left None ≡ Some name → At_row l place depth made name k
+      by_left : (left : List (Row Name (Node X))) → k.left ≡ left → first_or left None ≡ Some name → At_row l place depth name k
       by_left [] is first = absurd (none-some name first)
       by_left (r ∷ left) is first = record { at = r; rest = left; is = is; named = some_name r.name name first }
 
-  module _ (l : Links X) (s : IsForest l) (place : Option Name) (depth : ℕ) (made : List (Leveled X)) (k : Leveling l place depth made) (name : Name) (e : place ≡ Some name) where
-    there : (r : At_row l place depth made name k) → Met l k.before r.rest r.at
+  -- the row that is met, and the walk behind it
+  pub record Here (l : Links X) (place : Option Name) (depth : ℕ) (name : Name) (k : Walk l place depth) : Type 0 where
+    pub at : Row Name (Node X)
+    pub rest : List (Row Name (Node X))
+    pub left_is : k.left ≡ at ∷ rest
+    pub live : IsLive l.nodes name
+    pub value : option_map (λ (n : TreeNode X). n.value) (value_of l.nodes name) ≡ Some at.value.element
+    pub is : node depth at.value.element ≡ at.value
+    pub next_is : (next : Option Name) → Follows l None name next → next ≡ first_or rest None
+
+  pub record Stepped (l : Links X) (place : Option Name) (depth : ℕ) (name : Name) (k : Walk l place depth) (next : Option Name) (now : ℕ) : Type 0 where
+    pub here : Here l place depth name k
+    pub walk : Walk l next now
+    pub left_is : here.rest ≡ walk.left
+    pub before_is : walk.before ≡ k.before ++ here.at ∷ []
+
+  module _ (l : Links X) (s : IsForest l) (place : Option Name) (depth : ℕ) (k : Walk l place depth) (name : Name) (e : place ≡ Some name) where
+    there : (r : At_row l place depth name k) → Met l k.before r.rest r.at
     there r = met l s k.before r.rest r.at (k.is ∙ ap (λ z. k.before ++ z) r.is)
 
-    pub leveling_live : IsLive l.nodes name
-    leveling_live = let r = at_row l place depth made name k e in subst (λ n. IsLive l.nodes n) r.named (there r).live
-
-    pub leveling_more : (v : X) → option_map (λ (n : TreeNode X). n.value) (value_of l.nodes name) ≡ Some v → (copy : X) → copy ≡ v → (next : Option Name) (now : ℕ) → Follows l None name next → ForSome next (λ b. now ≡ node_depth l (Some b))
-        → Leveling l next now (made ++ record { depth = depth; value = copy } ∷ [])
-    leveling_more v is copy same next now f level =
-        let r = at_row l place depth made name k e in let m = there r in
-        let value : copy ≡ r.at.value.element = same ∙ some_value v r.at.value.element (sym is ∙ ap (λ n. option_map (λ (z : TreeNode X). z.value) (value_of l.nodes n)) (sym r.named) ∙ m.value) in
+    pub walk_here : Here l place depth name k
+    walk_here =
+        let r = at_row l place depth name k e in let m = there r in
         let deep : depth ≡ node_depth l (Some r.at.name) = k.level name e ∙ ap (λ n. node_depth l (Some n)) (sym r.named) in
-        let one : node depth copy ≡ r.at.value = (λ i. node (deep i) (value i)) ∙ sym m.is in
         record {
-          before = k.before ++ r.at ∷ [];
-          left = r.rest;
-          is = k.is ∙ ap (λ z. k.before ++ z) r.is ∙ sym (append_assoc k.before (r.at ∷ []) r.rest);
-          place_is = m.next_is next (subst (λ n. Follows l None n next) (sym r.named) f);
-          level = level;
-          copies = map-append (λ (i : Leveled X). node i.depth i.value) made (record { depth = depth; value = copy } ∷ []) ∙ (λ i. k.copies i ++ one i ∷ [])
-              ∙ sym (map-append (λ (z : Row Name (Node X)). z.value) k.before (r.at ∷ []));
+          at = r.at;
+          rest = r.rest;
+          left_is = r.is;
+          live = subst (λ n. IsLive l.nodes n) r.named m.live;
+          value = ap (λ n. option_map (λ (z : TreeNode X). z.value) (value_of l.nodes n)) (sym r.named) ∙ m.value;
+          is = ap (λ d. node d r.at.value.element) deep ∙ sym m.is;
+          next_is = λ next f. m.next_is next (subst (λ n. Follows l None n next) (sym r.named) f);
         }
 
-    pub leveling_less : (next : Option Name) → Follows l None name next
+    pub walk_live : IsLive l.nodes name
+    walk_live = walk_here.live
+
+    pub walk_more : (next : Option Name) (now : ℕ) → Follows l None name next → ForSome next (λ b. now ≡ node_depth l (Some b)) → Stepped l place depth name k next now
+    walk_more next now f level =
+        let h = walk_here in
+        record {
+          here = h;
+          walk = record {
+            before = k.before ++ h.at ∷ [];
+            left = h.rest;
+            is = k.is ∙ ap (λ z. k.before ++ z) h.left_is ∙ sym (append_assoc k.before (h.at ∷ []) h.rest);
+            place_is = h.next_is next f;
+            level = level;
+          };
+          left_is = refl;
+          before_is = refl;
+        }
+
+    pub walk_less : (next : Option Name) → Follows l None name next
         → length (outline 2 (forest_in l)) - chain.place_of next (outline 2 (forest_in l)) < length (outline 2 (forest_in l)) - chain.place_of place (outline 2 (forest_in l))
-    leveling_less next f =
-        let r = at_row l place depth made name k e in let m = there r in
+    walk_less next f =
+        let r = at_row l place depth name k e in let m = there r in
         subst (λ p. length (outline 2 (forest_in l)) - chain.place_of next (outline 2 (forest_in l)) < length (outline 2 (forest_in l)) - chain.place_of p (outline 2 (forest_in l))) (ap Some r.named ∙ sym e)
         (by_rest r m r.rest refl (m.next_is next (subst (λ n. Follows l None n next) (sym r.named) f)))
       where
-        by_rest : (r : At_row l place depth made name k) → Met l k.before r.rest r.at → (rest : List (Row Name (Node X))) → r.rest ≡ rest → next ≡ first_or r.rest None
+        by_rest : (r : At_row l place depth name k) → Met l k.before r.rest r.at → (rest : List (Row Name (Node X))) → r.rest ≡ rest → next ≡ first_or r.rest None
             → length (outline 2 (forest_in l)) - chain.place_of next (outline 2 (forest_in l)) < length (outline 2 (forest_in l)) - pool.index_of r.at.name (outline 2 (forest_in l))
         by_rest r m rest are first =
             let rows : outline 2 (forest_in l) ≡ (k.before ++ r.at ∷ []) ++ rest = k.is ∙ ap (λ z. k.before ++ z) (r.is ∙ ap (λ z. r.at ∷ z) are) ∙ sym (append_assoc k.before (r.at ∷ []) rest) in
@@ -204,12 +235,38 @@ module _ {X : Type 0} where
             let here = m.index in let one = length-append k.before (r.at ∷ []) in let all = ap length rows in let both = length-append (k.before ++ r.at ∷ []) rest in
             omega (arith, place, here, one, all, both)
 
-  pub leveling_end : (l : Links X) (place : Option Name) (depth : ℕ) (made : List (Leveled X)) → Leveling l place depth made → place ≡ None → nodes_in made ≡ values (outline 2 (forest_in l))
-  leveling_end l place depth made k none = by_left k.left refl (sym none ∙ k.place_is)
+  pub none_left : (l : Links X) (place : Option Name) (depth : ℕ) (k : Walk l place depth) → place ≡ None → k.left ≡ []
+  none_left l place depth k none = by_left k.left (sym none ∙ k.place_is)
     where
-      by_left : (left : List (Row Name (Node X))) → k.left ≡ left → None ≡ first_or left None → nodes_in made ≡ values (outline 2 (forest_in l))
-      by_left [] is first = k.copies ∙ sym (ap values (k.is ∙ ap (λ z. k.before ++ z) is ∙ append-nil k.before))
-      by_left (r ∷ left) is first = absurd (none-some r.name first)
+      by_left : (left : List (Row Name (Node X))) → None ≡ first_or left None → left ≡ []
+      by_left [] first = refl
+      by_left (r ∷ left) first = absurd (none-some r.name first)
+
+  -- the copies of the rows before the place
+  pub record Leveling (l : Links X) (place : Option Name) (depth : ℕ) (made : List (Leveled X)) : Type 0 where
+    pub walk : Walk l place depth
+    pub copies : nodes_in made ≡ values walk.before
+
+  pub leveling_start : (l : Links X) → IsForest l → (first : Option Name) → first ≡ first_of l None → Leveling l first 2 []
+  leveling_start l s first is = let k = walk_start l s first is in record { walk = k.0; copies = sym (ap values k.1) }
+
+  pub leveling_more : (l : Links X) → IsForest l → (place : Option Name) (depth : ℕ) (made : List (Leveled X)) → Leveling l place depth made → (name : Name) → place ≡ Some name
+      → (v : X) → option_map (λ (n : TreeNode X). n.value) (value_of l.nodes name) ≡ Some v → (copy : X) → copy ≡ v → (next : Option Name) (now : ℕ) → Follows l None name next → ForSome next (λ b. now ≡ node_depth l (Some b))
+      → Leveling l next now (made ++ record { depth = depth; value = copy } ∷ [])
+  leveling_more l s place depth made k name e v is copy same next now f level =
+      let w = walk_more l s place depth k.walk name e next now f level in
+      let h = w.here in
+      let value : copy ≡ h.at.value.element = same ∙ some_value v h.at.value.element (sym is ∙ h.value) in
+      let one : node depth copy ≡ h.at.value = ap (node depth) value ∙ h.is in
+      record {
+        walk = w.walk;
+        copies = map-append (λ (i : Leveled X). node i.depth i.value) made (record { depth = depth; value = copy } ∷ []) ∙ (λ i. k.copies i ++ one i ∷ [])
+            ∙ sym (map-append (λ (z : Row Name (Node X)). z.value) k.walk.before (h.at ∷ [])) ∙ sym (ap values w.before_is);
+      }
+
+  pub leveling_end : (l : Links X) (place : Option Name) (depth : ℕ) (made : List (Leveled X)) → Leveling l place depth made → place ≡ None → nodes_in made ≡ values (outline 2 (forest_in l))
+  leveling_end l place depth made k none =
+      k.copies ∙ sym (ap values (k.walk.is ∙ ap (λ z. k.walk.before ++ z) (none_left l place depth k.walk none) ∙ append-nil k.walk.before))
 
   pub nodes_reverse : (items : List (Leveled X)) → nodes_in (reverse items) ≡ reverse (nodes_in items)
   nodes_reverse [] = refl

@@ -4,6 +4,7 @@ pub mod Children
 pub mod Counting
 pub mod Deleting
 pub mod Emptying
+pub mod Equals
 pub mod Following
 pub mod Forests
 pub mod Holes

@@ -4,6 +4,7 @@ pub mod TreeRows
 pub mod TreeCursors
 pub mod Inserting
 pub mod Children
+pub mod Comparing
 pub mod Copying
 pub mod Removing
 pub mod Searching

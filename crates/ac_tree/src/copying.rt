@@ -4,7 +4,7 @@ ghost use Rattle.std.specs.Option.{ForSome};
 ghost use Rattle.ac_base.specs.Growth.{pow8};
 ghost use Rattle.ac_base.specs.Rows.{values};
 ghost use Rattle.ac_chain.specs.Refill.{IsRefilled};
-ghost use Rattle.ac_chain.specs.Rows.{slots_in};
+ghost use Rattle.ac_chain.specs.Rows.{cleared, slots_in};
 ghost use Rattle.ac_model.specs.Objects.{plains};
 ghost use Rattle.ac_model.specs.Outline.{follows};
 ghost use Rattle.ac_model.specs.Rows.{fresh};
@@ -48,7 +48,7 @@ fn past_level<T>(links: &Links<T>, name: Name, depth: &mut u64) -> Option<Name>
 }
 
 /// The node after this one in preorder, with its depth in place of this one's.
-fn after_level<T>(links: &Links<T>, name: Name, depth: &mut u64) -> Option<Name>
+pub(crate) fn after_level<T>(links: &Links<T>, name: Name, depth: &mut u64) -> Option<Name>
     requires forest { IsForest links.now }
     requires live { IsLive links.now.nodes name }
     requires depth { depth.old ≡ level_of links.now name }
@@ -144,5 +144,31 @@ pub fn refill<T: Elem>(
     links.reserve(source.count().saturating_sub(links.count()))?;
     remove_below(links, None);
     put_leveled(links, items);
+    Ok(())
+}
+
+/// The source's nodes, under new names, come in place of the nodes, and the source is left empty.
+pub fn take_over<T: Elem>(
+    links: &mut Links<T>,
+    source: &mut Links<T>,
+    alloc: Global,
+) -> Result<(), NoMemory>
+    requires few { length (rows_of source.old).rows ≤ GREATEST_LENGTH }
+    requires unspent { links.old.nodes.next_serial + length (rows_of source.old).rows < 2 ^ 64 }
+    requires forest { IsForest links.old }
+    requires source { IsForest source.old }
+    ensures put { IfOk result (λ _. IsRefilled (rows_of links.old) (values (rows_of source.old).rows) (rows_of links.new)) }
+    ensures cleared { IfOk result (λ _. rows_of source.new ≡ cleared (rows_of source.old)) }
+    ensures slots { length (rows_of source.old).rows ≤ slots_in (rows_of links.old) →
+        slots_in (rows_of links.new) ≡ slots_in (rows_of links.old) }
+    ensures grown { IfOk result (λ _.
+        slots_in (rows_of links.new) ≤ max (slots_in (rows_of links.old)) (pow8 (length (rows_of links.new).rows))) }
+    ensures refused_target { IfErr result (λ _. links.new ≡ links.old) }
+    ensures refused_source { IfErr result (λ _. source.new ≡ source.old) }
+    ensures target { IsForest links.new }
+    ensures source { IsForest source.new }
+{
+    refill(links, source, alloc)?;
+    remove_below(source, None);
     Ok(())
 }

@@ -2,6 +2,7 @@
 #![tactic(auto)]
 
 mod clearing;
+mod comparing;
 mod copying;
 mod counts;
 mod finding;

@@ -1,4 +1,4 @@
-//! Searches for an element.
+//! Searches for an element, and comparisons of all elements.
 ghost use Rattle.std.specs.Prelude.{◌≡◌};
 ghost use Rattle.ac_model.specs.Forms.{Looks};
 ghost use Rattle.ac_model.specs.Objects.{plain};
@@ -7,6 +7,7 @@ ghost use Rattle.ac_tree.specs.TreeCursors.{seen_by, NodeMarks};
 
 use super::Tree;
 use super::cursors::node_in;
+use crate::comparing::same_nodes;
 use crate::finding::{found_on, found_up};
 use ac_base::{Cursor, Elem, Fault};
 use ac_model::allowed;
@@ -24,6 +25,20 @@ impl<T: Elem> Tree<T> {
         ensures { result ≡ trees.contains_call T.is_same (plain self.now.object) e.now }
     {
         found_on(&self.links, None, e).is_some()
+    }
+
+    /// "=" (A.18.10): the same depths and equal elements.
+    pub fn equal(&self, other: &Tree<T>) -> bool
+        ensures { result ≡ trees.equal_call T.is_same (plain self.now.object) (plain other.now.object) }
+    {
+        same_nodes(&self.links, &other.links)
+    }
+
+    /// "=" (A.18.10) of a tree with itself, in constant time.
+    pub fn equal_self(&self) -> bool
+        ensures { result ≡ trees.equal_call T.is_same (plain self.now.object) (plain self.now.object) }
+    {
+        true
     }
 
     /// Find_In_Subtree (A.18.10): the first in preorder from the node itself on.

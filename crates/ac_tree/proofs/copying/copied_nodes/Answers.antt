@@ -1,23 +1,23 @@
 use Rattle.std.proofs.Common.{sym, ap, subst, ◌∙◌, reverse}
 use Rattle.ac_tree.specs.Copying.{nodes_in}
-use Rattle.ac_tree.proofs.Levels.{Leveling, leveling_start, leveling_live, leveling_more, leveling_less, leveling_end, nodes_reverse}
+use Rattle.ac_tree.proofs.Levels.{Leveling, leveling_start, leveling_more, leveling_end, walk_live, walk_less, nodes_reverse}
 use Rattle.ac_tree.proofs.copying.copied_nodes.Goals as goal
 
 pub loop-place-init : goal.loop-place-init
 loop-place-init g c = subst (λ made. Leveling c.args.links.now c.first_child-place.result 2 made) (sym c.new-made.ensures.items) (leveling_start c.args.links.now c.requires.forest c.first_child-place.result c.first_child-place.ensures)
 
 pub at-requires : goal.at-requires
-at-requires g c = leveling_live c.args.links.now c.requires.forest c.loop-place.place c.loop-place.depth c.loop-place.made.items c.loop-place.invariant c.in-Some.name c.in-Some.is
+at-requires g c = walk_live c.args.links.now c.requires.forest c.loop-place.place c.loop-place.depth c.loop-place.invariant.walk c.in-Some.name c.in-Some.is
 
 pub after_level-place-requires-clause-live : goal.after_level-place-requires-clause-live
-after_level-place-requires-clause-live g c = leveling_live c.args.links.now c.requires.forest c.loop-place.place c.loop-place.depth c.loop-place.made.items c.loop-place.invariant c.in-Some.name c.in-Some.is
+after_level-place-requires-clause-live g c = walk_live c.args.links.now c.requires.forest c.loop-place.place c.loop-place.depth c.loop-place.invariant.walk c.in-Some.name c.in-Some.is
 
 pub after_level-place-requires-clause-depth : goal.after_level-place-requires-clause-depth
-after_level-place-requires-clause-depth g c = c.loop-place.invariant.level c.in-Some.name c.in-Some.is
+after_level-place-requires-clause-depth g c = c.loop-place.invariant.walk.level c.in-Some.name c.in-Some.is
 
 pub loop-place-smaller : goal.loop-place-smaller
 loop-place-smaller g c =
-    leveling_less c.args.links.now c.requires.forest c.loop-place.place c.loop-place.depth c.loop-place.made.items c.loop-place.invariant c.in-Some.name c.in-Some.is c.after_level-place.result c.after_level-place.ensures.follows
+    walk_less c.args.links.now c.requires.forest c.loop-place.place c.loop-place.depth c.loop-place.invariant.walk c.in-Some.name c.in-Some.is c.after_level-place.result c.after_level-place.ensures.follows
 
 pub loop-place-preserved : goal.loop-place-preserved
 loop-place-preserved g c =
