@@ -114,7 +114,7 @@ module _ {X : Type 0} where
         ];
       } in
       let before : Open k [] (plugged steps t) = record { framed = s.framed; stands = Stands-same (value_of l.nodes) (value_of d) None None (plugged steps t) kept s.stands } in
-      let o = shut m steps u (tied-open k steps (row a v) t part (opened k steps t before) here) in
+      let o = shut m steps u (tied-open k steps (row a v) bare t part (opened k steps t before) here tt) in
       let keeps = keeps_then d _ m.nodes (keeps_next k (parent_in steps) (prev_in steps) (Some a)) (keeps_prev (with_next k (parent_in steps) (prev_in steps) (Some a)) (parent_in steps) (first_in t) (Some a)) in
       let more : live_count d ≡ live_count l.nodes + 1 = ap live_count is ∙ live_count-added l.nodes a n (fresh_is_dead l.nodes a fresh) in
       let sizes : size (plugged steps u) ≡ size (plugged steps t) + 1 = plugged_size steps t u 1 (omega arith) in
@@ -142,7 +142,7 @@ module _ {X : Type 0} where
       let k = closed l (parent_in steps) (prev_in steps) (first_in t) in
       let m = links d k.first k.last in
       let part = parted steps u s.once in
-      let o = closed-open l steps x t part (opened l steps u (open_of l (plugged steps u) s)) in
+      let o = closed-open l steps x bare t part (opened l steps u (open_of l (plugged steps u) s)) in
       let others = λ (b : Name) (ne : b ≢ x.name). ap (λ c. value_of c b) is ∙ value_of-taken_other k.nodes x.name b ne in
       let not_in = λ (h : Has x.name t). part.once.1 h in
       let not_round = λ (h : IsAround x.name steps). part.apart x.name (inl refl) h in

@@ -29,7 +29,7 @@ use Rattle.ac_tree.proofs.Objects.{rows-are}
 
 module _ {X : Type 0} where
   -- the last child of a node above a place, where the last from the place on is e
-  last_framed : (l : Links X) → pool.IsSound l.nodes → (steps : List (Step X)) (o e : Option Name) → ((a : Name) → last_at steps e ≡ Some a → pool.IsLive l.nodes a) → Framed l steps o e → last_of l (parent_in steps) ≡ last_at steps e
+  pub last_framed : (l : Links X) → pool.IsSound l.nodes → (steps : List (Step X)) (o e : Option Name) → ((a : Name) → last_at steps e ≡ Some a → pool.IsLive l.nodes a) → Framed l steps o e → last_of l (parent_in steps) ≡ last_at steps e
   last_framed l sound [] o e live h = h.1
   last_framed l sound (under x rest ∷ steps) o e live h = ap (λ n. name_in l.nodes (last_link n)) h.0 ∙ linked_name l.nodes sound e live
   last_framed l sound (after x below ∷ steps) o e live h = last_framed l sound steps (Some x.name) (Some (or_name x.name e)) live h.2

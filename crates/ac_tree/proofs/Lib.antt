@@ -21,6 +21,7 @@ pub mod Putting
 pub mod Refilling
 pub mod Replacing
 pub mod Searching
+pub mod Splices
 pub mod Spots
 pub mod Standing
 pub mod Steps

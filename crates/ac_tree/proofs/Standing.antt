@@ -148,37 +148,45 @@ module _ {X : Type 0} where
   last_none (under x rest ∷ steps) = refl
   last_none (after x below ∷ steps) = last_some steps x.name
 
-  closed-some : (l : Links X) (steps : List (Step X)) (x y : Row Name X) (below rest : Forest X) → Parted steps (grove x bare (grove y below rest)) → Open l steps (grove x bare (grove y below rest))
+  closed-some : (l : Links X) (steps : List (Step X)) (x : Row Name X) (c : Forest X) (y : Row Name X) (below rest : Forest X) → Parted steps (grove x c (grove y below rest)) → Open l steps (grove x c (grove y below rest))
       → Open (closed l (parent_in steps) (prev_in steps) (Some y.name)) steps (grove y below rest)
   unfolding with_prev
-  closed-some l steps x y below rest part h =
+  closed-some l steps x c y below rest part h =
       let t = grove y below rest in
       let m = with_next l (parent_in steps) (prev_in steps) (Some y.name) in
       let w = writes m.nodes y.name (prev_put (prev_in steps)) in
       let k = with_prev m (parent_in steps) (Some y.name) (prev_in steps) in
       let moved = Stands-same (value_of l.nodes) (value_of m.nodes) (parent_in steps) (Some x.name) t (λ a n. next-aside l steps (Some y.name) a (part.apart a (inr (inr n)))) h.stands.2 in
       record {
-        framed = Framed-same m k steps (Some y.name) (last_in (grove x bare t)) (λ a n. w.there a (λ e. part.apart y.name (inr (inr (inl refl))) (subst (λ z. IsAround z steps) e n))) refl refl
-            (framed-next l steps (Some x.name) (last_in (grove x bare t)) (Some y.name) part.around h.framed);
+        framed = Framed-same m k steps (Some y.name) (last_in (grove x c t)) (λ a n. w.there a (λ e. part.apart y.name (inr (inr (inl refl))) (subst (λ z. IsAround z steps) e n))) refl refl
+            (framed-next l steps (Some x.name) (last_in (grove x c t)) (Some y.name) part.around h.framed);
         stands = Stands-behind (value_of m.nodes) (value_of k.nodes) (parent_in steps) (Some x.name) (prev_in steps) y below rest part.once.4 w moved;
       }
 
-  -- a node goes from the place
-  pub closed-open : (l : Links X) (steps : List (Step X)) (x : Row Name X) (t : Forest X) → Parted steps (grove x bare t) → Open l steps (grove x bare t) → Open (closed l (parent_in steps) (prev_in steps) (first_in t)) steps t
-  closed-open l steps x bare part h =
+  -- a node goes from the place, with what is below it
+  pub closed-open : (l : Links X) (steps : List (Step X)) (x : Row Name X) (c t : Forest X) → Parted steps (grove x c t) → Open l steps (grove x c t) → Open (closed l (parent_in steps) (prev_in steps) (first_in t)) steps t
+  closed-open l steps x c bare part h =
       let m = with_next l (parent_in steps) (prev_in steps) None in
       record {
         framed = subst (λ z. Framed (with_prev m (parent_in steps) None z) steps None None) (last_none steps)
             (framed-last m steps None (Some x.name) None part.around (framed-next l steps (Some x.name) (Some x.name) None part.around h.framed));
         stands = tt;
       }
-  closed-open l steps x (grove y below rest) part h = closed-some l steps x y below rest part h
+  closed-open l steps x c (grove y below rest) part h = closed-some l steps x c y below rest part h
 
-  tied-some : (l : Links X) (steps : List (Step X)) (x y : Row Name X) (below rest : Forest X) → Parted steps (grove x bare (grove y below rest)) → Open l steps (grove y below rest)
-      → value_of l.nodes x.name ≡ Some (linked x.value (parent_in steps) None None (prev_in steps) (Some y.name))
-      → Open (tied l (parent_in steps) (prev_in steps) (Some y.name) x.name) steps (grove x bare (grove y below rest))
+  -- and the nodes that are neither round the place nor left at it keep their links
+  pub closed-aside : (l : Links X) (steps : List (Step X)) (t : Forest X) (a : Name) → (IsAround a steps → ⊥) → (Has a t → ⊥) → value_of (closed l (parent_in steps) (prev_in steps) (first_in t)).nodes a ≡ value_of l.nodes a
   unfolding with_prev
-  tied-some l steps x y below rest part h at =
+  closed-aside l steps bare a out not_in = last-aside (with_next l (parent_in steps) (prev_in steps) None) steps (prev_in steps) a out ∙ next-aside l steps None a out
+  closed-aside l steps (grove y below rest) a out not_in =
+      let m = with_next l (parent_in steps) (prev_in steps) (Some y.name) in
+      (writes m.nodes y.name (prev_put (prev_in steps))).there a (λ e. not_in (inl e)) ∙ next-aside l steps (Some y.name) a out
+
+  tied-some : (l : Links X) (steps : List (Step X)) (x : Row Name X) (c : Forest X) (y : Row Name X) (below rest : Forest X) → Parted steps (grove x c (grove y below rest)) → Open l steps (grove y below rest)
+      → value_of l.nodes x.name ≡ Some (linked x.value (parent_in steps) (first_in c) (last_in c) (prev_in steps) (Some y.name)) → Stands (value_of l.nodes) (Some x.name) None c
+      → Open (tied l (parent_in steps) (prev_in steps) (Some y.name) x.name) steps (grove x c (grove y below rest))
+  unfolding with_prev
+  tied-some l steps x c y below rest part h at low =
       let t = grove y below rest in
       let m = with_next l (parent_in steps) (prev_in steps) (Some x.name) in
       let w = writes m.nodes y.name (prev_put (Some x.name)) in
@@ -189,20 +197,25 @@ module _ {X : Type 0} where
             (framed-next l steps (Some y.name) (last_in t) (Some x.name) part.around h.framed);
         stands = (
           w.there x.name (λ e. part.once.1 (inl e)) ∙ next-aside l steps (Some x.name) x.name (part.apart x.name (inl refl)) ∙ at,
-          tt,
+          Stands-same (value_of l.nodes) (value_of k.nodes) (Some x.name) None c
+              (λ a n. w.there a (λ e. part.once.2 y.name (subst (λ z. Has z c) e n) (inl refl)) ∙ next-aside l steps (Some x.name) a (part.apart a (inr (inl n)))) low,
           Stands-behind (value_of m.nodes) (value_of k.nodes) (parent_in steps) (prev_in steps) (Some x.name) y below rest part.once.4 w moved,
         );
       }
 
-  -- a node that has its own links comes to the place
-  pub tied-open : (l : Links X) (steps : List (Step X)) (x : Row Name X) (t : Forest X) → Parted steps (grove x bare t) → Open l steps t
-      → value_of l.nodes x.name ≡ Some (linked x.value (parent_in steps) None None (prev_in steps) (first_in t))
-      → Open (tied l (parent_in steps) (prev_in steps) (first_in t) x.name) steps (grove x bare t)
-  tied-open l steps x bare part h at =
+  -- a node that has its own links, and what is below it, comes to the place
+  pub tied-open : (l : Links X) (steps : List (Step X)) (x : Row Name X) (c t : Forest X) → Parted steps (grove x c t) → Open l steps t
+      → value_of l.nodes x.name ≡ Some (linked x.value (parent_in steps) (first_in c) (last_in c) (prev_in steps) (first_in t)) → Stands (value_of l.nodes) (Some x.name) None c
+      → Open (tied l (parent_in steps) (prev_in steps) (first_in t) x.name) steps (grove x c t)
+  tied-open l steps x c bare part h at low =
       let m = with_next l (parent_in steps) (prev_in steps) (Some x.name) in
-      let aside = part.apart x.name (inl refl) in
-      subst (λ z. Open (with_prev m (parent_in steps) None z) steps (grove x bare bare)) (last_some steps x.name) (record {
+      let aside = λ (a : Name) (out : IsAround a steps → ⊥). last-aside m steps (last_at steps (Some x.name)) a out ∙ next-aside l steps (Some x.name) a out in
+      subst (λ z. Open (with_prev m (parent_in steps) None z) steps (grove x c bare)) (last_some steps x.name) (record {
         framed = framed-last m steps (Some x.name) None (Some x.name) part.around (framed-next l steps None None (Some x.name) part.around h.framed);
-        stands = (last-aside m steps (last_at steps (Some x.name)) x.name aside ∙ next-aside l steps (Some x.name) x.name aside ∙ at, tt, tt);
+        stands = (
+          aside x.name (part.apart x.name (inl refl)) ∙ at,
+          Stands-same (value_of l.nodes) (value_of (with_prev m (parent_in steps) None (last_at steps (Some x.name))).nodes) (Some x.name) None c (λ a n. aside a (part.apart a (inr (inl n)))) low,
+          tt,
+        );
       })
-  tied-open l steps x (grove y below rest) part h at = tied-some l steps x y below rest part h at
+  tied-open l steps x c (grove y below rest) part h at low = tied-some l steps x c y below rest part h at low

@@ -8,4 +8,5 @@ pub mod Comparing
 pub mod Copying
 pub mod Removing
 pub mod Searching
+pub mod Splicing
 pub mod Walking

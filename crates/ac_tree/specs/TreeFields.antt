@@ -119,6 +119,10 @@ module _ {X : Type 0} where
   abbrev pub next_put : Option Name → TreeNode X → TreeNode X
   next_put to n = node_with n.value n.parent n.first n.last n.prev (link_of to)
 
+  -- with another parent and other siblings
+  abbrev pub place_put : Option Name → Option Name → Option Name → TreeNode X → TreeNode X
+  place_put parent prev next n = node_with n.value (link_of parent) n.first n.last (link_of prev) (link_of next)
+
   -- and with another value
   abbrev pub value_put : X → TreeNode X → TreeNode X
   value_put w n = node_with w n.parent n.first n.last n.prev n.next

@@ -8,7 +8,8 @@ ghost use Rattle.ac_model.specs.Containers.{first_spare};
 ghost use Rattle.ac_pool.specs.Link.{link_of, name_in};
 ghost use Rattle.ac_tree.specs.Inserting.{Inserts, Reserves};
 ghost use Rattle.ac_tree.specs.Removing.{Removes};
-ghost use Rattle.ac_tree.specs.TreeFields.{parent_link, first_link, last_link, prev_link, next_link, parent_of, first_of, last_of, prev_of, next_of, prev_before, first_put, last_put, prev_put, next_put, written_at, with_next, with_prev, tied, closed, links, value_put, links_in, links_put, exchanged_in, IsEmptied};
+ghost use Rattle.ac_tree.specs.Splicing.{Moves};
+ghost use Rattle.ac_tree.specs.TreeFields.{parent_link, first_link, last_link, prev_link, next_link, parent_of, first_of, last_of, prev_of, next_of, prev_before, first_put, last_put, prev_put, next_put, written_at, with_next, with_prev, tied, closed, links, place_put, value_put, links_in, links_put, exchanged_in, IsEmptied};
 
 use ac_base::{Limit, Name, NoMemory};
 use ac_pool::{NO_SLOT, Pool, link_to};
@@ -246,6 +247,37 @@ impl<T> Links<T> {
     {
         self.set_next(parent, prev, next);
         self.set_prev(parent, next, prev);
+    }
+
+    /// Gives the name's node another parent and other siblings, and leaves it its children.
+    #[tactic(auto, unfolding(crate::specs::TreeFields::written_at))]
+    fn set_place(
+        &mut self,
+        name: Name,
+        parent: Option<Name>,
+        prev: Option<Name>,
+        next: Option<Name>,
+    )
+        ensures { self.new ≡ links (written_at self.old.nodes name (place_put parent prev next)) self.old.first self.old.last }
+    {
+        if let Some(node) = self.nodes.get_mut(name) {
+            node.parent = link_to(parent);
+            node.prev = link_to(prev);
+            node.next = link_to(next);
+        }
+    }
+
+    /// Moves a node with all below it: it becomes a child of the parent before one of its children, or behind the last.
+    pub fn move_to(&mut self, name: Name, parent: Option<Name>, before: Option<Name>)
+        ensures { Moves self.old name parent before self.new }
+    {
+        let above = self.parent(name);
+        let prev = self.prev(name);
+        let next = self.next(name);
+        self.close(above, prev, next);
+        let last = self.prev_before(parent, before);
+        self.set_place(name, parent, last, before);
+        self.tie(parent, last, before, name);
     }
 
     /// The links of the name's node, which lead to no node where it isn't live.
