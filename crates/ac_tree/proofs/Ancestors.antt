@@ -25,7 +25,7 @@ use Rattle.ac_tree.proofs.Holes.{in_middle}
 use Rattle.ac_tree.proofs.Looking.{alone_at, at_place}
 use Rattle.ac_tree.proofs.Searching.{hit_first, missed_first}
 
-in-append : (n : ℕ) (xs ys : List Spot) → is_in n (xs ++ ys) ≡ (is_in n xs || is_in n ys)
+pub in-append : (n : ℕ) (xs ys : List Spot) → is_in n (xs ++ ys) ≡ (is_in n xs || is_in n ys)
 in-append n [] ys = refl
 in-append n (x ∷ xs) ys = ap (λ b. (x.name == n) || b) (in-append n xs ys) ∙ or_assoc (x.name == n) (is_in n xs) (is_in n ys)
   where
@@ -34,7 +34,7 @@ in-append n (x ∷ xs) ys = ap (λ b. (x.name == n) || b) (in-append n xs ys) �
     or_assoc false b c = refl
 
 -- what is kept by names is in the list, and kept
-filter_in : (p : ℕ → Bool) (n : ℕ) (all : List Spot) → is_in n (filter (λ (s : Spot). p s.name) all) ≡ (is_in n all && p n)
+pub filter_in : (p : ℕ → Bool) (n : ℕ) (all : List Spot) → is_in n (filter (λ (s : Spot). p s.name) all) ≡ (is_in n all && p n)
 filter_in p n [] = refl
 filter_in p n (s ∷ all) = elim (cases_Bool (s.name == n)) [
   | inl t ↦ let same : p s.name ≡ p n = ap p (eqb-true s.name n t) in elim (cases_Bool (p s.name)) [
@@ -52,7 +52,7 @@ filter_in p n (s ∷ all) = elim (cases_Bool (s.name == n)) [
     and_false false = refl
 
 module _ {X : Type 0} where
-  has_in : (a : Name) (depth : ℕ) (t : Forest X) → Has a t → is_in a.serial (seen (outline depth t)) ≡ true
+  pub has_in : (a : Name) (depth : ℕ) (t : Forest X) → Has a t → is_in a.serial (seen (outline depth t)) ≡ true
   has_in a depth bare h = absurd h
   has_in a depth (grove x below rest) h =
       let both : is_in a.serial (seen (outline (depth + 1) below ++ outline depth rest)) ≡ (is_in a.serial (seen (outline (depth + 1) below)) || is_in a.serial (seen (outline depth rest))) =
@@ -157,7 +157,7 @@ module _ {X : Type 0} (l : Links X) where
       ap (filter (on_path n)) (ap (outline 2) (forest-is l (plugged steps g) s) ∙ outline_plugged steps g)
       ∙ on_part n (before_in steps) (outline d g ++ after_in steps) (line_in steps) (r ∷ []) (before_line steps g s x.name (inl refl)) (on_part n (outline d g) (after_in steps) (r ∷ []) [] here (after_line steps g s x.name (inl refl)))
 
-  root_up : IsForest l → rows_up (outline 2 (forest_in l)) 0 ≡ []
+  pub root_up : IsForest l → rows_up (outline 2 (forest_in l)) 0 ≡ []
   root_up s = ap reverse (none_on 0 [] (forest_in l) s (λ a h e. let low = (s.sound.issued a (live_of l (forest_in l) s a h)).0 in omega (arith, e, low)))
 
   -- upwards from a place
@@ -167,14 +167,14 @@ module _ {X : Type 0} (l : Links X) where
   line_up f (after x below ∷ steps) t s = line_up f steps (grove x below t) s
 
   -- a node, and then those above its parent's
-  record Met_up (a : Name) : Type 0 where
+  pub record Met_up (a : Name) : Type 0 where
     pub at : Row Name (Node X)
     pub is : rows_up (outline 2 (forest_in l)) a.serial ≡ at ∷ rows_up (outline 2 (forest_in l)) (serial_in (parent_of l a))
     pub named : at.name ≡ a
     pub value : option_map (λ (n : TreeNode X). n.value) (value_of l.nodes a) ≡ Some at.value.element
     pub live : ForSome (parent_of l a) (IsLive l.nodes)
 
-  met_up : IsForest l → (a : Name) → IsLive l.nodes a → Met_up a
+  pub met_up : IsForest l → (a : Name) → IsLive l.nodes a → Met_up a
   met_up s a live =
       let k = at_place l s a live in let q = row k.at.name (node (depth_in k.steps) k.at.value) in let t = grove k.at k.below k.rest in
       let all = outline 2 (forest_in l) in

@@ -102,7 +102,7 @@ module _ {X : Type 0} where
     | inr f ↦ top_parent l (after x below ∷ steps) rest depth n s (sym (ap (λ b. b || is_in n (tops depth rest)) f) ∙ h)
   ]
 
-  before_end : (steps : List (Step X)) (t : Forest X) → length (before_in (to_end steps t)) ≡ length (before_in steps) + size t
+  pub before_end : (steps : List (Step X)) (t : Forest X) → length (before_in (to_end steps t)) ≡ length (before_in steps) + size t
   before_end steps bare = omega arith
   before_end steps (grove x below rest) =
       let up = before_end (after x below ∷ steps) rest in

@@ -121,7 +121,7 @@ module _ {X : Type 0} where
       let k = sizes l m t u steps count s less r in
       let old = k.old in let new = k.new in let fewer = k.less in let spare = r.spare in omega (arith, old, new, fewer, spare)
 
-  cut_middle : (xs mid ys : List (Row ℕ (Node X))) → cut (xs ++ (mid ++ ys)) (length xs) (length mid) ≡ xs ++ ys
+  pub cut_middle : (xs mid ys : List (Row ℕ (Node X))) → cut (xs ++ (mid ++ ys)) (length xs) (length mid) ≡ xs ++ ys
   cut_middle xs mid ys = λ i. take-append_seam xs (mid ++ ys) i ++ (drop-append-add xs (mid ++ ys) (length mid) ∙ drop-append_seam mid ys) i
 
   -- the rows that went stood side by side at the place

@@ -14,6 +14,7 @@ pub mod Leaves
 pub mod Levels
 pub mod Looking
 pub mod Loops
+pub mod NewPlaces
 pub mod Objects
 pub mod Outlines
 pub mod Places
@@ -21,9 +22,11 @@ pub mod Putting
 pub mod Refilling
 pub mod Replacing
 pub mod Searching
+pub mod SplicedRows
 pub mod Splices
 pub mod Spots
 pub mod Standing
 pub mod Steps
 pub mod Swapping
+pub mod Within
 pub mod Writes

@@ -8,7 +8,7 @@ use Rattle.ac_base.specs.declared.cursor.Cursor.{Cursor}
 use Rattle.ac_base.specs.declared.cursor.Cursor.TheVariants.{NoElement, At}
 use Rattle.ac_base.specs.FirstReason.{first_reason}
 use Rattle.ac_base.specs.Rows.{Row, row}
-use Rattle.ac_pool.specs.Contents.{value_of, IsLive}
+use Rattle.ac_pool.specs.Contents.{Contents, value_of, IsLive, IsSound}
 use Rattle.ac_model.specs.Rows.{Node, node, value_at}
 use Rattle.ac_model.specs.Objects.{Object, plain, plains}
 use Rattle.ac_model.specs.Letters.{no_mark, mark_at, name_of}
@@ -19,7 +19,7 @@ use Rattle.ac_model.specs.Trees as trees
 use Rattle.ac_model.specs.Trees.{tree_mark, needs_node, may_node, needs_element, is_root, mark_of_spot, unless_none}
 use Rattle.ac_tree.specs.declared.links.TreeNode.{TreeNode}
 use Rattle.ac_tree.specs.declared.links.Links.{Links}
-use Rattle.ac_tree.specs.Forests.{Forest, bare, grove, Step, under, after, outline, first_in, last_in, Has, plugged, parent_in, prev_in, depth_in, before_in, after_in}
+use Rattle.ac_tree.specs.Forests.{Forest, bare, grove, Step, under, after, outline, first_in, last_in, Has, Once, plugged, parent_in, prev_in, depth_in, before_in, after_in}
 use Rattle.ac_tree.specs.TreeFields as fields
 use Rattle.ac_tree.specs.TreeFields.{StandsFor, forest_in, IsForest, first_of, last_of}
 use Rattle.ac_tree.specs.TreeCursors.{node_in, cursor_of_node, serial_in, NodeMarks}
@@ -29,21 +29,29 @@ use Rattle.ac_tree.proofs.Outlines.{Position, root_position, node_position, posi
 use Rattle.ac_tree.proofs.Judging.{mark_named, spot_mark, at_node, At_element, at_element, may_needed, needed, may_at, named_mark, node_mark}
 
 module _ {X : Type 0} where
-  pub alone_at : (l : Links X) (steps : List (Step X)) (x : Row Name X) (below rest : Forest X) → StandsFor l (plugged steps (grove x below rest)) → IsAlone steps x.name.serial
-  alone_at l steps x below rest s =
+  -- where all names of a forest are live in a pool, each has a serial of its own
+  pub alone_in : (c : Contents (TreeNode X)) → IsSound c → (steps : List (Step X)) (x : Row Name X) (below rest : Forest X) → Once (plugged steps (grove x below rest)) → ((a : Name) → Has a (plugged steps (grove x below rest)) → IsLive c a)
+      → IsAlone steps x.name.serial
+  alone_in c sound steps x below rest once lives =
       let t = grove x below rest in
-      let live = live_of l (plugged steps t) s x.name (plugged_has steps t x.name (inl refl)) in
+      let live = lives x.name (plugged_has steps t x.name (inl refl)) in
       record {
         around = λ b h e.
-            let same : b ≡ x.name = s.sound.serials b x.name (live_of l (plugged steps t) s b (around_has steps t b h)) live e in
-            (parted steps t s.once).apart x.name (inl refl) (subst (λ n. IsAround n steps) same h);
-        not_root = λ e. let low = (s.sound.issued x.name live).0 in omega (arith, e, low);
+            let same : b ≡ x.name = sound.serials b x.name (lives b (around_has steps t b h)) live e in
+            (parted steps t once).apart x.name (inl refl) (subst (λ n. IsAround n steps) same h);
+        not_root = λ e. let low = (sound.issued x.name live).0 in omega (arith, e, low);
       }
 
+  pub all_alone_in : (c : Contents (TreeNode X)) → IsSound c → (steps : List (Step X)) (t : Forest X) → Once (plugged steps t) → ((a : Name) → Has a (plugged steps t) → IsLive c a) → AllAlone steps
+  all_alone_in c sound [] t once lives = tt
+  all_alone_in c sound (under x rest ∷ steps) t once lives = (alone_in c sound steps x t rest once lives, all_alone_in c sound steps (grove x t rest) once lives)
+  all_alone_in c sound (after x below ∷ steps) t once lives = all_alone_in c sound steps (grove x below t) once lives
+
+  pub alone_at : (l : Links X) (steps : List (Step X)) (x : Row Name X) (below rest : Forest X) → StandsFor l (plugged steps (grove x below rest)) → IsAlone steps x.name.serial
+  alone_at l steps x below rest s = alone_in l.nodes s.sound steps x below rest s.once (λ a h. live_of l (plugged steps (grove x below rest)) s a h)
+
   pub all_alone : (l : Links X) (steps : List (Step X)) (t : Forest X) → StandsFor l (plugged steps t) → AllAlone steps
-  all_alone l [] t s = tt
-  all_alone l (under x rest ∷ steps) t s = (alone_at l steps x t rest s, all_alone l steps (grove x t rest) s)
-  all_alone l (after x below ∷ steps) t s = all_alone l steps (grove x below t) s
+  all_alone l steps t s = all_alone_in l.nodes s.sound steps t s.once (λ a h. live_of l (plugged steps t) s a h)
 
   pub parent_serial : (steps : List (Step X)) → (parent_spot steps).name ≡ serial_in (parent_in steps)
   parent_serial [] = refl

@@ -23,7 +23,7 @@ module _ {X : Type 0} where
   keeps_tied : (l : Links X) (p q n : Option Name) (a : Name) → Keeps l.nodes (tied l p q n a).nodes
   keeps_tied l p q n a = keeps_then l.nodes _ (tied l p q n a).nodes (keeps_next l p q (Some a)) (keeps_prev (with_next l p q (Some a)) p n (Some a))
 
-  around_live : (l : Links X) (steps : List (Step X)) (t : Forest X) → Open l [] (plugged steps t) → (a : Name) → IsAround a steps → IsLive l.nodes a
+  pub around_live : (l : Links X) (steps : List (Step X)) (t : Forest X) → Open l [] (plugged steps t) → (a : Name) → IsAround a steps → IsLive l.nodes a
   around_live l steps t o a h = Stands-live (value_of l.nodes) None None (plugged steps t) o.stands a (around_has steps t a h)
 
   -- the node before a place, where the links may have nodes besides

@@ -3,7 +3,7 @@ use Rattle.std.proofs.Common.{◌≡◌, ◌≤◌, ◌+◌, ℕ, ℤ, pos, negs
 use Rattle.std.specs.Prelude.{◌==◌, nat_lt, if◌then◌else◌, IfSome}
 use Rattle.std.proofs.lemmas.Bool.{cond-false, le-ltb}
 use Rattle.ac_base.specs.declared.reason.Reason.{Reason}
-use Rattle.ac_base.specs.declared.reason.Reason.TheVariants.{CursorTampering, ElementTampering, ForeignCursor, DeadCursor, RootNode, NotChild, NotLeaf, LengthRange, CapacityFull, NamesSpent}
+use Rattle.ac_base.specs.declared.reason.Reason.TheVariants.{CursorTampering, ElementTampering, ForeignCursor, DeadCursor, RootNode, BelowItself, NotChild, NotLeaf, LengthRange, CapacityFull, NamesSpent}
 use Rattle.ac_base.specs.Limits.{is_past, numbers_end}
 use Rattle.ac_base.specs.declared.limit.TheConstants.{GREATEST_LENGTH}
 use Rattle.ac_base.specs.FirstReason.{first_reason, earlier, step_of}
@@ -121,3 +121,13 @@ none_if (Some r) h = absurd (true≢false h)
 pub leaf_if : (b : Bool) → reason_if (not b) NotLeaf ≡ None → b ≡ true
 leaf_if true h = refl
 leaf_if false h = absurd (let k : Some NotLeaf ≡ None = h in cc)
+
+-- why a splice is refused, once its cursors aren't
+pub late_splice : (a b : Bool) → Late (first_reason (reason_if a NotChild ∷ reason_if b BelowItself ∷ []))
+late_splice a b =
+    let late : Reason → Type 0 = λ r. 6 ≤ step_of r in
+    both_by late (reason_if a NotChild) (first_reason (reason_if b BelowItself ∷ [])) (reason_by late a NotChild (omega arith))
+    (both_by late (reason_if b BelowItself) None (reason_by late b BelowItself (omega arith)) tt)
+
+pub four_first : (a b c d late : Option Reason) → Early a → Early b → Early c → Early d → Late late → earlier a (earlier b (earlier c (earlier d late))) ≡ or_else (first_reason (a ∷ b ∷ c ∷ d ∷ [])) late
+four_first a b c d late ea eb ec ed l = ap (earlier a) (three_first b c d late eb ec ed l) ∙ absorbed a (first_reason (b ∷ c ∷ d ∷ [])) late ea l

@@ -1,13 +1,15 @@
-//! Searches for a value among the nodes of a subtree, and among those above a node.
+//! Searches among the nodes of a subtree, and among those above a node.
 ghost use Rattle.std.specs.Prelude.{◌≡◌};
 ghost use Rattle.std.specs.Option.{ForSome};
+ghost use Rattle.ac_model.specs.Objects.{plains};
+ghost use Rattle.ac_model.specs.Outline.{is_in_subtree};
 ghost use Rattle.ac_pool.specs.Contents.{IsLive};
 ghost use Rattle.ac_tree.specs.Searching.{found_in, rows_below, rows_on, rows_up};
 ghost use Rattle.ac_tree.specs.TreeCursors.{serial_in};
 ghost use Rattle.ac_tree.specs.TreeFields.{IsForest};
 ghost use Rattle.ac_tree.specs.TreeRows.{rows_of};
 
-use crate::links::Links;
+use crate::links::{Links, is_same};
 use crate::preorder::following;
 use ac_base::{Elem, Name};
 
@@ -59,4 +61,21 @@ pub fn found_up<T: Elem>(links: &Links<T>, node: Option<Name>, e: &T) -> Option<
         place = links.parent(name);
     }
     None
+}
+
+/// Whether a node is the top or below it, where none is the root: a walk upwards.
+pub fn is_within<T>(links: &Links<T>, top: Name, node: Option<Name>) -> bool
+    requires forest { IsForest links.now }
+    requires top { IsLive links.now.nodes top }
+    requires live { ForSome node (IsLive links.now.nodes) }
+    ensures { result ≡ is_in_subtree (plains (rows_of links.now).rows) top.serial (serial_in node) }
+{
+    let mut above = node;
+    while let Some(name) = above {
+        if is_same(above, Some(top)) {
+            return true;
+        }
+        above = links.parent(name);
+    }
+    false
 }

@@ -15,6 +15,7 @@ mod looking;
 mod loops;
 mod moves;
 mod searches;
+mod splices;
 mod values;
 
 use crate::links::Links;

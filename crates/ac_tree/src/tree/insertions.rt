@@ -49,7 +49,7 @@ impl<T> Tree<T> {
         }
     }
 
-    fn refuses_child(&self, parent: Cursor, before: Cursor) -> Option<Reason>
+    pub(super) fn refuses_child(&self, parent: Cursor, before: Cursor) -> Option<Reason>
         requires parent { trees.needs_node (plain self.now.object) (seen_by self.now parent) ≡ None }
         requires before { trees.may_node (plain self.now.object) (seen_by self.now before) ≡ None }
         ensures { result ≡ trees.child_or_none (plain self.now.object) (seen_by self.now parent) (seen_by self.now before) }
