@@ -152,6 +152,26 @@ fn a_subtree_goes_with_all_below_it(rt: HostRuntime) {
     assert!(rt; tree.is_empty());
 }
 
+#[test]
+fn a_subtree_goes_before_a_node_with_its_names(rt: HostRuntime) {
+    let mut tree = made(&rt, rt.alloc(), Limit::Unbounded);
+    let Some((first, last)) = branched(&mut tree) else {
+        panic!(rt; "no memory");
+    };
+    let root = tree.root();
+    let inner = tree.first_child(first).unwrap_or(Cursor::NoElement);
+    assert!(rt;
+        tree.splice_subtree(inner, Cursor::NoElement, first)
+            == Err(Fault::Raised(Reason::BelowItself))
+    );
+    assert!(rt; tree.splice_subtree(root, last, first).is_ok());
+    assert!(rt; holds(&tree, root, &[1, 2]));
+    assert!(rt; tree.splice_subtree(last, Cursor::NoElement, first).is_ok());
+    assert!(rt; tree.depth(inner).ok() == Some(4));
+    assert!(rt; tree.parent(first).ok() == Some(last));
+    assert!(rt; holds(&tree, root, &[2]));
+}
+
 /// So many nodes, each the only child of the one before, and the last one's cursor.
 fn deepen(tree: &mut Tree<i64>, n: u64) -> Cursor {
     let mut c = tree.root();

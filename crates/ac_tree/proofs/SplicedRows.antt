@@ -1,6 +1,6 @@
 -- What a tree's rows are after a subtree went to another place.
-use Rattle.std.proofs.Common.{◌≡◌, ℕ, suc, ◌+◌, ◌-◌, ◌<◌, ◌≢◌, ◌⊎◌, Bool, true, false, true≢false, ◌||◌, List, [], ◌∷◌, ◌++◌, length, Option, Some, None, IsTrue, refl, sym, ap, ◌∙◌, subst, inl, inr, arith, ne_eqb, eq-eqb, append_assoc}
-use Rattle.std.specs.Prelude.{◌==◌, take, drop}
+use Rattle.std.proofs.Common.{◌≡◌, ℕ, suc, ◌+◌, ◌-◌, ◌<◌, ◌≢◌, ◌⊎◌, Bool, true, false, true≢false, not, ◌&&◌, ◌||◌, List, [], ◌∷◌, ◌++◌, length, Option, Some, None, Result, Ok, Err, IsTrue, refl, sym, ap, ◌∙◌, subst, inl, inr, arith, ne_eqb, eq-eqb, append_assoc}
+use Rattle.std.specs.Prelude.{◌==◌, IfOk, if◌then◌else◌, take, drop}
 use Rattle.std.specs.Option.{ForSome}
 use Rattle.std.proofs.lemmas.Option.{none-some}
 use Rattle.std.proofs.Math.Seq.{take-append_seam, drop-append_seam}
@@ -12,6 +12,8 @@ use Rattle.ac_base.specs.declared.name.Name.{Name}
 use Rattle.ac_base.specs.declared.cursor.Cursor.{Cursor}
 use Rattle.ac_base.specs.declared.cursor.Cursor.TheVariants.{NoElement, At}
 use Rattle.ac_base.specs.declared.reason.Reason.TheVariants.{BelowItself}
+use Rattle.ac_base.specs.declared.fault.Fault.{Fault}
+use Rattle.ac_base.specs.declared.fault.Fault.TheVariants as fault
 use Rattle.ac_base.specs.Guards.{GuardCounts}
 use Rattle.ac_base.specs.Rows.{Row, row, names}
 use Rattle.ac_base.proofs.FirstReason.{none_found}
@@ -22,24 +24,24 @@ use Rattle.ac_chain.proofs.Marks.{has_among}
 use Rattle.ac_model.specs.Containers.{HasSlots}
 use Rattle.ac_model.specs.Rows.{Node, node, cut, put, place_of}
 use Rattle.ac_model.specs.Objects.{Object, plain, plains, with_rows}
-use Rattle.ac_model.specs.Letters.{Mark, mark_at, name_of, is_among, tampers_cursors, reason_if}
+use Rattle.ac_model.specs.Letters.{Mark, mark_at, stale_mark, name_of, is_among, tampers_cursors, reason_if}
 use Rattle.ac_model.specs.Cursors.{name_in, place_in}
-use Rattle.ac_model.specs.Calls.{IsAfter}
+use Rattle.ac_model.specs.Calls.{IsAfter, Changing, Same, Done}
 use Rattle.ac_model.specs.Outline.{Spot, root, spots, spot_place, depth_at, depth_of, run_of, run_start, subtree_start, subtree_length, subtree_rows, moved_to_depth, is_in, is_in_subtree}
-use Rattle.ac_model.specs.Trees.{tree_mark, needs_node, may_node, needs_element, child_or_none, child_place, child_depth, without_subtree, subtree_at_depth, with_subtree_moved, splice_subtree_reason}
+use Rattle.ac_model.specs.Trees.{tree_mark, needs_node, may_node, needs_element, child_or_none, child_place, child_depth, without_subtree, subtree_at_depth, with_subtree_moved, splice_subtree_reason, splice_subtree_call, splice_subtree_from_self_call}
 use Rattle.ac_model.proofs.Plains.{plains-append, length-plains}
 use Rattle.ac_tree.specs.declared.links.Links.{Links}
 use Rattle.ac_tree.specs.Forests.{Forest, bare, grove, Step, outline, size, Has, plugged, depth_in, before_in, after_in}
 use Rattle.ac_tree.specs.TreeFields.{StandsFor, forest_in, IsForest, parent_of}
 use Rattle.ac_tree.specs.TreeRows.{rows_of, tree_object, IsTree}
-use Rattle.ac_tree.specs.TreeCursors.{node_of, node_in, serial_in}
+use Rattle.ac_tree.specs.TreeCursors.{node_of, node_in, serial_in, NodeMarks}
 use Rattle.ac_tree.specs.Splicing.{Moved, Moves}
 use Rattle.ac_tree.proofs.Places.{plugged_has, around_has, plugged_either, outline_plugged, plugged_size, size_is, named, has}
 use Rattle.ac_tree.proofs.Standing.{some_name}
-use Rattle.ac_tree.proofs.Forests.{live_of, forest-is}
+use Rattle.ac_tree.proofs.Forests.{live_of, forest-is, is_forest}
 use Rattle.ac_tree.proofs.Objects.{tree_from}
 use Rattle.ac_tree.proofs.Outlines.{seen, seen-append, forest_out, position_run, position_depth, node_position, node_start}
-use Rattle.ac_tree.proofs.Judging.{At_node, at_node, At_element, at_element, may_at, serial_of_node}
+use Rattle.ac_tree.proofs.Judging.{at_node, live_is, At_element, at_element, may_at, serial_of_node}
 use Rattle.ac_tree.proofs.Looking.{At_place, at_place}
 use Rattle.ac_tree.proofs.Holes.{length_seen, named_live, child_parent}
 use Rattle.ac_tree.proofs.Children.{place_here}
@@ -160,6 +162,7 @@ module _ {X : Type 0} where
     pub tree : IsTree limit m
     pub after : IsAfter (tree_object g limit l) (tree_object g limit m) (with_rows (plain (tree_object g limit l)) rows)
     pub spare : m.nodes.spare ≡ l.nodes.spare
+    pub marks : (c : Cursor) → tree_mark (tree_object g limit m) c ≡ tree_mark (tree_object g limit l) c
 
   -- the same nodes in another forest
   same_nodes : (g : GuardCounts) (limit : Limit) (l m : Links X) (t u : Forest X) (rows : List (Row ℕ (Node X))) → IsTree limit l → StandsFor l t → Moved l m u → size u ≡ size t → ((a : Name) → Has a u → Has a t) → plains (outline 2 u) ≡ rows → Relocated g limit l m rows
@@ -175,8 +178,16 @@ module _ {X : Type 0} where
               has_among a (outline 2 (forest_in l)) (subst (λ z. HasName a z) (sym old) (named a 2 t (had a (has a 2 u (subst (λ z. HasName a z) new h))))));
         };
         spare = moved.spare;
+        marks = same_marks;
       }
     where
+      same_marks : (c : Cursor) → tree_mark (tree_object g limit m) c ≡ tree_mark (tree_object g limit l) c
+      same_marks NoElement = refl
+      same_marks (At object a) =
+          let there : is_among (names (outline 2 (forest_in m))) a ≡ is_among (names (outline 2 (forest_in l))) a =
+          sym (live_is m (is_forest m u moved.stands) (tree_object g limit m) refl a) ∙ moved.live a ∙ live_is l is.forest (tree_object g limit l) refl a in
+          ap (λ b. if (object == g.number) && not (((a.slot == 0) && (a.serial == 0)) || b) then stale_mark object else mark_at object a.serial) there
+
       slots : (limit : Limit) → HasSlots limit (length (rows_of l).rows) l.nodes.spare → HasSlots limit (size u) m.nodes.spare
       slots Unbounded h = tt
       slots (Bounded most) h =
@@ -325,3 +336,11 @@ module _ {X : Type 0} (g : GuardCounts) (limit : Limit) (l : Links X) (is : IsTr
           plainly = ap (with_rows (plain o)) (sym (cond-true _ _ _ test));
           slots = all_from (λ name. name.serial < l.nodes.next_serial → IsTrue (is_among (names (outline 2 (forest_in l))) name)) (outline 2 (forest_in l)) (λ c h lt. has_among c (outline 2 (forest_in l)) h);
         }
+
+-- the variable of a splice from the tree itself keeps its value, and its node
+pub variable_kept : {T : Type 0} (o new : Object Name (Node T)) (parent before position : Cursor) (r : Result Done Fault) → IfOk r (λ _. tree_mark new position ≡ tree_mark o position)
+    → Changing Same (splice_subtree_call (plain o) (tree_mark o parent) (tree_mark o before) (tree_mark o position)) o new r
+    → Changing (λ _ mark. NodeMarks new position mark) (splice_subtree_from_self_call (plain o) (tree_mark o parent) (tree_mark o before) (tree_mark o position)) o new r
+variable_kept o new parent before position (Ok x) kept h = (h.0, h.1, kept)
+variable_kept o new parent before position (Err (fault.Raised reason)) kept h = h
+variable_kept o new parent before position (Err fault.NoMemory) kept h = h

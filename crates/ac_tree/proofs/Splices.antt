@@ -149,4 +149,4 @@ module _ {X : Type 0} where
         let lf : last ≡ prev_in to = last_is ∙ (λ i. prev_before (same_u i) (pe i) (be i)) ∙ cut_prev in
         let same_j : j ≡ placed_there = j_is ∙ (λ i. links (written_at (same_u i).nodes (back i) (place_put (pe i) (lf i) (be i))) (same_u i).first (same_u i).last) in
         let same_m : m ≡ led_to = m_is ∙ (λ i. tied (same_j i) (pe i) (lf i) (be i) (back i)) in
-        subst (λ (z : Links X). Moved l z (plugged to (grove x below t))) (sym same_m) (record { stands = moved_stands; next = keeps_all.next; spare = keeps_all.spare })
+        subst (λ (z : Links X). Moved l z (plugged to (grove x below t))) (sym same_m) (record { stands = moved_stands; live = keeps_all.live; next = keeps_all.next; spare = keeps_all.spare })

@@ -1,7 +1,8 @@
 -- A node that goes to another place in the forest, with all that is below it.
-use Rattle.std.specs.Prelude.{◌≡◌, List, Option}
+use Rattle.std.specs.Prelude.{◌≡◌, List, Option, is_some}
 use Rattle.ac_base.specs.declared.name.Name.{Name}
 use Rattle.ac_base.specs.Rows.{Row}
+use Rattle.ac_pool.specs.Contents.{value_of}
 use Rattle.ac_tree.specs.declared.links.Links.{Links}
 use Rattle.ac_tree.specs.Forests.{Forest, grove, first_in, Step, plugged, parent_in}
 use Rattle.ac_tree.specs.TreeFields.{StandsFor}
@@ -10,6 +11,7 @@ module _ {X : Type 0} where
   -- the same nodes stand for this forest
   pub record Moved (l m : Links X) (t : Forest X) : Type 0 where
     pub stands : StandsFor m t
+    pub live : (a : Name) → is_some (value_of m.nodes a) ≡ is_some (value_of l.nodes a)
     pub next : m.nodes.next_serial ≡ l.nodes.next_serial
     pub spare : m.nodes.spare ≡ l.nodes.spare
 

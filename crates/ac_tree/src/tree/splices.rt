@@ -1,5 +1,5 @@
 //! Nodes that go to another place with all that is below them.
-ghost use Rattle.std.specs.Prelude.{◌≡◌, ◌∷◌, [], None};
+ghost use Rattle.std.specs.Prelude.{◌≡◌, ◌∷◌, [], IfOk, None};
 ghost use Rattle.ac_base.specs.FirstReason.{first_reason};
 ghost use Rattle.ac_model.specs.Calls.{IsAfter, Same};
 ghost use Rattle.ac_model.specs.Forms.{Does};
@@ -67,6 +67,7 @@ impl<T> Tree<T> {
     ) -> Result<(), Fault>
         ensures changed { Does Same (λ o. trees.splice_subtree_call o (seen_by self.old parent) (seen_by self.old before)
             (seen_by self.old position)) self.old self.new result }
+        ensures kept { IfOk result (λ _. seen_by self.new position ≡ seen_by self.old position) }
         ensures spare { self.new.spare ≡ self.old.spare }
     {
         allowed(self.refuses_splice(parent, before, position))?;
@@ -95,6 +96,7 @@ impl<T> Tree<T> {
             (seen_by self.old parent) (seen_by self.old before) (seen_by self.old position) ≡ None }
         ensures moved { IsAfter self.old.object self.new.object (trees.splice_subtree_call (plain self.old.object)
             (seen_by self.old parent) (seen_by self.old before) (seen_by self.old position)).after }
+        ensures kept { seen_by self.new position ≡ seen_by self.old position }
         ensures spare { self.new.spare ≡ self.old.spare }
     {
         let _links = &self.links;

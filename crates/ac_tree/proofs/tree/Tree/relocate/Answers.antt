@@ -37,3 +37,11 @@ returns-clause-spare g c =
     let r = relocated i.guards i.limit i.links c.self.invariant p b q none c.move_to.new.self c.node_in.result c.place_in-next.result c.name_in-name.result c.node_in.ensures c.place_in-next.ensures c.name_in-name.ensures
     (λ e. let no = c.is_same.ensures.1 e in let miss = c.if-is_same.false in cc) c.move_to.ensures in
     r.spare ∙ ap (λ (x : Container _). x.spare) c.self.view_is
+
+pub returns-clause-kept : goal.returns-clause-kept
+returns-clause-kept g c =
+    let i = c.self.inside in let view = ap (λ (x : Container _). x.object) c.self.view_is in let p = c.args.parent in let b = c.args.before in let q = c.args.position in
+    let none = subst (λ (x : Object _ _). splice_subtree_reason (plain x) (tree_mark x p) (tree_mark x b) (tree_mark x q) ≡ None) (sym view) c.requires in
+    let r = relocated i.guards i.limit i.links c.self.invariant p b q none c.move_to.new.self c.node_in.result c.place_in-next.result c.name_in-name.result c.node_in.ensures c.place_in-next.ensures c.name_in-name.ensures
+    (λ e. let no = c.is_same.ensures.1 e in let miss = c.if-is_same.false in cc) c.move_to.ensures in
+    r.marks q ∙ ap (λ (x : Object _ _). tree_mark x q) view
