@@ -27,20 +27,20 @@ use Rattle.ac_model.specs.Objects.{Object, plain, plains, with_rows}
 use Rattle.ac_model.specs.Letters.{Mark, mark_at, stale_mark, name_of, is_among, tampers_cursors, reason_if}
 use Rattle.ac_model.specs.Cursors.{name_in, place_in}
 use Rattle.ac_model.specs.Calls.{IsAfter, Changing, Same, Done}
-use Rattle.ac_model.specs.Outline.{Spot, root, spots, spot_place, depth_at, depth_of, run_of, run_start, subtree_start, subtree_length, subtree_rows, moved_to_depth, is_in, is_in_subtree}
+use Rattle.ac_model.specs.Outline.{Spot, root, spot_place, depth_at, depth_of, run_of, run_start, subtree_start, subtree_length, subtree_rows, moved_to_depth, is_in, is_in_subtree}
 use Rattle.ac_model.specs.Trees.{tree_mark, needs_node, may_node, needs_element, child_or_none, child_place, child_depth, without_subtree, subtree_at_depth, with_subtree_moved, splice_subtree_reason, splice_subtree_call, splice_subtree_from_self_call}
 use Rattle.ac_model.proofs.Plains.{plains-append, length-plains}
 use Rattle.ac_tree.specs.declared.links.Links.{Links}
 use Rattle.ac_tree.specs.Forests.{Forest, bare, grove, Step, outline, size, Has, plugged, depth_in, before_in, after_in}
-use Rattle.ac_tree.specs.TreeFields.{StandsFor, forest_in, IsForest, parent_of}
+use Rattle.ac_tree.specs.TreeFields.{StandsFor, forest_in, IsForest}
 use Rattle.ac_tree.specs.TreeRows.{rows_of, tree_object, IsTree}
-use Rattle.ac_tree.specs.TreeCursors.{node_of, node_in, serial_in, NodeMarks}
+use Rattle.ac_tree.specs.TreeCursors.{node_in, serial_in, NodeMarks}
 use Rattle.ac_tree.specs.Splicing.{Moved, Moves}
 use Rattle.ac_tree.proofs.Places.{plugged_has, around_has, plugged_either, outline_plugged, plugged_size, size_is, named, has}
 use Rattle.ac_tree.proofs.Standing.{some_name}
 use Rattle.ac_tree.proofs.Forests.{live_of, forest-is, is_forest}
 use Rattle.ac_tree.proofs.Objects.{tree_from}
-use Rattle.ac_tree.proofs.Outlines.{seen, seen-append, forest_out, position_run, position_depth, node_position, node_start}
+use Rattle.ac_tree.proofs.Outlines.{seen, seen-append, position_run, position_depth, node_position, node_start}
 use Rattle.ac_tree.proofs.Judging.{at_node, live_is, At_element, at_element, may_at, serial_of_node}
 use Rattle.ac_tree.proofs.Looking.{At_place, at_place}
 use Rattle.ac_tree.proofs.Holes.{length_seen, named_live, child_parent}

@@ -1,5 +1,5 @@
 -- A walk upwards that asks whether it meets a node.
-use Rattle.std.proofs.Common.{◌≡◌, ℕ, Bool, true, false, ◌&&◌, ◌||◌, List, [], ◌∷◌, ◌++◌, filter, reverse, Option, Some, None, refl, sym, ap, ◌∙◌, subst, inl, inr, eq-eqb, ne_eqb}
+use Rattle.std.proofs.Common.{◌≡◌, ℕ, Bool, true, false, ◌&&◌, ◌||◌, List, [], ◌∷◌, filter, reverse, Option, Some, None, refl, sym, ap, ◌∙◌, inl, inr, eq-eqb, ne_eqb}
 use Rattle.std.specs.Prelude.{◌==◌}
 use Rattle.std.specs.Option.{ForSome}
 use Rattle.std.proofs.lemmas.Bool.{cond-true, cond-false, cases_Bool}
@@ -9,7 +9,7 @@ use Rattle.ac_base.specs.Rows.{Row}
 use Rattle.ac_pool.specs.Contents.{IsLive}
 use Rattle.ac_model.specs.Rows.{Node}
 use Rattle.ac_model.specs.Objects.{plains}
-use Rattle.ac_model.specs.Outline.{Spot, root, spots, path_to, is_in, is_in_subtree}
+use Rattle.ac_model.specs.Outline.{Spot, spots, path_to, is_in, is_in_subtree}
 use Rattle.ac_tree.specs.declared.links.Links.{Links}
 use Rattle.ac_tree.specs.Forests.{outline}
 use Rattle.ac_tree.specs.TreeFields.{forest_in, IsForest, parent_of}

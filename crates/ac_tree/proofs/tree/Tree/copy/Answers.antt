@@ -1,4 +1,4 @@
-use Rattle.std.proofs.Common.{None, ◌≤◌, Err, sym, ap, ◌∙◌, subst}
+use Rattle.std.proofs.Common.{◌≤◌, Err, sym, ap, ◌∙◌, subst}
 use Rattle.std.proofs.lemmas.Result.{err_from_is_err_and}
 use Rattle.ac_base.specs.declared.limit.TheConstants.{GREATEST_LENGTH}
 use Rattle.ac_model.specs.Common.{limit_of_copy}

@@ -1,7 +1,6 @@
-use Rattle.std.proofs.Common.{◌∷◌, [], not, sym, ap, ◌∙◌}
-use Rattle.std.specs.Prelude.{◌&&◌}
+use Rattle.std.proofs.Common.{◌∷◌, [], sym, ap, ◌∙◌}
 use Rattle.ac_base.specs.declared.reason.Reason.TheVariants.{BelowItself}
-use Rattle.ac_base.specs.FirstReason.{first_reason, earlier}
+use Rattle.ac_base.specs.FirstReason.{first_reason}
 use Rattle.ac_base.proofs.FirstReason.{none_found}
 use Rattle.ac_model.specs.Letters.{tampers_cursors, reason_if, name_of}
 use Rattle.ac_model.specs.Objects.{plain}
