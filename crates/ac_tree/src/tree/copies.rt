@@ -67,7 +67,8 @@ impl<T: Elem> Tree<T> {
         as_fault(refill(&mut self.links, &source.links, self.alloc))
     }
 
-    /// Copy (A.18.10): a tree of its own number with copies of the nodes. A bounded one's limit is the capacity, or the length where that is 0.
+    /// Copy (A.18.10): a tree of its own number with copies of the nodes. A bounded one's limit is the capacity, or the length
+    /// where that is 0.
     pub fn copy(&self, alloc: Global, tag: Tag, capacity: u64) -> Result<Tree<T>, Fault>
         requires { capacity ≤ GREATEST_LENGTH }
         ensures made { Makes (common.copy_call (plain self.now.object) tag capacity) result }

@@ -36,7 +36,8 @@ impl<T> Tree<T> {
     fn is_inside(&self, parent: Cursor, position: Cursor) -> bool
         requires parent { trees.needs_node (plain self.now.object) (seen_by self.now parent) ≡ None }
         requires position { trees.needs_element (plain self.now.object) (seen_by self.now position) ≡ None }
-        ensures { result ≡ is_in_subtree (plain self.now.object).rows (name_of (seen_by self.now position)) (name_of (seen_by self.now parent)) }
+        ensures { result ≡ is_in_subtree (plain self.now.object).rows (name_of (seen_by self.now position))
+            (name_of (seen_by self.now parent)) }
     {
         is_within(&self.links, name_in(position), node_in(parent))
     }
