@@ -12,6 +12,7 @@ use Rattle.ac_base.specs.Guards.{GuardCounts, HeldGuard, raised_kind}
 use Rattle.ac_base.specs.Rows.{names}
 use Rattle.ac_model.specs.Rows.{Entry}
 use Rattle.ac_model.specs.Objects.{Object, empty_object, length_of}
+use Rattle.ac_model.specs.Holders.{Holder, empty_holder}
 use Rattle.ac_model.specs.Letters.{Mark}
 use Rattle.ac_model.specs.Calls.{Call, Look}
 use Rattle.ac_model.specs.Common.{under_guards}
@@ -241,6 +242,10 @@ key_updated (of_rows kind o) c v = record { reason = None; after = of_rows kind 
 abbrev pub limit_by : Option ℕ → Limit
 limit_by None = Unbounded
 limit_by (Some most) = Bounded most
+
+-- a holder's capacity is a limit in bytes
+abbrev pub new_holder : {T : Type 0} → ℕ → Option ℕ → Holder T
+new_holder number capacity = empty_holder number (limit_by capacity)
 
 -- which have a Capacity
 abbrev pub is_vector : SequenceKind → Bool

@@ -9,6 +9,7 @@ pub mod KeyedReplies
 pub mod MapReplies
 pub mod SetReplies
 pub mod KeyedSetReplies
+pub mod HolderReplies
 pub mod Holdings
 pub mod Environment
 pub mod Commands
@@ -23,3 +24,4 @@ pub mod Numbers
 pub mod Laws
 pub mod Examples
 pub mod KeyedExamples
+pub mod HolderExamples

@@ -9,6 +9,9 @@ ghost use Rattle.ac_meaning.specs.KeyedExamples.{MapsKeepArrival, SetsStandAscen
 ghost use Rattle.ac_meaning.specs.KeyedExamples.{SetsMeetThemselves, KeysAreUpdated, KeysTellElements, KeysAreJoined, KeysAreReplaced};
 ghost use Rattle.ac_meaning.specs.KeyedExamples.{KeysAreLookedUp};
 ghost use Rattle.ac_meaning.specs.Examples.{MapIsListed, NoNodesAreListed, TreeIsListed, DeepTreeIsListed};
+ghost use Rattle.ac_meaning.specs.HolderExamples.{HolderIsBounded, ViewsGuardHolders, HoldersAreCompared, HoldersGiveAndTake};
+ghost use Rattle.ac_meaning.specs.HolderExamples.{LimitsAreOfBoth, IntegersHaveEightBytes, EmptyStringsHaveNone};
+ghost use Rattle.ac_meaning.specs.HolderExamples.{HoldersMeetThemselves, GuardsAreOfBoth};
 
 /// What small scripts write, to the byte.
 pub fn list_scripts()
@@ -67,6 +70,19 @@ pub fn keyed_set_scripts()
     ensures keys_are_joined { KeysAreJoined }
     ensures keys_are_replaced { KeysAreReplaced }
     ensures keys_are_looked_up { KeysAreLookedUp }
+{}
+
+/// What calls on holders answer, and views of their elements.
+pub fn holder_calls()
+    ensures holder_is_bounded { HolderIsBounded }
+    ensures views_guard_holders { ViewsGuardHolders }
+    ensures holders_are_compared { HoldersAreCompared }
+    ensures holders_give_and_take { HoldersGiveAndTake }
+    ensures limits_are_of_both { LimitsAreOfBoth }
+    ensures integers_have_eight_bytes { IntegersHaveEightBytes }
+    ensures empty_strings_have_none { EmptyStringsHaveNone }
+    ensures holders_meet_themselves { HoldersMeetThemselves }
+    ensures guards_are_of_both { GuardsAreOfBoth }
 {}
 
 /// How maps and trees are listed.
