@@ -21,9 +21,39 @@ fn write_numbered<K: Sink>(
     requires { (20 ≤ end) × (end ≤ length line.old) }
     ensures { Writes K.held K.faults K.room K.counts_failures sink.old sink.new (decimal number ++ drop end line.old) result }
 {
-    let start = write_digits(number, line, end);
+    let start = put_number(line, end, number);
     write_all(sink, &line[start..])?;
     Ok(())
+}
+
+/// Puts a number so that it ends at this place, and says where it starts. A line's number mostly has one or two digits.
+#[inline(always)]
+fn put_number(line: &mut [u8], end: usize, number: u64) -> usize
+    requires { (20 ≤ end) × (end ≤ length line.old) }
+    ensures start { result + length (decimal number) ≡ end }
+    ensures written { drop result line.new ≡ decimal number ++ drop end line.old }
+    ensures length { length line.new ≡ length line.old }
+{
+    if number < 10 {
+        return put_digit(line, end, number);
+    }
+    if number < 100 {
+        let tens = put_digit(line, end, number % 10);
+        return put_digit(line, tens, number / 10);
+    }
+    write_digits(number, line, end)
+}
+
+/// Puts a digit before this place, and says where it stands.
+#[inline(always)]
+fn put_digit(line: &mut [u8], end: usize, digit: u64) -> usize
+    requires { (0 < end) × (end ≤ length line.old) × (digit < 10) }
+    ensures start { result + 1 ≡ end }
+    ensures written { drop result line.new ≡ (48 + digit) ∷ drop end line.old }
+    ensures length { length line.new ≡ length line.old }
+{
+    put_byte(line, end - 1, b'0' + digit as u8);
+    end - 1
 }
 
 #[inline(always)]
@@ -44,7 +74,7 @@ fn put_integer(line: &mut [u8], end: usize, value: i64) -> usize
     ensures length { length line.new ≡ length line.old }
     ensures within { result ≤ end }
 {
-    let start = write_digits(value.unsigned_abs(), line, end);
+    let start = put_number(line, end, value.unsigned_abs());
     if value >= 0 {
         return start;
     }
@@ -53,6 +83,7 @@ fn put_integer(line: &mut [u8], end: usize, value: i64) -> usize
 }
 
 /// Writes the line of a command that was answered with an integer.
+#[inline(always)]
 pub fn write_integer<K: Sink>(number: u64, value: i64, sink: &mut K) -> Result<(), HostEnd>
     ensures { Writes K.held K.faults K.room K.counts_failures sink.old sink.new
         (decimal number ++ (codes ": " ++ (signed_decimal value ++ 10 ∷ []))) result }

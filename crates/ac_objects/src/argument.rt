@@ -88,6 +88,9 @@ impl Argument {
     pub fn take_value(&mut self) -> Value
         ensures { result ≡ (argument_of self.old).value }
     {
-        std::mem::replace(self, Argument::Absent).into_value()
+        match self {
+            Argument::Value(value) => std::mem::replace(value, Value::Int(0)),
+            Argument::Absent | Argument::Place(_) => Value::Int(0),
+        }
     }
 }

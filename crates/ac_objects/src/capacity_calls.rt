@@ -40,7 +40,7 @@ pub fn capacity_call<C: WithCapacity>(
 {
     match call {
         CapacityCall::Capacity => {
-            *reply = Reply::says(Said::Value(Value::Int(object.capacity())));
+            reply.tell(Said::Value(Value::Int(object.capacity())));
             Ok(())
         }
         CapacityCall::ReserveCapacity => reserve_capacity(object, args, reply),
@@ -56,6 +56,6 @@ fn reserve_capacity<C: WithCapacity>(
         (C.rows object.old) (C.rows object.new) (told reply.new result) }
 {
     object.reserve_capacity(args.first.count())?;
-    *reply = Reply::says(Said::Done);
+    reply.tell(Said::Done);
     Ok(())
 }

@@ -95,25 +95,25 @@ pub fn common_call<C: CommonRows>(
 {
     match call {
         CommonCall::IsEmpty => {
-            *reply = Reply::says(Said::Truth(object.is_empty()));
+            reply.tell(Said::Truth(object.is_empty()));
             Ok(())
         }
         CommonCall::Clear => alone::clear(object, reply),
         CommonCall::Assign => alone::assign(object, reply),
         CommonCall::MoveFrom => alone::move_from(object, reply),
         CommonCall::Equal => {
-            *reply = Reply::says(Said::Truth(object.equal_self()));
+            reply.tell(Said::Truth(object.equal_self()));
             Ok(())
         }
         CommonCall::HasElement => alone::has_element(object, args, reply),
         CommonCall::Element => alone::element(object, alloc, args, reply),
         CommonCall::ReplaceElement => alone::replace_element(object, alloc, args, reply),
         CommonCall::Print => {
-            *reply = Reply::says(Said::Listing);
+            reply.tell(Said::Listing);
             Ok(())
         }
         CommonCall::Length => {
-            *reply = Reply::says(Said::Value(Value::Int(object.length())));
+            reply.tell(Said::Value(Value::Int(object.length())));
             Ok(())
         }
     }
@@ -138,7 +138,7 @@ pub fn common_call_with<C: CommonRows>(
         CommonCall::Assign => sources::assign(object, source, reply),
         CommonCall::MoveFrom => sources::move_from(object, source, reply),
         CommonCall::Equal => {
-            *reply = Reply::says(Said::Truth(object.equal(source)));
+            reply.tell(Said::Truth(object.equal(source)));
             Ok(())
         }
         _ => common_call(object, alloc, call, args, reply),

@@ -51,7 +51,7 @@ fn key_floor(
 {
     match &set.set {
         Set::Hashed(_) => {
-            *reply = Reply::says(Said::Done);
+            reply.tell(Said::Done);
             Ok(())
         }
         Set::Ordered(set) => looks::key_floor(set, alloc, args, reply),
@@ -68,7 +68,7 @@ fn key_ceiling(
 {
     match &set.set {
         Set::Hashed(_) => {
-            *reply = Reply::says(Said::Done);
+            reply.tell(Said::Done);
             Ok(())
         }
         Set::Ordered(set) => looks::key_ceiling(set, alloc, args, reply),

@@ -37,7 +37,7 @@ pub fn walk_call<C: KeyedRows>(
 {
     match call {
         WalkCall::First => {
-            *reply = Reply::says(Said::Place(row_cursors::first(object)));
+            reply.tell(Said::Place(row_cursors::first(object)));
             Ok(())
         }
         WalkCall::Next => next(object, args, reply),
@@ -50,7 +50,7 @@ fn next<C: KeyedRows>(object: &C, args: &Arguments, reply: &mut Reply) -> Result
         (C.rows object.now) (C.rows object.now) (told reply.new result) }
 {
     let next = row_cursors::next(object, args.first.cursor())?;
-    *reply = Reply::says(Said::Place(next));
+    reply.tell(Said::Place(next));
     Ok(())
 }
 

@@ -56,7 +56,7 @@ fn swap_links<T: ScriptElement>(
     ensures { ListAloneReplied T.tools ListCall.SwapLinks args.now list.old list.new (told reply.new result) }
 {
     list.swap_links(args.first.cursor(), args.second.cursor())?;
-    *reply = Reply::says(Said::Done);
+    reply.tell(Said::Done);
     Ok(())
 }
 
@@ -68,7 +68,7 @@ fn splice_self<T: ScriptElement>(
     ensures { ListAloneReplied T.tools ListCall.Splice args.now list.old list.new (told reply.new result) }
 {
     list.splice_self(args.first.cursor())?;
-    *reply = Reply::says(Said::Done);
+    reply.tell(Said::Done);
     Ok(())
 }
 
@@ -93,7 +93,7 @@ fn splice_within<T: ScriptElement>(
     ensures { ListAloneReplied T.tools ListCall.SpliceWithin args.now list.old list.new (told reply.new result) }
 {
     list.splice_within(args.first.cursor(), args.second.cursor())?;
-    *reply = Reply::says(Said::Done);
+    reply.tell(Said::Done);
     Ok(())
 }
 
@@ -106,7 +106,7 @@ fn splice<T: ScriptElement>(
     ensures { ListAloneRepliedWith T.tools ListCall.Splice args.now list.old source.old list.new source.new (told reply.new result) }
 {
     list.splice(args.first.cursor(), source)?;
-    *reply = Reply::says(Said::Done);
+    reply.tell(Said::Done);
     Ok(())
 }
 

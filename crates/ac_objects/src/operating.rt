@@ -50,6 +50,7 @@ pub fn operate<T: ScriptElement>(
     }
 }
 
+#[inline(always)]
 fn operate_capacity<T: ScriptElement>(
     sequence: &mut Sequence<T>,
     call: CapacityCall,
@@ -68,6 +69,7 @@ fn operate_capacity<T: ScriptElement>(
     }
 }
 
+#[inline(always)]
 fn operate_vector<T: ScriptElement>(
     sequence: &mut Sequence<T>,
     alloc: Global,
@@ -87,6 +89,7 @@ fn operate_vector<T: ScriptElement>(
     }
 }
 
+#[inline(always)]
 fn operate_list<T: ScriptElement>(
     sequence: &mut Sequence<T>,
     call: ListCall,

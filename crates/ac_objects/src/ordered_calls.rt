@@ -69,7 +69,7 @@ pub fn ordered_call<C: OrderedRows>(
 {
     match call {
         OrderedCall::Last => {
-            *reply = Reply::says(Said::Place(own_last(object)));
+            reply.tell(Said::Place(own_last(object)));
             Ok(())
         }
         OrderedCall::Previous => previous(object, args, reply),
@@ -99,7 +99,7 @@ fn previous<C: OrderedRows>(object: &C, args: &Arguments, reply: &mut Reply) -> 
         (C.rows object.now) (C.rows object.now) (told reply.new result) }
 {
     let previous = own_previous(object, args.first.cursor())?;
-    *reply = Reply::says(Said::Place(previous));
+    reply.tell(Said::Place(previous));
     Ok(())
 }
 
@@ -108,7 +108,7 @@ fn delete_first<C: OrderedRows>(object: &mut C, reply: &mut Reply) -> Result<(),
         (C.rows object.old) (C.rows object.new) (told reply.new result) }
 {
     object.delete_first()?;
-    *reply = Reply::says(Said::Done);
+    reply.tell(Said::Done);
     Ok(())
 }
 
@@ -117,7 +117,7 @@ fn delete_last<C: OrderedRows>(object: &mut C, reply: &mut Reply) -> Result<(), 
         (C.rows object.old) (C.rows object.new) (told reply.new result) }
 {
     object.delete_last()?;
-    *reply = Reply::says(Said::Done);
+    reply.tell(Said::Done);
     Ok(())
 }
 
@@ -126,7 +126,7 @@ fn first_element<C: OrderedRows>(object: &C, alloc: Global, reply: &mut Reply) -
         (C.rows object.now) (C.rows object.now) (told reply.new result) }
 {
     let element = object.first_value(alloc)?;
-    *reply = Reply::says(Said::Value(element));
+    reply.tell(Said::Value(element));
     Ok(())
 }
 
@@ -135,6 +135,6 @@ fn last_element<C: OrderedRows>(object: &C, alloc: Global, reply: &mut Reply) ->
         (C.rows object.now) (C.rows object.now) (told reply.new result) }
 {
     let element = object.last_value(alloc)?;
-    *reply = Reply::says(Said::Value(element));
+    reply.tell(Said::Value(element));
     Ok(())
 }

@@ -89,7 +89,7 @@ impl Objects {
                 Ok(())
             }
             Some(arg) => {
-                *read = self.read(arg)?;
+                put(self.read(arg)?, read);
                 Ok(())
             }
         }
@@ -138,6 +138,52 @@ fn leave_out(read: &mut Argument)
     match read {
         Argument::Absent => {}
         _ => *read = Argument::Absent,
+    }
+}
+
+/// Puts an argument into its place.
+#[inline(always)]
+fn put(argument: Argument, read: &mut Argument)
+    ensures { read.new ≡ argument }
+{
+    match argument {
+        Argument::Value(Value::Int(number)) => put_integer(number, read),
+        Argument::Place(cursor) => put_place(cursor, read),
+        other => *read = other,
+    }
+}
+
+/// Puts an integer into an argument's place, over that of a command before where one stands there.
+#[inline(always)]
+fn put_integer(number: i64, read: &mut Argument)
+    ensures { read.new ≡ Argument.Value (Value.Int number) }
+{
+    match read {
+        Argument::Value(value) => make_integer(number, value),
+        Argument::Absent => *read = Argument::Value(Value::Int(number)),
+        Argument::Place(_) => *read = Argument::Value(Value::Int(number)),
+    }
+}
+
+#[inline(always)]
+fn make_integer(number: i64, value: &mut Value)
+    ensures { value.new ≡ Value.Int number }
+{
+    match value {
+        Value::Int(held) => *held = number,
+        Value::Text(_) => *value = Value::Int(number),
+    }
+}
+
+/// Puts a cursor into an argument's place, over that of a command before where one stands there.
+#[inline(always)]
+fn put_place(cursor: Cursor, read: &mut Argument)
+    ensures { read.new ≡ Argument.Place cursor }
+{
+    match read {
+        Argument::Place(held) => *held = cursor,
+        Argument::Absent => *read = Argument::Place(cursor),
+        Argument::Value(_) => *read = Argument::Place(cursor),
     }
 }
 

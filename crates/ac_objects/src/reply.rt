@@ -42,6 +42,16 @@ impl Reply {
         }
     }
 
+    /// Makes it the reply of a call that sets no variable.
+    #[inline(always)]
+    pub fn tell(&mut self, said: Said)
+        ensures said { self.new.said ≡ said }
+        ensures variable { self.new.variable ≡ None }
+    {
+        self.said = said;
+        sets_none(&mut self.variable);
+    }
+
     /// A call that answers nothing and sets the variable at this place.
     #[inline(always)]
     pub fn sets(place: usize, cursor: Cursor) -> Reply
@@ -52,5 +62,16 @@ impl Reply {
             said: Said::Done,
             variable: Some(Placed { place, cursor }),
         }
+    }
+}
+
+/// Leaves no variable to be set, whatever a call before had there.
+#[inline(always)]
+fn sets_none(variable: &mut Option<Placed>)
+    ensures { variable.new ≡ None }
+{
+    match variable {
+        None => {}
+        Some(_) => *variable = None,
     }
 }

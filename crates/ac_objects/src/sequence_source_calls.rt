@@ -49,6 +49,6 @@ fn merge<T: ScriptElement>(
     ensures source_kind { kind_of source.new ≡ kind_of source.old }
 {
     sequence.merge(source)?;
-    *reply = Reply::says(Said::Done);
+    reply.tell(Said::Done);
     Ok(())
 }

@@ -44,11 +44,11 @@ pub fn vector_call<T: ScriptElement>(
         VectorCall::ToCursor => indexes::to_cursor(vector, args, reply),
         VectorCall::ToIndex => indexes::to_index(vector, args, reply),
         VectorCall::FirstIndex => {
-            *reply = Reply::says(Said::Value(Value::Int(vector.first_index())));
+            reply.tell(Said::Value(Value::Int(vector.first_index())));
             Ok(())
         }
         VectorCall::LastIndex => {
-            *reply = Reply::says(Said::Value(Value::Int(vector.last_index())));
+            reply.tell(Said::Value(Value::Int(vector.last_index())));
             Ok(())
         }
         VectorCall::ElementIndex => indexes::element_index(vector, alloc, args, reply),

@@ -13,7 +13,7 @@ ghost use Rattle.ac_objects.specs.World.{held_of, ObjectAgrees};
 
 use crate::object::Object;
 use crate::row_object::RowObject;
-use ac_base::{Fault, Reason};
+use ac_base::{Fault, Name, Reason};
 use ac_cursor::Cursor;
 
 /// The cursor at which a loop over the object begins.
@@ -39,8 +39,34 @@ fn next_in<C: RowObject>(object: &C, backward: bool, at: Cursor) -> Cursor
 {
     object.law();
     match step_in(object, backward, at) {
-        Ok(next) => next,
+        Ok(
+            Cursor::At {
+                object,
+                name: Name { slot, serial },
+            },
+        ) => Cursor::At {
+            object,
+            name: Name { slot, serial },
+        },
+        Ok(Cursor::NoElement) => Cursor::NoElement,
         Err(_) => Cursor::NoElement,
+    }
+}
+
+/// The cursor, copied field by field: a name whose halves were just written, and which is read as one, waits for them.
+#[inline(always)]
+fn by_fields(c: Cursor) -> Cursor
+    ensures { result ≡ c }
+{
+    match c {
+        Cursor::NoElement => Cursor::NoElement,
+        Cursor::At {
+            object,
+            name: Name { slot, serial },
+        } => Cursor::At {
+            object,
+            name: Name { slot, serial },
+        },
     }
 }
 
@@ -53,7 +79,7 @@ fn step_in<C: RowObject>(object: &C, backward: bool, at: Cursor) -> Result<Curso
     if backward {
         object.previous(at)
     } else {
-        object.next(at)
+        object.next(by_fields(at))
     }
 }
 

@@ -21,7 +21,7 @@ pub fn clear<C: CommonRows>(object: &mut C, reply: &mut Reply) -> Result<(), Fau
     ensures kind { C.kind object.new ≡ C.kind object.old }
 {
     object.clear()?;
-    *reply = Reply::says(Said::Done);
+    reply.tell(Said::Done);
     Ok(())
 }
 
@@ -31,7 +31,7 @@ pub fn assign<C: CommonRows>(object: &mut C, reply: &mut Reply) -> Result<(), Fa
     ensures kind { C.kind object.new ≡ C.kind object.old }
 {
     object.assign_self()?;
-    *reply = Reply::says(Said::Done);
+    reply.tell(Said::Done);
     Ok(())
 }
 
@@ -41,7 +41,7 @@ pub fn move_from<C: CommonRows>(object: &mut C, reply: &mut Reply) -> Result<(),
     ensures kind { C.kind object.new ≡ C.kind object.old }
 {
     object.move_from_self()?;
-    *reply = Reply::says(Said::Done);
+    reply.tell(Said::Done);
     Ok(())
 }
 
@@ -54,7 +54,7 @@ pub fn has_element<C: CommonRows>(
         (C.rows object.now) (C.rows object.now) (told reply.new result) }
 {
     let is_there = object.has_element(args.first.cursor());
-    *reply = Reply::says(Said::Truth(is_there));
+    reply.tell(Said::Truth(is_there));
     Ok(())
 }
 
@@ -70,7 +70,7 @@ pub fn element<C: CommonRows>(
     let c = args.first.cursor();
     allowed(object.refused(c))?;
     let element = object.element_value(alloc, c)?;
-    *reply = Reply::says(Said::Value(element));
+    reply.tell(Said::Value(element));
     Ok(())
 }
 
@@ -86,6 +86,6 @@ pub fn replace_element<C: CommonRows>(
 {
     let c = args.first.cursor();
     object.replace_value(alloc, c, args.second.take_value())?;
-    *reply = Reply::says(Said::Done);
+    reply.tell(Said::Done);
     Ok(())
 }

@@ -17,7 +17,7 @@ pub fn assign<C: CommonRows>(object: &mut C, source: &C, reply: &mut Reply) -> R
     ensures kind { C.kind object.new ≡ C.kind object.old }
 {
     object.assign(source)?;
-    *reply = Reply::says(Said::Done);
+    reply.tell(Said::Done);
     Ok(())
 }
 
@@ -34,6 +34,6 @@ pub fn move_from<C: CommonRows>(
     ensures source_kind { C.kind source.new ≡ C.kind source.old }
 {
     object.move_from(source)?;
-    *reply = Reply::says(Said::Done);
+    reply.tell(Said::Done);
     Ok(())
 }

@@ -23,7 +23,7 @@ pub fn key_exclude(
 {
     let key = Text::from_value(alloc, args.first.take_value())?;
     set.key_exclude(&key)?;
-    *reply = Reply::says(Said::Done);
+    reply.tell(Said::Done);
     Ok(())
 }
 
@@ -38,7 +38,7 @@ pub fn key_delete(
 {
     let key = Text::from_value(alloc, args.first.take_value())?;
     set.key_delete(&key)?;
-    *reply = Reply::says(Said::Done);
+    reply.tell(Said::Done);
     Ok(())
 }
 
@@ -54,6 +54,6 @@ pub fn key_replace(
     let key = Text::from_value(alloc, args.first.take_value())?;
     let element = KeyedText::from_value(alloc, args.second.take_value())?;
     set.key_replace(&key, element)?;
-    *reply = Reply::says(Said::Done);
+    reply.tell(Said::Done);
     Ok(())
 }

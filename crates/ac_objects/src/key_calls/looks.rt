@@ -16,7 +16,7 @@ pub fn key(set: &KeyedSet, alloc: Global, args: &Arguments, reply: &mut Reply) -
     ensures { KeyReplied KeyedCall.Key args.now set.now set.now (told reply.new result) }
 {
     let key = set.key(args.first.cursor())?;
-    *reply = Reply::says(Said::Value(key.to_value(alloc)?));
+    reply.tell(Said::Value(key.to_value(alloc)?));
     Ok(())
 }
 
@@ -30,7 +30,7 @@ pub fn key_element(
 {
     let key = Text::from_value(alloc, args.first.take_value())?;
     let element = set.key_element(&key)?;
-    *reply = Reply::says(Said::Value(element.to_value(alloc)?));
+    reply.tell(Said::Value(element.to_value(alloc)?));
     Ok(())
 }
 
@@ -43,7 +43,7 @@ pub fn key_find(
     ensures { KeyReplied KeyedCall.KeyFind args.old set.now set.now (told reply.new result) }
 {
     let key = Text::from_value(alloc, args.first.take_value())?;
-    *reply = Reply::says(Said::Place(own_cursors::key_find(set, &key)));
+    reply.tell(Said::Place(own_cursors::key_find(set, &key)));
     Ok(())
 }
 
@@ -56,7 +56,7 @@ pub fn key_contains(
     ensures { KeyReplied KeyedCall.KeyContains args.old set.now set.now (told reply.new result) }
 {
     let key = Text::from_value(alloc, args.first.take_value())?;
-    *reply = Reply::says(Said::Truth(set.key_contains(&key)));
+    reply.tell(Said::Truth(set.key_contains(&key)));
     Ok(())
 }
 
@@ -69,7 +69,7 @@ pub fn key_floor(
     ensures { OrderedKeyReplied KeyedCall.KeyFloor args.old set.now set.now (told reply.new result) }
 {
     let key = Text::from_value(alloc, args.first.take_value())?;
-    *reply = Reply::says(Said::Place(own_cursors::key_floor(set, &key)));
+    reply.tell(Said::Place(own_cursors::key_floor(set, &key)));
     Ok(())
 }
 
@@ -82,6 +82,6 @@ pub fn key_ceiling(
     ensures { OrderedKeyReplied KeyedCall.KeyCeiling args.old set.now set.now (told reply.new result) }
 {
     let key = Text::from_value(alloc, args.first.take_value())?;
-    *reply = Reply::says(Said::Place(own_cursors::key_ceiling(set, &key)));
+    reply.tell(Said::Place(own_cursors::key_ceiling(set, &key)));
     Ok(())
 }

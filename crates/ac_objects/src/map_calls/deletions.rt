@@ -26,7 +26,7 @@ pub fn exclude<K: ScriptElement, V: ScriptElement>(
 {
     let key = K::from_value(alloc, args.first.take_value())?;
     map.exclude(&key)?;
-    *reply = Reply::says(Said::Done);
+    reply.tell(Said::Done);
     Ok(())
 }
 
@@ -43,6 +43,6 @@ pub fn delete_key<K: ScriptElement, V: ScriptElement>(
 {
     let key = K::from_value(alloc, args.first.take_value())?;
     map.delete_key(&key)?;
-    *reply = Reply::says(Said::Done);
+    reply.tell(Said::Done);
     Ok(())
 }

@@ -20,7 +20,7 @@ pub fn key<K: ScriptElement, V: ScriptElement>(
     ensures { MapReplied K.tools V.tools MapCall.Key args.now map.now map.now (told reply.new result) }
 {
     let key = map.key(args.first.cursor())?;
-    *reply = Reply::says(Said::Value(key.to_value(alloc)?));
+    reply.tell(Said::Value(key.to_value(alloc)?));
     Ok(())
 }
 
@@ -34,7 +34,7 @@ pub fn element_key<K: ScriptElement, V: ScriptElement>(
 {
     let key = K::from_value(alloc, args.first.take_value())?;
     let element = map.element_key(&key)?;
-    *reply = Reply::says(Said::Value(element.to_value(alloc)?));
+    reply.tell(Said::Value(element.to_value(alloc)?));
     Ok(())
 }
 
@@ -47,7 +47,7 @@ pub fn find<K: ScriptElement, V: ScriptElement>(
     ensures { MapReplied K.tools V.tools MapCall.Find args.old map.now map.now (told reply.new result) }
 {
     let key = K::from_value(alloc, args.first.take_value())?;
-    *reply = Reply::says(Said::Place(own_cursors::find(map, &key)));
+    reply.tell(Said::Place(own_cursors::find(map, &key)));
     Ok(())
 }
 
@@ -60,6 +60,6 @@ pub fn contains<K: ScriptElement, V: ScriptElement>(
     ensures { MapReplied K.tools V.tools MapCall.Contains args.old map.now map.now (told reply.new result) }
 {
     let key = K::from_value(alloc, args.first.take_value())?;
-    *reply = Reply::says(Said::Truth(map.contains(&key)));
+    reply.tell(Said::Truth(map.contains(&key)));
     Ok(())
 }

@@ -23,7 +23,7 @@ pub fn first_key<K: ScriptElement, V: ScriptElement>(
         Replied (looks o value_answer (as_value K.tools (maps.first_key_call o))) map.now map.now (told reply.new result) }
 {
     let key = map.first_key()?;
-    *reply = Reply::says(Said::Value(key.to_value(alloc)?));
+    reply.tell(Said::Value(key.to_value(alloc)?));
     Ok(())
 }
 
@@ -36,7 +36,7 @@ pub fn last_key<K: ScriptElement, V: ScriptElement>(
         Replied (looks o value_answer (as_value K.tools (maps.last_key_call o))) map.now map.now (told reply.new result) }
 {
     let key = map.last_key()?;
-    *reply = Reply::says(Said::Value(key.to_value(alloc)?));
+    reply.tell(Said::Value(key.to_value(alloc)?));
     Ok(())
 }
 
@@ -49,7 +49,7 @@ pub fn floor<K: ScriptElement, V: ScriptElement>(
     ensures { OrderedMapReplied K.tools V.tools OrderedMapCall.Floor args.old map.now map.now (told reply.new result) }
 {
     let key = K::from_value(alloc, args.first.take_value())?;
-    *reply = Reply::says(Said::Place(own_cursors::floor(map, &key)));
+    reply.tell(Said::Place(own_cursors::floor(map, &key)));
     Ok(())
 }
 
@@ -62,6 +62,6 @@ pub fn ceiling<K: ScriptElement, V: ScriptElement>(
     ensures { OrderedMapReplied K.tools V.tools OrderedMapCall.Ceiling args.old map.now map.now (told reply.new result) }
 {
     let key = K::from_value(alloc, args.first.take_value())?;
-    *reply = Reply::says(Said::Place(own_cursors::ceiling(map, &key)));
+    reply.tell(Said::Place(own_cursors::ceiling(map, &key)));
     Ok(())
 }

@@ -31,7 +31,7 @@ pub fn insert<K: ScriptElement, V: ScriptElement>(
     let key = K::from_value(alloc, args.first.take_value())?;
     let element = V::from_value(alloc, args.second.take_value())?;
     map.insert(key, element)?;
-    *reply = Reply::says(Said::Done);
+    reply.tell(Said::Done);
     Ok(())
 }
 
@@ -76,7 +76,7 @@ pub fn include<K: ScriptElement, V: ScriptElement>(
     let key = K::from_value(alloc, args.first.take_value())?;
     let element = V::from_value(alloc, args.second.take_value())?;
     map.include(key, element)?;
-    *reply = Reply::says(Said::Done);
+    reply.tell(Said::Done);
     Ok(())
 }
 
@@ -95,6 +95,6 @@ pub fn replace<K: ScriptElement, V: ScriptElement>(
     let key = K::from_value(alloc, args.first.take_value())?;
     let element = V::from_value(alloc, args.second.take_value())?;
     map.replace(key, element)?;
-    *reply = Reply::says(Said::Done);
+    reply.tell(Said::Done);
     Ok(())
 }

@@ -11,6 +11,7 @@ use crate::sequence::Sequence;
 use ac_base::Fault;
 use ac_check::SequenceCall;
 
+#[inline(never)]
 pub fn delete<T: ScriptElement>(
     sequence: &mut Sequence<T>,
     args: &Arguments,
@@ -34,7 +35,7 @@ pub fn delete_first<T: ScriptElement>(
     ensures kind { kind_of sequence.new ≡ kind_of sequence.old }
 {
     sequence.delete_first(args.first.count())?;
-    *reply = Reply::says(Said::Done);
+    reply.tell(Said::Done);
     Ok(())
 }
 
@@ -47,6 +48,6 @@ pub fn delete_last<T: ScriptElement>(
     ensures kind { kind_of sequence.new ≡ kind_of sequence.old }
 {
     sequence.delete_last(args.first.count())?;
-    *reply = Reply::says(Said::Done);
+    reply.tell(Said::Done);
     Ok(())
 }

@@ -26,7 +26,7 @@ pub fn first_element<T: ScriptElement>(
         sequence.now sequence.now (told reply.new result) }
 {
     let element = sequence.first_element()?;
-    *reply = Reply::says(Said::Value(element.to_value(alloc)?));
+    reply.tell(Said::Value(element.to_value(alloc)?));
     Ok(())
 }
 
@@ -40,7 +40,7 @@ pub fn last_element<T: ScriptElement>(
         sequence.now sequence.now (told reply.new result) }
 {
     let element = sequence.last_element()?;
-    *reply = Reply::says(Said::Value(element.to_value(alloc)?));
+    reply.tell(Said::Value(element.to_value(alloc)?));
     Ok(())
 }
 
@@ -52,7 +52,7 @@ pub fn next<T: ScriptElement>(
     ensures { SequenceReplied T.tools SequenceCall.Next args.now sequence.now sequence.now (told reply.new result) }
 {
     let next = row_cursors::next(sequence, args.first.cursor())?;
-    *reply = Reply::says(Said::Place(next));
+    reply.tell(Said::Place(next));
     Ok(())
 }
 
@@ -64,10 +64,11 @@ pub fn previous<T: ScriptElement>(
     ensures { SequenceReplied T.tools SequenceCall.Previous args.now sequence.now sequence.now (told reply.new result) }
 {
     let previous = row_cursors::previous(sequence, args.first.cursor())?;
-    *reply = Reply::says(Said::Place(previous));
+    reply.tell(Said::Place(previous));
     Ok(())
 }
 
+#[inline(never)]
 pub fn find<T: ScriptElement>(
     sequence: &Sequence<T>,
     alloc: Global,
@@ -79,10 +80,11 @@ pub fn find<T: ScriptElement>(
     let from = args.second.cursor();
     let element = T::from_value(alloc, args.first.take_value())?;
     let found = own_cursors::find(sequence, &element, from)?;
-    *reply = Reply::says(Said::Place(found));
+    reply.tell(Said::Place(found));
     Ok(())
 }
 
+#[inline(never)]
 pub fn reverse_find<T: ScriptElement>(
     sequence: &Sequence<T>,
     alloc: Global,
@@ -94,10 +96,11 @@ pub fn reverse_find<T: ScriptElement>(
     let from = args.second.cursor();
     let element = T::from_value(alloc, args.first.take_value())?;
     let found = own_cursors::reverse_find(sequence, &element, from)?;
-    *reply = Reply::says(Said::Place(found));
+    reply.tell(Said::Place(found));
     Ok(())
 }
 
+#[inline(never)]
 pub fn contains<T: ScriptElement>(
     sequence: &Sequence<T>,
     alloc: Global,
@@ -107,6 +110,6 @@ pub fn contains<T: ScriptElement>(
     ensures { SequenceReplied T.tools SequenceCall.Contains args.old sequence.now sequence.now (told reply.new result) }
 {
     let element = T::from_value(alloc, args.first.take_value())?;
-    *reply = Reply::says(Said::Truth(sequence.contains(&element)));
+    reply.tell(Said::Truth(sequence.contains(&element)));
     Ok(())
 }

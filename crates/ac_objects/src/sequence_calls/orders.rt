@@ -14,6 +14,7 @@ use crate::sequence::Sequence;
 use ac_base::Fault;
 use ac_check::SequenceCall;
 
+#[inline(never)]
 pub fn swap<T: ScriptElement>(
     sequence: &mut Sequence<T>,
     args: &Arguments,
@@ -23,10 +24,11 @@ pub fn swap<T: ScriptElement>(
     ensures kind { kind_of sequence.new ≡ kind_of sequence.old }
 {
     sequence.swap(args.first.cursor(), args.second.cursor())?;
-    *reply = Reply::says(Said::Done);
+    reply.tell(Said::Done);
     Ok(())
 }
 
+#[inline(never)]
 pub fn reverse_elements<T: ScriptElement>(
     sequence: &mut Sequence<T>,
     reply: &mut Reply,
@@ -36,26 +38,28 @@ pub fn reverse_elements<T: ScriptElement>(
     ensures kind { kind_of sequence.new ≡ kind_of sequence.old }
 {
     sequence.reverse_elements()?;
-    *reply = Reply::says(Said::Done);
+    reply.tell(Said::Done);
     Ok(())
 }
 
+#[inline(never)]
 pub fn sort<T: ScriptElement>(sequence: &mut Sequence<T>, reply: &mut Reply) -> Result<(), Fault>
     ensures replied { Answered (changes_ok (sorting (kind_of sequence.old) T.tools.less (plain (rows_of sequence.old).object)))
         sequence.old sequence.new (told reply.new result) }
     ensures kind { kind_of sequence.new ≡ kind_of sequence.old }
 {
     sequence.sort()?;
-    *reply = Reply::says(Said::Done);
+    reply.tell(Said::Done);
     Ok(())
 }
 
+#[inline(never)]
 pub fn merge<T: ScriptElement>(sequence: &mut Sequence<T>, reply: &mut Reply) -> Result<(), Fault>
     ensures replied { Answered (changes_ok (sequences.merge_self_call (plain (rows_of sequence.old).object)))
         sequence.old sequence.new (told reply.new result) }
     ensures kind { kind_of sequence.new ≡ kind_of sequence.old }
 {
     sequence.merge_self()?;
-    *reply = Reply::says(Said::Done);
+    reply.tell(Said::Done);
     Ok(())
 }

@@ -25,10 +25,11 @@ pub fn append<T: ScriptElement>(
     let count = args.second.count();
     let element = T::from_value(alloc, args.first.take_value())?;
     sequence.append(element, count)?;
-    *reply = Reply::says(Said::Done);
+    reply.tell(Said::Done);
     Ok(())
 }
 
+#[inline(never)]
 pub fn prepend<T: ScriptElement>(
     sequence: &mut Sequence<T>,
     alloc: Global,
@@ -41,10 +42,11 @@ pub fn prepend<T: ScriptElement>(
     let count = args.second.count();
     let element = T::from_value(alloc, args.first.take_value())?;
     sequence.prepend(element, count)?;
-    *reply = Reply::says(Said::Done);
+    reply.tell(Said::Done);
     Ok(())
 }
 
+#[inline(never)]
 pub fn insert<T: ScriptElement>(
     sequence: &mut Sequence<T>,
     alloc: Global,
@@ -58,10 +60,11 @@ pub fn insert<T: ScriptElement>(
     let count = args.third.count();
     let element = T::from_value(alloc, args.second.take_value())?;
     sequence.insert(before, element, count)?;
-    *reply = Reply::says(Said::Done);
+    reply.tell(Said::Done);
     Ok(())
 }
 
+#[inline(never)]
 pub fn insert_pos<T: ScriptElement>(
     sequence: &mut Sequence<T>,
     alloc: Global,

@@ -26,7 +26,7 @@ pub fn insert<T: ScriptElement>(
 {
     let element = T::from_value(alloc, args.first.take_value())?;
     set.insert(element)?;
-    *reply = Reply::says(Said::Done);
+    reply.tell(Said::Done);
     Ok(())
 }
 
@@ -62,7 +62,7 @@ pub fn include<T: ScriptElement>(
 {
     let element = T::from_value(alloc, args.first.take_value())?;
     set.include(element)?;
-    *reply = Reply::says(Said::Done);
+    reply.tell(Said::Done);
     Ok(())
 }
 
@@ -78,7 +78,7 @@ pub fn replace<T: ScriptElement>(
 {
     let element = T::from_value(alloc, args.first.take_value())?;
     set.replace(element)?;
-    *reply = Reply::says(Said::Done);
+    reply.tell(Said::Done);
     Ok(())
 }
 
@@ -94,7 +94,7 @@ pub fn exclude<T: ScriptElement>(
 {
     let element = T::from_value(alloc, args.first.take_value())?;
     set.exclude(&element)?;
-    *reply = Reply::says(Said::Done);
+    reply.tell(Said::Done);
     Ok(())
 }
 
@@ -110,6 +110,6 @@ pub fn delete_item<T: ScriptElement>(
 {
     let element = T::from_value(alloc, args.first.take_value())?;
     set.delete_item(&element)?;
-    *reply = Reply::says(Said::Done);
+    reply.tell(Said::Done);
     Ok(())
 }

@@ -21,7 +21,7 @@ pub fn find<T: ScriptElement>(
     ensures { SetReplied (tools_by T.tools T.is_alike T.is_less) SetCall.Find args.old set.now set.now (told reply.new result) }
 {
     let element = T::from_value(alloc, args.first.take_value())?;
-    *reply = Reply::says(Said::Place(own_cursors::find(set, &element)));
+    reply.tell(Said::Place(own_cursors::find(set, &element)));
     Ok(())
 }
 
@@ -34,7 +34,7 @@ pub fn contains<T: ScriptElement>(
     ensures { SetReplied (tools_by T.tools T.is_alike T.is_less) SetCall.Contains args.old set.now set.now (told reply.new result) }
 {
     let element = T::from_value(alloc, args.first.take_value())?;
-    *reply = Reply::says(Said::Truth(set.contains(&element)));
+    reply.tell(Said::Truth(set.contains(&element)));
     Ok(())
 }
 
@@ -48,7 +48,7 @@ pub fn floor<T: ScriptElement>(
         set.now set.now (told reply.new result) }
 {
     let element = T::from_value(alloc, args.first.take_value())?;
-    *reply = Reply::says(Said::Place(own_cursors::floor(set, &element)));
+    reply.tell(Said::Place(own_cursors::floor(set, &element)));
     Ok(())
 }
 
@@ -62,6 +62,6 @@ pub fn ceiling<T: ScriptElement>(
         set.now set.now (told reply.new result) }
 {
     let element = T::from_value(alloc, args.first.take_value())?;
-    *reply = Reply::says(Said::Place(own_cursors::ceiling(set, &element)));
+    reply.tell(Said::Place(own_cursors::ceiling(set, &element)));
     Ok(())
 }

@@ -18,7 +18,7 @@ pub fn union<T: ScriptElement>(set: &mut Set<T>, reply: &mut Reply) -> Result<()
     ensures kind { set_kind_of set.new ≡ set_kind_of set.old }
 {
     set.union_self()?;
-    *reply = Reply::says(Said::Done);
+    reply.tell(Said::Done);
     Ok(())
 }
 
@@ -28,7 +28,7 @@ pub fn intersection<T: ScriptElement>(set: &mut Set<T>, reply: &mut Reply) -> Re
     ensures kind { set_kind_of set.new ≡ set_kind_of set.old }
 {
     set.intersection_self()?;
-    *reply = Reply::says(Said::Done);
+    reply.tell(Said::Done);
     Ok(())
 }
 
@@ -38,7 +38,7 @@ pub fn difference<T: ScriptElement>(set: &mut Set<T>, reply: &mut Reply) -> Resu
     ensures kind { set_kind_of set.new ≡ set_kind_of set.old }
 {
     set.difference_self()?;
-    *reply = Reply::says(Said::Done);
+    reply.tell(Said::Done);
     Ok(())
 }
 
@@ -51,7 +51,7 @@ pub fn symmetric_difference<T: ScriptElement>(
     ensures kind { set_kind_of set.new ≡ set_kind_of set.old }
 {
     set.symmetric_difference_self()?;
-    *reply = Reply::says(Said::Done);
+    reply.tell(Said::Done);
     Ok(())
 }
 
@@ -60,7 +60,7 @@ pub fn overlap<T: ScriptElement>(set: &Set<T>, reply: &mut Reply) -> Result<(), 
         Replied (tells o (answers_truth (sets.overlap_call (set_order T.is_alike T.is_less set.now) o o)))
         (items_of set.now) (items_of set.now) (told reply.new result) }
 {
-    *reply = Reply::says(Said::Truth(set.overlap(set)));
+    reply.tell(Said::Truth(set.overlap(set)));
     Ok(())
 }
 
@@ -69,7 +69,7 @@ pub fn is_subset<T: ScriptElement>(set: &Set<T>, reply: &mut Reply) -> Result<()
         Replied (tells o (answers_truth (sets.is_subset_call (set_order T.is_alike T.is_less set.now) o o)))
         (items_of set.now) (items_of set.now) (told reply.new result) }
 {
-    *reply = Reply::says(Said::Truth(set.is_subset(set)));
+    reply.tell(Said::Truth(set.is_subset(set)));
     Ok(())
 }
 
@@ -78,6 +78,6 @@ pub fn equivalent_sets<T: ScriptElement>(set: &Set<T>, reply: &mut Reply) -> Res
         Replied (tells o (answers_truth (sets.equivalent_sets_call (set_order T.is_alike T.is_less set.now) o o)))
         (items_of set.now) (items_of set.now) (told reply.new result) }
 {
-    *reply = Reply::says(Said::Truth(set.equivalent_sets(set)));
+    reply.tell(Said::Truth(set.equivalent_sets(set)));
     Ok(())
 }

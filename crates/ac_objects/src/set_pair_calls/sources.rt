@@ -24,7 +24,7 @@ pub fn union<T: ScriptElement>(
     ensures kind { set_kind_of set.new ≡ set_kind_of set.old }
 {
     set.union(source)?;
-    *reply = Reply::says(Said::Done);
+    reply.tell(Said::Done);
     Ok(())
 }
 
@@ -40,7 +40,7 @@ pub fn intersection<T: ScriptElement>(
     ensures kind { set_kind_of set.new ≡ set_kind_of set.old }
 {
     set.intersection(source)?;
-    *reply = Reply::says(Said::Done);
+    reply.tell(Said::Done);
     Ok(())
 }
 
@@ -56,7 +56,7 @@ pub fn difference<T: ScriptElement>(
     ensures kind { set_kind_of set.new ≡ set_kind_of set.old }
 {
     set.difference(source)?;
-    *reply = Reply::says(Said::Done);
+    reply.tell(Said::Done);
     Ok(())
 }
 
@@ -72,7 +72,7 @@ pub fn symmetric_difference<T: ScriptElement>(
     ensures kind { set_kind_of set.new ≡ set_kind_of set.old }
 {
     set.symmetric_difference(source)?;
-    *reply = Reply::says(Said::Done);
+    reply.tell(Said::Done);
     Ok(())
 }
 
@@ -86,7 +86,7 @@ pub fn overlap<T: ScriptElement>(
         RepliedWith (tells o (answers_truth (sets.overlap_call (set_order T.is_alike T.is_less set.now) o s)))
         (items_of set.now) (items_of source.now) (items_of set.now) (items_of source.now) (told reply.new result) }
 {
-    *reply = Reply::says(Said::Truth(set.overlap(source)));
+    reply.tell(Said::Truth(set.overlap(source)));
     Ok(())
 }
 
@@ -100,7 +100,7 @@ pub fn is_subset<T: ScriptElement>(
         RepliedWith (tells o (answers_truth (sets.is_subset_call (set_order T.is_alike T.is_less set.now) o s)))
         (items_of set.now) (items_of source.now) (items_of set.now) (items_of source.now) (told reply.new result) }
 {
-    *reply = Reply::says(Said::Truth(set.is_subset(source)));
+    reply.tell(Said::Truth(set.is_subset(source)));
     Ok(())
 }
 
@@ -114,6 +114,6 @@ pub fn equivalent_sets<T: ScriptElement>(
         RepliedWith (tells o (answers_truth (sets.equivalent_sets_call (set_order T.is_alike T.is_less set.now) o s)))
         (items_of set.now) (items_of source.now) (items_of set.now) (items_of source.now) (told reply.new result) }
 {
-    *reply = Reply::says(Said::Truth(set.equivalent_sets(source)));
+    reply.tell(Said::Truth(set.equivalent_sets(source)));
     Ok(())
 }

@@ -40,6 +40,7 @@ pub fn vector_call_with<T: ScriptElement>(
 
 // The vector itself
 
+#[inline(never)]
 pub fn insert_vector_index_self<T: ScriptElement>(
     vector: &mut Vector<T>,
     args: &Arguments,
@@ -48,10 +49,11 @@ pub fn insert_vector_index_self<T: ScriptElement>(
     ensures { VectorAloneReplied T.tools VectorCall.InsertVectorIndex args.now vector.old vector.new (told reply.new result) }
 {
     vector.insert_vector_index_self(args.first.count())?;
-    *reply = Reply::says(Said::Done);
+    reply.tell(Said::Done);
     Ok(())
 }
 
+#[inline(never)]
 pub fn insert_vector_self<T: ScriptElement>(
     vector: &mut Vector<T>,
     args: &Arguments,
@@ -60,10 +62,11 @@ pub fn insert_vector_self<T: ScriptElement>(
     ensures { VectorAloneReplied T.tools VectorCall.InsertVector args.now vector.old vector.new (told reply.new result) }
 {
     vector.insert_vector_self(args.first.cursor())?;
-    *reply = Reply::says(Said::Done);
+    reply.tell(Said::Done);
     Ok(())
 }
 
+#[inline(never)]
 pub fn insert_vector_pos_self<T: ScriptElement>(
     vector: &mut Vector<T>,
     args: &Arguments,
@@ -76,6 +79,7 @@ pub fn insert_vector_pos_self<T: ScriptElement>(
     Ok(())
 }
 
+#[inline(never)]
 pub fn append_vector_self<T: ScriptElement>(
     vector: &mut Vector<T>,
     reply: &mut Reply,
@@ -84,10 +88,11 @@ pub fn append_vector_self<T: ScriptElement>(
         vector.old vector.new (told reply.new result) }
 {
     vector.append_vector_self()?;
-    *reply = Reply::says(Said::Done);
+    reply.tell(Said::Done);
     Ok(())
 }
 
+#[inline(never)]
 pub fn prepend_vector_self<T: ScriptElement>(
     vector: &mut Vector<T>,
     reply: &mut Reply,
@@ -96,7 +101,7 @@ pub fn prepend_vector_self<T: ScriptElement>(
         vector.old vector.new (told reply.new result) }
 {
     vector.prepend_vector_self()?;
-    *reply = Reply::says(Said::Done);
+    reply.tell(Said::Done);
     Ok(())
 }
 
@@ -126,7 +131,7 @@ fn insert_vector_index<T: ScriptElement>(
         vector.old source.now vector.new source.now (told reply.new result) }
 {
     vector.insert_vector_index(args.first.count(), source)?;
-    *reply = Reply::says(Said::Done);
+    reply.tell(Said::Done);
     Ok(())
 }
 
@@ -140,7 +145,7 @@ fn insert_vector<T: ScriptElement>(
         vector.old source.now vector.new source.now (told reply.new result) }
 {
     vector.insert_vector(args.first.cursor(), source)?;
-    *reply = Reply::says(Said::Done);
+    reply.tell(Said::Done);
     Ok(())
 }
 
@@ -167,7 +172,7 @@ fn append_vector<T: ScriptElement>(
         vector.old source.now vector.new source.now (told reply.new result) }
 {
     vector.append_vector(source)?;
-    *reply = Reply::says(Said::Done);
+    reply.tell(Said::Done);
     Ok(())
 }
 
@@ -180,7 +185,7 @@ fn prepend_vector<T: ScriptElement>(
         vector.old source.now vector.new source.now (told reply.new result) }
 {
     vector.prepend_vector(source)?;
-    *reply = Reply::says(Said::Done);
+    reply.tell(Said::Done);
     Ok(())
 }
 

@@ -16,6 +16,7 @@ use ac_cursor::Cursor;
 use ac_vector::Vector;
 use std::alloc::Global;
 
+#[inline(never)]
 pub fn set_length<T: ScriptElement>(
     vector: &mut Vector<T>,
     args: &Arguments,
@@ -24,10 +25,11 @@ pub fn set_length<T: ScriptElement>(
     ensures { VectorAloneReplied T.tools VectorCall.SetLength args.now vector.old vector.new (told reply.new result) }
 {
     vector.set_length(args.first.count())?;
-    *reply = Reply::says(Said::Done);
+    reply.tell(Said::Done);
     Ok(())
 }
 
+#[inline(never)]
 pub fn to_cursor<T: ScriptElement>(
     vector: &Vector<T>,
     args: &Arguments,
@@ -36,7 +38,7 @@ pub fn to_cursor<T: ScriptElement>(
     ensures { VectorAloneReplied T.tools VectorCall.ToCursor args.now vector.now vector.now (told reply.new result) }
 {
     let c = own_cursor(vector, &args.first);
-    *reply = Reply::says(Said::Place(c));
+    reply.tell(Said::Place(c));
     Ok(())
 }
 
@@ -55,7 +57,7 @@ pub fn to_index<T: ScriptElement>(
     ensures { VectorAloneReplied T.tools VectorCall.ToIndex args.now vector.now vector.now (told reply.new result) }
 {
     let index = vector.to_index(args.first.cursor())?;
-    *reply = Reply::says(Said::Value(Value::Int(index)));
+    reply.tell(Said::Value(Value::Int(index)));
     Ok(())
 }
 
@@ -68,7 +70,7 @@ pub fn element_index<T: ScriptElement>(
     ensures { VectorAloneReplied T.tools VectorCall.ElementIndex args.now vector.now vector.now (told reply.new result) }
 {
     let element = vector.element_index(args.first.count())?;
-    *reply = Reply::says(Said::Value(element.to_value(alloc)?));
+    reply.tell(Said::Value(element.to_value(alloc)?));
     Ok(())
 }
 
@@ -83,10 +85,11 @@ pub fn replace_index<T: ScriptElement>(
     let index = args.first.count();
     let element = T::from_value(alloc, args.second.take_value())?;
     vector.replace_index(index, element)?;
-    *reply = Reply::says(Said::Done);
+    reply.tell(Said::Done);
     Ok(())
 }
 
+#[inline(never)]
 pub fn swap_index<T: ScriptElement>(
     vector: &mut Vector<T>,
     args: &Arguments,
@@ -95,10 +98,11 @@ pub fn swap_index<T: ScriptElement>(
     ensures { VectorAloneReplied T.tools VectorCall.SwapIndex args.now vector.old vector.new (told reply.new result) }
 {
     vector.swap_index(args.first.count(), args.second.count())?;
-    *reply = Reply::says(Said::Done);
+    reply.tell(Said::Done);
     Ok(())
 }
 
+#[inline(never)]
 pub fn insert_index<T: ScriptElement>(
     vector: &mut Vector<T>,
     alloc: Global,
@@ -111,10 +115,11 @@ pub fn insert_index<T: ScriptElement>(
     let count = args.third.count();
     let element = T::from_value(alloc, args.second.take_value())?;
     vector.insert_index(index, element, count)?;
-    *reply = Reply::says(Said::Done);
+    reply.tell(Said::Done);
     Ok(())
 }
 
+#[inline(never)]
 pub fn delete_index<T: ScriptElement>(
     vector: &mut Vector<T>,
     args: &Arguments,
@@ -123,10 +128,11 @@ pub fn delete_index<T: ScriptElement>(
     ensures { VectorAloneReplied T.tools VectorCall.DeleteIndex args.now vector.old vector.new (told reply.new result) }
 {
     vector.delete_index(args.first.count(), args.second.count())?;
-    *reply = Reply::says(Said::Done);
+    reply.tell(Said::Done);
     Ok(())
 }
 
+#[inline(never)]
 pub fn find_index<T: ScriptElement>(
     vector: &Vector<T>,
     alloc: Global,
@@ -137,10 +143,11 @@ pub fn find_index<T: ScriptElement>(
 {
     let element = T::from_value(alloc, args.first.take_value())?;
     let found = index_of(vector, &element, &args.second)?;
-    *reply = Reply::says(Said::Value(Value::Int(found)));
+    reply.tell(Said::Value(Value::Int(found)));
     Ok(())
 }
 
+#[inline(never)]
 pub fn reverse_find_index<T: ScriptElement>(
     vector: &Vector<T>,
     alloc: Global,
@@ -151,7 +158,7 @@ pub fn reverse_find_index<T: ScriptElement>(
 {
     let element = T::from_value(alloc, args.first.take_value())?;
     let found = last_index_of(vector, &element, &args.second)?;
-    *reply = Reply::says(Said::Value(Value::Int(found)));
+    reply.tell(Said::Value(Value::Int(found)));
     Ok(())
 }
 

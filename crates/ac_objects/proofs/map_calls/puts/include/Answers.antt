@@ -26,4 +26,4 @@ returns-clause-replied g c =
     let call = λ (k : g.row.K.Denot) (e : g.row.V.Denot). include_call keys (plain old.object) k e in
     let key = c.in_ok-key.ensures ∙ ap g.K.ScriptElement.tools.from_value c.take_value.ensures in
     let element = c.in_ok-element.ensures ∙ ap g.V.ScriptElement.tools.from_value c.take_value-2.ensures in
-    put_done key element call old (entries_of c.include.new.self) c.says.result c.in_ok-include.ensures.changed c.says.ensures.said c.says.ensures.variable
+    put_done key element call old (entries_of c.include.new.self) c.tell.new.self c.in_ok-include.ensures.changed c.tell.ensures.said c.tell.ensures.variable
