@@ -4,10 +4,11 @@ use Rattle.ac_base.specs.declared.reason.Reason.{Reason}
 use Rattle.ac_base.specs.declared.guard.Class.TheVariants as class
 use Rattle.ac_base.specs.Tampering.{forbids}
 use Rattle.ac_model.specs.Objects.{Object}
-use Rattle.ac_meaning.specs.Holdings.{Held, of_rows}
+use Rattle.ac_meaning.specs.Holdings.{Held, of_rows, of_holder}
 use Rattle.ac_meaning.specs.Environment.{Bound, binds_type, binds_object, binds_cursor, binds_value, binds_element, State, bound_in, bound_at, with_bound, object_in}
 use Rattle.ac_meaning.specs.Stays.{Stays, HeldStays, BoundStays, EachStays, StateStays}
 use Rattle.ac_meaning.proofs.CallsStay.{none_some, same}
+use Rattle.ac_meaning.proofs.HoldersStay.{holder_same, holder_then}
 
 -- a call that isn't refused
 pub passed : {V : Type 0} (o : Object ℕ V) (reason : Option Reason) (after : Object ℕ V) → reason ≡ None → Stays o reason after → Stays o None after
@@ -33,10 +34,13 @@ stays_then o a b h k = record {
 
 pub held_same : (h : Held) → HeldStays h h
 held_same (of_rows kind o) = (o, refl, same o None)
+held_same (of_holder e h) = (h, refl, holder_same h None)
 
 held_then : (h a b : Held) → HeldStays h a → HeldStays a b → HeldStays h b
 held_then (of_rows kind o) a b h k =
     let l : HeldStays (of_rows kind h.0) b = subst (λ x. HeldStays x b) h.1 k in (l.0, l.1, stays_then o h.0 l.0 h.2 l.2)
+held_then (of_holder e o) a b h k =
+    let l : HeldStays (of_holder e h.0) b = subst (λ x. HeldStays x b) h.1 k in (l.0, l.1, holder_then o h.0 l.0 h.2 l.2)
 
 pub bound_same : (b : Bound) → BoundStays b b
 bound_same binds_type = tt

@@ -4,21 +4,25 @@ use Rattle.std.proofs.lemmas.Option.{same_Some}
 use Rattle.ac_base.specs.declared.value.Value.{Value}
 use Rattle.ac_base.specs.declared.reason.Reason.{Reason}
 use Rattle.ac_model.specs.Objects.{Object}
+use Rattle.ac_model.specs.Holders.{Holder}
+use Rattle.ac_syntax.specs.declared.kind.ElemKind.{ElemKind}
 use Rattle.ac_model.specs.Letters.{Mark, name_of}
 use Rattle.ac_model.specs.Cursors.{seen}
 use Rattle.ac_check.specs.declared.operation.Operation.{Operation}
 use Rattle.ac_check.specs.declared.resolved.ResolvedArg.{ResolvedArg}
 use Rattle.ac_check.specs.Resolved.{ResolvedSimple, calls_at, sets_at, sums_at}
-use Rattle.ac_meaning.specs.Elements.{tools_of, integer_in}
+use Rattle.ac_meaning.specs.Elements.{ElementOf, tools_of, integer_in}
 use Rattle.ac_meaning.specs.Answers.{Answer, answers_ok, answers_value, answers_truth, answers_place, answers_list, answers_raised, answers_stalled, answers_integer}
 use Rattle.ac_meaning.specs.Replies.{Arguments, Source, itself, another, seen_by, source_in, Reply, Placed}
-use Rattle.ac_meaning.specs.Holdings.{RowKind, a_sequence, a_map, a_set, a_keyed_set, RowOf, Held, of_rows, same_kind, rows_in, rows_reply, own_calls, write, reply_of}
+use Rattle.ac_meaning.specs.Holdings.{RowKind, a_sequence, a_map, a_set, a_keyed_set, RowOf, Held, of_rows, of_holder, same_element, same_kind, rows_in, holder_in, rows_reply, own_calls, write, reply_of}
+use Rattle.ac_meaning.specs.HolderReplies.{holder_source, holder_write}
 use Rattle.ac_meaning.specs.Environment.{Bound, binds_type, binds_object, binds_cursor, binds_value, binds_element, State, bound_at, with_bound, object_at, value_at}
 use Rattle.ac_meaning.specs.Commands.{Assigned, value_set, mark_set, assigned, element_written, place_in, variable_to, variable_set, source_place, source_of, source_set, after_call, unless_refused, waits_or_goes, replied, call_on, arguments, answer_from, assigned_from, is_integer, sum_of, sum_assigned, performed}
 use Rattle.ac_meaning.specs.Stays.{Stays, SourceStays, ReplyStays, HeldStays, StateStays}
 use Rattle.ac_meaning.proofs.CallsStay.{none_some, same, renamed, names-with_value, names-with_some_value}
 use Rattle.ac_meaning.proofs.VectorsStay.{replies_stay}
 use Rattle.ac_meaning.proofs.KeyedStay.{map_stays, set_stays, keyed_set_stays}
+use Rattle.ac_meaning.proofs.HoldersStay.{holder_passed, holder_write_stays, holder_stays, another_holder_stays}
 use Rattle.ac_meaning.proofs.BoundsStay.{passed, state_same, state_then, state_set, object_there}
 
 -- Assignments
@@ -29,21 +33,27 @@ own_write_stays (a_map which k e) o at v = renamed o None _ (names-with_some_val
 own_write_stays (a_set which e) o at v = same o None
 own_write_stays (a_keyed_set which) o at v = same o None
 
-write_stays : (h : Held) (at : Mark) (v : Value) → HeldStays h (write h at v).after
-write_stays (of_rows kind o) at v = (((own_calls kind o).write (seen o at) v).after, refl, own_write_stays kind o (seen o at) v)
+write_stays : (h : Held) (at : Mark) (v : Value) → (write h at v).reason ≡ None → HeldStays h (write h at v).after
+write_stays (of_rows kind o) at v none = (((own_calls kind o).write (seen o at) v).after, refl, own_write_stays kind o (seen o at) v)
+write_stays (of_holder e h) at v none = ((holder_write (tools_of e) h v).after, refl, holder_write_stays (tools_of e) h v none)
+
+-- an assignment that isn't refused
+abbrev AssignedStays : State → Assigned → Type 0
+AssignedStays e a = a.reason ≡ None → StateStays e a.after
 
 element_stays : (e : State) (object : ℕ) (at : Mark) (v : Value) (found : Option Held) → object_at e object ≡ found →
-    StateStays e (element_written e object at v found).after
-element_stays e object at v None f = state_same e
-element_stays e object at v (Some h) f =
-    state_set e e object (binds_object h) (binds_object (write h at v).after) (state_same e) (object_there (bound_at e object) h f) (write_stays h at v)
+    AssignedStays e (element_written e object at v found)
+element_stays e object at v None f none = state_same e
+element_stays e object at v (Some h) f none =
+    state_set e e object (binds_object h) (binds_object (write h at v).after) (state_same e) (object_there (bound_at e object) h f)
+    (write_stays h at v none)
 
-value_stays : (e : State) (place : ℕ) (v : Value) (b : Bound) → bound_at e place ≡ b → StateStays e (value_set e place v b).after
-value_stays e place v binds_type f = state_same e
-value_stays e place v (binds_object h) f = state_same e
-value_stays e place v (binds_cursor mark) f = state_same e
-value_stays e place v (binds_value old) f = state_set e e place (binds_value old) (binds_value v) (state_same e) f tt
-value_stays e place v (binds_element object at) f = element_stays e object at v (object_at e object) refl
+value_stays : (e : State) (place : ℕ) (v : Value) (b : Bound) → bound_at e place ≡ b → AssignedStays e (value_set e place v b)
+value_stays e place v binds_type f none = state_same e
+value_stays e place v (binds_object h) f none = state_same e
+value_stays e place v (binds_cursor mark) f none = state_same e
+value_stays e place v (binds_value old) f none = state_set e e place (binds_value old) (binds_value v) (state_same e) f tt
+value_stays e place v (binds_element object at) f none = element_stays e object at v (object_at e object) refl none
 
 mark_stays : (e : State) (place : ℕ) (mark : Mark) (b : Bound) → bound_at e place ≡ b → StateStays e (mark_set e place mark b)
 mark_stays e place mark binds_type f = state_same e
@@ -52,15 +62,15 @@ mark_stays e place mark (binds_cursor old) f = state_set e e place (binds_cursor
 mark_stays e place mark (binds_value v) f = state_same e
 mark_stays e place mark (binds_element object at) f = state_same e
 
-assigned_stays : (e : State) (target : Option ℕ) (answer : Answer) → StateStays e (assigned e target answer).after
-assigned_stays e None answer = state_same e
-assigned_stays e (Some place) answers_ok = state_same e
-assigned_stays e (Some place) (answers_value v) = value_stays e place v (bound_at e place) refl
-assigned_stays e (Some place) (answers_truth b) = state_same e
-assigned_stays e (Some place) (answers_place mark) = mark_stays e place mark (bound_at e place) refl
-assigned_stays e (Some place) (answers_list text) = state_same e
-assigned_stays e (Some place) (answers_raised reason) = state_same e
-assigned_stays e (Some place) answers_stalled = state_same e
+assigned_stays : (e : State) (target : Option ℕ) (answer : Answer) → AssignedStays e (assigned e target answer)
+assigned_stays e None answer none = state_same e
+assigned_stays e (Some place) answers_ok none = state_same e
+assigned_stays e (Some place) (answers_value v) none = value_stays e place v (bound_at e place) refl none
+assigned_stays e (Some place) (answers_truth b) none = state_same e
+assigned_stays e (Some place) (answers_place mark) none = mark_stays e place mark (bound_at e place) refl
+assigned_stays e (Some place) (answers_list text) none = state_same e
+assigned_stays e (Some place) (answers_raised reason) none = state_same e
+assigned_stays e (Some place) answers_stalled none = state_same e
 
 variable_to_stays : (e : State) (mark : Mark) (place : Option ℕ) → StateStays e (variable_to e mark place)
 variable_to_stays e mark None = state_same e
@@ -70,15 +80,15 @@ variable_stays : (e : State) (args : List ResolvedArg) (p : Option Placed) → S
 variable_stays e args None = state_same e
 variable_stays e args (Some p) = variable_to_stays e p.mark (place_in (slice_get args p.place))
 
-unless_stays : (e : State) (answer : Answer) (a : Assigned) (reason : Option Reason) → a.reason ≡ reason → StateStays e a.after →
+unless_stays : (e : State) (answer : Answer) (a : Assigned) (reason : Option Reason) → a.reason ≡ reason → AssignedStays e a →
     StateStays e (unless_refused e answer a).after
-unless_stays e answer a None r h = rw r h
+unless_stays e answer a None r h = rw r (h r)
 unless_stays e answer a (Some reason) r h = rw r (state_same e)
 
 -- the same, where the answer is assigned after something else
-then_unless_stays : (e now : State) (answer : Answer) (a : Assigned) → StateStays e now → StateStays now a.after →
+then_unless_stays : (e now : State) (answer : Answer) (a : Assigned) → StateStays e now → AssignedStays now a →
     StateStays e (unless_refused e answer a).after
-then_unless_stays e now answer a h k = unless_stays e answer a a.reason refl (state_then e now a.after h k)
+then_unless_stays e now answer a h k = unless_stays e answer a a.reason refl (λ none. state_then e now a.after h (k none))
 
 -- Calls
 
@@ -106,6 +116,7 @@ mapped f (Some s) t e = let p : f s ≡ t = cc in (s, refl, p)
 -- an object of a kind is what is held there
 pub rows_found : (kind : RowKind) (found : Option Held) (s : Object ℕ (RowOf kind)) → rows_in kind found ≡ Some s → found ≡ Some (of_rows kind s)
 rows_found kind None s f = none_some s f
+rows_found kind (Some (of_holder e h)) s f = none_some s f
 rows_found kind (Some (of_rows other o)) s f = go (same_kind other kind) f
   where
     go : (p : Option (other ≡ kind)) → option_map (λ (q : other ≡ kind). coe 0 1 (i. Object ℕ (RowOf (q i))) o) p ≡ Some s →
@@ -113,6 +124,18 @@ rows_found kind (Some (of_rows other o)) s f = go (same_kind other kind) f
     go None f = none_some s f
     go (Some p) f =
         ap Some ((λ i. of_rows (p i) (coe 0 i (j. Object ℕ (RowOf (p j))) o)) ∙ ap (of_rows kind) (same_Some _ s f))
+
+-- and so is a holder
+pub holder_found : (e : ElemKind) (found : Option Held) (s : Holder (ElementOf e)) → holder_in e found ≡ Some s → found ≡ Some (of_holder e s)
+holder_found e None s f = none_some s f
+holder_found e (Some (of_rows kind o)) s f = none_some s f
+holder_found e (Some (of_holder other h)) s f = go (same_element other e) f
+  where
+    go : (p : Option (other ≡ e)) → option_map (λ (q : other ≡ e). coe 0 1 (i. Holder (ElementOf (q i))) h) p ≡ Some s →
+        Some (of_holder other h) ≡ Some (of_holder e s)
+    go None f = none_some s f
+    go (Some p) f =
+        ap Some ((λ i. of_holder (p i) (coe 0 i (j. Holder (ElementOf (p j))) h)) ∙ ap (of_holder e) (same_Some _ s f))
 
 pub rows_stay : (kind : RowKind) (o : Object ℕ (RowOf kind)) (source : Source (Object ℕ (RowOf kind))) (args : Arguments) (op : Operation) →
     ReplyStays o source (rows_reply kind o source args op)
@@ -132,6 +155,16 @@ held_reply (of_rows kind o) source operation args =
           let m = mapped (of_rows kind) _ k f in
           let a = another_stays o found args _ _ stays.source_stays m.0 m.1 in
           (of_rows kind a.0, rows_found kind source a.0 a.1, (m.0, sym m.2, passed a.0 _ m.0 none a.2));
+    }
+held_reply (of_holder e h) source operation args =
+    let found = holder_in e source in
+    let stays = holder_stays (tools_of e) h (holder_source h found args) args operation in
+    record {
+      target = λ none. (_, refl, holder_passed h _ _ none stays.target);
+      source_stays = λ none k f.
+          let m = mapped (of_holder e) _ k f in
+          let a = another_holder_stays h found args _ _ stays.source_stays m.0 m.1 in
+          (of_holder e a.0, holder_found e source a.0 a.1, (m.0, sym m.2, holder_passed a.0 _ m.0 none a.2));
     }
 
 source_set_stays : (e now : State) (place : Option ℕ) (found : Option Held) → StateStays e now →

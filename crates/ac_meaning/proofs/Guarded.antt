@@ -1,5 +1,6 @@
 -- What a command keeps of the objects that are guarded.
-use Rattle.std.proofs.Common.{◌≡◌, ◌==◌, ◌||◌, ◌&&◌, ◌+◌, ◌<◌, ℕ, Bool, true, false, List, [], ◌∷◌, map, refl, sym, ap, ◌∙◌, arith, nat_lt, Some, None, if◌then◌else◌}
+use Rattle.std.proofs.Common.{◌≡◌, ◌==◌, ◌||◌, ◌&&◌, ◌+◌, ◌<◌, ℕ, Bool, true, false, not, List, [], ◌∷◌, map, refl, sym, ap, ◌∙◌, arith, nat_lt, Some, None, if◌then◌else◌}
+use Rattle.std.specs.Prelude.{is_none}
 use Rattle.ac_base.specs.declared.reason.Reason.{Reason}
 use Rattle.ac_base.specs.declared.reason.Reason.TheVariants.{CursorTampering, ElementTampering}
 use Rattle.ac_base.specs.declared.guard.GuardKind.{GuardKind}
@@ -9,14 +10,15 @@ use Rattle.ac_base.specs.Guards.{HeldGuard}
 use Rattle.ac_base.specs.Tampering.{forbids}
 use Rattle.ac_base.specs.Rows.{names}
 use Rattle.ac_model.specs.Objects.{Object}
+use Rattle.ac_model.specs.Holders.{Holder}
 use Rattle.ac_model.specs.Letters.{tampers_cursors}
 use Rattle.ac_check.specs.Resolved.{ResolvedSimple}
-use Rattle.ac_meaning.specs.Holdings.{Held, of_rows, Guards, is_kind, held_on, held_under}
+use Rattle.ac_meaning.specs.Holdings.{Held, of_rows, of_holder, Guards, is_on, is_kind, held_on, held_under}
 use Rattle.ac_meaning.specs.Environment.{Bound, binds_type, binds_object, binds_cursor, binds_value, binds_element, bound_by, State, under}
 use Rattle.ac_meaning.specs.Commands.{performed}
 use Rattle.ac_meaning.specs.Execution.{commanded}
-use Rattle.ac_meaning.specs.Stays.{Stays, HeldStays, BoundStays, EachStays}
-use Rattle.ac_meaning.specs.GuardedNames.{is_guarded, of_object, names_if, frame, kept}
+use Rattle.ac_meaning.specs.Stays.{Stays, HolderStays, HeldStays, BoundStays, EachStays}
+use Rattle.ac_meaning.specs.GuardedNames.{is_guarded, is_element_guarded, of_object, names_if, frame, kept}
 use Rattle.ac_meaning.proofs.CommandsStay.{command_stays}
 use Rattle.ac_meaning.proofs.CountsStay.{cursors_of, elements_of, held_anew}
 use Rattle.ac_meaning.proofs.Frames.{kept-under, kept-at_rest}
@@ -72,11 +74,57 @@ object_names guards o after c e stays =
     go false f = refl
     go true f = let forbidden = guarded_forbids guards o c e f in stays.names refl forbidden.reason forbidden.is
 
+-- and a holder keeps that it has an element, under an element guard
+counted_element : (g : HeldGuard) (guards : Guards) (n : ℕ) (b : Bool) → is_on g n guard.Elements ≡ b → (b || is_element_guarded guards n) ≡ true →
+    (is_element_guarded guards n ≡ true → 0 < held_on guards n guard.Elements) →
+    0 < (if b then 1 else 0) + held_on guards n guard.Elements
+counted_element g guards n true e k rest = omega arith
+counted_element g guards n false e k rest = omega (arith, rest k)
+
+element_some : (guards : Guards) (n : ℕ) → is_element_guarded guards n ≡ true → 0 < held_on guards n guard.Elements
+element_some [] n h = cc
+element_some (g ∷ guards) n h = counted_element g guards n (is_on g n guard.Elements) refl h (element_some guards n)
+
+element_forbids : (c e : ℕ) → 0 < e → forbids class.Elements c e ≡ Some ElementTampering
+element_forbids c e h = go (nat_lt 0 e) refl
+  where
+    go : (b : Bool) → nat_lt 0 e ≡ b → forbids class.Elements c e ≡ Some ElementTampering
+    go true p = rw p refl
+    go false p = absurd (grind (arith))
+
+element_stays : {T : Type 0} (guards : Guards) (h now : Holder T) → held_on guards h.number guard.Elements ≡ h.element_guards →
+    HolderStays h None now →
+    (not (is_none now.element) && is_element_guarded guards now.number) ≡ (not (is_none h.element) && is_element_guarded guards h.number)
+element_stays guards h now e stays =
+    ap (λ n. not (is_none now.element) && is_element_guarded guards n) stays.number ∙ go (is_element_guarded guards h.number) refl
+  where
+    none_has : (a b : Bool) → (a && false) ≡ (b && false)
+    none_has true true = refl
+    none_has true false = refl
+    none_has false true = refl
+    none_has false false = refl
+
+    go : (b : Bool) → is_element_guarded guards h.number ≡ b → (not (is_none now.element) && b) ≡ (not (is_none h.element) && b)
+    go true f =
+        let tampers : forbids class.Elements h.cursor_guards h.element_guards ≡ Some ElementTampering =
+        ap (λ n. forbids class.Elements h.cursor_guards n) (sym e) ∙ element_forbids h.cursor_guards _ (element_some guards h.number f) in
+        ap (λ t. not t && true) (stays.element refl ElementTampering tampers)
+    go false f = none_has (not (is_none now.element)) (not (is_none h.element))
+
+no_names : (b : Bool) → names_if b [] ≡ []
+no_names true = refl
+no_names false = refl
+
 held_frame : (guards : Guards) (h after : Held) → HeldStays h after → held_under guards h ≡ h →
     frame guards (binds_object after) ≡ frame guards (binds_object h)
 held_frame guards (of_rows kind o) after s e =
     let m = object_names guards o s.0 (ap cursors_of e) (ap elements_of e) s.2 in
-    ap (λ x. frame guards (binds_object x)) s.1 ∙ (λ i. of_object (s.2.number i) (m i))
+    ap (λ x. frame guards (binds_object x)) s.1 ∙ (λ i. of_object (s.2.number i) (m i) false)
+held_frame guards (of_holder element h) after s e =
+    let none : names_if (is_guarded guards s.0.number) [] ≡ names_if (is_guarded guards h.number) [] =
+    no_names (is_guarded guards s.0.number) ∙ sym (no_names (is_guarded guards h.number)) in
+    let has = element_stays guards h s.0 (ap elements_of e) s.2 in
+    ap (λ x. frame guards (binds_object x)) s.1 ∙ (λ i. of_object (s.2.number i) (none i) (has i))
 
 bound_frame : (guards : Guards) (b after : Bound) → BoundStays (bound_by (held_under guards) b) after →
     frame guards after ≡ frame guards (bound_by (held_under guards) b)

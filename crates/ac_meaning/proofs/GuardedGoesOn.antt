@@ -1,18 +1,20 @@
 -- An object with a guard stays in its place, with its names in their order.
-use Rattle.std.proofs.Common.{◌≡◌, ◌==◌, ◌||◌, ◌++◌, ℕ, Bool, true, false, List, [], ◌∷◌, length, refl, sym, ap, ◌∙◌, arith}
+use Rattle.std.proofs.Common.{◌≡◌, ◌==◌, ◌||◌, ◌&&◌, ◌++◌, ℕ, Bool, true, false, List, [], ◌∷◌, length, refl, sym, ap, ◌∙◌, arith}
+use Rattle.ac_base.specs.declared.reason.Reason.TheVariants.{NoElement}
 use Rattle.ac_syntax.specs.declared.view_kind.ViewKind.{ViewKind}
 use Rattle.ac_syntax.specs.declared.view_kind.ViewKind.TheVariants.{Query, Update, Reference, UpdateKey}
-use Rattle.ac_meaning.specs.Holdings.{Held, Guards, number_of, names_of}
+use Rattle.ac_meaning.specs.Holdings.{Held, Guards, number_of, names_of, holds_element}
 use Rattle.ac_meaning.specs.Environment.{Bound, binds_type, binds_object, binds_cursor, binds_value, binds_element, object_in, State, bound_at, with_name, leaving}
 use Rattle.ac_meaning.specs.Execution.{exec_resolved, guards_of_loop, guards_of_view}
-use Rattle.ac_meaning.specs.GuardedNames.{is_guarded, Frame, of_type, of_object, of_cursor, of_value, of_element, names_if, frame, GuardedGoesOn, GuardedStays, BlocksGuard, TurnsKeepNames}
+use Rattle.ac_meaning.specs.GuardedNames.{is_guarded, is_element_guarded, Frame, of_type, of_object, of_cursor, of_value, of_element, names_if, frame, GuardedGoesOn, GuardedStays, ElementGoesOn, ElementsStay, ViewsGuardElements, BlocksGuard, TurnsKeepNames}
+use Rattle.ac_meaning.proofs.CallsStay.{none_some}
 use Rattle.ac_meaning.proofs.BoundsStay.{object_there}
 use Rattle.ac_meaning.proofs.Frames.{frame_stays, kept_back, number_in_frame}
 use Rattle.ac_meaning.proofs.ExecKeeps.{resolved_keeps}
 
 names_in_frame : Frame → List ℕ
 names_in_frame of_type = []
-names_in_frame (of_object number names) = names
+names_in_frame (of_object number names has_element) = names
 names_in_frame of_cursor = []
 names_in_frame of_value = []
 names_in_frame (of_element object at) = []
@@ -41,6 +43,44 @@ guarded_stays code guards e place h there g =
     goes_on h now place (bound_at now place) refl guards g
     (frame_stays guards e now place (resolved_keeps code guards e) ∙ ap (frame guards) (object_there (bound_at e place) h there))
 
+has_element_in_frame : Frame → Bool
+has_element_in_frame of_type = false
+has_element_in_frame (of_object number names has_element) = has_element
+has_element_in_frame of_cursor = false
+has_element_in_frame of_value = false
+has_element_in_frame (of_element object at) = false
+
+and_true : (a : Bool) → (a && true) ≡ a
+and_true true = refl
+and_true false = refl
+
+element_goes_on : (h : Held) (now : State) (place : ℕ) (b : Bound) → bound_at now place ≡ b → (guards : Guards) →
+    is_element_guarded guards (number_of h) ≡ true → frame guards b ≡ frame guards (binds_object h) → ElementGoesOn h now place
+unfolding number_in_frame has_element_in_frame
+element_goes_on h now place (binds_object k) f guards g e =
+    let n : number_of k ≡ number_of h = ap number_in_frame e in
+    let k_guarded : is_element_guarded guards (number_of k) ≡ true = ap (is_element_guarded guards) n ∙ g in
+    let m : (holds_element k && is_element_guarded guards (number_of k)) ≡ (holds_element h && is_element_guarded guards (number_of h)) =
+    ap has_element_in_frame e in
+    record {
+      held = k;
+      there = ap object_in f;
+      number = n;
+      has_element =
+          sym (and_true (holds_element k)) ∙ (sym (ap (λ t. holds_element k && t) k_guarded)
+          ∙ (m ∙ (ap (λ t. holds_element h && t) g ∙ and_true (holds_element h))));
+    }
+element_goes_on h now place binds_type f guards g e = absurd (cc)
+element_goes_on h now place (binds_cursor mark) f guards g e = absurd (cc)
+element_goes_on h now place (binds_value v) f guards g e = absurd (cc)
+element_goes_on h now place (binds_element object at) f guards g e = absurd (cc)
+
+pub elements_stay : ElementsStay
+elements_stay code guards e place h there g =
+    let now = (exec_resolved code guards e).after in
+    element_goes_on h now place (bound_at now place) refl guards g
+    (frame_stays guards e now place (resolved_keeps code guards e) ∙ ap (frame guards) (object_there (bound_at e place) h there))
+
 own_guard : (n : ℕ) (others : Bool) → ((n == n) || others) ≡ true
 own_guard n others = go (n == n) (grind (arith))
   where
@@ -57,6 +97,19 @@ views_guard Query h guards = own_guard (number_of h) _
 views_guard Update h guards = own_guard (number_of h) _
 views_guard Reference h guards = own_guard (number_of h) _
 views_guard UpdateKey h guards = own_guard (number_of h) _
+
+own_element_guard : (n : ℕ) (others : Bool) → (((n == n) && true) || others) ≡ true
+own_element_guard n others = go (n == n) (grind (arith))
+  where
+    go : (b : Bool) → b ≡ true → ((b && true) || others) ≡ true
+    go true e = refl
+    go false e = absurd (cc)
+
+pub views_guard_elements : ViewsGuardElements
+views_guard_elements Query element h guards none = own_element_guard h.number _
+views_guard_elements Update element h guards none = own_element_guard h.number _
+views_guard_elements Reference element h guards none = own_element_guard h.number _
+views_guard_elements UpdateKey element h guards none = none_some NoElement (sym none)
 
 pub blocks_guard : BlocksGuard
 blocks_guard = record { loops = loops_guard; views = views_guard; stables = λ h guards. own_guard (number_of h) _ }

@@ -3,6 +3,7 @@ pub mod CallsStay
 pub mod ListsStay
 pub mod VectorsStay
 pub mod KeyedStay
+pub mod HoldersStay
 pub mod RowKinds
 pub mod BoundsStay
 pub mod CommandsStay

@@ -9,10 +9,15 @@ use Rattle.ac_base.specs.declared.guard.GuardKind.{GuardKind}
 use Rattle.ac_base.specs.declared.guard.GuardKind.TheVariants as guard
 use Rattle.ac_base.specs.Guards.{HeldGuard}
 use Rattle.ac_model.specs.Objects.{Object, empty_object}
+use Rattle.ac_model.specs.Holders.{empty_holder}
 use Rattle.ac_model.specs.Letters.{no_mark}
+use Rattle.ac_meaning.specs.Elements.{ElementOf}
+use Rattle.ac_syntax.specs.declared.type_def.TypeDef.{TypeDef}
+use Rattle.ac_syntax.specs.declared.kind.ElemKind.{ElemKind}
+use Rattle.ac_check.specs.Kinds.{is_holder}
 use Rattle.ac_check.specs.declared.resolved.ResolvedDecl.{ResolvedDecl}
 use Rattle.ac_check.specs.declared.resolved.ResolvedDecl.TheVariants as decl
-use Rattle.ac_meaning.specs.Holdings.{RowKind, Held, of_rows, have_capacity, kind_by, Guards, is_kind, held_on, guard_on, guarded, held_under, number_of, limit_by, new_held}
+use Rattle.ac_meaning.specs.Holdings.{RowKind, Held, of_rows, of_holder, as_object, counted_as, have_capacity, kind_by, Guards, is_kind, held_on, guard_on, guarded, held_under, number_of, limit_by, new_within, new_held}
 use Rattle.ac_meaning.specs.Environment.{binds_type, binds_object, binds_cursor, binds_value, State, under, object_at, with_name, number_taken, Declared, unless_spent, after_decl, after_decls}
 use Rattle.ac_meaning.specs.Numbers.{NumbersDiffer, GuardsBelow, NewObjectsAreUnguarded}
 use Rattle.ac_meaning.proofs.CountsStay.{parts_under, blocks_keep_counts}
@@ -38,10 +43,26 @@ new_object : {V : Type 0} (guards : Guards) (o : Object ℕ V) → held_on guard
     held_on guards o.number guard.Elements ≡ o.element_guards → guarded guards V o ≡ o
 new_object guards o c e = λ i. record o { cursor_guards = c i; element_guards = e i }
 
-new_unguarded : (guards : Guards) (kind : RowKind) (number : ℕ) (limit : Limit) → ((kind : GuardKind) → held_on guards number kind ≡ 0) →
-    let start = of_rows kind (empty_object (have_capacity kind) number limit) in held_under guards start ≡ start
-new_unguarded guards kind number limit none =
-    ap (of_rows kind) (new_object guards (empty_object (have_capacity kind) number limit) (none guard.Cursors) (none guard.Elements))
+module _ (guards : Guards) (number : ℕ) (limit : Limit) (none : (kind : GuardKind) → held_on guards number kind ≡ 0) where
+  rows_unguarded : (kind : RowKind) →
+      let start = of_rows kind (empty_object (have_capacity kind) number limit) in held_under guards start ≡ start
+  rows_unguarded kind =
+      ap (of_rows kind) (new_object guards (empty_object (have_capacity kind) number limit) (none guard.Cursors) (none guard.Elements))
+
+  holder_unguarded : (e : ElemKind) → let start = of_holder e (empty_holder number limit) in held_under guards start ≡ start
+  holder_unguarded e =
+      ap (λ o. of_holder e (counted_as (empty_holder number limit) o))
+      (new_object guards (as_object (empty_holder {T = ElementOf e} number limit)) (none guard.Cursors) (none guard.Elements))
+
+  either_unguarded : (b : Bool) (x y : Held) → held_under guards x ≡ x → held_under guards y ≡ y →
+      held_under guards (if b then x else y) ≡ (if b then x else y)
+  either_unguarded true x y h k = h
+  either_unguarded false x y h k = k
+
+  new_unguarded : (def : TypeDef) → held_under guards (new_within def number limit) ≡ new_within def number limit
+  new_unguarded def =
+      either_unguarded (is_holder def.kind) _ _ (holder_unguarded def.first)
+      (rows_unguarded (kind_by def.kind def.first def.second def.keyed))
 
 object_under : (guards : Guards) (e : State) (h : Held) → under guards e ≡ e → held_under guards h ≡ h →
     under guards (number_taken (with_name e (binds_object h))) ≡ number_taken (with_name e (binds_object h))
@@ -59,8 +80,7 @@ decl_under guards e decl.TypeDecl is below = blocks_keep_counts.named guards e b
 decl_under guards e (decl.Object line def capacity) is below =
     either_under guards (nat_lt e.next numbers_end) _ _
     (object_under guards e (new_held def e.next capacity) is
-    (new_unguarded guards (kind_by def.kind def.first def.second def.keyed) e.next (limit_by capacity)
-    (λ kind. below.none_from_next e.next kind (omega arith))))
+    (new_unguarded guards e.next (limit_by capacity) (λ kind. below.none_from_next e.next kind (omega arith)) def))
     is
 decl_under guards e decl.Cursor is below = blocks_keep_counts.named guards e (binds_cursor no_mark) is refl
 decl_under guards e decl.Integer is below = blocks_keep_counts.named guards e (binds_value (value.Int (pos 0))) is refl

@@ -3,12 +3,13 @@ use Rattle.std.proofs.Common.{◌≡◌, ◌==◌, ◌+◌, ◌≤◌, ◌++◌,
 use Rattle.std.proofs.lemmas.Bool.Decides.{nat_tests}
 use Rattle.ac_base.specs.Limits.{numbers_end}
 use Rattle.ac_syntax.specs.declared.type_def.TypeDef.{TypeDef}
-use Rattle.ac_syntax.specs.declared.kind.ElemKind.{ElemKind}
-use Rattle.ac_syntax.specs.declared.kind.ElemKind.TheVariants.{Integer, Str}
+use Rattle.ac_model.specs.Objects.{empty_object}
+use Rattle.ac_model.specs.Holders.{empty_holder}
+use Rattle.ac_check.specs.Kinds.{is_holder}
 use Rattle.ac_check.specs.declared.resolved.ResolvedDecl.{ResolvedDecl}
 use Rattle.ac_check.specs.declared.resolved.ResolvedDecl.TheVariants as decl
 use Rattle.ac_check.specs.Resolved.{ResolvedSimple}
-use Rattle.ac_meaning.specs.Holdings.{Held, Guards, number_of, new_held}
+use Rattle.ac_meaning.specs.Holdings.{Held, of_rows, of_holder, Guards, number_of, have_capacity, kind_by, limit_by, new_held}
 use Rattle.ac_meaning.specs.Environment.{Bound, binds_type, binds_object, binds_cursor, binds_value, binds_element, bound_in, object_in, State, under, with_name, leaving, number_taken, Declared, unless_spent, after_decl, after_decls}
 use Rattle.ac_meaning.specs.Commands.{performed}
 use Rattle.ac_meaning.specs.Execution.{exec, exec_resolved}
@@ -27,7 +28,7 @@ use Rattle.ac_meaning.proofs.NextRises.{next_rises}
 
 numbered_frame : ℕ → Frame → ℕ
 numbered_frame number of_type = 0
-numbered_frame number (of_object own names) = if own == number then 1 else 0
+numbered_frame number (of_object own names has_element) = if own == number then 1 else 0
 numbered_frame number of_cursor = 0
 numbered_frame number of_value = 0
 numbered_frame number (of_element object at) = 0
@@ -121,11 +122,14 @@ left_goes_on count e d = record {
 -- Declarations
 
 new_number : (def : TypeDef) (number : ℕ) (capacity : Option ℕ) → number_of (new_held def number capacity) ≡ number
-new_number def number capacity = go def.first
+new_number def number capacity = go (is_holder def.kind)
   where
-    go : (kind : ElemKind) → number_of (new_held (record def { first = kind }) number capacity) ≡ number
-    go Integer = refl
-    go Str = refl
+    go : (b : Bool) →
+        number_of (if b then of_holder def.first (empty_holder number (limit_by capacity))
+        else let kind = kind_by def.kind def.first def.second def.keyed in
+        of_rows kind (empty_object (have_capacity kind) number (limit_by capacity))) ≡ number
+    go true = refl
+    go false = refl
 
 new_once : (n next number : ℕ) (b : Bool) → (next == number) ≡ b → n ≤ 1 → (next ≤ number → n ≡ 0) → n + (if b then 1 else 0) ≤ 1
 new_once n next number true e once below = let p : next ≤ number = grind (arith, nat_tests) in omega (arith, below p)

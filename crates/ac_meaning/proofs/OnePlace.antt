@@ -5,7 +5,7 @@ use Rattle.ac_base.specs.declared.guard.GuardKind.{GuardKind}
 use Rattle.ac_base.specs.Guards.{HeldGuard, raised_kind, one_more, one_less}
 use Rattle.ac_model.specs.Objects.{Object}
 use Rattle.ac_model.specs.Common.{hold_call, release_call, under_guards, guards_on}
-use Rattle.ac_meaning.specs.Holdings.{Held, of_rows, with_rows_by, number_of, are_sets, is_a_set, guard_on}
+use Rattle.ac_meaning.specs.Holdings.{Held, of_rows, of_holder, as_object, counted_as, with_rows_by, number_of, are_sets, is_a_set, guard_on}
 use Rattle.ac_meaning.specs.Environment.{Bound, binds_type, binds_object, binds_cursor, binds_value, binds_element, bound_by, bound_in, object_in, State, objects_by, object_at, with_bound}
 use Rattle.ac_meaning.specs.UnderGuards.{held_with, held_without}
 use Rattle.ac_meaning.specs.Numbers.{has_number, times_numbered, NumbersDiffer, GuardsAreOnOneObject}
@@ -68,10 +68,18 @@ where_own o now false e = absurd (cc)
 held_spares : (g : HeldGuard) → SparesOthers g.object (held_with g)
 held_spares g (of_rows kind o) e =
     ap (of_rows kind) (where_other o (hold_call false g.kind o) (g.object == o.number) (another o.number g.object e))
+held_spares g (of_holder element h) e =
+    let o = as_object h in
+    ap (λ p. of_holder element (counted_as h p))
+    (where_other o (hold_call false g.kind o) (g.object == h.number) (another h.number g.object e))
 
 released_spares : (g : HeldGuard) → SparesOthers g.object (held_without g)
 released_spares g (of_rows kind o) e =
     ap (of_rows kind) (where_other o (release_call false g.kind o) (g.object == o.number) (another o.number g.object e))
+released_spares g (of_holder element h) e =
+    let o = as_object h in
+    ap (λ p. of_holder element (counted_as h p))
+    (where_other o (release_call false g.kind o) (g.object == h.number) (another h.number g.object e))
 
 same_number : (n m : ℕ) → m ≡ n → (n == m) ≡ true
 same_number n m e = grind (arith, nat_tests)
@@ -86,6 +94,11 @@ held_own (of_rows rows o) kind =
     ap (of_rows rows)
     (where_own o (hold_call false (raised_kind (are_sets rows) kind) o) (o.number == o.number) (same_number o.number o.number refl)
     ∙ ap (λ k. under_guards o (one_more k (guards_on o))) (raised_once (are_sets rows) kind))
+held_own (of_holder element h) kind =
+    let o = as_object h in
+    ap (λ p. of_holder element (counted_as h p))
+    (where_own o (hold_call false (raised_kind false kind) o) (h.number == h.number) (same_number h.number h.number refl)
+    ∙ ap (λ k. under_guards o (one_more k (guards_on o))) (raised_once false kind))
 
 released_own : (h k : Held) (kind : GuardKind) → number_of k ≡ number_of h →
     held_without (guard_on h kind) k ≡ with_rows_by (λ V o. release_call (is_a_set h) kind o) k
@@ -93,6 +106,11 @@ released_own h (of_rows rows o) kind e =
     ap (of_rows rows)
     (where_own o (release_call false (raised_kind (is_a_set h) kind) o) (number_of h == o.number) (same_number (number_of h) o.number e)
     ∙ ap (λ k. under_guards o (one_less k (guards_on o))) (raised_once (is_a_set h) kind))
+released_own h (of_holder element k) kind e =
+    let o = as_object k in
+    ap (λ p. of_holder element (counted_as k p))
+    (where_own o (release_call false (raised_kind (is_a_set h) kind) o) (number_of h == k.number) (same_number (number_of h) k.number e)
+    ∙ ap (λ n. under_guards o (one_less n (guards_on o))) (raised_once (is_a_set h) kind))
 
 pub guards_are_on_one_object : GuardsAreOnOneObject
 guards_are_on_one_object = record {

@@ -5,6 +5,7 @@ use Rattle.ac_base.specs.declared.value.Value.{Value}
 use Rattle.ac_model.specs.Rows.{Entry}
 use Rattle.ac_model.specs.Objects.{Object}
 use Rattle.ac_model.specs.Calls.{Call, Done}
+use Rattle.ac_model.specs.Holders.{Holder}
 use Rattle.ac_model.specs.Lists as list
 use Rattle.ac_model.specs.Vectors as vector
 use Rattle.ac_check.specs.declared.operation.Operation.{Operation}
@@ -19,6 +20,8 @@ use Rattle.ac_check.specs.declared.operation.VectorCall.{VectorCall}
 use Rattle.ac_check.specs.declared.operation.VectorCall.TheVariants as vector_call
 use Rattle.ac_check.specs.declared.operation.ListCall.{ListCall}
 use Rattle.ac_check.specs.declared.operation.ListCall.TheVariants as list_call
+use Rattle.ac_check.specs.declared.operation.HolderCall.{HolderCall}
+use Rattle.ac_check.specs.declared.operation.HolderCall.TheVariants as holder_call
 use Rattle.ac_check.specs.declared.operation.WalkCall.{WalkCall}
 use Rattle.ac_check.specs.declared.operation.WalkCall.TheVariants as walk_call
 use Rattle.ac_check.specs.declared.operation.OrderedCall.{OrderedCall}
@@ -48,7 +51,8 @@ use Rattle.ac_meaning.specs.KeyedReplies.{KeyedKind, of_hashed, of_ordered, walk
 use Rattle.ac_meaning.specs.MapReplies.{map_own, map_alone_reply, ordered_map_reply, map_reply}
 use Rattle.ac_meaning.specs.SetReplies.{set_own, set_alone_reply, set_pair_reply, ordered_set_reply, set_reply}
 use Rattle.ac_meaning.specs.KeyedSetReplies.{key_reply, keyed_set_reply}
-use Rattle.ac_meaning.specs.Holdings.{SequenceKind, of_list, of_vector, RowKind, a_sequence, a_map, a_set, a_keyed_set, RowOf, Held, of_rows, rows_in, reply_by, rows_reply, reply_of}
+use Rattle.ac_meaning.specs.HolderReplies.{holder_source, holder_alone_reply, holder_reply}
+use Rattle.ac_meaning.specs.Holdings.{SequenceKind, of_list, of_vector, RowKind, a_sequence, a_map, a_set, a_keyed_set, RowOf, Held, of_rows, of_holder, rows_in, holder_in, reply_by, rows_reply, reply_of}
 use Rattle.ac_meaning.specs.Environment.{Bound, binds_type, binds_object, binds_cursor, binds_value, binds_element, State, bound_at, object_at, value_at}
 use Rattle.ac_meaning.specs.Commands.{Performed, Assigned, source_place, source_of, after_call, assigned, unless_refused, waits_or_goes, replied, call_on, arguments, answer_in, answer_from, assigned_from, is_integer, sum_of, sum_assigned}
 use Rattle.ac_meaning.specs.Laws.{IsRefusal, RefusalsLeave}
@@ -201,6 +205,18 @@ keyed_set_plain o source args of_hashed (operation.Keyed c) h = key_plain o args
 keyed_set_plain o source args of_ordered (operation.Keyed c) h = key_plain o args of_ordered c h
 keyed_set_plain o source args which op h = set_plain keyed_texts o source args which op h
 
+holder_plain : {T : Type 0} (tools : Tools T) (h : Holder T) (source : Source (Holder T)) (args : Arguments) (op : Operation) →
+    Plain (holder_reply tools h source args op).answer
+holder_plain tools h source args (operation.Holder c) r = go c r
+  where
+    go : (c : HolderCall) → Plain (holder_alone_reply tools h source args c).answer
+    go holder_call.Element r = value_plain _ r
+    go holder_call.Assign r = by_source_plain source _ _ (λ p. p) (λ s seen p. p) r
+    go holder_call.MoveFrom r = by_source_plain source _ _ (λ p. p) (λ s seen p. p) r
+    go holder_call.Swap r = by_source_plain source _ _ (λ p. p) (λ s seen p. p) r
+    go _ r = r
+holder_plain tools h source args _ r = r
+
 rows_plain : (kind : RowKind) (o : Object ℕ (RowOf kind)) (source : Source (Object ℕ (RowOf kind))) (args : Arguments) (op : Operation) →
     Plain (rows_reply kind o source args op).answer
 rows_plain (a_sequence which e) o source args op h = reply_plain (tools_of e) o source args which op h
@@ -210,6 +226,7 @@ rows_plain (a_keyed_set which) o source args op h = keyed_set_plain o source arg
 
 held_plain : (h : Held) (source : Option Held) (op : Operation) (args : Arguments) → Plain (reply_of h source op args).answer
 held_plain (of_rows kind o) source op args r = rows_plain kind o (source_in o (rows_in kind source) args) (seen_by o args) op r
+held_plain (of_holder e h) source op args r = holder_plain (tools_of e) h (holder_source h (holder_in e source) args) args op r
 
 answer_plain : (e : State) (b : Bound) → Plain (answer_in e b)
 answer_plain e binds_type h = h

@@ -1,24 +1,32 @@
 -- What statements keep while guards are held: what kind of thing each name in scope holds, an object's number, and where a guard is held on it the names in its rows, in their order.
-use Rattle.std.specs.Prelude.{◌≡◌, ◌==◌, ℕ, Bool, true, false, List, [], ◌++◌, map, Some, None, if◌then◌else◌}
+use Rattle.std.specs.Prelude.{◌≡◌, ◌==◌, ◌&&◌, ℕ, Bool, true, false, List, [], ◌++◌, map, Some, None, if◌then◌else◌}
 use Rattle.std.specs.List.{list_any}
+use Rattle.ac_base.specs.declared.guard.GuardKind.TheVariants as guard
 use Rattle.ac_base.specs.Guards.{HeldGuard}
-use Rattle.ac_model.specs.Letters.{Mark}
+use Rattle.ac_model.specs.Holders.{Holder}
+use Rattle.ac_model.specs.Letters.{Mark, no_mark}
+use Rattle.ac_syntax.specs.declared.kind.ElemKind.{ElemKind}
 use Rattle.ac_syntax.specs.Code.{Code}
 use Rattle.ac_syntax.specs.declared.view_kind.ViewKind.{ViewKind}
 use Rattle.ac_syntax.specs.declared.view_kind.ViewKind.TheVariants.{UpdateKey}
 use Rattle.ac_check.specs.Scopes.{Scope}
 use Rattle.ac_check.specs.Resolved.{ResolvedCode}
-use Rattle.ac_meaning.specs.Holdings.{Held, Guards, number_of, names_of, held_under}
+use Rattle.ac_meaning.specs.Elements.{ElementOf}
+use Rattle.ac_meaning.specs.Holdings.{Held, of_holder, Guards, is_on, number_of, names_of, holds_element, held_under}
 use Rattle.ac_meaning.specs.Environment.{Bound, binds_type, binds_object, binds_cursor, binds_value, binds_element, State, under, object_at, with_name}
 use Rattle.ac_meaning.specs.Execution.{scoped, exec, exec_resolved, guards_of_loop, guards_of_stable, guards_of_view, head_reason}
 
 abbrev pub is_guarded : Guards → ℕ → Bool
 is_guarded guards number = list_any (λ (g : HeldGuard). g.object == number) guards
 
+-- by an element guard, which alone keeps a holder's element
+abbrev pub is_element_guarded : Guards → ℕ → Bool
+is_element_guarded guards number = list_any (λ (g : HeldGuard). is_on g number guard.Elements) guards
+
 -- what stays of what a name holds
 pub data Frame : Type 0 where
   of_type : Frame
-  of_object : (number : ℕ) → (names : List ℕ) → Frame
+  of_object : (number : ℕ) → (names : List ℕ) → (has_element : Bool) → Frame
   of_cursor : Frame
   of_value : Frame
   of_element : (object : ℕ) → (at : Mark) → Frame
@@ -28,7 +36,9 @@ names_if guarded names = if guarded then names else []
 
 abbrev pub frame : Guards → Bound → Frame
 frame guards binds_type = of_type
-frame guards (binds_object h) = of_object (number_of h) (names_if (is_guarded guards (number_of h)) (names_of h))
+frame guards (binds_object h) =
+    of_object (number_of h) (names_if (is_guarded guards (number_of h)) (names_of h))
+    (holds_element h && is_element_guarded guards (number_of h))
 frame guards (binds_cursor mark) = of_cursor
 frame guards (binds_value v) = of_value
 frame guards (binds_element object at) = of_element object at
@@ -53,6 +63,24 @@ pub record GuardedGoesOn (h : Held) (now : State) (place : ℕ) : Type 0 where
 abbrev pub GuardedStays : Type 0
 GuardedStays = (code : ResolvedCode) (guards : Guards) (e : State) (place : ℕ) (h : Held) →
     object_at e place ≡ Some h → is_guarded guards (number_of h) ≡ true → GuardedGoesOn h (exec_resolved code guards e).after place
+
+-- and a holder with an element has one while an element guard is held on it
+pub record ElementGoesOn (h : Held) (now : State) (place : ℕ) : Type 0 where
+  pub held : Held
+  pub there : object_at now place ≡ Some held
+  pub number : number_of held ≡ number_of h
+  pub has_element : holds_element held ≡ holds_element h
+
+abbrev pub ElementsStay : Type 0
+ElementsStay = (code : ResolvedCode) (guards : Guards) (e : State) (place : ℕ) (h : Held) →
+    object_at e place ≡ Some h → is_element_guarded guards (number_of h) ≡ true →
+    ElementGoesOn h (exec_resolved code guards e).after place
+
+-- as in every view of its element
+abbrev pub ViewsGuardElements : Type 0
+ViewsGuardElements = (view : ViewKind) (element : ElemKind) (h : Holder (ElementOf element)) (guards : Guards) →
+    head_reason view (of_holder element h) no_mark ≡ None →
+    is_element_guarded (guards_of_view view (of_holder element h) ++ guards) h.number ≡ true
 
 -- so it does in every block on it: the guards of a block are guards of its object
 pub record BlocksGuard : Type 0 where

@@ -5,14 +5,14 @@ use Rattle.ac_base.specs.declared.value.Value.TheVariants as value
 use Rattle.ac_base.specs.declared.reason.Reason.{Reason}
 use Rattle.ac_base.specs.declared.guard.GuardKind.TheVariants.{Elements}
 use Rattle.ac_model.specs.Calls.{Both, both}
-use Rattle.ac_model.specs.Holders.{Holder, hold_call, release_call}
+use Rattle.ac_model.specs.Holders.{Holder, empty_holder, hold_call, release_call}
 use Rattle.ac_check.specs.declared.operation.Operation.TheVariants as operation
 use Rattle.ac_check.specs.declared.operation.HolderCall.{HolderCall}
 use Rattle.ac_check.specs.declared.operation.HolderCall.TheVariants.{IsEmpty, Element, ReplaceElement, Clear, Assign, MoveFrom, Swap, Equal, Print}
 use Rattle.ac_meaning.specs.Elements.{Tools, integers, texts}
 use Rattle.ac_meaning.specs.Answers.{Answer, answers_value, answers_raised, answer_text}
 use Rattle.ac_meaning.specs.Replies.{Argument, value_argument, no_argument, Arguments, Reply, value_answer}
-use Rattle.ac_meaning.specs.Holdings.{new_holder}
+use Rattle.ac_meaning.specs.Holdings.{limit_by}
 use Rattle.ac_meaning.specs.HolderReplies.{holder_source, holder_element, holder_write, holder_reply}
 
 -- what a step answers, and the two holders after it
@@ -85,7 +85,7 @@ told pair (step ∷ steps) = let s = step pair in text_answers s.answers ++ told
 
 -- two new holders with these capacities
 abbrev pub new_pair : {T : Type 0} → Option ℕ → Option ℕ → Both (Holder T)
-new_pair first other = both (new_holder 1 first) (new_holder 2 other)
+new_pair first other = both (empty_holder 1 (limit_by first)) (empty_holder 2 (limit_by other))
 
 abbrev pub text : List ℕ → Value
 text bytes = value.Text bytes

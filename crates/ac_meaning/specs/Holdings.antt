@@ -1,5 +1,5 @@
 -- The objects of a script, of every kind and element type in one type, and the guards on them.
-use Rattle.std.specs.Prelude.{◌≡◌, ℕ, ◌+◌, Bool, true, false, ◌&&◌, ◌==◌, if◌then◌else◌, List, [], ◌∷◌, Option, Some, None, option_map, refl}
+use Rattle.std.specs.Prelude.{◌≡◌, ℕ, ◌+◌, Bool, true, false, not, ◌&&◌, ◌==◌, if◌then◌else◌, List, [], ◌∷◌, Option, Some, None, is_none, option_map, refl}
 use Rattle.ac_base.specs.Key.{key_of_text}
 use Rattle.ac_base.specs.declared.limit.Limit.{Limit}
 use Rattle.ac_base.specs.declared.limit.Limit.TheVariants.{Unbounded, Bounded}
@@ -24,6 +24,7 @@ use Rattle.ac_syntax.specs.declared.kind.Kind.{Kind}
 use Rattle.ac_syntax.specs.declared.kind.Kind.TheVariants as kinds
 use Rattle.ac_syntax.specs.declared.type_def.TypeDef.{TypeDef}
 use Rattle.ac_check.specs.declared.operation.Operation.{Operation}
+use Rattle.ac_check.specs.Kinds.{is_holder}
 use Rattle.ac_meaning.specs.Elements.{Tools, ElementOf, tools_of, Text, text_in, texts, keyed_texts}
 use Rattle.ac_meaning.specs.Replies.{Arguments, Source, seen_by, source_in, Reply, carried}
 use Rattle.ac_meaning.specs.SequenceReplies.{OwnCalls, sequence_own}
@@ -33,6 +34,7 @@ use Rattle.ac_meaning.specs.KeyedReplies.{KeyedKind, of_hashed, of_ordered, orde
 use Rattle.ac_meaning.specs.KeyedSetReplies.{keyed_set_reply}
 use Rattle.ac_meaning.specs.MapReplies.{map_own, map_reply}
 use Rattle.ac_meaning.specs.SetReplies.{set_own, set_reply}
+use Rattle.ac_meaning.specs.HolderReplies.{holder_source, holder_element, holder_write, holder_listing, holder_reply}
 
 -- the kinds whose objects are rows in an order that the program makes
 pub data SequenceKind : Type 0 where
@@ -57,16 +59,27 @@ RowOf (a_keyed_set _) = Text
 -- of any kind
 pub data Held : Type 0 where
   of_rows : (kind : RowKind) → Object ℕ (RowOf kind) → Held
+  of_holder : (element : ElemKind) → Holder (ElementOf element) → Held
+
+-- a holder as an object: its number, its limit and its guards, and no rows
+abbrev pub as_object : {T : Type 0} → Holder T → Object ℕ T
+as_object h = record (empty_object false h.number h.limit) { cursor_guards = h.cursor_guards; element_guards = h.element_guards }
+
+-- and the holder with such an object's counts of guards
+abbrev pub counted_as : {T : Type 0} → Holder T → Object ℕ T → Holder T
+counted_as h o = record h { cursor_guards = o.cursor_guards; element_guards = o.element_guards }
 
 -- what is told of objects with rows, whatever stands in them
 module _ {A : Type 0} (f : (V : Type 0) → Object ℕ V → A) where
   abbrev pub from_rows : Held → A
   from_rows (of_rows kind o) = f _ o
+  from_rows (of_holder e h) = f _ (as_object h)
 
--- and what is changed in them
+-- and what is changed in them: of a holder its counts of guards
 module _ (f : (V : Type 0) → Object ℕ V → Object ℕ V) where
   abbrev pub with_rows_by : Held → Held
   with_rows_by (of_rows kind o) = of_rows kind (f _ o)
+  with_rows_by (of_holder e h) = of_holder e (counted_as h (f _ (as_object h)))
 
 -- the number that guards and cursors know an object by
 abbrev pub number_of : Held → ℕ
@@ -76,9 +89,14 @@ number_of h = from_rows (λ V o. o.number) h
 abbrev pub names_of : Held → List ℕ
 names_of h = from_rows (λ V o. names o.rows) h
 
--- how many elements it has
+-- how many elements it has in rows
 abbrev pub nodes_of : Held → ℕ
 nodes_of h = from_rows (λ V o. length_of o) h
+
+-- a holder with an element
+abbrev pub holds_element : Held → Bool
+holds_element (of_rows kind o) = false
+holds_element (of_holder e h) = not (is_none h.element)
 
 abbrev pub are_sets : RowKind → Bool
 are_sets (a_sequence _ _) = false
@@ -89,6 +107,7 @@ are_sets (a_keyed_set _) = true
 -- a set has cursor guards alone
 abbrev pub is_a_set : Held → Bool
 is_a_set (of_rows kind o) = are_sets kind
+is_a_set (of_holder e h) = false
 
 -- Guards
 
@@ -175,6 +194,13 @@ same_kind _ _ = None
 abbrev pub rows_in : (kind : RowKind) → Option Held → Option (Object ℕ (RowOf kind))
 rows_in kind None = None
 rows_in kind (Some (of_rows other o)) = option_map (λ p. coe 0 1 (i. Object ℕ (RowOf (p i))) o) (same_kind other kind)
+rows_in kind (Some (of_holder e h)) = None
+
+-- and as a holder of such elements
+abbrev pub holder_in : (e : ElemKind) → Option Held → Option (Holder (ElementOf e))
+holder_in e None = None
+holder_in e (Some (of_rows kind o)) = None
+holder_in e (Some (of_holder other h)) = option_map (λ p. coe 0 1 (i. Holder (ElementOf (p i))) h) (same_element other e)
 
 -- the operation on a list or a vector
 module _ {T : Type 0} (tools : Tools T) (o : Object ℕ T) (source : Source (Object ℕ T)) (args : Arguments) where
@@ -194,6 +220,8 @@ rows_reply (a_keyed_set which) o source args operation = keyed_set_reply o sourc
 abbrev pub reply_of : Held → Option Held → Operation → Arguments → Reply Held
 reply_of (of_rows kind o) source operation args =
     carried (of_rows kind) (rows_reply kind o (source_in o (rows_in kind source) args) (seen_by o args) operation)
+reply_of (of_holder e h) source operation args =
+    carried (of_holder e) (holder_reply (tools_of e) h (holder_source h (holder_in e source) args) args operation)
 
 -- The element that a name stands for
 
@@ -204,13 +232,10 @@ own_calls (a_map which k e) o = map_own (tools_of k) (tools_of e) which o
 own_calls (a_set which e) o = set_own (tools_of e) which o
 own_calls (a_keyed_set which) o = set_own keyed_texts which o
 
-module _ {A : Type 0} (f : (V : Type 0) → (Object ℕ V → Held) → Object ℕ V → OwnCalls V → A) where
-  abbrev pub by_own : Held → A
-  by_own (of_rows kind o) = f _ (of_rows kind) o (own_calls kind o)
-
--- Element (C), as a value
+-- Element (C), as a value. A holder has one element, and no cursor designates it
 abbrev pub element_value : Held → Mark → Look (Option Value)
-element_value h c = by_own (λ V hold o own. own.element (seen o c)) h
+element_value (of_rows kind o) c = (own_calls kind o).element (seen o c)
+element_value (of_holder e h) c = holder_element (tools_of e) h
 
 -- a write through a name that stands for an element
 pub record Written : Type 0 where
@@ -221,31 +246,31 @@ abbrev pub written : {S A : Type 0} → (S → Held) → Call S A → Written
 written hold c = record { reason = c.reason; after = hold c.after }
 
 abbrev pub write : Held → Mark → Value → Written
-write h c v = by_own (λ V hold o own. written hold (own.write (seen o c) v)) h
+write (of_rows kind o) c v = written (of_rows kind) ((own_calls kind o).write (seen o c) v)
+write (of_holder e h) c v = written (of_holder e) (holder_write (tools_of e) h v)
 
 -- the text that Print answers
 abbrev pub listing_of : Held → List ℕ
-listing_of h = by_own (λ V hold o own. own.listing) h
+listing_of (of_rows kind o) = (own_calls kind o).listing
+listing_of (of_holder e h) = holder_listing (tools_of e) h
 
 -- The update of a key: why its head is refused, and its end, with the copy. Only a keyed set has one
 abbrev pub key_update_reason : Held → Mark → Option Reason
 key_update_reason (of_rows (a_keyed_set which) o) c = by_key.update_key_reason o (seen o c)
 key_update_reason (of_rows _ o) c = Some NoElement
+key_update_reason (of_holder e h) c = Some NoElement
 
 abbrev pub key_updated : Held → Mark → Value → Written
 key_updated (of_rows (a_keyed_set which) o) c v =
     written (of_rows (a_keyed_set which)) (by_key.end_update_key_call key_of_text (order_by texts which) o (seen o c) (text_in v))
 key_updated (of_rows kind o) c v = record { reason = None; after = of_rows kind o }
+key_updated (of_holder e h) c v = record { reason = None; after = of_holder e h }
 
 -- A new object
 
 abbrev pub limit_by : Option ℕ → Limit
 limit_by None = Unbounded
 limit_by (Some most) = Bounded most
-
--- a holder's capacity is a limit in bytes
-abbrev pub new_holder : {T : Type 0} → ℕ → Option ℕ → Holder T
-new_holder number capacity = empty_holder number (limit_by capacity)
 
 -- which have a Capacity
 abbrev pub is_vector : SequenceKind → Bool
@@ -270,7 +295,7 @@ abbrev pub set_by : KeyedKind → ElemKind → (keyed : Bool) → RowKind
 set_by which first false = a_set which first
 set_by which first true = a_keyed_set which
 
--- of the kinds whose objects scripts can have
+-- of the kinds with rows whose objects scripts can have
 abbrev pub kind_by : Kind → (first : ElemKind) → (second : Option ElemKind) → (keyed : Bool) → RowKind
 kind_by kinds.Vector first second keyed = a_sequence of_vector first
 kind_by kinds.HashedMap first second keyed = a_map of_hashed first (element_or first second)
@@ -279,6 +304,13 @@ kind_by kinds.HashedSet first second keyed = set_by of_hashed first keyed
 kind_by kinds.OrderedSet first second keyed = set_by of_ordered first keyed
 kind_by _ first second keyed = a_sequence of_list first
 
+-- a new object of the type, of this number and within this limit
+abbrev pub new_within : TypeDef → ℕ → Limit → Held
+new_within def number limit =
+    let kind = kind_by def.kind def.first def.second def.keyed in
+    if is_holder def.kind then of_holder def.first (empty_holder number limit)
+    else of_rows kind (empty_object (have_capacity kind) number limit)
+
+-- a holder's capacity is a limit in bytes
 abbrev pub new_held : TypeDef → ℕ → Option ℕ → Held
-new_held def number capacity =
-    let kind = kind_by def.kind def.first def.second def.keyed in of_rows kind (empty_object (have_capacity kind) number (limit_by capacity))
+new_held def number capacity = new_within def number (limit_by capacity)

@@ -1,11 +1,13 @@
 -- What stays of an object through a call on it, and of what the names in scope hold through a command.
-use Rattle.std.specs.Prelude.{◌≡◌, ◌<◌, ◌≤◌, ⊤, ℕ, List, [], ◌∷◌, length, Option, Some, None, IfSome}
+use Rattle.std.specs.Prelude.{◌≡◌, ◌<◌, ◌≤◌, ⊤, ℕ, List, [], ◌∷◌, length, Option, Some, None, IfSome, is_none}
 use Rattle.ac_base.specs.declared.reason.Reason.{Reason}
 use Rattle.ac_base.specs.Rows.{names}
 use Rattle.ac_model.specs.Objects.{Object}
 use Rattle.ac_model.specs.Letters.{tampers_cursors}
+use Rattle.ac_model.specs.Holders.{Holder, tampers}
+use Rattle.ac_meaning.specs.Elements.{ElementOf}
 use Rattle.ac_meaning.specs.Replies.{Source, without, itself, another, Reply}
-use Rattle.ac_meaning.specs.Holdings.{RowOf, Held, of_rows, from_rows, number_of}
+use Rattle.ac_meaning.specs.Holdings.{RowOf, Held, of_rows, of_holder, from_rows, number_of}
 use Rattle.ac_meaning.specs.Environment.{Bound, binds_type, binds_object, binds_cursor, binds_value, binds_element, State, bound_at, object_at, with_name, leaving}
 
 -- the object's number and its counts of guards; no name is taken back; and where a guard is held, a call that isn't refused keeps the
@@ -28,9 +30,28 @@ pub record ReplyStays {V : Type 0} (o : Object ℕ V) (source : Source (Object �
   pub target : Stays o r.reason r.after
   pub source_stays : SourceStays source r.reason r.source
 
+-- of a holder its number and its counts; and where an element guard is held, a call that isn't refused keeps that it has an element, or
+-- that it has none
+pub record HolderStays {T : Type 0} (h : Holder T) (reason : Option Reason) (after : Holder T) : Type 0 where
+  pub number : after.number ≡ h.number
+  pub cursor_guards : after.cursor_guards ≡ h.cursor_guards
+  pub element_guards : after.element_guards ≡ h.element_guards
+  pub element : reason ≡ None → (tampering : Reason) → tampers h ≡ Some tampering → is_none after.element ≡ is_none h.element
+
+-- a call changes no source but another holder
+abbrev pub HolderSourceStays : {T : Type 0} → Source (Holder T) → Option Reason → Option (Holder T) → Type 0
+HolderSourceStays without reason after = after ≡ None
+HolderSourceStays itself reason after = after ≡ None
+HolderSourceStays (another s _) reason after = IfSome after (λ t. HolderStays s reason t)
+
+pub record HolderReplyStays {T : Type 0} (h : Holder T) (source : Source (Holder T)) (r : Reply (Holder T)) : Type 0 where
+  pub target : HolderStays h r.reason r.after
+  pub source_stays : HolderSourceStays source r.reason r.source
+
 -- and its kind
 abbrev pub HeldStays : Held → Held → Type 0
 HeldStays (of_rows kind o) after = (now : Object ℕ (RowOf kind)) × (after ≡ of_rows kind now) × Stays o None now
+HeldStays (of_holder e h) after = (now : Holder (ElementOf e)) × (after ≡ of_holder e now) × HolderStays h None now
 
 -- a name goes on to hold what it held, a cursor variable another cursor and a variable another value
 abbrev pub BoundStays : Bound → Bound → Type 0
