@@ -8,6 +8,7 @@ use Rattle.ac_meaning.specs.Environment.{Bound, binds_type, binds_object, binds_
 use Rattle.ac_meaning.specs.Execution.{exec_resolved, guards_of_loop, guards_of_view}
 use Rattle.ac_meaning.specs.GuardedNames.{is_guarded, is_element_guarded, Frame, of_type, of_object, of_cursor, of_value, of_element, names_if, frame, GuardedGoesOn, GuardedStays, ElementGoesOn, ElementsStay, ViewsGuardElements, BlocksGuard, TurnsKeepNames}
 use Rattle.ac_meaning.proofs.CallsStay.{none_some}
+use Rattle.ac_meaning.proofs.HoldersStay.{element_stands, stands_there}
 use Rattle.ac_meaning.proofs.BoundsStay.{object_there}
 use Rattle.ac_meaning.proofs.Frames.{frame_stays, kept_back, number_in_frame}
 use Rattle.ac_meaning.proofs.ExecKeeps.{resolved_keeps}
@@ -62,13 +63,15 @@ element_goes_on h now place (binds_object k) f guards g e =
     let k_guarded : is_element_guarded guards (number_of k) ≡ true = ap (is_element_guarded guards) n ∙ g in
     let m : (holds_element k && is_element_guarded guards (number_of k)) ≡ (holds_element h && is_element_guarded guards (number_of h)) =
     ap has_element_in_frame e in
+    let has : holds_element k ≡ holds_element h =
+    sym (and_true (holds_element k)) ∙ (sym (ap (λ t. holds_element k && t) k_guarded)
+    ∙ (m ∙ (ap (λ t. holds_element h && t) g ∙ and_true (holds_element h)))) in
     record {
       held = k;
       there = ap object_in f;
       number = n;
-      has_element =
-          sym (and_true (holds_element k)) ∙ (sym (ap (λ t. holds_element k && t) k_guarded)
-          ∙ (m ∙ (ap (λ t. holds_element h && t) g ∙ and_true (holds_element h))));
+      has_element = has;
+      stands = λ there at. element_stands k at (has ∙ there);
     }
 element_goes_on h now place binds_type f guards g e = absurd (cc)
 element_goes_on h now place (binds_cursor mark) f guards g e = absurd (cc)
@@ -106,10 +109,13 @@ own_element_guard n others = go (n == n) (grind (arith))
     go false e = absurd (cc)
 
 pub views_guard_elements : ViewsGuardElements
-views_guard_elements Query element h guards none = own_element_guard h.number _
-views_guard_elements Update element h guards none = own_element_guard h.number _
-views_guard_elements Reference element h guards none = own_element_guard h.number _
-views_guard_elements UpdateKey element h guards none = none_some NoElement (sym none)
+views_guard_elements Query element h at guards none =
+    record { guarded = own_element_guard h.number _; has_element = stands_there element h at none }
+views_guard_elements Update element h at guards none =
+    record { guarded = own_element_guard h.number _; has_element = stands_there element h at none }
+views_guard_elements Reference element h at guards none =
+    record { guarded = own_element_guard h.number _; has_element = stands_there element h at none }
+views_guard_elements UpdateKey element h at guards none = none_some NoElement (sym none)
 
 pub blocks_guard : BlocksGuard
 blocks_guard = record { loops = loops_guard; views = views_guard; stables = λ h guards. own_guard (number_of h) _ }

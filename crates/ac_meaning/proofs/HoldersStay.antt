@@ -1,5 +1,5 @@
 -- What stays of holders through every call on them.
-use Rattle.std.proofs.Common.{◌≡◌, ◌==◌, Bool, true, false, List, [], ◌∷◌, refl, sym, ap, subst, ◌∙◌, Option, Some, None, if◌then◌else◌}
+use Rattle.std.proofs.Common.{◌≡◌, ◌==◌, Bool, true, false, not, List, [], ◌∷◌, refl, sym, ap, subst, ◌∙◌, Option, Some, None, if◌then◌else◌}
 use Rattle.std.specs.Prelude.{is_none}
 use Rattle.ac_base.specs.declared.reason.Reason.{Reason}
 use Rattle.ac_base.specs.declared.reason.Reason.TheVariants.{Empty}
@@ -7,16 +7,18 @@ use Rattle.ac_base.specs.declared.guard.Class.TheVariants as class
 use Rattle.ac_base.specs.declared.value.Value.{Value}
 use Rattle.ac_base.specs.FirstReason.{first_reason}
 use Rattle.ac_base.specs.Tampering.{forbids}
-use Rattle.ac_model.specs.Letters.{reason_if}
+use Rattle.ac_model.specs.Letters.{Mark, reason_if}
 use Rattle.ac_model.specs.Holders as holder
 use Rattle.ac_model.specs.Holders.{Holder, with_element, tampers, fits}
+use Rattle.ac_syntax.specs.declared.kind.ElemKind.{ElemKind}
 use Rattle.ac_check.specs.declared.operation.Operation.{Operation}
 use Rattle.ac_check.specs.declared.operation.Operation.TheVariants as operation
 use Rattle.ac_check.specs.declared.operation.HolderCall.{HolderCall}
 use Rattle.ac_check.specs.declared.operation.HolderCall.TheVariants as holder_call
-use Rattle.ac_meaning.specs.Elements.{Tools}
+use Rattle.ac_meaning.specs.Elements.{Tools, ElementOf}
 use Rattle.ac_meaning.specs.Replies.{Arguments, Source, without, itself, another, by_source, Reply, changes_ok}
 use Rattle.ac_meaning.specs.HolderReplies.{holder_source, holder_write, holder_alone_reply, holder_reply}
+use Rattle.ac_meaning.specs.Holdings.{Held, of_rows, of_holder, holds_element, element_value}
 use Rattle.ac_meaning.specs.Stays.{HolderStays, HolderSourceStays, HolderReplyStays}
 use Rattle.ac_meaning.proofs.CallsStay.{none_some, first_none, second_none}
 
@@ -70,6 +72,19 @@ holder_write_stays tools h v none = record {
   element_guards = refl;
   element = λ _ tampering t. sym (some_there h.element (fits tools.size h (Some (tools.from_value v)) ∷ []) none);
 }
+
+-- Element is refused where there is none
+pub element_stands : (h : Held) (at : Mark) → holds_element h ≡ true → (element_value h at).reason ≡ None
+element_stands (of_rows kind o) at has = absurd (cc)
+element_stands (of_holder e h) at has = go h.element has
+  where
+    go : {T : Type 0} (element : Option T) → not (is_none element) ≡ true → first_reason (reason_if (is_none element) Empty ∷ []) ≡ None
+    go None has = absurd (cc)
+    go (Some v) has = refl
+
+pub stands_there : (e : ElemKind) (h : Holder (ElementOf e)) (at : Mark) → (element_value (of_holder e h) at).reason ≡ None →
+    holds_element (of_holder e h) ≡ true
+stands_there e h at none = ap not (some_there h.element [] none)
 
 -- Replies
 

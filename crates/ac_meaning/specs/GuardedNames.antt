@@ -4,7 +4,7 @@ use Rattle.std.specs.List.{list_any}
 use Rattle.ac_base.specs.declared.guard.GuardKind.TheVariants as guard
 use Rattle.ac_base.specs.Guards.{HeldGuard}
 use Rattle.ac_model.specs.Holders.{Holder}
-use Rattle.ac_model.specs.Letters.{Mark, no_mark}
+use Rattle.ac_model.specs.Letters.{Mark}
 use Rattle.ac_syntax.specs.declared.kind.ElemKind.{ElemKind}
 use Rattle.ac_syntax.specs.Code.{Code}
 use Rattle.ac_syntax.specs.declared.view_kind.ViewKind.{ViewKind}
@@ -12,7 +12,7 @@ use Rattle.ac_syntax.specs.declared.view_kind.ViewKind.TheVariants.{UpdateKey}
 use Rattle.ac_check.specs.Scopes.{Scope}
 use Rattle.ac_check.specs.Resolved.{ResolvedCode}
 use Rattle.ac_meaning.specs.Elements.{ElementOf}
-use Rattle.ac_meaning.specs.Holdings.{Held, of_holder, Guards, is_on, number_of, names_of, holds_element, held_under}
+use Rattle.ac_meaning.specs.Holdings.{Held, of_holder, Guards, is_on, number_of, names_of, holds_element, element_value, held_under}
 use Rattle.ac_meaning.specs.Environment.{Bound, binds_type, binds_object, binds_cursor, binds_value, binds_element, State, under, object_at, with_name}
 use Rattle.ac_meaning.specs.Execution.{scoped, exec, exec_resolved, guards_of_loop, guards_of_stable, guards_of_view, head_reason}
 
@@ -64,23 +64,27 @@ abbrev pub GuardedStays : Type 0
 GuardedStays = (code : ResolvedCode) (guards : Guards) (e : State) (place : ℕ) (h : Held) →
     object_at e place ≡ Some h → is_guarded guards (number_of h) ≡ true → GuardedGoesOn h (exec_resolved code guards e).after place
 
--- and a holder with an element has one while an element guard is held on it
+-- and a holder with an element has one while an element guard is held on it, so that a name that stands for it finds one
 pub record ElementGoesOn (h : Held) (now : State) (place : ℕ) : Type 0 where
   pub held : Held
   pub there : object_at now place ≡ Some held
   pub number : number_of held ≡ number_of h
   pub has_element : holds_element held ≡ holds_element h
+  pub stands : holds_element h ≡ true → (at : Mark) → (element_value held at).reason ≡ None
 
 abbrev pub ElementsStay : Type 0
 ElementsStay = (code : ResolvedCode) (guards : Guards) (e : State) (place : ℕ) (h : Held) →
     object_at e place ≡ Some h → is_element_guarded guards (number_of h) ≡ true →
     ElementGoesOn h (exec_resolved code guards e).after place
 
--- as in every view of its element
+-- as in every view of its element, which begins only where it has one
+pub record ViewGuards (view : ViewKind) (h : Held) (guards : Guards) : Type 0 where
+  pub guarded : is_element_guarded (guards_of_view view h ++ guards) (number_of h) ≡ true
+  pub has_element : holds_element h ≡ true
+
 abbrev pub ViewsGuardElements : Type 0
-ViewsGuardElements = (view : ViewKind) (element : ElemKind) (h : Holder (ElementOf element)) (guards : Guards) →
-    head_reason view (of_holder element h) no_mark ≡ None →
-    is_element_guarded (guards_of_view view (of_holder element h) ++ guards) h.number ≡ true
+ViewsGuardElements = (view : ViewKind) (element : ElemKind) (holder : Holder (ElementOf element)) (at : Mark) (guards : Guards) →
+    let h = of_holder element holder in head_reason view h at ≡ None → ViewGuards view h guards
 
 -- so it does in every block on it: the guards of a block are guards of its object
 pub record BlocksGuard : Type 0 where

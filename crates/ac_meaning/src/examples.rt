@@ -10,8 +10,8 @@ ghost use Rattle.ac_meaning.specs.KeyedExamples.{SetsMeetThemselves, KeysAreUpda
 ghost use Rattle.ac_meaning.specs.KeyedExamples.{KeysAreLookedUp};
 ghost use Rattle.ac_meaning.specs.Examples.{MapIsListed, NoNodesAreListed, TreeIsListed, DeepTreeIsListed};
 ghost use Rattle.ac_meaning.specs.HolderExamples.{HolderIsBounded, ViewsGuardHolders, HoldersAreCompared, HoldersGiveAndTake};
-ghost use Rattle.ac_meaning.specs.HolderExamples.{LimitsAreOfBoth, IntegersHaveEightBytes, EmptyStringsHaveNone};
-ghost use Rattle.ac_meaning.specs.HolderExamples.{HoldersMeetThemselves, GuardsAreOfBoth};
+ghost use Rattle.ac_meaning.specs.HolderExamples.{LimitsAreOfBoth, WritesAreWithinLimits, IntegersHaveEightBytes, EmptyStringsHaveNone};
+ghost use Rattle.ac_meaning.specs.HolderExamples.{HoldersMeetThemselves, GuardsAreOfBoth, InnerHoldersAreNew, HoldersHaveNoNodes};
 
 /// What small scripts write, to the byte.
 pub fn list_scripts()
@@ -72,15 +72,22 @@ pub fn keyed_set_scripts()
     ensures keys_are_looked_up { KeysAreLookedUp }
 {}
 
-/// What calls on holders answer, and views of their elements.
-pub fn holder_calls()
+/// What small scripts with holders write.
+pub fn holder_scripts()
     ensures holder_is_bounded { HolderIsBounded }
     ensures views_guard_holders { ViewsGuardHolders }
+    ensures writes_are_within_limits { WritesAreWithinLimits }
+    ensures integers_have_eight_bytes { IntegersHaveEightBytes }
+    ensures empty_strings_have_none { EmptyStringsHaveNone }
+    ensures inner_holders_are_new { InnerHoldersAreNew }
+    ensures holders_have_no_nodes { HoldersHaveNoNodes }
+{}
+
+/// The same of each call that scripts have on holders.
+pub fn holder_calls()
     ensures holders_are_compared { HoldersAreCompared }
     ensures holders_give_and_take { HoldersGiveAndTake }
     ensures limits_are_of_both { LimitsAreOfBoth }
-    ensures integers_have_eight_bytes { IntegersHaveEightBytes }
-    ensures empty_strings_have_none { EmptyStringsHaveNone }
     ensures holders_meet_themselves { HoldersMeetThemselves }
     ensures guards_are_of_both { GuardsAreOfBoth }
 {}
