@@ -20,11 +20,12 @@ use Rattle.ac_objects.specs.declared.reply.Placed.{Placed}
 use Rattle.ac_objects.specs.declared.reply.Reply.{Reply}
 use Rattle.ac_objects.specs.Arguments.{AllAgree}
 use Rattle.ac_objects.specs.Standing.{counts_in_held}
-use Rattle.ac_objects.specs.World.{InMemory, in_rows, memory_of, held_of, ObjectAgrees}
+use Rattle.ac_objects.specs.World.{InMemory, in_rows, in_holder, memory_of, held_of, ObjectAgrees}
 
 -- the cursors among the arguments have the slots that the object would find
 abbrev pub AllAgreeIn : InMemory → Arguments → Type 0
 AllAgreeIn (in_rows kind l) args = AllAgree l.object args
+AllAgreeIn (in_holder e h) args = ⊤
 
 abbrev pub AgreesWith : Object → Arguments → Type 0
 AgreesWith o args = AllAgreeIn (memory_of o) args

@@ -2,15 +2,8 @@
 use Rattle.std.specs.Prelude.{ℕ, nat_lt, Option, Some, if◌then◌else◌}
 use Rattle.ac_base.specs.Limits.{numbers_end}
 use Rattle.ac_syntax.specs.declared.type_def.TypeDef.{TypeDef}
-use Rattle.ac_base.specs.declared.limit.Limit.{Limit}
-use Rattle.ac_model.specs.Objects.{empty_object}
-use Rattle.ac_meaning.specs.Holdings.{Held, of_rows, kind_by, have_capacity, new_held}
+use Rattle.ac_meaning.specs.Holdings.{new_held}
 use Rattle.ac_meaning.specs.Environment.{binds_object, State, with_name, Declared, declared, number_taken}
-
--- an object without elements of the type that is declared, of this number and within this limit
-abbrev pub new_within : TypeDef → ℕ → Limit → Held
-new_within def number limit =
-    let kind = kind_by def.kind def.first def.second def.keyed in of_rows kind (empty_object (have_capacity kind) number limit)
 
 -- no number was left for the object that is declared on this line
 abbrev pub spent_at : ℕ → State → Declared

@@ -14,8 +14,9 @@ abbrev pub answered : Said → Result Done Fault → Result Said Fault
 answered said (Ok done) = Ok said
 answered said (Err f) = Err f
 
--- what the command comes to; refused, it changes nothing; out of memory, it is of no script's text
+-- what the command comes to; refused, it changes nothing; out of memory, it is of no script's text. What a call answers can be refused by
+-- what it is assigned to: then too all that names hold is what it was
 abbrev pub Performs : Performed → (object : ℕ) → (old new : World) → Result Said Fault → Type 0
 Performs p object old new (Ok said) = (state_of new ≡ p.after) × Shows p.after object said p.answer
-Performs p object old new (Err (fault.Raised reason)) = (p.answer ≡ answers_raised reason) × (state_of new ≡ p.after) × (new ≡ old)
+Performs p object old new (Err (fault.Raised reason)) = (p.answer ≡ answers_raised reason) × (state_of new ≡ p.after) × (state_of new ≡ state_of old)
 Performs p object old new (Err fault.NoMemory) = ⊤

@@ -2,7 +2,7 @@
 use Rattle.std.specs.Prelude.{◌≡◌, ◌<◌, ◌+◌, ◌⊎◌, ℕ, List, map, Option, Some, None}
 use Rattle.ac_base.specs.Guards.{GuardCounts}
 use Rattle.ac_model.specs.Letters.{Mark, no_mark}
-use Rattle.ac_meaning.specs.Holdings.{Held, from_rows, element_value}
+use Rattle.ac_meaning.specs.Holdings.{Held, of_rows, of_holder, from_rows, element_value}
 use Rattle.ac_meaning.specs.Environment.{Bound, binds_type, binds_object, binds_cursor, binds_value, binds_element, State, bound_at, object_at}
 
 -- an object stands at the place
@@ -35,13 +35,18 @@ counts_in (binds_element _ _) = None
 abbrev pub counts_of : State → List (Option GuardCounts)
 counts_of e = map counts_in e.bounds
 
+-- the guards that keep an object's elements: of a holder element guards alone
+abbrev pub keeping_guards : Held → ℕ
+keeping_guards (of_rows kind o) = o.cursor_guards + o.element_guards
+keeping_guards (of_holder e h) = h.element_guards
+
 -- an element that a name stands for: it is one of its object, which has a guard
 pub record ElementStands (e : State) (object : ℕ) (at : Mark) : Type 0 where
   pub held : Held
   pub there : object_at e object ≡ Some held
   pub stands : (element_value held at).reason ≡ None
-  pub guarded : 0 < (counts_in_held held).cursor_guards + (counts_in_held held).element_guards
+  pub guarded : 0 < keeping_guards held
 
--- so is each in scope: then an assignment to it is never refused
+-- so is each in scope: then an assignment to it is never refused for want of an element
 abbrev pub ElementsStand : State → Type 0
 ElementsStand e = (place object : ℕ) (at : Mark) → bound_at e place ≡ binds_element object at → ElementStands e object at

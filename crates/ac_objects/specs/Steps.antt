@@ -1,8 +1,7 @@
 -- The steps of a command: what is read before a call, the call on the objects in their places, and what is assigned.
-use Rattle.std.specs.Prelude.{◌≡◌, ⊤, ℕ, ℤ, if◌then◌else◌, false, List, slice_get, slice_set, Option, Some, None, Result, Ok, Err, IfOk}
+use Rattle.std.specs.Prelude.{◌≡◌, ⊤, ℕ, ℤ, if◌then◌else◌, false, List, slice_get, slice_set, Option, Some, None, Result, Ok, Err}
 use Rattle.ac_base.specs.declared.cursor.Cursor.{Cursor}
 use Rattle.ac_base.specs.declared.fault.Fault.{Fault}
-use Rattle.ac_base.specs.declared.fault.NoMemory.{NoMemory}
 use Rattle.ac_base.specs.declared.value.Value.{Value}
 use Rattle.ac_base.specs.declared.reason.Reason.TheVariants.{Overflow}
 use Rattle.ac_base.specs.declared.fault.Fault.TheVariants as fault
@@ -27,7 +26,7 @@ use Rattle.ac_objects.specs.declared.reply.Placed.{Placed}
 use Rattle.ac_objects.specs.declared.reply.Reply.{Reply}
 use Rattle.ac_objects.specs.Arguments as arguments
 use Rattle.ac_objects.specs.Shown.{Shows}
-use Rattle.ac_objects.specs.Called.{AgreesWith, Called, CalledWith, Lasts}
+use Rattle.ac_objects.specs.Called.{AgreesWith, Called, CalledWith, Lasts, WritesTo}
 use Rattle.ac_objects.specs.Standing.{IsObject, ElementsStand, counts_in, counts_of}
 use Rattle.std.specs.Option.{ForSome}
 use Rattle.ac_objects.specs.World.{World, world, state_of, bound_of, held_of, ObjectAgrees, BoundAgrees, IsKnown, IsSound, Persists}
@@ -105,16 +104,17 @@ pub record CanRead (bs : List Bound) (object : ℕ) (at : Cursor) : Type 0 where
   pub agrees : ObjectAgrees held at
   pub stands : (element_value (held_of held) (plain_mark at)).reason ≡ None
 
--- an assignment, which nothing refuses
-abbrev pub AssignsTo : Assigned → (old new : World) → Result Done NoMemory → Type 0
+-- an assignment: made, or refused for the meaning's reason, and then nothing changes
+abbrev pub AssignsTo : Assigned → (old new : World) → Result Done Fault → Type 0
 AssignsTo a old new (Ok done) = (a.reason ≡ None) × (state_of new ≡ a.after)
-AssignsTo a old new (Err _) = ⊤
+AssignsTo a old new (Err (fault.Raised reason)) = (a.reason ≡ Some reason) × (new ≡ old)
+AssignsTo a old new (Err fault.NoMemory) = ⊤
 
 -- the element that a cursor designates has the value now, or nothing changed
-pub record WritesAt (object : ℕ) (at : Cursor) (v : Value) (o : Object) (old new : List Bound) (result : Result Done NoMemory) : Type 0 where
+pub record WritesAt (object : ℕ) (at : Cursor) (v : Value) (o : Object) (old new : List Bound) (result : Result Done Fault) : Type 0 where
   pub now : Object
   pub bounds : new ≡ slice_set old object (bound.Object now)
-  pub written : IfOk result (λ done. held_of now ≡ (write (held_of o) (plain_mark at) v).after)
+  pub written : WritesTo (write (held_of o) (plain_mark at) v) o now result
   pub lasts : Lasts o now
 
 -- a cursor is given to a name
@@ -123,7 +123,7 @@ pub record SetsMark (place : ℕ) (c : Cursor) (old new : List Bound) : Type 0 w
   pub set : (next : ℕ) → state_of (world new next) ≡ mark_set (state_of (world old next)) place (plain_mark c) (bound_at (state_of (world old next)) place)
 
 -- and a value
-pub record SetsValue (place : ℕ) (v : Value) (old new : List Bound) (result : Result Done NoMemory) : Type 0 where
+pub record SetsValue (place : ℕ) (v : Value) (old new : List Bound) (result : Result Done Fault) : Type 0 where
   pub advances : (next : ℕ) → IsSound (world old next) → Advances (world old next) (world new next)
   pub set : (next : ℕ) → ElementsStand (state_of (world old next)) →
       AssignsTo (value_set (state_of (world old next)) place v (bound_at (state_of (world old next)) place)) (world old next) (world new next) result
@@ -203,11 +203,6 @@ PerformsAt r object args old new (Err fault.NoMemory) = ⊤
 -- the reply of the object of a call in an environment
 abbrev pub reply_in : State → Held → Operation → List ResolvedArg → replies.Reply Held
 reply_in e h operation args = reply_of h (source_of e (source_place e args)) operation (meant_arguments e args)
-
--- want of memory as a fault
-abbrev pub faulted : Result Done NoMemory → Result Done Fault
-faulted (Ok done) = Ok done
-faulted (Err _) = Err fault.NoMemory
 
 -- a sum, where it is an integer of a script
 abbrev pub if_integer : ℤ → Option ℤ

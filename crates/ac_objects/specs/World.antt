@@ -5,12 +5,15 @@ use Rattle.ac_base.specs.declared.cursor.Cursor.TheVariants as cursor
 use Rattle.ac_model.specs.Containers.{Container}
 use Rattle.ac_model.specs.Objects.{plain}
 use Rattle.ac_model.specs.Cursors.{plain_mark, Agrees}
+use Rattle.ac_model.specs.Holders.{Holder}
+use Rattle.ac_syntax.specs.declared.kind.ElemKind.{ElemKind}
 use Rattle.ac_syntax.specs.declared.kind.ElemKind.TheVariants.{Integer, Str}
-use Rattle.ac_meaning.specs.Holdings.{RowKind, RowOf, Held, of_rows, a_sequence, a_map, a_set, a_keyed_set}
+use Rattle.ac_meaning.specs.Holdings.{RowKind, RowOf, Held, of_rows, of_holder, a_sequence, a_map, a_set, a_keyed_set}
+use Rattle.ac_meaning.specs.Elements.{ElementOf}
 use Rattle.ac_meaning.specs.Environment as meant
 use Rattle.ac_meaning.specs.Numbers.{NumbersDiffer}
 use Rattle.ac_objects.specs.declared.object.Object.{Object}
-use Rattle.ac_objects.specs.declared.object.Object.TheVariants.{Integers, Texts, IntegerSet, TextSet, KeyedSet, IntegersByInteger, IntegersByText, TextsByInteger, TextsByText}
+use Rattle.ac_objects.specs.declared.object.Object.TheVariants.{Integers, Texts, IntegerSet, TextSet, KeyedSet, IntegersByInteger, IntegersByText, TextsByInteger, TextsByText, IntegerHolder, TextHolder}
 use Rattle.ac_objects.specs.Sequences.{rows_of, kind_of}
 use Rattle.ac_objects.specs.Sets.{items_of, set_kind_of}
 use Rattle.ac_objects.specs.KeyedSets.{keyed_items, keyed_kind}
@@ -26,9 +29,10 @@ pub record World : Type 0 where
 abbrev pub world : List Bound → ℕ → World
 world bounds next = record { bounds = bounds; next = next }
 
--- an object in memory: its kind, and its rows with the slots of their names
+-- an object in memory: its kind, and its rows with the slots of their names, or a holder, which has no names
 pub data InMemory : Type 0 where
   in_rows : (kind : RowKind) → Container (RowOf kind) → InMemory
+  in_holder : (element : ElemKind) → Holder (ElementOf element) → InMemory
 
 unfoldable pub memory_of : Object → InMemory
 memory_of (Integers s) = in_rows (a_sequence (kind_of s) Integer) (rows_of s)
@@ -40,11 +44,14 @@ memory_of (IntegersByInteger m) = in_rows (a_map (map_kind_of m) Integer Integer
 memory_of (IntegersByText m) = in_rows (a_map (map_kind_of m) Str Integer) (entries_of m)
 memory_of (TextsByInteger m) = in_rows (a_map (map_kind_of m) Integer Str) (entries_of m)
 memory_of (TextsByText m) = in_rows (a_map (map_kind_of m) Str Str) (entries_of m)
+memory_of (IntegerHolder h) = in_holder Integer h
+memory_of (TextHolder h) = in_holder Str h
 
 -- without the slots of names: as the meaning of scripts has them
 
 abbrev pub held_in : InMemory → Held
 held_in (in_rows kind l) = of_rows kind (plain l.object)
+held_in (in_holder e h) = of_holder e h
 
 abbrev pub held_of : Object → Held
 held_of o = held_in (memory_of o)
@@ -64,6 +71,7 @@ state_of w = record { bounds = map bound_of w.bounds; next = w.next }
 -- the slot of the cursor is the one that the object would find
 abbrev pub AgreesIn : InMemory → Cursor → Type 0
 AgreesIn (in_rows kind l) c = Agrees l.object c
+AgreesIn (in_holder e h) c = ⊤
 
 abbrev pub ObjectAgrees : Object → Cursor → Type 0
 ObjectAgrees o c = AgreesIn (memory_of o) c

@@ -4,6 +4,7 @@ use crate::map::Map;
 use crate::sequence::Sequence;
 use crate::set::Set;
 use ac_base::Text;
+use ac_forms::Holder;
 
 /// An object of a script.
 #[derive(Drop)]
@@ -17,4 +18,6 @@ pub enum Object {
     IntegersByText(Map<Text, i64>),
     TextsByInteger(Map<i64, Text>),
     TextsByText(Map<Text, Text>),
+    IntegerHolder(Holder<i64>),
+    TextHolder(Holder<Text>),
 }
