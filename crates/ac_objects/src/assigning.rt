@@ -13,7 +13,7 @@ ghost use Rattle.ac_base.specs.declared.value.Value.{Value as value_data};
 use crate::bound::Bound;
 use crate::held::write_element;
 use crate::objects::Objects;
-use ac_base::{Fault, NoMemory, Value};
+use ac_base::{Fault, Value};
 use ac_cursor::Cursor;
 use std::alloc::Global;
 
@@ -31,7 +31,7 @@ impl Objects {
 
     /// Gives a variable the value, or the element that a name stands for. Another name takes none.
     #[inline(always)]
-    pub(crate) fn set_value(&mut self, place: usize, value: Value) -> Result<(), NoMemory>
+    pub(crate) fn set_value(&mut self, place: usize, value: Value) -> Result<(), Fault>
         requires { ElementsStand (state_of self.old) }
         ensures set { AssignsTo (value_set (state_of self.old) place value (bound_at (state_of self.old) place)) self.old self.new result }
         ensures persists { Persists self.old self.new }
@@ -67,7 +67,7 @@ fn put_value(
     alloc: Global,
     place: usize,
     value: Value,
-) -> Result<(), NoMemory>
+) -> Result<(), Fault>
     requires { StandsSomewhere bounds.old.items }
     ensures { SetsValue place value bounds.old.items bounds.new.items result }
 {
@@ -105,17 +105,13 @@ fn put_element(
     object: usize,
     at: Cursor,
     value: Value,
-) -> Result<(), NoMemory>
+) -> Result<(), Fault>
     requires { CanRead bounds.old.items object at }
     ensures { (o : AnyObject) → slice_get bounds.old.items object ≡ Some (bound.Object o) →
         WritesAt object at value o bounds.old.items bounds.new.items result }
 {
     match &mut bounds[object] {
-        Bound::Object(held) => match write_element(held, alloc, at, value) {
-            Ok(()) => Ok(()),
-            Err(Fault::NoMemory) => Err(NoMemory),
-            Err(Fault::Raised(_)) => unreachable!(),
-        },
+        Bound::Object(held) => write_element(held, alloc, at, value),
         _ => unreachable!(),
     }
 }

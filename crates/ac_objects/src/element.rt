@@ -38,6 +38,8 @@ pub trait ScriptElement: KeyOf {
 
     ghost same_is: { tools.same ≡ Self.is_same };
 
+    ghost size_is: { tools.size ≡ Self.size_of };
+
     ghost alike_is: { tools.alike ≡ Self.is_alike };
 
     ghost less_is: { tools.less ≡ Self.is_less };
@@ -51,6 +53,8 @@ impl ScriptElement for i64 {
     ghost elem = { Integer };
 
     ghost same_is = { refl };
+
+    ghost size_is = { refl };
 
     ghost alike_is = { refl };
 
@@ -81,6 +85,8 @@ impl ScriptElement for Text {
 
     ghost same_is = { refl };
 
+    ghost size_is = { refl };
+
     ghost alike_is = { refl };
 
     ghost less_is = { refl };
@@ -110,6 +116,8 @@ impl ScriptElement for KeyedText {
     ghost elem = { Str };
 
     ghost same_is = { refl };
+
+    ghost size_is = { refl };
 
     ghost alike_is = { refl };
 

@@ -10,13 +10,13 @@ ghost use Rattle.ac_objects.specs.World.{state_of, Persists};
 use crate::objects::Objects;
 use crate::reading::copy_value;
 use crate::reply::{Placed, Said};
-use ac_base::{NoMemory, Value};
+use ac_base::{Fault, Value};
 use ac_check::ResolvedArg;
 
 impl Objects {
     /// Gives what a call answered to the target, where it is a value or a cursor.
     #[inline(always)]
-    pub(crate) fn give(&mut self, target: Option<usize>, said: &Said) -> Result<(), NoMemory>
+    pub(crate) fn give(&mut self, target: Option<usize>, said: &Said) -> Result<(), Fault>
         requires stand { ElementsStand (state_of self.old) }
         requires known { SaidKnown self.old said.now }
         ensures given { (object : ℕ) (answer : Answer) → Shows (state_of self.old) object said.now answer →
@@ -31,7 +31,7 @@ impl Objects {
     }
 
     #[inline(always)]
-    fn give_to(&mut self, place: usize, said: &Said) -> Result<(), NoMemory>
+    fn give_to(&mut self, place: usize, said: &Said) -> Result<(), Fault>
         requires stand { ElementsStand (state_of self.old) }
         requires known { SaidKnown self.old said.now }
         ensures given { (object : ℕ) (answer : Answer) → Shows (state_of self.old) object said.now answer →
@@ -50,7 +50,7 @@ impl Objects {
     }
 
     #[inline(always)]
-    fn give_value(&mut self, place: usize, value: &Value) -> Result<(), NoMemory>
+    fn give_value(&mut self, place: usize, value: &Value) -> Result<(), Fault>
         requires { ElementsStand (state_of self.old) }
         ensures given { AssignsTo (assigned (state_of self.old) (Some place) (answers_value value.now)) self.old self.new result }
         ensures persists { Persists self.old self.new }

@@ -11,6 +11,8 @@ ghost use Rattle.ac_objects.specs.Called.{AgreesWith, Called, CalledWith, Lasts,
 ghost use Rattle.ac_objects.specs.World.{held_of, ObjectAgrees};
 
 use crate::argument::Arguments;
+use crate::holder_calls::{operate_holder, operate_holders};
+use crate::holder_elements::{value, write};
 use crate::object::Object;
 use crate::operated_rows::OperatedRows;
 use crate::reply::Reply;
@@ -45,6 +47,8 @@ pub fn call_object(
         Object::IntegersByText(map) => call_own(map, alloc, operation, args, reply),
         Object::TextsByInteger(map) => call_own(map, alloc, operation, args, reply),
         Object::TextsByText(map) => call_own(map, alloc, operation, args, reply),
+        Object::IntegerHolder(holder) => operate_holder(holder, alloc, operation, args, reply),
+        Object::TextHolder(holder) => operate_holder(holder, alloc, operation, args, reply),
     }
 }
 
@@ -102,6 +106,18 @@ pub fn call_objects(
         Object::TextsByText(map) => match source {
             Object::TextsByText(other) => call_two(map, other, alloc, operation, args, reply),
             _ => call_own(map, alloc, operation, args, reply),
+        },
+        Object::IntegerHolder(holder) => match source {
+            Object::IntegerHolder(other) => {
+                operate_holders(holder, other, alloc, operation, args, reply)
+            }
+            _ => operate_holder(holder, alloc, operation, args, reply),
+        },
+        Object::TextHolder(holder) => match source {
+            Object::TextHolder(other) => {
+                operate_holders(holder, other, alloc, operation, args, reply)
+            }
+            _ => operate_holder(holder, alloc, operation, args, reply),
         },
     }
 }
@@ -204,6 +220,8 @@ pub fn element_of(object: &Object, alloc: Global, at: Cursor) -> Result<Value, N
         Object::IntegersByText(map) => map.element_value(alloc, at),
         Object::TextsByInteger(map) => map.element_value(alloc, at),
         Object::TextsByText(map) => map.element_value(alloc, at),
+        Object::IntegerHolder(holder) => value(holder, alloc),
+        Object::TextHolder(holder) => value(holder, alloc),
     }
 }
 
@@ -229,6 +247,8 @@ pub fn write_element(
         Object::IntegersByText(map) => written(map, alloc, at, value),
         Object::TextsByInteger(map) => written(map, alloc, at, value),
         Object::TextsByText(map) => written(map, alloc, at, value),
+        Object::IntegerHolder(holder) => write(holder, alloc, value),
+        Object::TextHolder(holder) => write(holder, alloc, value),
     }
 }
 

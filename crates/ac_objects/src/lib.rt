@@ -13,6 +13,8 @@ mod frame;
 mod giving;
 mod guarding;
 mod held;
+mod holder_calls;
+mod holder_elements;
 mod key_calls;
 mod keyed_calls;
 mod keyed_set;

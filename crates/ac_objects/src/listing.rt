@@ -11,6 +11,7 @@ ghost use Rattle.ac_meaning.specs.Holdings.{Held, listing_of};
 ghost use Rattle.ac_objects.specs.Listed.{comma_at};
 ghost use Rattle.ac_objects.specs.World.{held_of, state_of};
 
+use crate::holder_elements::write_listing;
 use crate::object::Object;
 use crate::objects::Objects;
 use crate::row_object::RowObject;
@@ -98,6 +99,8 @@ fn write_object<K: Sink>(
         Object::IntegersByText(map) => write_rows(map, text, sink),
         Object::TextsByInteger(map) => write_rows(map, text, sink),
         Object::TextsByText(map) => write_rows(map, text, sink),
+        Object::IntegerHolder(holder) => write_listing(holder, text, sink),
+        Object::TextHolder(holder) => write_listing(holder, text, sink),
     }
 }
 

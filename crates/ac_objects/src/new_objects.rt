@@ -1,10 +1,10 @@
 //! New objects without elements, of every kind and element type.
 ghost use Rattle.std.specs.Prelude.{◌≡◌, Bool, true, false, Option, IfOk};
 ghost use Rattle.ac_base.specs.Limits.{IsLimit};
-ghost use Rattle.ac_meaning.specs.Holdings.{a_sequence, a_set, a_keyed_set, a_map, kind_by, element_or, limit_by, new_held, is_vector, is_hashed};
+ghost use Rattle.ac_meaning.specs.Holdings.{a_sequence, a_set, a_keyed_set, a_map, kind_by, element_or, limit_by, new_held, new_within, is_vector, is_hashed};
+ghost use Rattle.ac_model.specs.Holders.{empty_holder};
 ghost use Rattle.ac_model.specs.Objects.{plain, empty_object};
 ghost use Rattle.ac_syntax.specs.declared.kind.ElemKind.{ElemKind as Elements};
-ghost use Rattle.ac_objects.specs.Declarations.{new_within};
 ghost use Rattle.ac_objects.specs.Maps.{entries_of, map_kind_of};
 ghost use Rattle.ac_objects.specs.Sequences.{rows_of, kind_of};
 ghost use Rattle.ac_objects.specs.Sets.{items_of, set_kind_of};
@@ -18,6 +18,7 @@ use crate::sequence::Sequence;
 use crate::set::Set;
 use ac_base::{Elem, GREATEST_LENGTH, Limit, NoMemory};
 use ac_cursor::Tag;
+use ac_forms::Holder;
 use ac_hashed::{HashedMap, HashedSet};
 use ac_list::List;
 use ac_ordered::{OrderedMap, OrderedSet};
@@ -39,6 +40,7 @@ pub(crate) fn new_object(
         Kind::List | Kind::Vector => new_sequence_object(alloc, def, tag, limit),
         Kind::HashedSet | Kind::OrderedSet => new_set_object(alloc, def, tag, limit),
         Kind::HashedMap | Kind::OrderedMap => new_map_object(alloc, def, tag, limit),
+        Kind::Holder => new_holder_object(alloc, def, tag, limit),
         _ => Err(NoMemory),
     }
 }
@@ -60,6 +62,28 @@ fn new_sequence_object(
         ElemKind::Str => {
             let made = new_sequence(alloc, def.kind, tag, limit)?;
             Ok(Object::Texts(made))
+        }
+    }
+}
+
+fn new_holder_object(
+    alloc: Global,
+    def: &TypeDef,
+    tag: Tag,
+    limit: Limit,
+) -> Result<Object, NoMemory>
+    requires kind { def.now.kind ≡ Kind.Holder }
+    requires limit { IsLimit limit }
+    ensures { IfOk result (λ made. held_of made ≡ new_within def.now tag limit) }
+{
+    match def.first {
+        ElemKind::Integer => {
+            let made = new_holder(alloc, tag, limit)?;
+            Ok(Object::IntegerHolder(made))
+        }
+        ElemKind::Str => {
+            let made = new_holder(alloc, tag, limit)?;
+            Ok(Object::TextHolder(made))
         }
     }
 }
@@ -171,6 +195,17 @@ fn new_sequence<T: Drop>(
             Err(_) => Err(NoMemory),
         },
         _ => Err(NoMemory),
+    }
+}
+
+/// A holder without an element.
+fn new_holder<T: Elem>(alloc: Global, tag: Tag, limit: Limit) -> Result<Holder<T>, NoMemory>
+    requires { IsLimit limit }
+    ensures { IfOk result (λ made. made ≡ empty_holder tag limit) }
+{
+    match Holder::new(alloc, tag, limit) {
+        Ok(holder) => Ok(holder),
+        Err(_) => Err(NoMemory),
     }
 }
 

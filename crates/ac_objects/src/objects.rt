@@ -6,14 +6,14 @@ ghost use Rattle.ac_meaning.specs.Environment.{object_at};
 ghost use Rattle.ac_meaning.specs.Holdings.{Held};
 ghost use Rattle.ac_objects.specs.Performs.{Performs, answered};
 ghost use Rattle.ac_objects.specs.Standing.{IsObject, ElementsStand, counts_of};
-ghost use Rattle.ac_objects.specs.Steps.{PerformsAt, PlacedKnown, placed_of, reply_in, faulted, if_integer, sum_given};
+ghost use Rattle.ac_objects.specs.Steps.{PerformsAt, PlacedKnown, placed_of, reply_in, if_integer, sum_given};
 ghost use Rattle.ac_objects.specs.World.{state_of, world, Persists};
 
 use crate::bound::Bound;
 use crate::frame::Frame;
 use crate::reading::said_of;
 use crate::reply::Said;
-use ac_base::{Fault, NoMemory, Reason, Value};
+use ac_base::{Fault, Reason, Value};
 use ac_check::{Operation, ResolvedArg};
 use ac_cursor::TagMint;
 use std::alloc::Global;
@@ -70,7 +70,7 @@ impl Objects {
             return Ok(());
         }
         match self.perform(object, operation, args, frame) {
-            Ok(()) => faulted(self.give(target, &frame.reply.said)),
+            Ok(()) => self.give(target, &frame.reply.said),
             Err(fault) => Err(fault),
         }
     }
@@ -124,7 +124,7 @@ impl Objects {
         match self.read(from) {
             Ok(read) => {
                 frame.reply.said = said_of(read);
-                faulted(self.give(Some(target), &frame.reply.said))
+                self.give(Some(target), &frame.reply.said)
             }
             Err(_) => Err(Fault::NoMemory),
         }
@@ -167,19 +167,9 @@ impl Objects {
             None => Err(Fault::Raised(Reason::Overflow)),
             Some(sum) => {
                 frame.reply.said = Said::Value(Value::Int(sum));
-                faulted(self.give(Some(target), &frame.reply.said))
+                self.give(Some(target), &frame.reply.said)
             }
         }
-    }
-}
-
-#[inline(always)]
-fn faulted(given: Result<(), NoMemory>) -> Result<(), Fault>
-    ensures { result ≡ faulted given }
-{
-    match given {
-        Ok(()) => Ok(()),
-        Err(_) => Err(Fault::NoMemory),
     }
 }
 

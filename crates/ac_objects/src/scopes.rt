@@ -35,6 +35,7 @@ impl Object {
             Object::IntegersByText(map) => map.live_nodes(),
             Object::TextsByInteger(map) => map.live_nodes(),
             Object::TextsByText(map) => map.live_nodes(),
+            Object::IntegerHolder(_) | Object::TextHolder(_) => 0,
         }
     }
 }

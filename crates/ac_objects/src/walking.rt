@@ -11,6 +11,7 @@ ghost use Rattle.ac_meaning.specs.Walks.{step_call, first_mark};
 ghost use Rattle.ac_objects.specs.Given.{GivenBy, IsGiven, StepsOn};
 ghost use Rattle.ac_objects.specs.World.{held_of, ObjectAgrees};
 
+use crate::holder_elements::refused;
 use crate::object::Object;
 use crate::row_object::RowObject;
 use ac_base::{Fault, Name, Reason};
@@ -109,6 +110,7 @@ impl Object {
             Object::IntegersByText(map) => first_in(map, backward),
             Object::TextsByInteger(map) => first_in(map, backward),
             Object::TextsByText(map) => first_in(map, backward),
+            Object::IntegerHolder(_) | Object::TextHolder(_) => Cursor::NoElement,
         }
     }
 
@@ -130,6 +132,7 @@ impl Object {
             Object::IntegersByText(map) => next_in(map, backward, at),
             Object::TextsByInteger(map) => next_in(map, backward, at),
             Object::TextsByText(map) => next_in(map, backward, at),
+            Object::IntegerHolder(_) | Object::TextHolder(_) => Cursor::NoElement,
         }
     }
 
@@ -149,6 +152,8 @@ impl Object {
             Object::IntegersByText(map) => refused_in(map, at),
             Object::TextsByInteger(map) => refused_in(map, at),
             Object::TextsByText(map) => refused_in(map, at),
+            Object::IntegerHolder(holder) => refused(holder),
+            Object::TextHolder(holder) => refused(holder),
         }
     }
 }
