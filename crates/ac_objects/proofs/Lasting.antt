@@ -1,5 +1,6 @@
--- Elements that names stand for last: an object with a guard keeps its names through a command, so an assignment is never refused.
+-- Elements that names stand for last: an object with a guard keeps its names through a command, and a holder with an element guard that it has an element.
 use Rattle.std.proofs.Common.{◌≡◌, ◌==◌, ◌&&◌, ◌||◌, ◌+◌, ◌<◌, ℕ, Bool, true, false, not, List, [], ◌∷◌, nat_lt, refl, sym, ap, subst, ◌∙◌, arith, Some, None, if◌then◌else◌}
+use Rattle.std.proofs.lemmas.Bool.{lt-ltb}
 use Rattle.std.proofs.lemmas.Bool.Decides.{nat_tests}
 use Rattle.std.specs.List.{list_any}
 use Rattle.ac_base.specs.declared.guard.Class.TheVariants as class
@@ -13,11 +14,12 @@ use Rattle.ac_model.specs.Rows.{is_named}
 use Rattle.ac_model.specs.Letters.{Mark, no_mark, mark_at, stale_mark, needs, judged_in}
 use Rattle.ac_model.specs.Cursors.{seen}
 use Rattle.ac_meaning.specs.Environment.{Bound, binds_type, binds_object, binds_cursor, binds_value, binds_element, State, bound_at, object_in}
-use Rattle.ac_meaning.specs.Holdings.{Held, of_rows, element_value}
+use Rattle.ac_meaning.specs.Holdings.{Held, of_rows, of_holder, holds_element, element_value}
 use Rattle.ac_meaning.specs.Stays.{Stays, HeldStays, BoundStays, StateStays}
 use Rattle.ac_meaning.proofs.BoundsStay.{each_at, object_there}
+use Rattle.ac_meaning.proofs.HoldersStay.{element_stands, stands_there}
 use Rattle.ac_meaning.proofs.RowKinds.{element_needs}
-use Rattle.ac_objects.specs.Standing.{ElementStands, ElementsStand, counts_in_held}
+use Rattle.ac_objects.specs.Standing.{ElementStands, ElementsStand, keeping_guards}
 
 -- the same names stand for the same
 
@@ -65,19 +67,30 @@ list_lasts o now m stays held h =
     let t = guarded o.cursor_guards o.element_guards held in
     ap (λ r. first_reason (r ∷ [])) (needs_lasts o now m stays.number (stays.names refl t.0 t.1)) ∙ h
 
+-- and an element guard to take a holder's element out
+element_held : (b : ℕ) → 0 < b → (t : Reason) × ((if nat_lt 0 b then Some ElementTampering else None) ≡ Some t)
+element_held b h = (ElementTampering, rw (lt-ltb 0 b h) refl)
+
 -- an object that stays
 
 pub record LastsAt (h k : Held) (m : Mark) : Type 0 where
   pub stands : (element_value k m).reason ≡ None
-  pub guarded : 0 < (counts_in_held k).cursor_guards + (counts_in_held k).element_guards
+  pub guarded : 0 < keeping_guards k
 
-held_lasts : (h k : Held) (m : Mark) → HeldStays h k → 0 < (counts_in_held h).cursor_guards + (counts_in_held h).element_guards →
+held_lasts : (h k : Held) (m : Mark) → HeldStays h k → 0 < keeping_guards h →
     (element_value h m).reason ≡ None → LastsAt h k m
 held_lasts (of_rows kind o) k m s held h =
     subst (λ x. LastsAt (of_rows kind o) x m) (sym s.1)
     (record {
       stands = element_needs kind s.0 (seen s.0 m) ∙ list_lasts o s.0 m s.2 held (sym (element_needs kind o (seen o m)) ∙ h);
       guarded = omega (arith, held, s.2.cursor_guards, s.2.element_guards);
+    })
+held_lasts (of_holder e o) m s held h =
+    let t = element_held o.element_guards held in
+    subst (λ x. LastsAt (of_holder e o) x m) (sym s.1)
+    (record {
+      stands = element_stands (of_holder e s.0) m (ap not (s.2.element refl t.0 t.1) ∙ stands_there e o m h);
+      guarded = omega (arith, held, s.2.element_guards);
     })
 
 element_before : (b : Bound) (object : ℕ) (m : Mark) → BoundStays b (binds_element object m) → b ≡ binds_element object m
@@ -88,7 +101,7 @@ element_before (binds_value v) object m s = absurd s
 element_before (binds_element other c) object m s = λ i. binds_element (sym s.0 i) (sym s.1 i)
 
 object_after : (h : Held) (now : State) (object : ℕ) (m : Mark) (b : Bound) → bound_at now object ≡ b → BoundStays (binds_object h) b →
-    0 < (counts_in_held h).cursor_guards + (counts_in_held h).element_guards → (element_value h m).reason ≡ None → ElementStands now object m
+    0 < keeping_guards h → (element_value h m).reason ≡ None → ElementStands now object m
 object_after h now object m (binds_object k) is s held e =
     let l = held_lasts h k m s held e in record { held = k; there = ap object_in is; stands = l.stands; guarded = l.guarded }
 object_after h now object m binds_type is s held e = absurd s

@@ -5,16 +5,14 @@ use Rattle.ac_base.specs.declared.cursor.Cursor.{Cursor}
 use Rattle.ac_base.specs.declared.fault.Fault.{Fault}
 use Rattle.ac_base.specs.declared.fault.Fault.TheVariants as fault
 use Rattle.ac_base.specs.declared.fault.NoMemory.{NoMemory}
-use Rattle.ac_base.specs.declared.reason.Reason.{Reason}
 use Rattle.ac_base.specs.declared.value.Value.{Value}
 use Rattle.ac_model.specs.Calls.{Done}
 use Rattle.ac_model.specs.Cursors.{plain_mark}
-use Rattle.ac_model.specs.Letters.{Mark, no_mark}
+use Rattle.ac_model.specs.Letters.{no_mark}
 use Rattle.ac_meaning.specs.Commands.{argument_in, answer_in, assigned_to, element_written, mark_set, value_set}
 use Rattle.ac_meaning.specs.Environment as meant
 use Rattle.ac_meaning.specs.Environment.{State, value_in, value_or_zero, element_in, mark_in, bound_at, object_at, binds_object, with_bound}
-use Rattle.ac_meaning.specs.Holdings.{a_sequence, a_map, a_set, a_keyed_set, Held, Written, of_rows, element_value, write}
-use Rattle.ac_meaning.proofs.CallsStay.{none_some}
+use Rattle.ac_meaning.specs.Holdings.{element_value, write}
 use Rattle.ac_objects.specs.declared.bound.Bound.{Bound}
 use Rattle.ac_objects.specs.declared.bound.Bound.TheVariants as bound
 use Rattle.ac_objects.specs.declared.object.Object.{Object}
@@ -167,12 +165,6 @@ sets_variable bs now i v old there is =
           (sym (bound_there bs n i (bound.Value old) there)) (refl, state_set bs n i (bound.Value v));
     })
 
-pub write_reason : (h : Held) (m : Mark) (v : Value) → (element_value h m).reason ≡ None → (write h m v).reason ≡ None
-write_reason (of_rows (a_sequence which e) o) m v none = none
-write_reason (of_rows (a_map which k e) o) m v none = none
-write_reason (of_rows (a_set which e) o) m v none = refl
-write_reason (of_rows (a_keyed_set which) o) m v none = refl
-
 -- an element that is written in its place
 
 pub object_is : (bs : List Bound) (i : ℕ) (o p : Object) (b : Bound) → b ≡ get_or bs i b → b ≡ bound.Object p → slice_get bs i ≡ Some (bound.Object o) → p ≡ o
@@ -180,36 +172,29 @@ object_is bs i o p b e is there =
     let same : bound.Object p ≡ bound.Object o = sym is ∙ (e ∙ found_or bs i (bound.Object o) b there) in
     cc
 
-pub can_write : (bs : List Bound) (i : ℕ) (at : Cursor) (v : Value) (p : Object) (b : Bound) (r : CanRead bs i at) → b ≡ get_or bs i b → b ≡ bound.Object p →
-    (write (held_of p) (plain_mark at) v).reason ≡ None
-can_write bs i at v p b r e is =
-    subst (λ o. (write (held_of o) (plain_mark at) v).reason ≡ None) (sym (object_is bs i r.held p b e is r.there))
-    (write_reason (held_of r.held) (plain_mark at) v r.stands)
-
-pub never_raised : (w : Written) (old new : Object) (f : Fault) (reason : Reason) → w.reason ≡ None → f ≡ fault.Raised reason →
-    WritesTo w old new (Err f) → ⊥
-never_raised w old new f reason none is written =
-    let raised = subst (λ g. WritesTo w old new (Err g)) is written in
-    none_some reason (sym none ∙ raised.0)
-
-pub writes_at : (bs : List Bound) (i : ℕ) (at : Cursor) (v : Value) (o p now : Object) (b : Bound) (result : Result Done NoMemory) → b ≡ get_or bs i b →
-    b ≡ bound.Object p → slice_get bs i ≡ Some (bound.Object o) → IfOk result (λ done. held_of now ≡ (write (held_of p) (plain_mark at) v).after) → Lasts p now →
+pub writes_at : (bs : List Bound) (i : ℕ) (at : Cursor) (v : Value) (o p now : Object) (b : Bound) (result : Result Done Fault) → b ≡ get_or bs i b →
+    b ≡ bound.Object p → slice_get bs i ≡ Some (bound.Object o) → WritesTo (write (held_of p) (plain_mark at) v) p now result → Lasts p now →
     WritesAt i at v o bs (slice_set bs i (bound.Object now)) result
 writes_at bs i at v o p now b result e is there written lasts =
     subst (λ x. WritesAt i at v x bs (slice_set bs i (bound.Object now)) result) (object_is bs i o p b e is there)
     (record { now = now; bounds = refl; written = written; lasts = lasts })
 
-assigns_element : (bs now : List Bound) (n i object : ℕ) (at : Cursor) (v : Value) (o : Object) (result : Result Done NoMemory) →
-    slice_get bs object ≡ Some (bound.Object o) → (element_value (held_of o) (plain_mark at)).reason ≡ None → WritesAt object at v o bs now result →
+assigns_element : (bs now : List Bound) (n object : ℕ) (at : Cursor) (v : Value) (o : Object) (result : Result Done Fault) →
+    slice_get bs object ≡ Some (bound.Object o) → WritesAt object at v o bs now result →
     AssignsTo (element_written (state_of (world bs n)) object (plain_mark at) v (Some (held_of o))) (world bs n) (world now n) result
-assigns_element bs now n i object at v o (Ok done) there stands k = (
-  write_reason (held_of o) (plain_mark at) v stands,
+assigns_element bs now n object at v o (Ok done) there k = (
+  k.written.0,
   ap (λ ys. state_of (world ys n)) k.bounds
-      ∙ (state_set bs n object (bound.Object k.now) ∙ ap (λ h. with_bound (state_of (world bs n)) object (binds_object h)) k.written),
+      ∙ (state_set bs n object (bound.Object k.now) ∙ ap (λ h. with_bound (state_of (world bs n)) object (binds_object h)) k.written.1),
 )
-assigns_element bs now n i object at v o (Err e) there stands k = tt
+assigns_element bs now n object at v o (Err (fault.Raised reason)) there k = (
+  k.written.0,
+  ap (λ ys. world ys n)
+      (k.bounds ∙ (ap (λ x. slice_set bs object (bound.Object x)) k.written.1 ∙ set_same bs object (bound.Object o) there)),
+)
+assigns_element bs now n object at v o (Err fault.NoMemory) there k = tt
 
-pub sets_element : (bs now : List Bound) (i object : ℕ) (at : Cursor) (v : Value) (result : Result Done NoMemory) → StandsSomewhere bs →
+pub sets_element : (bs now : List Bound) (i object : ℕ) (at : Cursor) (v : Value) (result : Result Done Fault) → StandsSomewhere bs →
     slice_get bs i ≡ Some (bound.Element object at) →
     ((o : Object) → slice_get bs object ≡ Some (bound.Object o) → WritesAt object at v o bs now result) → SetsValue i v bs now result
 sets_element bs now i object at v result s there f =
@@ -223,5 +208,5 @@ sets_element bs now i object at v result s there f =
           let e = state_of (world bs n) in
           subst (λ x. AssignsTo (value_set e i v x) (world bs n) (world now n) result) (sym (bound_there bs n i (bound.Element object at) there))
           (subst (λ x. AssignsTo (element_written e object (plain_mark at) v x) (world bs n) (world now n) result)
-          (sym (object_there_in bs n object r.held r.there)) (assigns_element bs now n i object at v r.held result r.there r.stands k));
+          (sym (object_there_in bs n object r.held r.there)) (assigns_element bs now n object at v r.held result r.there k));
     }

@@ -7,11 +7,15 @@ use Rattle.ac_base.specs.Limits.{numbers_end}
 use Rattle.ac_base.specs.declared.cursor.Cursor.{Cursor}
 use Rattle.ac_base.specs.declared.cursor.Cursor.TheVariants as cursor
 use Rattle.ac_base.specs.declared.limit.Limit.{Limit}
+use Rattle.ac_model.specs.Holders.{Holder, empty_holder}
 use Rattle.ac_model.specs.Objects.{empty_object}
 use Rattle.ac_model.specs.Objects as model
+use Rattle.ac_syntax.specs.declared.kind.ElemKind.{ElemKind}
 use Rattle.ac_syntax.specs.declared.type_def.TypeDef.{TypeDef}
+use Rattle.ac_check.specs.Kinds.{is_holder}
 use Rattle.ac_check.specs.declared.resolved.ResolvedDecl.TheVariants as decl
-use Rattle.ac_meaning.specs.Holdings.{RowKind, RowOf, Held, of_rows, number_of, have_capacity, kind_by, new_held}
+use Rattle.ac_meaning.specs.Elements.{ElementOf}
+use Rattle.ac_meaning.specs.Holdings.{RowKind, RowOf, Held, of_rows, of_holder, number_of, have_capacity, kind_by, limit_by, new_within, new_held}
 use Rattle.ac_meaning.specs.Environment as meant
 use Rattle.ac_meaning.specs.Environment.{Declared, declared, number_taken}
 use Rattle.ac_meaning.specs.Numbers.{NumbersDiffer}
@@ -19,10 +23,11 @@ use Rattle.ac_meaning.proofs.NumbersApart.{numbers_go_on}
 use Rattle.ac_objects.specs.declared.object.Object.{Object}
 use Rattle.ac_objects.specs.declared.bound.Bound.{Bound}
 use Rattle.ac_objects.specs.declared.bound.Bound.TheVariants as bound
-use Rattle.ac_objects.specs.Declarations.{new_within, object_declared}
+use Rattle.ac_objects.specs.Declarations.{object_declared}
 use Rattle.ac_objects.specs.World.{World, world, held_of, bound_of, state_of, ObjectAgrees, BoundAgrees, IsKnown, cursor_in, IsSound, Persists}
 use Rattle.ac_objects.proofs.Given.{none_agrees, other_agrees}
 use Rattle.ac_objects.proofs.InScope.{no_cursor}
+use Rattle.ac_objects.proofs.Sources.{if_false}
 
 -- a number is taken
 
@@ -45,11 +50,30 @@ empty kind number limit = of_rows kind (empty_object (have_capacity kind) number
 
 -- one of this kind, of the type that was declared
 pub of_type : (kind : RowKind) (o : model.Object ℕ (RowOf kind)) (def : TypeDef) (number : ℕ) (limit : Limit) →
-    kind_by def.kind def.first def.second def.keyed ≡ kind → o ≡ empty_object (have_capacity kind) number limit → of_rows kind o ≡ new_within def number limit
-of_type kind o def number limit kind_is is = ap (of_rows kind) is ∙ ap (λ k. empty k number limit) (sym kind_is)
+    is_holder def.kind ≡ false → kind_by def.kind def.first def.second def.keyed ≡ kind → o ≡ empty_object (have_capacity kind) number limit →
+    of_rows kind o ≡ new_within def number limit
+of_type kind o def number limit rows kind_is is =
+    ap (of_rows kind) is ∙ (ap (λ k. empty k number limit) (sym kind_is) ∙ sym (if_false (of_holder def.first (empty_holder number limit)) _ _ rows))
+
+-- and a holder
+pub of_holder_type : (e : ElemKind) (h : Holder (ElementOf e)) (def : TypeDef) (number : ℕ) (limit : Limit) →
+    is_holder def.kind ≡ true → def.first ≡ e → h ≡ empty_holder number limit → of_holder e h ≡ new_within def number limit
+of_holder_type e h def number limit holds first is =
+    ap (of_holder e) is
+    ∙ (ap (λ x. of_holder x (empty_holder number limit)) (sym first) ∙ sym (unspent_held _ (of_holder def.first (empty_holder number limit)) _ holds))
+  where
+    unspent_held : (b : Bool) (x y : Held) → b ≡ true → (if b then x else y) ≡ x
+    unspent_held true x y e = refl
+    unspent_held false x y e = absurd (cc)
 
 new_number : (def : TypeDef) (number : ℕ) (capacity : Option ℕ) → number_of (new_held def number capacity) ≡ number
-new_number def number capacity = refl
+new_number def number capacity = go (is_holder def.kind)
+  where
+    go : (b : Bool) →
+        number_of (if b then of_holder def.first (empty_holder number (limit_by capacity))
+        else empty (kind_by def.kind def.first def.second def.keyed) number (limit_by capacity)) ≡ number
+    go true = refl
+    go false = refl
 
 -- the declaration of an object, where a number is left
 

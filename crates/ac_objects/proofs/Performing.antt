@@ -1,20 +1,22 @@
 -- A command, step by step.
 use Rattle.std.proofs.Common.{◌≡◌, ℕ, ℤ, zero, suc, Bool, true, false, List, [], ◌∷◌, slice_get, slice_set, refl, sym, ap, subst, ◌∙◌, Option, Some, None, Result, Ok, Err, if◌then◌else◌}
+use Rattle.std.proofs.lemmas.Option.{same_Some}
 use Rattle.ac_base.specs.declared.fault.Fault.{Fault}
 use Rattle.ac_base.specs.declared.fault.Fault.TheVariants as fault
-use Rattle.ac_base.specs.declared.fault.NoMemory.{NoMemory}
 use Rattle.ac_base.specs.declared.reason.Reason.{Reason}
+use Rattle.ac_base.specs.declared.value.Value.{Value}
 use Rattle.ac_model.specs.Calls.{Done}
 use Rattle.ac_model.specs.Letters.{Mark}
 use Rattle.ac_check.specs.declared.operation.Operation.{Operation}
 use Rattle.ac_check.specs.declared.resolved.ResolvedArg.{ResolvedArg}
 use Rattle.ac_check.specs.Resolved.{calls_at}
 use Rattle.ac_meaning.specs.Answers as meant
-use Rattle.ac_meaning.specs.Commands.{Performed, says, Assigned, assigned, unless_refused, waits_or_goes, replied, call_on, called, after_call, source_place, source_set, place_in, mark_set, variable_to, variable_set, assigned_from, is_integer, sum_assigned}
+use Rattle.ac_meaning.specs.Commands.{Performed, says, Assigned, assigned, unless_refused, waits_or_goes, replied, call_on, called, after_call, arguments, source_of, source_place, source_set, place_in, mark_set, variable_to, variable_set, assigned_from, is_integer, sum_assigned}
 use Rattle.ac_meaning.specs.Environment.{Bound, binds_type, binds_object, binds_cursor, binds_value, binds_element, State, bound_in, bound_at, object_in, object_at, with_bound}
 use Rattle.ac_meaning.specs.Holdings.{Held}
 use Rattle.ac_meaning.specs.Replies as replies
 use Rattle.ac_meaning.specs.Stays.{StateStays}
+use Rattle.ac_meaning.proofs.CallsStay.{none_some}
 use Rattle.ac_meaning.proofs.CommandsStay.{command_stays}
 use Rattle.ac_objects.specs.declared.reply.Said.{Said}
 use Rattle.ac_objects.specs.declared.reply.Said.TheVariants as said
@@ -22,14 +24,20 @@ use Rattle.ac_objects.specs.declared.reply.Reply.{Reply}
 use Rattle.ac_objects.specs.Performs.{Performs, answered}
 use Rattle.ac_objects.specs.Shown.{Shows}
 use Rattle.ac_objects.specs.Standing.{ElementsStand}
-use Rattle.ac_objects.specs.Steps.{AssignsTo, SaidKnown, placed_of, IsCalledAt, CalledAt, IsPerformed, PerformsAt, reply_in, faulted, if_integer, sum_given}
+use Rattle.ac_objects.specs.Steps.{AssignsTo, SaidKnown, placed_of, IsCalledAt, CalledAt, IsPerformed, PerformsAt, reply_in, if_integer, sum_given}
 use Rattle.ac_objects.specs.World.{World, state_of, Persists}
 use Rattle.ac_objects.proofs.Lasting.{elements_last}
+use Rattle.ac_objects.proofs.Places.{set_same}
+use Rattle.ac_objects.proofs.Sources.{Looks, values_look}
 
 -- the steps of the definition
 
 unless_none : (e : State) (answer : meant.Answer) (a : Assigned) → a.reason ≡ None → unless_refused e answer a ≡ says answer a.after
 unless_none e answer a f = rw f refl
+
+unless_some : (e : State) (answer : meant.Answer) (a : Assigned) (reason : Reason) → a.reason ≡ Some reason →
+    unless_refused e answer a ≡ says (meant.answers_raised reason) e
+unless_some e answer a reason f = rw f refl
 
 goes : (e : State) (target : Option ℕ) (object : ℕ) (args : List ResolvedArg) (r : replies.Reply Held) → r.stalls ≡ false →
     waits_or_goes e target object args r ≡ unless_refused e r.answer (assigned (after_call e object args r) target r.answer)
@@ -58,6 +66,58 @@ called_made e target object op args h there reason stalls given =
     ∙ (made e target object args r reason
     ∙ (goes e target object args r stalls
     ∙ unless_none e r.answer (assigned (after_call e object args r) target r.answer) given))
+
+-- a call whose answer is refused by its target
+
+called_unassigned : (e : State) (target : Option ℕ) (object : ℕ) (op : Operation) (args : List ResolvedArg) (h : Held) (reason : Reason) →
+    object_at e object ≡ Some h → (reply_in e h op args).reason ≡ None → (reply_in e h op args).stalls ≡ false →
+    (assigned (after_call e object args (reply_in e h op args)) target (reply_in e h op args).answer).reason ≡ Some reason →
+    called e target object op args ≡ says (meant.answers_raised reason) e
+called_unassigned e target object op args h reason there none stalls given =
+    let r = reply_in e h op args in
+    called_by e target object op args h there
+    ∙ (made e target object args r none
+    ∙ (goes e target object args r stalls
+    ∙ unless_some e r.answer (assigned (after_call e object args r) target r.answer) reason given))
+
+-- what is refused is a value
+refused_value : (e : State) (target : Option ℕ) (answer : meant.Answer) (reason : Reason) → (assigned e target answer).reason ≡ Some reason →
+    (v : Value) × (answer ≡ meant.answers_value v)
+refused_value e None answer reason f = none_some reason f
+refused_value e (Some place) meant.answers_ok reason f = none_some reason f
+refused_value e (Some place) (meant.answers_value v) reason f = (v, refl)
+refused_value e (Some place) (meant.answers_truth b) reason f = none_some reason f
+refused_value e (Some place) (meant.answers_place mark) reason f = none_some reason f
+refused_value e (Some place) (meant.answers_list text) reason f = none_some reason f
+refused_value e (Some place) (meant.answers_raised other) reason f = none_some reason f
+refused_value e (Some place) meant.answers_stalled reason f = none_some reason f
+
+-- a call that answers one leaves all as it was
+
+object_found : (found : Option Bound) (h : Held) → object_in (bound_in found) ≡ Some h → found ≡ Some (binds_object h)
+object_found None h e = none_some h e
+object_found (Some binds_type) h e = none_some h e
+object_found (Some (binds_object k)) h e = ap (λ x. Some (binds_object x)) (same_Some k h e)
+object_found (Some (binds_cursor mark)) h e = none_some h e
+object_found (Some (binds_value v)) h e = none_some h e
+object_found (Some (binds_element object at)) h e = none_some h e
+
+object_same : (e : State) (object : ℕ) (h : Held) → object_at e object ≡ Some h → with_bound e object (binds_object h) ≡ e
+object_same e object h there =
+    ap (λ bounds. record { bounds = bounds; next = e.next })
+    (set_same e.bounds object (binds_object h) (object_found (slice_get e.bounds object) h there))
+
+source_same : (e : State) (place : Option ℕ) → source_set e place None ≡ e
+source_same e None = refl
+source_same e (Some place) = refl
+
+looks_only : (e : State) (object : ℕ) (args : List ResolvedArg) (h : Held) (r : replies.Reply Held) → object_at e object ≡ Some h → Looks h r →
+    after_call e object args r ≡ e
+looks_only e object args h r there l =
+    ap (λ v. variable_set (source_set (with_bound e object (binds_object r.after)) (source_place e args) r.source) args v) l.variable
+    ∙ (ap (λ s. source_set (with_bound e object (binds_object r.after)) (source_place e args) s) l.source
+    ∙ (source_same (with_bound e object (binds_object r.after)) (source_place e args)
+    ∙ (ap (λ a. with_bound e object (binds_object a)) l.after ∙ object_same e object h there)))
 
 -- what stays through a call, but for its target
 call_stays : (e : State) (object : ℕ) (op : Operation) (args : List ResolvedArg) (h : Held) → object_at e object ≡ Some h →
@@ -151,10 +211,10 @@ shown_after e (Some place) object said.Listing answer h =
     (h.0, there ∙ h.1, h.2)
 
 -- a call whose answer was given to its target
-pub call_given : (target : Option ℕ) (object : ℕ) (op : Operation) (args : List ResolvedArg) (h : Held) (old mid new : World) (s : Said) (result : Result Done NoMemory) →
+pub call_given : (target : Option ℕ) (object : ℕ) (op : Operation) (args : List ResolvedArg) (h : Held) (old mid new : World) (s : Said) (result : Result Done Fault) →
     object_at (state_of old) object ≡ Some h → IsPerformed (reply_in (state_of old) h op args) object args old mid s →
     AssignsTo (assigned (state_of mid) target (reply_in (state_of old) h op args).answer) mid new result →
-    Performs (called (state_of old) target object op args) object old new (answered s (faulted result))
+    Performs (called (state_of old) target object op args) object old new (answered s result)
 call_given target object op args h old mid new s (Ok done) there k g =
     let e = state_of old in
     let r = reply_in e h op args in
@@ -163,7 +223,17 @@ call_given target object op args h old mid new s (Ok done) there k g =
     let shown = subst (λ m. Shows m object s r.answer) k.after k.says in
     subst (λ p. Performs p object old new (Ok s)) (sym (called_made e target object op args h there k.reason k.goes (sym (ap (λ (a : Assigned). a.reason) same) ∙ g.0)))
     (g.1 ∙ ap (λ (a : Assigned). a.after) same, shown_after (after_call e object args r) target object s r.answer shown)
-call_given target object op args h old mid new s (Err f) there k g = tt
+call_given target object op args h old mid new s (Err (fault.Raised reason)) there k g =
+    let e = state_of old in
+    let r = reply_in e h op args in
+    let given : (assigned (after_call e object args r) target r.answer).reason ≡ Some reason =
+    sym (ap (λ m. (assigned m target r.answer).reason) k.after) ∙ g.0 in
+    let value = refused_value (after_call e object args r) target r.answer reason given in
+    let looks = values_look h (source_of e (source_place e args)) op (arguments e args) value.0 value.1 in
+    let same : state_of new ≡ e = ap state_of g.1 ∙ (k.after ∙ looks_only e object args h r there looks) in
+    subst (λ p. Performs p object old new (Err (fault.Raised reason)))
+    (sym (called_unassigned e target object op args h reason there k.reason k.goes given)) (refl, same, same)
+call_given target object op args h old mid new s (Err fault.NoMemory) there k g = tt
 
 -- a call that wasn't made
 pub call_refused : (target : Option ℕ) (object : ℕ) (op : Operation) (args : List ResolvedArg) (h : Held) (old new : World) (f : Fault) →
@@ -173,16 +243,21 @@ call_refused target object op args h old new (fault.Raised reason) there k =
     let e = state_of old in
     subst (λ p. Performs p object old new (Err (fault.Raised reason)))
     (sym (called_by e target object op args h there ∙ refused e target object args (reply_in e h op args) reason k.0))
-    (refl, ap state_of k.1, k.1)
+    (refl, ap state_of k.1, ap state_of k.1)
 call_refused target object op args h old new fault.NoMemory there k = tt
 
-pub sets_given : (e : State) (target : ℕ) (s : Said) (answer : meant.Answer) (old new : World) (result : Result Done NoMemory) →
-    Shows e target s answer → AssignsTo (assigned e (Some target) answer) old new result →
-    Performs (assigned_from e target answer) target old new (answered s (faulted result))
-sets_given e target s answer old new (Ok done) shows g =
+pub sets_given : (target : ℕ) (s : Said) (answer : meant.Answer) (old new : World) (result : Result Done Fault) →
+    Shows (state_of old) target s answer → AssignsTo (assigned (state_of old) (Some target) answer) old new result →
+    Performs (assigned_from (state_of old) target answer) target old new (answered s result)
+sets_given target s answer old new (Ok done) shows g =
+    let e = state_of old in
     subst (λ p. Performs p target old new (Ok s)) (sym (unless_none e answer (assigned e (Some target) answer) g.0))
     (g.1, shown_after e (Some target) target s answer shows)
-sets_given e target s answer old new (Err x) shows g = tt
+sets_given target s answer old new (Err (fault.Raised reason)) shows g =
+    let e = state_of old in
+    subst (λ p. Performs p target old new (Err (fault.Raised reason))) (sym (unless_some e answer (assigned e (Some target) answer) reason g.0))
+    (refl, ap state_of g.1, ap state_of g.1)
+sets_given target s answer old new (Err fault.NoMemory) shows g = tt
 
 sum_by : (e : State) (target : ℕ) (n : ℤ) (b : Bool) → is_integer n ≡ b → sum_given e target (if b then Some n else None) ≡ sum_assigned e target n
 sum_by e target n true f = rw (f, sum_assigned) refl

@@ -1,9 +1,10 @@
--- The source of a call: none and the object itself are one. And only a listing answers a text.
-use Rattle.std.proofs.Common.{◌≡◌, ◌==◌, ℕ, List, Bool, true, false, refl, sym, ap, subst, ◌∙◌, eq-eqb, Option, Some, None, if◌then◌else◌}
+-- The source of a call: none and the object itself are one. Only a listing answers a text, and a call that answers a value only looks.
+use Rattle.std.proofs.Common.{◌≡◌, ◌==◌, ℕ, List, Bool, true, false, refl, sym, ap, subst, ◌∙◌, eq-eqb, Option, Some, None, option_map, if◌then◌else◌}
 use Rattle.std.specs.Prelude.{⊤}
 use Rattle.ac_base.specs.declared.value.Value.{Value}
 use Rattle.ac_model.specs.Objects.{Object}
 use Rattle.ac_model.specs.Calls.{Call, Done}
+use Rattle.ac_model.specs.Holders.{Holder}
 use Rattle.ac_model.specs.Lists as list
 use Rattle.ac_model.specs.Vectors as vector
 use Rattle.ac_check.specs.declared.operation.Operation.{Operation}
@@ -18,6 +19,8 @@ use Rattle.ac_check.specs.declared.operation.VectorCall.{VectorCall}
 use Rattle.ac_check.specs.declared.operation.VectorCall.TheVariants as vector_call
 use Rattle.ac_check.specs.declared.operation.ListCall.{ListCall}
 use Rattle.ac_check.specs.declared.operation.ListCall.TheVariants as list_call
+use Rattle.ac_check.specs.declared.operation.HolderCall.{HolderCall}
+use Rattle.ac_check.specs.declared.operation.HolderCall.TheVariants as holder_call
 use Rattle.ac_check.specs.declared.operation.WalkCall.{WalkCall}
 use Rattle.ac_check.specs.declared.operation.WalkCall.TheVariants as walk_call
 use Rattle.ac_check.specs.declared.operation.OrderedCall.{OrderedCall}
@@ -35,9 +38,12 @@ use Rattle.ac_check.specs.declared.operation.KeyedCall.TheVariants as keyed_call
 use Rattle.ac_check.specs.declared.operation.OrderedSetCall.{OrderedSetCall}
 use Rattle.ac_check.specs.declared.operation.OrderedSetCall.TheVariants as ordered_set_call
 use Rattle.ac_model.specs.Rows.{Entry}
-use Rattle.ac_meaning.specs.Elements.{Tools, tools_of, Text, keyed_texts}
+use Rattle.ac_syntax.specs.declared.kind.ElemKind.{ElemKind}
+use Rattle.ac_syntax.specs.declared.kind.ElemKind.TheVariants.{Integer, Str}
+use Rattle.ac_meaning.specs.Elements.{Tools, ElementOf, tools_of, Text, keyed_texts}
 use Rattle.ac_meaning.specs.Answers.{Answer, answers_ok, answers_value, answers_truth, answers_place, answers_list, answers_raised, answers_stalled}
-use Rattle.ac_meaning.specs.Replies.{Arguments, Source, without, itself, another, by_source, seen_by, source_in, Reply, value_answer, carried}
+use Rattle.ac_meaning.specs.HolderReplies.{holder_source, holder_element, holder_alone_reply, holder_reply}
+use Rattle.ac_meaning.specs.Replies.{Arguments, Placed, Source, without, itself, another, by_source, seen_by, source_in, Reply, value_answer, carried}
 use Rattle.ac_meaning.specs.SequenceReplies.{OwnCalls, sequence_own, common_reply, sequence_reply, capacity_reply}
 use Rattle.ac_meaning.specs.ListReplies.{list_alone_reply, list_reply}
 use Rattle.ac_meaning.specs.VectorReplies.{vector_alone_reply, vector_reply}
@@ -45,7 +51,7 @@ use Rattle.ac_meaning.specs.KeyedReplies.{KeyedKind, of_hashed, of_ordered, walk
 use Rattle.ac_meaning.specs.MapReplies.{map_own, map_alone_reply, ordered_map_reply, map_reply}
 use Rattle.ac_meaning.specs.KeyedSetReplies.{keyed_set_reply}
 use Rattle.ac_meaning.specs.SetReplies.{set_own, set_alone_reply, set_pair_reply, ordered_set_reply, set_reply}
-use Rattle.ac_meaning.specs.Holdings.{SequenceKind, of_list, of_vector, RowKind, a_sequence, a_map, a_set, a_keyed_set, RowOf, Held, of_rows, own_calls, reply_by, rows_reply, reply_of}
+use Rattle.ac_meaning.specs.Holdings.{SequenceKind, of_list, of_vector, RowKind, a_sequence, a_map, a_set, a_keyed_set, RowOf, Held, of_rows, of_holder, same_element, rows_in, holder_in, own_calls, reply_by, rows_reply, reply_of}
 use Rattle.ac_meaning.proofs.RowKinds.{rows_own}
 use Rattle.ac_objects.proofs.KeyedOperations.{key_alone}
 
@@ -182,30 +188,60 @@ rows_alone (a_map which k e) o op args = map_alone (tools_of k) (tools_of e) o a
 rows_alone (a_set which e) o op args = set_alone (tools_of e) o args which op
 rows_alone (a_keyed_set which) o op args = keyed_alone o args which op
 
+-- a holder is of its own element type
+element_is : (e : ElemKind) → same_element e e ≡ Some refl
+element_is Integer = refl
+element_is Str = refl
+
+pub holder_own : (e : ElemKind) (h : Holder (ElementOf e)) → holder_in e (Some (of_holder e h)) ≡ Some h
+holder_own e h =
+    ap (option_map (λ (p : e ≡ e). coe 0 1 (i. Holder (ElementOf (p i))) h)) (element_is e) ∙ (λ i. Some (coe i 1 (j. Holder (ElementOf e)) h))
+
+module _ {T : Type 0} (tools : Tools T) (h : Holder T) (args : Arguments) where
+  holder_call_alone : (c : HolderCall) → holder_alone_reply tools h without args c ≡ holder_alone_reply tools h itself args c
+  holder_call_alone holder_call.IsEmpty = refl
+  holder_call_alone holder_call.Element = refl
+  holder_call_alone holder_call.ReplaceElement = refl
+  holder_call_alone holder_call.Clear = refl
+  holder_call_alone holder_call.Assign = refl
+  holder_call_alone holder_call.MoveFrom = refl
+  holder_call_alone holder_call.Swap = refl
+  holder_call_alone holder_call.Equal = refl
+  holder_call_alone holder_call.Print = refl
+
+  holder_alone : (op : Operation) → holder_reply tools h without args op ≡ holder_reply tools h itself args op
+  holder_alone (operation.Holder c) = holder_call_alone c
+  holder_alone _ = refl
+
 pub itself_alone : (h : Held) (op : Operation) (args : Arguments) → reply_of h (Some h) op args ≡ reply_of h None op args
 itself_alone (of_rows kind o) op args =
     ap (λ s. carried (of_rows kind) (rows_reply kind o (source_in o s args) (seen_by o args) op)) (rows_own kind o)
     ∙ (ap (λ s. carried (of_rows kind) (rows_reply kind o s (seen_by o args) op)) (own_source o args)
     ∙ ap (carried (of_rows kind)) (sym (rows_alone kind o op (seen_by o args))))
+itself_alone (of_holder e h) op args =
+    ap (λ s. carried (of_holder e) (holder_reply (tools_of e) h (holder_source h s args) args op)) (holder_own e h)
+    ∙ (ap (λ s. carried (of_holder e) (holder_reply (tools_of e) h s args op))
+    (if_true itself (another h args) (h.number == h.number) (eq-eqb h.number h.number refl))
+    ∙ ap (carried (of_holder e)) (sym (holder_alone (tools_of e) h args op)))
 
--- Listings
+-- Listings and values
 
--- a listing is that of the object, which stays as it was
-abbrev Lists : {V : Type 0} → (listing : List ℕ) → (o after : Object ℕ V) → Answer → Type 0
-Lists listing o after answers_ok = ⊤
-Lists listing o after (answers_value _) = ⊤
-Lists listing o after (answers_truth _) = ⊤
-Lists listing o after (answers_place _) = ⊤
-Lists listing o after (answers_list text) = (text ≡ listing) × (after ≡ o)
-Lists listing o after (answers_raised _) = ⊤
-Lists listing o after answers_stalled = ⊤
+-- a listing is that of the object, which stays as it was, and so do all things where a value is answered
+abbrev Lists : {V : Type 0} → (listing : List ℕ) → (o after : Object ℕ V) → Option (Object ℕ V) → Option Placed → Answer → Type 0
+Lists listing o after source variable answers_ok = ⊤
+Lists listing o after source variable (answers_value _) = (after ≡ o) × (source ≡ None) × (variable ≡ None)
+Lists listing o after source variable (answers_truth _) = ⊤
+Lists listing o after source variable (answers_place _) = ⊤
+Lists listing o after source variable (answers_list text) = (text ≡ listing) × (after ≡ o)
+Lists listing o after source variable (answers_raised _) = ⊤
+Lists listing o after source variable answers_stalled = ⊤
 
-value_lists : {V : Type 0} (listing : List ℕ) (o after : Object ℕ V) (v : Option Value) → Lists listing o after (value_answer v)
-value_lists listing o after None = tt
-value_lists listing o after (Some v) = tt
+value_lists : {V : Type 0} (listing : List ℕ) (o : Object ℕ V) (v : Option Value) → Lists listing o o None None (value_answer v)
+value_lists listing o None = tt
+value_lists listing o (Some v) = (refl, refl, refl)
 
 abbrev ReplyLists : {V : Type 0} → (listing : List ℕ) → Object ℕ V → Reply (Object ℕ V) → Type 0
-ReplyLists listing o r = Lists listing o r.after r.answer
+ReplyLists listing o r = Lists listing o r.after r.source r.variable r.answer
 
 by_source_lists : {V : Type 0} (listing : List ℕ) (o : Object ℕ V) (source : Source (Object ℕ V)) (own : Reply (Object ℕ V))
     (two : Object ℕ V → Arguments → Reply (Object ℕ V)) → ReplyLists listing o own →
@@ -216,7 +252,7 @@ by_source_lists listing o (another s args) own two h k = k s args
 
 module _ {V : Type 0} (listing : List ℕ) (o : Object ℕ V) (args : Arguments) where
   capacity_lists : (c : CapacityCall) → ReplyLists listing o (capacity_reply o args c)
-  capacity_lists capacity_call.Capacity = tt
+  capacity_lists capacity_call.Capacity = (refl, refl, refl)
   capacity_lists capacity_call.ReserveCapacity = tt
 
 module _ {V : Type 0} (o : Object ℕ V) (source : Source (Object ℕ V)) (args : Arguments) where
@@ -227,16 +263,16 @@ module _ {V : Type 0} (o : Object ℕ V) (source : Source (Object ℕ V)) (args 
   common_lists own common_call.MoveFrom = by_source_lists own.listing o source _ _ tt (λ s seen. tt)
   common_lists own common_call.Equal = tt
   common_lists own common_call.HasElement = tt
-  common_lists own common_call.Element = value_lists own.listing o o _
+  common_lists own common_call.Element = value_lists own.listing o _
   common_lists own common_call.ReplaceElement = tt
   common_lists own common_call.Print = (refl, refl)
-  common_lists own common_call.Length = tt
+  common_lists own common_call.Length = (refl, refl, refl)
 
 module _ {T : Type 0} (tools : Tools T) (o : Object ℕ T) (source : Source (Object ℕ T)) (args : Arguments) where
   sequence_lists : (listing : List ℕ) (reverses sorts : Call (Object ℕ T) Done) (c : SequenceCall) →
       ReplyLists listing o (sequence_reply tools o source args reverses sorts c)
-  sequence_lists listing reverses sorts sequence_call.FirstElement = value_lists listing o o _
-  sequence_lists listing reverses sorts sequence_call.LastElement = value_lists listing o o _
+  sequence_lists listing reverses sorts sequence_call.FirstElement = value_lists listing o _
+  sequence_lists listing reverses sorts sequence_call.LastElement = value_lists listing o _
   sequence_lists listing reverses sorts sequence_call.Merge = by_source_lists listing o source _ _ tt (λ s seen. tt)
   sequence_lists listing reverses sorts _ = tt
 
@@ -253,7 +289,12 @@ module _ {T : Type 0} (tools : Tools T) (o : Object ℕ T) (source : Source (Obj
   list_lists _ = tt
 
   indexed_lists : (listing : List ℕ) (c : VectorCall) → ReplyLists listing o (vector_alone_reply tools o source args c)
-  indexed_lists listing vector_call.ElementIndex = value_lists listing o o _
+  indexed_lists listing vector_call.ToIndex = (refl, refl, refl)
+  indexed_lists listing vector_call.FirstIndex = (refl, refl, refl)
+  indexed_lists listing vector_call.LastIndex = (refl, refl, refl)
+  indexed_lists listing vector_call.FindIndex = (refl, refl, refl)
+  indexed_lists listing vector_call.ReverseFindIndex = (refl, refl, refl)
+  indexed_lists listing vector_call.ElementIndex = value_lists listing o _
   indexed_lists listing vector_call.InsertVectorIndex = by_source_lists listing o source _ _ tt (λ s seen. tt)
   indexed_lists listing vector_call.InsertVector = by_source_lists listing o source _ _ tt (λ s seen. tt)
   indexed_lists listing vector_call.InsertVectorPos = by_source_lists listing o source _ _ tt (λ s seen. tt)
@@ -290,13 +331,13 @@ module _ {V : Type 0} (listing : List ℕ) (o : Object ℕ V) (args : Arguments)
 
 module _ {K T : Type 0} (keys : Tools K) (tools : Tools T) (o : Object ℕ (Entry K T)) (source : Source (Object ℕ (Entry K T))) (args : Arguments) where
   map_alone_lists : (which : KeyedKind) (listing : List ℕ) (c : MapCall) → ReplyLists listing o (map_alone_reply keys tools which o args c)
-  map_alone_lists which listing map_call.Key = value_lists listing o o _
-  map_alone_lists which listing map_call.ElementKey = value_lists listing o o _
+  map_alone_lists which listing map_call.Key = value_lists listing o _
+  map_alone_lists which listing map_call.ElementKey = value_lists listing o _
   map_alone_lists which listing _ = tt
 
   ordered_map_lists : (which : KeyedKind) (listing : List ℕ) (c : OrderedMapCall) → ReplyLists listing o (ordered_map_reply keys tools which o args c)
-  ordered_map_lists which listing ordered_map_call.FirstKey = value_lists listing o o _
-  ordered_map_lists which listing ordered_map_call.LastKey = value_lists listing o o _
+  ordered_map_lists which listing ordered_map_call.FirstKey = value_lists listing o _
+  ordered_map_lists which listing ordered_map_call.LastKey = value_lists listing o _
   ordered_map_lists which listing _ = tt
 
   map_lists : (which : KeyedKind) (op : Operation) → ReplyLists (map_own keys tools which o).listing o (map_reply keys tools o source args which op)
@@ -305,8 +346,8 @@ module _ {K T : Type 0} (keys : Tools K) (tools : Tools T) (o : Object ℕ (Entr
   map_lists which (operation.Map c) = map_alone_lists which (map_own keys tools which o).listing c
   map_lists of_hashed (operation.Capacity c) = capacity_lists (map_own keys tools of_hashed o).listing o args c
   map_lists of_ordered (operation.Ordered c) =
-      ordered_lists (map_own keys tools of_ordered o).listing o args _ _ (value_lists (map_own keys tools of_ordered o).listing o o _)
-      (value_lists (map_own keys tools of_ordered o).listing o o _) c
+      ordered_lists (map_own keys tools of_ordered o).listing o args _ _ (value_lists (map_own keys tools of_ordered o).listing o _)
+      (value_lists (map_own keys tools of_ordered o).listing o _) c
   map_lists of_ordered (operation.OrderedMap c) = ordered_map_lists of_ordered (map_own keys tools of_ordered o).listing c
   map_lists of_hashed _ = tt
   map_lists of_ordered _ = tt
@@ -334,19 +375,19 @@ module _ {T : Type 0} (tools : Tools T) (o : Object ℕ T) (source : Source (Obj
   set_lists which (operation.SetPair c) = set_pair_lists which (set_own tools which o).listing c
   set_lists of_hashed (operation.Capacity c) = capacity_lists (set_own tools of_hashed o).listing o args c
   set_lists of_ordered (operation.Ordered c) =
-      ordered_lists (set_own tools of_ordered o).listing o args _ _ (value_lists (set_own tools of_ordered o).listing o o _)
-      (value_lists (set_own tools of_ordered o).listing o o _) c
+      ordered_lists (set_own tools of_ordered o).listing o args _ _ (value_lists (set_own tools of_ordered o).listing o _)
+      (value_lists (set_own tools of_ordered o).listing o _) c
   set_lists of_ordered (operation.OrderedSet c) = ordered_set_lists of_ordered (set_own tools of_ordered o).listing c
   set_lists of_hashed _ = tt
   set_lists of_ordered _ = tt
 
 module _ (o : Object ℕ Text) (source : Source (Object ℕ Text)) (args : Arguments) where
   key_lists : (which : KeyedKind) (listing : List ℕ) (c : KeyedCall) → ReplyLists listing o (keyed_set_reply o source args which (operation.Keyed c))
-  key_lists of_hashed listing keyed_call.Key = value_lists listing o o _
-  key_lists of_hashed listing keyed_call.KeyElement = value_lists listing o o _
+  key_lists of_hashed listing keyed_call.Key = value_lists listing o _
+  key_lists of_hashed listing keyed_call.KeyElement = value_lists listing o _
   key_lists of_hashed listing _ = tt
-  key_lists of_ordered listing keyed_call.Key = value_lists listing o o _
-  key_lists of_ordered listing keyed_call.KeyElement = value_lists listing o o _
+  key_lists of_ordered listing keyed_call.Key = value_lists listing o _
+  key_lists of_ordered listing keyed_call.KeyElement = value_lists listing o _
   key_lists of_ordered listing _ = tt
 
   keyed_lists : (which : KeyedKind) (op : Operation) → ReplyLists (set_own keyed_texts which o).listing o (keyed_set_reply o source args which op)
@@ -376,4 +417,71 @@ rows_lists (a_keyed_set which) o source args op = keyed_lists o source args whic
 pub listed : (kind : RowKind) (o : Object ℕ (RowOf kind)) (source : Source (Object ℕ (RowOf kind))) (args : Arguments) (op : Operation) (text : List ℕ) →
     (rows_reply kind o source args op).answer ≡ answers_list text → (text ≡ (own_calls kind o).listing) × ((rows_reply kind o source args op).after ≡ o)
 listed kind o source args op text e =
-    subst (λ a. Lists (own_calls kind o).listing o (rows_reply kind o source args op).after a) e (rows_lists kind o source args op)
+    let r = rows_reply kind o source args op in
+    subst (λ a. Lists (own_calls kind o).listing o r.after r.source r.variable a) e (rows_lists kind o source args op)
+
+-- a call that answers a value changes nothing
+pub record Looks {S : Type 0} (s : S) (r : Reply S) : Type 0 where
+  pub after : r.after ≡ s
+  pub source : r.source ≡ None
+  pub variable : r.variable ≡ None
+
+rows_look : (kind : RowKind) (o : Object ℕ (RowOf kind)) (source : Source (Object ℕ (RowOf kind))) (args : Arguments) (op : Operation) (v : Value) →
+    (rows_reply kind o source args op).answer ≡ answers_value v → Looks o (rows_reply kind o source args op)
+rows_look kind o source args op v e =
+    let r = rows_reply kind o source args op in
+    let l = subst (λ a. Lists (own_calls kind o).listing o r.after r.source r.variable a) e (rows_lists kind o source args op) in
+    record { after = l.0; source = l.1; variable = l.2 }
+
+-- of a holder
+
+abbrev IfValue : Answer → Type 0 → Type 0
+IfValue (answers_value _) A = A
+IfValue _ A = ⊤
+
+if_value : (a : Answer) (A : Type 0) → A → IfValue a A
+if_value answers_ok A x = tt
+if_value (answers_value _) A x = x
+if_value (answers_truth _) A x = tt
+if_value (answers_place _) A x = tt
+if_value (answers_list _) A x = tt
+if_value (answers_raised _) A x = tt
+if_value answers_stalled A x = tt
+
+abbrev HolderLooks : {T : Type 0} → Holder T → Reply (Holder T) → Type 0
+HolderLooks h r = IfValue r.answer (Looks h r)
+
+holder_by_source : {T : Type 0} (h : Holder T) (source : Source (Holder T)) (own : Reply (Holder T)) (two : Holder T → Arguments → Reply (Holder T)) →
+    HolderLooks h own → ((s : Holder T) (args : Arguments) → HolderLooks h (two s args)) → HolderLooks h (by_source source own two)
+holder_by_source h without own two f g = f
+holder_by_source h itself own two f g = f
+holder_by_source h (another s args) own two f g = g s args
+
+module _ {T : Type 0} (tools : Tools T) (h : Holder T) (source : Source (Holder T)) (args : Arguments) where
+  holder_call_looks : (c : HolderCall) → HolderLooks h (holder_alone_reply tools h source args c)
+  holder_call_looks holder_call.IsEmpty = tt
+  holder_call_looks holder_call.Element =
+      if_value (value_answer (holder_element tools h).answer) _ (record { after = refl; source = refl; variable = refl })
+  holder_call_looks holder_call.ReplaceElement = tt
+  holder_call_looks holder_call.Clear = tt
+  holder_call_looks holder_call.Assign = holder_by_source h source _ _ tt (λ s seen. tt)
+  holder_call_looks holder_call.MoveFrom = holder_by_source h source _ _ tt (λ s seen. tt)
+  holder_call_looks holder_call.Swap = holder_by_source h source _ _ tt (λ s seen. tt)
+  holder_call_looks holder_call.Equal = tt
+  holder_call_looks holder_call.Print = tt
+
+  holder_looks : (op : Operation) → HolderLooks h (holder_reply tools h source args op)
+  holder_looks (operation.Holder c) = holder_call_looks c
+  holder_looks _ = tt
+
+-- and of any object
+pub values_look : (h : Held) (source : Option Held) (op : Operation) (args : Arguments) (v : Value) →
+    (reply_of h source op args).answer ≡ answers_value v → Looks h (reply_of h source op args)
+values_look (of_rows kind o) source op args v e =
+    let l = rows_look kind o (source_in o (rows_in kind source) args) (seen_by o args) op v e in
+    record { after = ap (of_rows kind) l.after; source = ap (option_map (of_rows kind)) l.source; variable = l.variable }
+values_look (of_holder e h) source op args v is =
+    let s = holder_source h (holder_in e source) args in
+    let r = holder_reply (tools_of e) h s args op in
+    let l : Looks h r = subst (λ a. IfValue a (Looks h r)) is (holder_looks (tools_of e) h s args op) in
+    record { after = ap (of_holder e) l.after; source = ap (option_map (of_holder e)) l.source; variable = l.variable }

@@ -25,7 +25,7 @@ use Rattle.ac_model.proofs.Unslotted.{agreement_kept, seen_marks}
 use Rattle.ac_setwork.specs.KeyCalls.{cursor_guard_of}
 use Rattle.ac_meaning.specs.Elements.{Text, text_in, texts}
 use Rattle.ac_meaning.specs.KeyedReplies.{KeyedKind, order_by}
-use Rattle.ac_meaning.specs.Holdings.{RowKind, RowOf, Held, Guards, Written, of_rows, a_sequence, a_map, a_set, a_keyed_set, number_of, held_on, guarded, held_under, guard_on, with_rows_by, is_on, element_value, key_update_reason, key_updated}
+use Rattle.ac_meaning.specs.Holdings.{RowKind, RowOf, Held, Guards, Written, of_rows, of_holder, as_object, counted_as, a_sequence, a_map, a_set, a_keyed_set, number_of, held_on, guarded, held_under, guard_on, with_rows_by, is_on, element_value, key_update_reason, key_updated}
 use Rattle.ac_meaning.specs.Environment.{Bound, binds_type, binds_object, binds_cursor, binds_value, binds_element, State, bound_at, bound_by, object_at, objects_by, under, at_rest, value_at, value_in, value_or_zero, element_in, with_bound, leaving}
 use Rattle.ac_meaning.specs.Execution.{end_lines, key_end, key_end_on}
 use Rattle.ac_meaning.specs.UnderGuards.{held_without}
@@ -61,6 +61,7 @@ update_reads (of_rows (a_keyed_set which) o) at e = none_others (tampers_cursors
 update_reads (of_rows (a_sequence which k) o) at e = absurd (cc)
 update_reads (of_rows (a_map which k v) o) at e = absurd (cc)
 update_reads (of_rows (a_set which k) o) at e = absurd (cc)
+update_reads (of_holder k h) at e = absurd (cc)
 
 -- a keyed set that an object is
 
@@ -179,6 +180,7 @@ counts_ended (of_rows (a_keyed_set which) o) m copy = refl
 counts_ended (of_rows (a_sequence which k) o) m copy = refl
 counts_ended (of_rows (a_map which k v) o) m copy = refl
 counts_ended (of_rows (a_set which k) o) m copy = refl
+counts_ended (of_holder k h) m copy = refl
 
 module _ (w : World) (bounds : List Place) (next place : ℕ) (x : Place) (o : Object) (view : world bounds next ≡ w) (sound : IsSound (world bounds next))
     (read : x ≡ get_or bounds place x) (is : x ≡ bound.Object o) (k : Held) (stands : object_at (state_of w) place ≡ Some k) where
@@ -269,6 +271,7 @@ element_under guards (of_rows (a_keyed_set which) o) m = refl
 element_under guards (of_rows (a_sequence which k) o) m = refl
 element_under guards (of_rows (a_map which k v) o) m = refl
 element_under guards (of_rows (a_set which k) o) m = refl
+element_under guards (of_holder k h) m = refl
 
 found_under : (guards : Guards) (found : Option Held) (m : Mark) → element_in (option_map (held_under guards) found) m ≡ element_in found m
 found_under guards None m = refl
@@ -331,12 +334,18 @@ module _ (g : HeldGuard) (guards : Guards) (cursors : g.kind ≡ guard.Cursors) 
       ap (of_rows (a_set which k))
       (fits (release_call false guard.Cursors o)
       (less_one o.cursor_guards _ (sym (cursor_count o.number own) ∙ ap cursors_of e)) (sym (sym (element_count o.number) ∙ ap elements_of e)))
+  counts_fit (of_holder k h) at v e own =
+      let o = as_object h in
+      ap (λ p. of_holder k (counted_as h p))
+      (fits (release_call false guard.Cursors o)
+      (less_one o.cursor_guards _ (sym (cursor_count o.number own) ∙ ap cursors_of e)) (sym (sym (element_count o.number) ∙ ap elements_of e)))
 
 reasons_fit : (h : Held) (at : Mark) (v : Value) → (key_ended h at (text_in v)).reason ≡ (key_updated h at v).reason
 reasons_fit (of_rows (a_keyed_set which) o) at v = refl
 reasons_fit (of_rows (a_sequence which k) o) at v = refl
 reasons_fit (of_rows (a_map which k x) o) at v = refl
 reasons_fit (of_rows (a_set which k) o) at v = refl
+reasons_fit (of_holder k h) at v = refl
 
 module _ (key : UpdateKey) (old new : State) (copy : Text) (result : Option Reason) (held : IsHeldAt old key.object key.guard)
     (cursors : key.guard.kind ≡ guard.Cursors) (below : key.object < key.names) (copied : copy ≡ text_in (value_at old key.names))

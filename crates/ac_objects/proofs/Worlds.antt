@@ -6,7 +6,7 @@ use Rattle.ac_base.specs.declared.cursor.Cursor.TheVariants as cursor
 use Rattle.ac_base.specs.declared.name.Name.{Name}
 use Rattle.ac_meaning.specs.Environment as meant
 use Rattle.ac_meaning.specs.Environment.{State, binds_type, binds_object, binds_cursor, binds_value, binds_element, object_at, object_in, bound_in, bound_at, with_bound}
-use Rattle.ac_meaning.specs.Holdings.{Held, of_rows, number_of}
+use Rattle.ac_meaning.specs.Holdings.{Held, of_rows, of_holder, number_of}
 use Rattle.ac_meaning.specs.Numbers.{has_number, times_numbered, NumbersDiffer}
 use Rattle.ac_meaning.proofs.CallsStay.{none_some}
 use Rattle.ac_meaning.proofs.NumbersApart.{is_there, numbers_tell}
@@ -69,6 +69,7 @@ bound_numbered : (number : ℕ) (b : meant.Bound) → has_number number b ≡ nu
 unfolding numbered
 bound_numbered number binds_type = refl
 bound_numbered number (binds_object (of_rows kind o)) = refl
+bound_numbered number (binds_object (of_holder e h)) = refl
 bound_numbered number (binds_cursor mark) = refl
 bound_numbered number (binds_value v) = refl
 bound_numbered number (binds_element object at) = refl

@@ -1,6 +1,7 @@
 //! New objects without elements, of every kind and element type.
 ghost use Rattle.std.specs.Prelude.{◌≡◌, Bool, true, false, Option, IfOk};
 ghost use Rattle.ac_base.specs.Limits.{IsLimit};
+ghost use Rattle.ac_check.specs.Kinds.{is_holder};
 ghost use Rattle.ac_meaning.specs.Holdings.{a_sequence, a_set, a_keyed_set, a_map, kind_by, element_or, limit_by, new_held, new_within, is_vector, is_hashed};
 ghost use Rattle.ac_model.specs.Holders.{empty_holder};
 ghost use Rattle.ac_model.specs.Objects.{plain, empty_object};
@@ -183,6 +184,7 @@ fn new_sequence<T: Drop>(
     requires { IsLimit limit }
     ensures kind { (first : Elements) (second : Option Elements) (keyed : Bool) →
         IfOk result (λ made. kind_by kind first second keyed ≡ a_sequence (kind_of made) first) }
+    ensures rows { IfOk result (λ _. is_holder kind ≡ false) }
     ensures empty { IfOk result (λ made. plain (rows_of made).object ≡ empty_object (is_vector (kind_of made)) tag limit) }
 {
     match kind {
@@ -220,6 +222,7 @@ fn new_set<T: ScriptElement>(
     ensures kind { (first : Elements) (second : Option Elements) →
         IfOk result (λ made. (kind_by kind first second false ≡ a_set (set_kind_of made) first)
         × (kind_by kind first second true ≡ a_keyed_set (set_kind_of made))) }
+    ensures rows { IfOk result (λ _. is_holder kind ≡ false) }
     ensures empty { IfOk result (λ made. plain (items_of made).object ≡ empty_object (is_hashed (set_kind_of made)) tag limit) }
 {
     match kind {
@@ -245,6 +248,7 @@ fn new_map<K: ScriptElement, V: ScriptElement>(
     requires { IsLimit limit }
     ensures kind { (first : Elements) (second : Option Elements) (keyed : Bool) →
         IfOk result (λ made. kind_by kind first second keyed ≡ a_map (map_kind_of made) first (element_or first second)) }
+    ensures rows { IfOk result (λ _. is_holder kind ≡ false) }
     ensures empty { IfOk result (λ made. plain (entries_of made).object ≡ empty_object (is_hashed (map_kind_of made)) tag limit) }
 {
     match kind {

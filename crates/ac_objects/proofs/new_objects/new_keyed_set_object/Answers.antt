@@ -12,5 +12,5 @@ returns c =
     let made = c.in_ok-set in
     let def = c.args.def.now in
     ap held_in (keyed_set (record { set = made.set })) ∙
-    of_type (a_keyed_set (set_kind_of made.set)) (plain (items_of made.set).object) def c.args.tag c.args.limit
+    of_type (a_keyed_set (set_kind_of made.set)) (plain (items_of made.set).object) def c.args.tag c.args.limit made.ensures.rows
     (ap (kind_by def.kind def.first def.second) c.requires.keyed ∙ (made.ensures.kind def.first def.second).1) made.ensures.empty

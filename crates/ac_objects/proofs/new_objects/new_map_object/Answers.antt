@@ -14,7 +14,7 @@ returns-in_ok-made-in-Integer-element c =
     let def = c.args.def.now in
     let which = map_kind_of made.made in
     ap held_in (integers_by_integer made.made) ∙
-    of_type (a_map which Integer Integer) (plain (entries_of made.made).object) def c.args.tag c.args.limit
+    of_type (a_map which Integer Integer) (plain (entries_of made.made).object) def c.args.tag c.args.limit made.ensures.rows
     (made.ensures.kind def.first def.second def.keyed ∙ (λ i. a_map which (c.in-Integer.is i) ((sym c.element_or-element.ensures ∙ c.in-Integer-element.is) i))) made.ensures.empty
 
 pub returns-in_ok-made-in-Str-element : goal.returns-in_ok-made-in-Str-element
@@ -23,7 +23,7 @@ returns-in_ok-made-in-Str-element c =
     let def = c.args.def.now in
     let which = map_kind_of made.made in
     ap held_in (texts_by_integer made.made) ∙
-    of_type (a_map which Integer Str) (plain (entries_of made.made).object) def c.args.tag c.args.limit
+    of_type (a_map which Integer Str) (plain (entries_of made.made).object) def c.args.tag c.args.limit made.ensures.rows
     (made.ensures.kind def.first def.second def.keyed ∙ (λ i. a_map which (c.in-Integer.is i) ((sym c.element_or-element.ensures ∙ c.in-Str-element.is) i))) made.ensures.empty
 
 pub returns-in_ok-made-in-Integer-element-2 : goal.returns-in_ok-made-in-Integer-element-2
@@ -32,7 +32,7 @@ returns-in_ok-made-in-Integer-element-2 c =
     let def = c.args.def.now in
     let which = map_kind_of made.made in
     ap held_in (integers_by_text made.made) ∙
-    of_type (a_map which Str Integer) (plain (entries_of made.made).object) def c.args.tag c.args.limit
+    of_type (a_map which Str Integer) (plain (entries_of made.made).object) def c.args.tag c.args.limit made.ensures.rows
     (made.ensures.kind def.first def.second def.keyed ∙ (λ i. a_map which (c.in-Str.is i) ((sym c.element_or-element.ensures ∙ c.in-Integer-element-2.is) i))) made.ensures.empty
 
 pub returns-in_ok-made-in-Str-element-2 : goal.returns-in_ok-made-in-Str-element-2
@@ -41,5 +41,5 @@ returns-in_ok-made-in-Str-element-2 c =
     let def = c.args.def.now in
     let which = map_kind_of made.made in
     ap held_in (texts_by_text made.made) ∙
-    of_type (a_map which Str Str) (plain (entries_of made.made).object) def c.args.tag c.args.limit
+    of_type (a_map which Str Str) (plain (entries_of made.made).object) def c.args.tag c.args.limit made.ensures.rows
     (made.ensures.kind def.first def.second def.keyed ∙ (λ i. a_map which (c.in-Str.is i) ((sym c.element_or-element.ensures ∙ c.in-Str-element-2.is) i))) made.ensures.empty

@@ -13,7 +13,7 @@ returns-in_ok-made-in-Integer c =
     let made = c.in_ok-made-in-Integer in
     let def = c.args.def.now in
     ap held_in (integer_set made.made) ∙
-    of_type (a_set (set_kind_of made.made) Integer) (plain (items_of made.made).object) def c.args.tag c.args.limit
+    of_type (a_set (set_kind_of made.made) Integer) (plain (items_of made.made).object) def c.args.tag c.args.limit made.ensures.rows
     (ap (kind_by def.kind def.first def.second) c.requires.plain ∙ ((made.ensures.kind def.first def.second).0 ∙ ap (a_set (set_kind_of made.made)) c.in-Integer.is)) made.ensures.empty
 
 pub returns-in_ok-made-in-Str : goal.returns-in_ok-made-in-Str
@@ -21,5 +21,5 @@ returns-in_ok-made-in-Str c =
     let made = c.in_ok-made-in-Str in
     let def = c.args.def.now in
     ap held_in (text_set made.made) ∙
-    of_type (a_set (set_kind_of made.made) Str) (plain (items_of made.made).object) def c.args.tag c.args.limit
+    of_type (a_set (set_kind_of made.made) Str) (plain (items_of made.made).object) def c.args.tag c.args.limit made.ensures.rows
     (ap (kind_by def.kind def.first def.second) c.requires.plain ∙ ((made.ensures.kind def.first def.second).0 ∙ ap (a_set (set_kind_of made.made)) c.in-Str.is)) made.ensures.empty

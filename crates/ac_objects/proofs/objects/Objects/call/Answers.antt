@@ -1,6 +1,4 @@
-use Rattle.std.proofs.Common.{refl, sym, subst}
-use Rattle.ac_meaning.specs.Commands.{called}
-use Rattle.ac_objects.specs.Performs.{Performs, answered}
+use Rattle.std.proofs.Common.{refl}
 use Rattle.ac_objects.specs.Steps.{reply_in}
 use Rattle.ac_objects.specs.World.{state_of}
 use Rattle.ac_objects.proofs.Performing.{call_given, call_refused, stand_after}
@@ -20,9 +18,8 @@ returns-in-Ok-clause-performed c =
     let o = c.if-not-is_object.ensures.yes refl in
     let k = c.in-Ok.ensures.performed o.held o.there in
     let answer = (reply_in (state_of old) o.held a.operation a.args.now).answer in
-    subst (λ r. Performs (called (state_of old) a.target a.object a.operation a.args.now) a.object old c.give.new.self (answered said r)) (sym c.faulted.ensures)
-    (call_given a.target a.object a.operation a.args.now o.held old c.perform.new.self c.give.new.self said c.give.result o.there k
-    (c.give.ensures.given a.object answer k.says))
+    call_given a.target a.object a.operation a.args.now o.held old c.perform.new.self c.give.new.self said c.give.result o.there k
+    (c.give.ensures.given a.object answer k.says)
 
 pub returns-in-Err-clause-performed : goal.returns-in-Err-clause-performed
 returns-in-Err-clause-performed c =

@@ -1,7 +1,6 @@
 use Rattle.std.proofs.Common.{◌≡◌, rules, sym, ap, subst, to_z, of_z, w64}
 use Rattle.ac_base.specs.declared.value.Value.TheVariants as value
 use Rattle.ac_meaning.specs.Answers.{answers_integer}
-use Rattle.ac_meaning.specs.Commands.{assigned_from}
 use Rattle.ac_objects.specs.declared.reply.Said.TheVariants as said
 use Rattle.ac_objects.specs.Performs.{Performs, answered}
 use Rattle.ac_objects.specs.Shown.{Shows}
@@ -20,6 +19,5 @@ returns-in-Some-clause-performed c =
     let says = said.Value (value.Int (to_z w64 (of_z w64 n))) in
     let answer = answers_integer n in
     let shows : Shows e a.target says answer = ap answers_integer (sym same) in
-    subst (λ s. Performs (sum_given e a.target s) a.target old c.give.new.self (answered says c.faulted.result)) (sym c.in-Some.is)
-    (subst (λ r. Performs (assigned_from e a.target answer) a.target old c.give.new.self (answered says r)) (sym c.faulted.ensures)
-    (sets_given e a.target says answer old c.give.new.self c.give.result shows (c.give.ensures.given a.target answer shows)))
+    subst (λ s. Performs (sum_given e a.target s) a.target old c.give.new.self (answered says c.give.result)) (sym c.in-Some.is)
+    (sets_given a.target says answer old c.give.new.self c.give.result shows (c.give.ensures.given a.target answer shows))

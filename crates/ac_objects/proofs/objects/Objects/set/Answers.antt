@@ -1,6 +1,5 @@
-use Rattle.std.proofs.Common.{sym, subst}
-use Rattle.ac_meaning.specs.Commands.{answer_from, set_from}
-use Rattle.ac_objects.specs.Performs.{Performs, answered}
+use Rattle.std.proofs.Common.{subst}
+use Rattle.ac_meaning.specs.Commands.{answer_from}
 use Rattle.ac_objects.specs.Shown.{Shows}
 use Rattle.ac_objects.specs.World.{state_of}
 use Rattle.ac_objects.proofs.Performing.{sets_given}
@@ -17,5 +16,4 @@ returns-in-Ok-clause-performed c =
     let answer = answer_from e c.args.from.now in
     let said = c.said_of.result in
     let shows = subst (λ a. Shows e target said a) c.in-Ok.ensures.said (c.said_of.ensures.says e target) in
-    subst (λ r. Performs (set_from e target c.args.from.now) target old c.give.new.self (answered said r)) (sym c.faulted.ensures)
-    (sets_given e target said answer old c.give.new.self c.give.result shows (c.give.ensures.given target answer shows))
+    sets_given target said answer old c.give.new.self c.give.result shows (c.give.ensures.given target answer shows)
