@@ -245,22 +245,22 @@ abbrev pairs : List Kind
 pairs = kind.HashedMap ∷ kind.OrderedMap ∷ []
 
 abbrev singles : List Kind
-singles = kind.Vector ∷ kind.List ∷ kind.HashedSet ∷ kind.OrderedSet ∷ []
+singles = kind.Vector ∷ kind.List ∷ kind.HashedSet ∷ kind.OrderedSet ∷ kind.Holder ∷ []
 
 abbrev sets : List Kind
 sets = kind.HashedSet ∷ kind.OrderedSet ∷ []
 
 abbrev refused : List Kind
-refused = kind.Tree ∷ kind.Holder ∷ kind.Queue ∷ kind.PriorityQueue ∷ []
+refused = kind.Tree ∷ kind.Queue ∷ kind.PriorityQueue ∷ []
 
--- vectors, lists and sets of one sort of element and maps of two are made yet, and sets of strings alone have keys
+-- vectors, lists, sets and holders of one sort of element and maps of two are made yet, and sets of strings alone have keys
 abbrev pub MakesRows : Type 0
 MakesRows = TellsDecls []
     (map (λ k. declares (def false k Integer None false)) singles ++ map (λ k. declares (def true k Str None false)) singles
     ++ map (λ k. declares (def false k Integer (Some Str) false)) pairs ++ map (λ k. declares (def true k Str (Some Str) false)) pairs
     ++ map (λ k. declares (def false k Str None true)) sets ++ map (λ k. declares (def true k Str None true)) sets)
     (map (λ k. declares (def false k Integer (Some Integer) false)) singles ++ map (λ k. declares (def false k Integer None true)) singles
-    ++ map (λ k. declares (def false k Str None true)) (kind.Vector ∷ kind.List ∷ [])
+    ++ map (λ k. declares (def false k Str None true)) (kind.Vector ∷ kind.List ∷ kind.Holder ∷ [])
     ++ map (λ k. declares (def false k Str (Some Str) true)) sets
     ++ map (λ k. declares (def false k Integer None false)) pairs ++ map (λ k. declares (def false k Str (Some Str) true)) pairs
     ++ map (λ k. declares (def false k Integer None false)) refused ++ map (λ k. declares (def false k Str (Some Integer) false)) refused)

@@ -77,7 +77,7 @@ is_built kind.OrderedMap = true
 is_built kind.HashedSet = true
 is_built kind.OrderedSet = true
 is_built kind.Tree = false
-is_built kind.Holder = false
+is_built kind.Holder = true
 is_built kind.Queue = false
 is_built kind.PriorityQueue = false
 
