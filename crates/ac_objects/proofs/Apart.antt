@@ -1,10 +1,10 @@
--- An object of one type is found as no rows of another's kinds.
+-- An object of one type is found as no rows of another's kinds, and as no holder of another element type.
 use Rattle.std.proofs.Common.{◌≡◌, refl, Some, None}
 use Rattle.ac_syntax.specs.declared.kind.ElemKind.TheVariants.{Integer, Str}
-use Rattle.ac_meaning.specs.Holdings.{SequenceKind, a_sequence, a_map, a_set, a_keyed_set, rows_in}
+use Rattle.ac_meaning.specs.Holdings.{SequenceKind, a_sequence, a_map, a_set, a_keyed_set, rows_in, holder_in}
 use Rattle.ac_meaning.specs.KeyedReplies.{KeyedKind}
 use Rattle.ac_objects.specs.declared.object.Object.{Object}
-use Rattle.ac_objects.specs.declared.object.Object.TheVariants.{Integers, Texts, IntegerSet, TextSet, KeyedSet, IntegersByInteger, IntegersByText, TextsByInteger, TextsByText}
+use Rattle.ac_objects.specs.declared.object.Object.TheVariants.{Integers, Texts, IntegerSet, TextSet, KeyedSet, IntegersByInteger, IntegersByText, TextsByInteger, TextsByText, IntegerHolder, TextHolder}
 use Rattle.ac_objects.specs.World.{memory_of, held_of}
 
 pub no_integers : (which : SequenceKind) (s : Object) → ((x : _) → s ≡ Integers x → ⊥) → rows_in (a_sequence which Integer) (Some (held_of s)) ≡ None
@@ -18,6 +18,8 @@ no_integers which (IntegersByInteger x) none = refl
 no_integers which (IntegersByText x) none = refl
 no_integers which (TextsByInteger x) none = refl
 no_integers which (TextsByText x) none = refl
+no_integers which (IntegerHolder x) none = refl
+no_integers which (TextHolder x) none = refl
 
 pub no_texts : (which : SequenceKind) (s : Object) → ((x : _) → s ≡ Texts x → ⊥) → rows_in (a_sequence which Str) (Some (held_of s)) ≡ None
 unfolding memory_of
@@ -30,6 +32,8 @@ no_texts which (IntegersByInteger x) none = refl
 no_texts which (IntegersByText x) none = refl
 no_texts which (TextsByInteger x) none = refl
 no_texts which (TextsByText x) none = refl
+no_texts which (IntegerHolder x) none = refl
+no_texts which (TextHolder x) none = refl
 
 pub no_integer_set : (which : KeyedKind) (s : Object) → ((x : _) → s ≡ IntegerSet x → ⊥) → rows_in (a_set which Integer) (Some (held_of s)) ≡ None
 unfolding memory_of
@@ -42,6 +46,8 @@ no_integer_set which (IntegersByInteger x) none = refl
 no_integer_set which (IntegersByText x) none = refl
 no_integer_set which (TextsByInteger x) none = refl
 no_integer_set which (TextsByText x) none = refl
+no_integer_set which (IntegerHolder x) none = refl
+no_integer_set which (TextHolder x) none = refl
 
 pub no_text_set : (which : KeyedKind) (s : Object) → ((x : _) → s ≡ TextSet x → ⊥) → rows_in (a_set which Str) (Some (held_of s)) ≡ None
 unfolding memory_of
@@ -54,6 +60,8 @@ no_text_set which (IntegersByInteger x) none = refl
 no_text_set which (IntegersByText x) none = refl
 no_text_set which (TextsByInteger x) none = refl
 no_text_set which (TextsByText x) none = refl
+no_text_set which (IntegerHolder x) none = refl
+no_text_set which (TextHolder x) none = refl
 
 pub no_integers_by_integer : (which : KeyedKind) (s : Object) → ((x : _) → s ≡ IntegersByInteger x → ⊥) → rows_in (a_map which Integer Integer) (Some (held_of s)) ≡ None
 unfolding memory_of
@@ -66,6 +74,8 @@ no_integers_by_integer which (IntegersByInteger x) none = absurd (none x refl)
 no_integers_by_integer which (IntegersByText x) none = refl
 no_integers_by_integer which (TextsByInteger x) none = refl
 no_integers_by_integer which (TextsByText x) none = refl
+no_integers_by_integer which (IntegerHolder x) none = refl
+no_integers_by_integer which (TextHolder x) none = refl
 
 pub no_integers_by_text : (which : KeyedKind) (s : Object) → ((x : _) → s ≡ IntegersByText x → ⊥) → rows_in (a_map which Str Integer) (Some (held_of s)) ≡ None
 unfolding memory_of
@@ -78,6 +88,8 @@ no_integers_by_text which (IntegersByInteger x) none = refl
 no_integers_by_text which (IntegersByText x) none = absurd (none x refl)
 no_integers_by_text which (TextsByInteger x) none = refl
 no_integers_by_text which (TextsByText x) none = refl
+no_integers_by_text which (IntegerHolder x) none = refl
+no_integers_by_text which (TextHolder x) none = refl
 
 pub no_texts_by_integer : (which : KeyedKind) (s : Object) → ((x : _) → s ≡ TextsByInteger x → ⊥) → rows_in (a_map which Integer Str) (Some (held_of s)) ≡ None
 unfolding memory_of
@@ -90,6 +102,8 @@ no_texts_by_integer which (IntegersByInteger x) none = refl
 no_texts_by_integer which (IntegersByText x) none = refl
 no_texts_by_integer which (TextsByInteger x) none = absurd (none x refl)
 no_texts_by_integer which (TextsByText x) none = refl
+no_texts_by_integer which (IntegerHolder x) none = refl
+no_texts_by_integer which (TextHolder x) none = refl
 
 pub no_texts_by_text : (which : KeyedKind) (s : Object) → ((x : _) → s ≡ TextsByText x → ⊥) → rows_in (a_map which Str Str) (Some (held_of s)) ≡ None
 unfolding memory_of
@@ -102,6 +116,8 @@ no_texts_by_text which (IntegersByInteger x) none = refl
 no_texts_by_text which (IntegersByText x) none = refl
 no_texts_by_text which (TextsByInteger x) none = refl
 no_texts_by_text which (TextsByText x) none = absurd (none x refl)
+no_texts_by_text which (IntegerHolder x) none = refl
+no_texts_by_text which (TextHolder x) none = refl
 
 pub no_keyed_set : (which : KeyedKind) (s : Object) → ((x : _) → s ≡ KeyedSet x → ⊥) → rows_in (a_keyed_set which) (Some (held_of s)) ≡ None
 unfolding memory_of
@@ -114,3 +130,33 @@ no_keyed_set which (IntegersByInteger x) none = refl
 no_keyed_set which (IntegersByText x) none = refl
 no_keyed_set which (TextsByInteger x) none = refl
 no_keyed_set which (TextsByText x) none = refl
+no_keyed_set which (IntegerHolder x) none = refl
+no_keyed_set which (TextHolder x) none = refl
+
+pub no_integer_holder : (s : Object) → ((x : _) → s ≡ IntegerHolder x → ⊥) → holder_in Integer (Some (held_of s)) ≡ None
+unfolding memory_of
+no_integer_holder (Integers x) none = refl
+no_integer_holder (Texts x) none = refl
+no_integer_holder (IntegerSet x) none = refl
+no_integer_holder (TextSet x) none = refl
+no_integer_holder (KeyedSet x) none = refl
+no_integer_holder (IntegersByInteger x) none = refl
+no_integer_holder (IntegersByText x) none = refl
+no_integer_holder (TextsByInteger x) none = refl
+no_integer_holder (TextsByText x) none = refl
+no_integer_holder (IntegerHolder x) none = absurd (none x refl)
+no_integer_holder (TextHolder x) none = refl
+
+pub no_text_holder : (s : Object) → ((x : _) → s ≡ TextHolder x → ⊥) → holder_in Str (Some (held_of s)) ≡ None
+unfolding memory_of
+no_text_holder (Integers x) none = refl
+no_text_holder (Texts x) none = refl
+no_text_holder (IntegerSet x) none = refl
+no_text_holder (TextSet x) none = refl
+no_text_holder (KeyedSet x) none = refl
+no_text_holder (IntegersByInteger x) none = refl
+no_text_holder (IntegersByText x) none = refl
+no_text_holder (TextsByInteger x) none = refl
+no_text_holder (TextsByText x) none = refl
+no_text_holder (IntegerHolder x) none = refl
+no_text_holder (TextHolder x) none = absurd (none x refl)

@@ -24,6 +24,8 @@ pub mod Sources
 pub mod Families
 pub mod Apart
 pub mod CalledRows
+pub mod CalledHolders
+pub mod HolderOperations
 pub mod NewObjects
 pub mod Declaring
 pub mod Places

@@ -36,7 +36,7 @@ use Rattle.ac_objects.specs.declared.bound.Bound.{Bound as Place}
 use Rattle.ac_objects.specs.declared.bound.Bound.TheVariants as bound
 use Rattle.ac_objects.specs.declared.keyed_set.KeyedSet.{KeyedSet as KeyedTexts}
 use Rattle.ac_objects.specs.declared.object.Object.{Object}
-use Rattle.ac_objects.specs.declared.object.Object.TheVariants.{Integers, Texts, IntegerSet, TextSet, KeyedSet, IntegersByInteger, IntegersByText, TextsByInteger, TextsByText}
+use Rattle.ac_objects.specs.declared.object.Object.TheVariants.{Integers, Texts, IntegerSet, TextSet, KeyedSet, IntegersByInteger, IntegersByText, TextsByInteger, TextsByText, IntegerHolder, TextHolder}
 use Rattle.ac_objects.specs.Blocks.{IsHeldAt, guards_of_update_key}
 use Rattle.ac_objects.specs.KeyedSets.{keyed_items, keyed_kind, keys_of}
 use Rattle.ac_objects.specs.KeyUpdates.{UpdateEnds, key_ended}
@@ -140,6 +140,8 @@ none_refused (IntegersByInteger x) m none = refl
 none_refused (IntegersByText x) m none = refl
 none_refused (TextsByInteger x) m none = refl
 none_refused (TextsByText x) m none = refl
+none_refused (IntegerHolder x) m none = refl
+none_refused (TextHolder x) m none = refl
 
 abbrev only_released : Held → Written
 only_released h = record { reason = None; after = with_rows_by (λ V p. release_call false guard.Cursors p) h }
@@ -155,6 +157,8 @@ none_ended (IntegersByInteger x) m copy none = refl
 none_ended (IntegersByText x) m copy none = refl
 none_ended (TextsByInteger x) m copy none = refl
 none_ended (TextsByText x) m copy none = refl
+none_ended (IntegerHolder x) m copy none = refl
+none_ended (TextHolder x) m copy none = refl
 
 module _ (o now : Object) (g : HeldGuard) (now_is : now ≡ with_one_less o g.kind) (cursors : g.kind ≡ guard.Cursors) where
   is_less : now ≡ with_one_less o guard.Cursors

@@ -7,6 +7,7 @@ pub mod KeyedSets
 pub mod SequenceCalls
 pub mod SetCalls
 pub mod KeyCalls
+pub mod HolderCalls
 pub mod RowCalls
 pub mod MapCalls
 pub mod Replied

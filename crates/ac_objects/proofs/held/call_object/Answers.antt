@@ -1,7 +1,7 @@
 use Rattle.std.proofs.Common.{refl, sym, ap, ◌∙◌}
 use Rattle.ac_syntax.specs.declared.kind.ElemKind.TheVariants.{Integer, Str}
 use Rattle.ac_meaning.specs.Holdings.{a_sequence, a_map, a_set, a_keyed_set}
-use Rattle.ac_objects.specs.declared.object.Object.TheVariants.{Integers, Texts, IntegerSet, TextSet, KeyedSet, IntegersByInteger, IntegersByText, TextsByInteger, TextsByText}
+use Rattle.ac_objects.specs.declared.object.Object.TheVariants.{Integers, Texts, IntegerSet, TextSet, KeyedSet, IntegersByInteger, IntegersByText, TextsByInteger, TextsByText, IntegerHolder, TextHolder}
 use Rattle.ac_objects.specs.KeyedSets.{keyed_items, keyed_kind}
 use Rattle.ac_objects.specs.Maps.{entries_of, map_kind_of}
 use Rattle.ac_objects.specs.Sequences.{rows_of, kind_of}
@@ -11,6 +11,8 @@ use Rattle.ac_objects.specs.Replied.{told}
 use Rattle.ac_objects.specs.World.{memory_of}
 use Rattle.ac_objects.proofs.Families.{sequence_now, sequence_same, set_now, set_same, keyed_set_now, keyed_set_same, map_now, map_same, integers, texts, integer_set, text_set, keyed_set, integers_by_integer, integers_by_text, texts_by_integer, texts_by_text}
 use Rattle.ac_objects.proofs.CalledRows.{own_called, own_lasts}
+use Rattle.ac_objects.proofs.CalledHolders as holders
+use Rattle.ac_objects.proofs.CalledHolders.{integer_holder, text_holder}
 use Rattle.ac_objects.proofs.held.call_object.Goals as goal
 
 pub returns-in-Integers-clause-called : goal.returns-in-Integers-clause-called
@@ -165,3 +167,33 @@ returns-in-TextsByText-clause-lasts c =
     own_lasts (a_map (map_kind_of old) Str Str) (entries_of old) (entries_of call.new.object) c.args.object.now (TextsByText call.new.object) c.args.operation
     (arguments_of c.args.args.now) (told call.new.reply call.result) (ap memory_of c.in-TextsByText.is ∙ texts_by_text old)
     (map_now Str Str TextsByText texts_by_text old call.new.object call.ensures.kind) call.ensures.valid call.ensures.replied
+
+pub returns-in-IntegerHolder-clause-called : goal.returns-in-IntegerHolder-clause-called
+returns-in-IntegerHolder-clause-called c =
+    let call = c.operate_holder in
+    let old = c.in-IntegerHolder.holder in
+    holders.own_called Integer old call.new.holder c.args.object.now (IntegerHolder call.new.holder) c.args.operation (arguments_of c.args.args.now)
+    (told call.new.reply call.result) (ap memory_of c.in-IntegerHolder.is ∙ integer_holder old) (integer_holder call.new.holder)
+    (λ same. ap IntegerHolder same ∙ sym c.in-IntegerHolder.is) call.ensures
+
+pub returns-in-IntegerHolder-clause-lasts : goal.returns-in-IntegerHolder-clause-lasts
+returns-in-IntegerHolder-clause-lasts c =
+    let call = c.operate_holder in
+    let old = c.in-IntegerHolder.holder in
+    holders.own_lasts Integer old call.new.holder c.args.object.now (IntegerHolder call.new.holder) c.args.operation (arguments_of c.args.args.now)
+    (told call.new.reply call.result) (ap memory_of c.in-IntegerHolder.is ∙ integer_holder old) (integer_holder call.new.holder) call.ensures
+
+pub returns-in-TextHolder-clause-called : goal.returns-in-TextHolder-clause-called
+returns-in-TextHolder-clause-called c =
+    let call = c.operate_holder-in-TextHolder in
+    let old = c.in-TextHolder.holder in
+    holders.own_called Str old call.new.holder c.args.object.now (TextHolder call.new.holder) c.args.operation (arguments_of c.args.args.now)
+    (told call.new.reply call.result) (ap memory_of c.in-TextHolder.is ∙ text_holder old) (text_holder call.new.holder)
+    (λ same. ap TextHolder same ∙ sym c.in-TextHolder.is) call.ensures
+
+pub returns-in-TextHolder-clause-lasts : goal.returns-in-TextHolder-clause-lasts
+returns-in-TextHolder-clause-lasts c =
+    let call = c.operate_holder-in-TextHolder in
+    let old = c.in-TextHolder.holder in
+    holders.own_lasts Str old call.new.holder c.args.object.now (TextHolder call.new.holder) c.args.operation (arguments_of c.args.args.now)
+    (told call.new.reply call.result) (ap memory_of c.in-TextHolder.is ∙ text_holder old) (text_holder call.new.holder) call.ensures

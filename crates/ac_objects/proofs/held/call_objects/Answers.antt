@@ -2,7 +2,7 @@ use Rattle.std.proofs.Common.{refl, sym, ap, ◌∙◌}
 use Rattle.ac_syntax.specs.declared.kind.ElemKind.TheVariants.{Integer, Str}
 use Rattle.ac_model.specs.Objects.{plain}
 use Rattle.ac_meaning.specs.Holdings.{a_sequence, a_map, a_set, a_keyed_set}
-use Rattle.ac_objects.specs.declared.object.Object.TheVariants.{Integers, Texts, IntegerSet, TextSet, KeyedSet, IntegersByInteger, IntegersByText, TextsByInteger, TextsByText}
+use Rattle.ac_objects.specs.declared.object.Object.TheVariants.{Integers, Texts, IntegerSet, TextSet, KeyedSet, IntegersByInteger, IntegersByText, TextsByInteger, TextsByText, IntegerHolder, TextHolder}
 use Rattle.ac_objects.specs.Arguments.{arguments_of}
 use Rattle.ac_objects.specs.KeyedSets.{keyed_items, keyed_kind}
 use Rattle.ac_objects.specs.Maps.{entries_of, map_kind_of}
@@ -11,8 +11,10 @@ use Rattle.ac_objects.specs.Sequences.{rows_of, kind_of}
 use Rattle.ac_objects.specs.Sets.{items_of, set_kind_of}
 use Rattle.ac_objects.specs.World.{memory_of, held_in, held_of}
 use Rattle.ac_objects.proofs.Families.{sequence_now, sequence_same, set_now, set_same, keyed_set_now, keyed_set_same, map_now, map_same, integers, texts, integer_set, text_set, keyed_set, integers_by_integer, integers_by_text, texts_by_integer, texts_by_text}
-use Rattle.ac_objects.proofs.Apart.{no_integers, no_texts, no_integer_set, no_text_set, no_keyed_set, no_integers_by_integer, no_integers_by_text, no_texts_by_integer, no_texts_by_text}
+use Rattle.ac_objects.proofs.Apart.{no_integers, no_texts, no_integer_set, no_text_set, no_keyed_set, no_integers_by_integer, no_integers_by_text, no_texts_by_integer, no_texts_by_text, no_integer_holder, no_text_holder}
 use Rattle.ac_objects.proofs.CalledRows.{own_lasts, unlike_called, two_called, two_lasts}
+use Rattle.ac_objects.proofs.CalledHolders as holders
+use Rattle.ac_objects.proofs.CalledHolders.{integer_holder, text_holder}
 use Rattle.ac_objects.proofs.held.call_objects.Goals as goal
 
 pub returns-in-Integers-source-clause-called : goal.returns-in-Integers-source-clause-called
@@ -516,5 +518,89 @@ returns-in_default-source-8 c =
           (no_texts_by_text (map_kind_of old) c.args.source.now c.in_default-source-8.not-TextsByText) call.ensures.valid call.ensures.replied;
       lasts = own_lasts kind (entries_of old) (entries_of call.new.object) c.args.object.now (TextsByText call.new.object) c.args.operation (arguments_of c.args.args.now)
           (told call.new.reply call.result) (ap memory_of c.in-TextsByText.is ∙ texts_by_text old) now call.ensures.valid call.ensures.replied;
+      source_lasts = record { cursors = λ at agrees. agrees; counts = refl };
+    }
+
+pub returns-in-IntegerHolder-source-clause-called : goal.returns-in-IntegerHolder-source-clause-called
+returns-in-IntegerHolder-source-clause-called c =
+    let call = c.operate_holders in
+    let old = c.in-IntegerHolder.holder in
+    let source = c.in-IntegerHolder-source.other in
+    holders.pair_called Integer old call.new.holder source call.new.source c.args.object.now (IntegerHolder call.new.holder) c.args.source.now (IntegerHolder call.new.source)
+    c.args.operation (arguments_of c.args.args.now) (told call.new.reply call.result)
+    (ap memory_of c.in-IntegerHolder.is ∙ integer_holder old) (integer_holder call.new.holder) (λ same. ap IntegerHolder same ∙ sym c.in-IntegerHolder.is)
+    (ap memory_of c.in-IntegerHolder-source.is ∙ integer_holder source) (integer_holder call.new.source) (λ same. ap IntegerHolder same ∙ sym c.in-IntegerHolder-source.is) c.requires.apart call.ensures
+
+pub returns-in-IntegerHolder-source-clause-lasts : goal.returns-in-IntegerHolder-source-clause-lasts
+returns-in-IntegerHolder-source-clause-lasts c =
+    let call = c.operate_holders in
+    let old = c.in-IntegerHolder.holder in
+    let source = c.in-IntegerHolder-source.other in
+    (holders.pair_lasts Integer old call.new.holder source call.new.source c.args.object.now (IntegerHolder call.new.holder) c.args.source.now (IntegerHolder call.new.source)
+    c.args.operation (arguments_of c.args.args.now) (told call.new.reply call.result)
+    (ap memory_of c.in-IntegerHolder.is ∙ integer_holder old) (integer_holder call.new.holder) (ap memory_of c.in-IntegerHolder-source.is ∙ integer_holder source) (integer_holder call.new.source) call.ensures).0
+
+pub returns-in-IntegerHolder-source-clause-source_lasts : goal.returns-in-IntegerHolder-source-clause-source_lasts
+returns-in-IntegerHolder-source-clause-source_lasts c =
+    let call = c.operate_holders in
+    let old = c.in-IntegerHolder.holder in
+    let source = c.in-IntegerHolder-source.other in
+    (holders.pair_lasts Integer old call.new.holder source call.new.source c.args.object.now (IntegerHolder call.new.holder) c.args.source.now (IntegerHolder call.new.source)
+    c.args.operation (arguments_of c.args.args.now) (told call.new.reply call.result)
+    (ap memory_of c.in-IntegerHolder.is ∙ integer_holder old) (integer_holder call.new.holder) (ap memory_of c.in-IntegerHolder-source.is ∙ integer_holder source) (integer_holder call.new.source) call.ensures).1
+
+pub returns-in_default-source-9 : goal.returns-in_default-source-9
+returns-in_default-source-9 c =
+    let call = c.operate_holder in
+    let old = c.in-IntegerHolder.holder in
+    let is = ap memory_of c.in-IntegerHolder.is ∙ integer_holder old in
+    record {
+      called = holders.unlike_called Integer old call.new.holder c.args.object.now (IntegerHolder call.new.holder) c.args.source.now c.args.operation
+          (arguments_of c.args.args.now) (told call.new.reply call.result) is (integer_holder call.new.holder) (λ same. ap IntegerHolder same ∙ sym c.in-IntegerHolder.is)
+          (no_integer_holder c.args.source.now c.in_default-source-9.not-IntegerHolder) call.ensures;
+      lasts = holders.own_lasts Integer old call.new.holder c.args.object.now (IntegerHolder call.new.holder) c.args.operation (arguments_of c.args.args.now)
+          (told call.new.reply call.result) is (integer_holder call.new.holder) call.ensures;
+      source_lasts = record { cursors = λ at agrees. agrees; counts = refl };
+    }
+
+pub returns-in-TextHolder-source-clause-called : goal.returns-in-TextHolder-source-clause-called
+returns-in-TextHolder-source-clause-called c =
+    let call = c.operate_holders-in-TextHolder-source in
+    let old = c.in-TextHolder.holder in
+    let source = c.in-TextHolder-source.other in
+    holders.pair_called Str old call.new.holder source call.new.source c.args.object.now (TextHolder call.new.holder) c.args.source.now (TextHolder call.new.source)
+    c.args.operation (arguments_of c.args.args.now) (told call.new.reply call.result)
+    (ap memory_of c.in-TextHolder.is ∙ text_holder old) (text_holder call.new.holder) (λ same. ap TextHolder same ∙ sym c.in-TextHolder.is)
+    (ap memory_of c.in-TextHolder-source.is ∙ text_holder source) (text_holder call.new.source) (λ same. ap TextHolder same ∙ sym c.in-TextHolder-source.is) c.requires.apart call.ensures
+
+pub returns-in-TextHolder-source-clause-lasts : goal.returns-in-TextHolder-source-clause-lasts
+returns-in-TextHolder-source-clause-lasts c =
+    let call = c.operate_holders-in-TextHolder-source in
+    let old = c.in-TextHolder.holder in
+    let source = c.in-TextHolder-source.other in
+    (holders.pair_lasts Str old call.new.holder source call.new.source c.args.object.now (TextHolder call.new.holder) c.args.source.now (TextHolder call.new.source)
+    c.args.operation (arguments_of c.args.args.now) (told call.new.reply call.result)
+    (ap memory_of c.in-TextHolder.is ∙ text_holder old) (text_holder call.new.holder) (ap memory_of c.in-TextHolder-source.is ∙ text_holder source) (text_holder call.new.source) call.ensures).0
+
+pub returns-in-TextHolder-source-clause-source_lasts : goal.returns-in-TextHolder-source-clause-source_lasts
+returns-in-TextHolder-source-clause-source_lasts c =
+    let call = c.operate_holders-in-TextHolder-source in
+    let old = c.in-TextHolder.holder in
+    let source = c.in-TextHolder-source.other in
+    (holders.pair_lasts Str old call.new.holder source call.new.source c.args.object.now (TextHolder call.new.holder) c.args.source.now (TextHolder call.new.source)
+    c.args.operation (arguments_of c.args.args.now) (told call.new.reply call.result)
+    (ap memory_of c.in-TextHolder.is ∙ text_holder old) (text_holder call.new.holder) (ap memory_of c.in-TextHolder-source.is ∙ text_holder source) (text_holder call.new.source) call.ensures).1
+
+pub returns-in_default-source-10 : goal.returns-in_default-source-10
+returns-in_default-source-10 c =
+    let call = c.operate_holder-in_default-source-10 in
+    let old = c.in-TextHolder.holder in
+    let is = ap memory_of c.in-TextHolder.is ∙ text_holder old in
+    record {
+      called = holders.unlike_called Str old call.new.holder c.args.object.now (TextHolder call.new.holder) c.args.source.now c.args.operation
+          (arguments_of c.args.args.now) (told call.new.reply call.result) is (text_holder call.new.holder) (λ same. ap TextHolder same ∙ sym c.in-TextHolder.is)
+          (no_text_holder c.args.source.now c.in_default-source-10.not-TextHolder) call.ensures;
+      lasts = holders.own_lasts Str old call.new.holder c.args.object.now (TextHolder call.new.holder) c.args.operation (arguments_of c.args.args.now)
+          (told call.new.reply call.result) is (text_holder call.new.holder) call.ensures;
       source_lasts = record { cursors = λ at agrees. agrees; counts = refl };
     }

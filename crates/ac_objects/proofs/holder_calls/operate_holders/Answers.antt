@@ -1,0 +1,21 @@
+use Rattle.std.proofs.Common.{subst, sym}
+use Rattle.ac_meaning.specs.HolderReplies.{holder_alone_reply, holder_reply}
+use Rattle.ac_meaning.specs.Replies.{another}
+use Rattle.ac_objects.specs.Arguments.{arguments_of}
+use Rattle.ac_objects.specs.HolderCalls.{HolderRepliedWith}
+use Rattle.ac_objects.specs.Replied.{told}
+use Rattle.ac_objects.proofs.HolderOperations.{same_tools, no_holder_call}
+use Rattle.ac_objects.proofs.holder_calls.operate_holders.Goals as goal
+
+pub returns-in-Holder : goal.returns-in-Holder
+returns-in-Holder g c =
+    let tools = g.T.ScriptElement.tools in
+    let old = c.args.holder.now in
+    let source = c.args.source.now in
+    let args = arguments_of c.args.args.now in
+    let call = c.holder_call_with in
+    let result = told call.new.reply call.result in
+    subst (λ op. HolderRepliedWith tools (holder_reply tools old (another source args) args op) old source call.new.holder call.new.source result)
+    (sym c.in-Holder.is)
+    (subst (λ t. HolderRepliedWith t (holder_alone_reply t old (another source args) args c.in-Holder.call) old source call.new.holder call.new.source result)
+    (sym (same_tools tools _ _ g.met.T.ScriptElement.size_is g.met.T.ScriptElement.same_is)) call.ensures)
