@@ -10,8 +10,8 @@ unreachable-requires c =
     c.in_default.not-Object r.held
     (c.index_mut.ensures.value ∙ found_or c.args.bounds.now.items c.args.object (bound.Object r.held) c.index_mut.result.now r.there)
 
-pub returns-in-Object : goal.returns-in-Object
-returns-in-Object c o there =
+pub returns : goal.returns
+returns c o there =
     let call = c.write_element in
     writes_at c.args.bounds.now.items c.args.object c.args.at c.args.value o c.in-Object.held call.new.object c.index_mut.result.now call.result
     c.index_mut.ensures.value c.in-Object.is there call.ensures.written call.ensures.lasts

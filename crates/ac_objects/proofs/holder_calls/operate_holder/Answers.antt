@@ -4,7 +4,7 @@ use Rattle.ac_meaning.specs.Replies.{without}
 use Rattle.ac_objects.specs.Arguments.{arguments_of}
 use Rattle.ac_objects.specs.HolderCalls.{HolderReplied}
 use Rattle.ac_objects.specs.Replied.{told}
-use Rattle.ac_objects.proofs.HolderOperations.{same_tools, no_holder_call}
+use Rattle.ac_objects.proofs.HolderOperations.{same_tools}
 use Rattle.ac_objects.proofs.holder_calls.operate_holder.Goals as goal
 
 pub returns-in-Holder : goal.returns-in-Holder
@@ -17,10 +17,3 @@ returns-in-Holder g c =
     subst (λ op. HolderReplied tools (holder_reply tools old without args op) old call.new.holder result) (sym c.in-Holder.is)
     (subst (λ t. HolderReplied t (holder_alone_reply t old without args c.in-Holder.call) old call.new.holder result)
     (sym (same_tools tools _ _ g.met.T.ScriptElement.size_is g.met.T.ScriptElement.same_is)) call.ensures)
-
-pub returns-in_default : goal.returns-in_default
-returns-in_default g c =
-    let tools = g.T.ScriptElement.tools in
-    let old = c.args.holder.now in
-    subst (λ r. HolderReplied tools r old old (told c.says.result _))
-    (sym (no_holder_call tools old without (arguments_of c.args.args.now) c.args.operation c.in_default.not-Holder)) _

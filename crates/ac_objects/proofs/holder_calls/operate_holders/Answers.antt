@@ -4,7 +4,7 @@ use Rattle.ac_meaning.specs.Replies.{another}
 use Rattle.ac_objects.specs.Arguments.{arguments_of}
 use Rattle.ac_objects.specs.HolderCalls.{HolderRepliedWith}
 use Rattle.ac_objects.specs.Replied.{told}
-use Rattle.ac_objects.proofs.HolderOperations.{same_tools, no_holder_call}
+use Rattle.ac_objects.proofs.HolderOperations.{same_tools}
 use Rattle.ac_objects.proofs.holder_calls.operate_holders.Goals as goal
 
 pub returns-in-Holder : goal.returns-in-Holder
