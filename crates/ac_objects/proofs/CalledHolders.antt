@@ -1,5 +1,5 @@
 -- A call on a holder as a call on an object.
-use Rattle.std.proofs.Common.{◌≡◌, ◌==◌, ℤ, Bool, true, false, refl, sym, ap, subst, ◌∙◌, ne_eqb, Option, Some, None, Result, Ok, Err, option_map}
+use Rattle.std.proofs.Common.{◌≡◌, ◌==◌, ◌++◌, ℕ, ℤ, Bool, true, false, List, [], ◌∷◌, refl, sym, ap, subst, ◌∙◌, ne_eqb, Option, Some, None, Result, Ok, Err, option_map}
 use Rattle.std.specs.Prelude.{IfSome}
 use Rattle.ac_base.specs.declared.cursor.Cursor.{Cursor}
 use Rattle.ac_base.specs.declared.fault.Fault.{Fault}
@@ -15,7 +15,8 @@ use Rattle.ac_check.specs.declared.operation.Operation.{Operation}
 use Rattle.ac_meaning.specs.Answers.{answers_list}
 use Rattle.ac_meaning.specs.Elements.{ElementOf, tools_of, Text}
 use Rattle.ac_meaning.specs.HolderReplies.{holder_source, holder_reply, holder_write}
-use Rattle.ac_meaning.specs.Holdings.{Held, of_holder, number_of, holder_in, listing_of, Written, written, write, reply_of}
+use Rattle.ac_meaning.specs.Holdings.{Held, of_holder, number_of, names_of, holder_in, listing_of, Written, written, write, reply_of}
+use Rattle.ac_meaning.specs.Execution.{in_order}
 use Rattle.ac_meaning.specs.Replies.{without, itself, another, carried}
 use Rattle.ac_meaning.specs.Replies as replies
 use Rattle.ac_meaning.specs.Stays.{HolderStays}
@@ -27,6 +28,7 @@ use Rattle.ac_objects.specs.declared.reply.Said.{Said}
 use Rattle.ac_objects.specs.declared.reply.Said.TheVariants as said
 use Rattle.ac_objects.specs.declared.reply.Placed.{Placed}
 use Rattle.ac_objects.specs.Called.{Tells, Places, HeldAfter, Called, CalledWith, Lasts, WritesTo}
+use Rattle.ac_objects.specs.Given.{StepsOn}
 use Rattle.ac_objects.specs.HolderCalls.{ChangesHolder, HolderSays, HolderAfter, HolderReplied, HolderRepliedWith}
 use Rattle.ac_objects.specs.Standing.{counts_in_held}
 use Rattle.ac_objects.specs.World.{in_holder, memory_of, held_in, held_of, AgreesIn, ObjectAgrees}
@@ -41,6 +43,14 @@ integer_holder h = refl
 pub text_holder : (h : Holder Text) → memory_of (TextHolder h) ≡ in_holder Str h
 unfolding memory_of
 text_holder h = refl
+
+no_names : (before : List ℕ) (name : ℕ) (after : List ℕ) → [] ≡ before ++ name ∷ after → ⊥
+no_names [] name after is = cc
+no_names (b ∷ before) name after is = cc
+
+no_turn : (backward : Bool) (before : List ℕ) (name : ℕ) (after : List ℕ) → in_order backward [] ≡ before ++ name ∷ after → ⊥
+no_turn false before name after is = no_names before name after is
+no_turn true before name after is = no_names before name after is
 
 module _ (e : ElemKind) where
   held_is : (h : Holder (ElementOf e)) (w : Object) → memory_of w ≡ in_holder e h → held_of w ≡ of_holder e h
@@ -116,6 +126,12 @@ module _ (e : ElemKind) where
   stays_to : (old new after : Holder (ElementOf e)) (w v : Object) (reason : Option Reason) → memory_of w ≡ in_holder e old → memory_of v ≡ in_holder e new →
       new ≡ after → HolderStays old reason after → Lasts w v
   stays_to old new after w v reason is now same s = lasts_in old new w v reason is now (subst (λ x. HolderStays old reason x) (sym same) s)
+
+  -- a loop over it has no turn
+  pub ends : (h : Holder (ElementOf e)) (w : Object) → memory_of w ≡ in_holder e h → (backward : Bool) (at next : Cursor) →
+      StepsOn backward (number_of (held_of w)) (names_of (held_of w)) at next
+  ends h w is backward at next before name after among stands =
+      absurd (no_turn backward before name after (ap (λ m. in_order backward (names_of (held_in m))) (sym is) ∙ among))
 
   -- without a source, or with itself
 

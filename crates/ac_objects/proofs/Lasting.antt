@@ -85,7 +85,7 @@ held_lasts (of_rows kind o) k m s held h =
       stands = element_needs kind s.0 (seen s.0 m) ∙ list_lasts o s.0 m s.2 held (sym (element_needs kind o (seen o m)) ∙ h);
       guarded = omega (arith, held, s.2.cursor_guards, s.2.element_guards);
     })
-held_lasts (of_holder e o) m s held h =
+held_lasts (of_holder e o) k m s held h =
     let t = element_held o.element_guards held in
     subst (λ x. LastsAt (of_holder e o) x m) (sym s.1)
     (record {

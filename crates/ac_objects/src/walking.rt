@@ -14,8 +14,9 @@ ghost use Rattle.ac_objects.specs.World.{held_of, ObjectAgrees};
 use crate::holder_elements::refused;
 use crate::object::Object;
 use crate::row_object::RowObject;
-use ac_base::{Fault, Name, Reason};
+use ac_base::{Elem, Fault, Name, Reason};
 use ac_cursor::Cursor;
+use ac_forms::Holder;
 
 /// The cursor at which a loop over the object begins.
 fn first_in<C: RowObject>(object: &C, backward: bool) -> Cursor
@@ -93,6 +94,13 @@ fn refused_in<C: RowObject>(object: &C, at: Cursor) -> Option<Reason>
     object.refused(at)
 }
 
+/// A holder has no cursors, so that a loop over it ends where it begins.
+fn next_of_none<T: Elem>(_holder: &Holder<T>) -> Cursor
+    ensures { result ≡ Cursor.NoElement }
+{
+    Cursor::NoElement
+}
+
 impl Object {
     /// The cursor at which a loop over the object begins.
     #[tactic(auto, unfolding(crate::specs::World::memory_of))]
@@ -132,7 +140,8 @@ impl Object {
             Object::IntegersByText(map) => next_in(map, backward, at),
             Object::TextsByInteger(map) => next_in(map, backward, at),
             Object::TextsByText(map) => next_in(map, backward, at),
-            Object::IntegerHolder(_) | Object::TextHolder(_) => Cursor::NoElement,
+            Object::IntegerHolder(holder) => next_of_none(holder),
+            Object::TextHolder(holder) => next_of_none(holder),
         }
     }
 
