@@ -31,7 +31,7 @@ use Rattle.ac_objects.specs.Called.{Tells, Places, HeldAfter, Called, CalledWith
 use Rattle.ac_objects.specs.Given.{StepsOn}
 use Rattle.ac_objects.specs.HolderCalls.{ChangesHolder, HolderSays, HolderAfter, HolderReplied, HolderRepliedWith}
 use Rattle.ac_objects.specs.Standing.{counts_in_held}
-use Rattle.ac_objects.specs.World.{in_holder, memory_of, held_in, held_of, AgreesIn, ObjectAgrees}
+use Rattle.ac_objects.specs.World.{in_holder, memory_of, held_in, held_of, AgreesIn}
 use Rattle.ac_objects.proofs.Sources.{holder_own, if_false}
 
 -- what each variant is in memory

@@ -14,7 +14,7 @@ use Rattle.ac_model.specs.Rows.{is_named}
 use Rattle.ac_model.specs.Letters.{Mark, no_mark, mark_at, stale_mark, needs, judged_in}
 use Rattle.ac_model.specs.Cursors.{seen}
 use Rattle.ac_meaning.specs.Environment.{Bound, binds_type, binds_object, binds_cursor, binds_value, binds_element, State, bound_at, object_in}
-use Rattle.ac_meaning.specs.Holdings.{Held, of_rows, of_holder, holds_element, element_value}
+use Rattle.ac_meaning.specs.Holdings.{Held, of_rows, of_holder, element_value}
 use Rattle.ac_meaning.specs.Stays.{Stays, HeldStays, BoundStays, StateStays}
 use Rattle.ac_meaning.proofs.BoundsStay.{each_at, object_there}
 use Rattle.ac_meaning.proofs.HoldersStay.{element_stands, stands_there}

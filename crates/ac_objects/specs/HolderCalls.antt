@@ -1,8 +1,7 @@
 -- What a call of a holder in scripts comes to in the code. A holder has no names, so that the code's holder is the meaning's.
-use Rattle.std.specs.Prelude.{◌≡◌, ℕ, Bool, false, List, Option, Some, None, Result, Ok, Err}
+use Rattle.std.specs.Prelude.{◌≡◌, ℕ, Bool, false, Option, Some, None, Result, Ok, Err}
 use Rattle.ac_base.specs.declared.fault.Fault.{Fault}
 use Rattle.ac_base.specs.declared.fault.Fault.TheVariants as fault
-use Rattle.ac_base.specs.declared.value.Value.{Value}
 use Rattle.ac_model.specs.Calls.{Call, Done}
 use Rattle.ac_model.specs.Holders.{Holder}
 use Rattle.ac_meaning.specs.Answers.{Answer, answers_ok, answers_value, answers_truth, answers_list}

@@ -1,4 +1,4 @@
-use Rattle.std.proofs.Common.{◌++◌, [], ◌∷◌, ap, sym, subst}
+use Rattle.std.proofs.Common.{◌++◌, [], ◌∷◌, sym}
 use Rattle.std.proofs.lemmas.Result.{err_from_is_err_and}
 use Rattle.std.proofs.lemmas.List.{append-nil}
 use Rattle.ac_io.proofs.Telling.{adds_then, adds_broken, adds_text}
