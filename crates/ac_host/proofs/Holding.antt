@@ -1,5 +1,5 @@
 -- Guards that are held and released one after another.
-use Rattle.std.proofs.Common.{◌≡◌, ◌==◌, ◌<◌, ℕ, zero, suc, Bool, true, false, List, [], ◌∷◌, ◌++◌, map, take, slice_get, refl, sym, ap, subst, ◌∙◌, arith, option_map, Some, None, if◌then◌else◌}
+use Rattle.std.proofs.Common.{◌≡◌, ◌==◌, ◌+◌, ◌-◌, ◌<◌, ℕ, zero, suc, Bool, true, false, List, [], ◌∷◌, ◌++◌, map, take, slice_get, refl, sym, ap, subst, ◌∙◌, arith, option_map, Some, None, if◌then◌else◌}
 use Rattle.std.proofs.lemmas.List.{take-map}
 use Rattle.std.proofs.lemmas.Option.{none-some, same_Some}
 use Rattle.std.proofs.lemmas.Bool.Decides.{nat_tests}
@@ -7,8 +7,9 @@ use Rattle.ac_base.specs.declared.guard.GuardKind.{GuardKind}
 use Rattle.ac_base.specs.declared.guard.GuardKind.TheVariants as guard
 use Rattle.ac_base.specs.Guards.{HeldGuard, GuardCounts, count_of, one_more, one_less}
 use Rattle.ac_model.specs.Objects.{Object}
+use Rattle.ac_model.specs.Holders.{Holder}
 use Rattle.ac_model.specs.Common.{hold_call, release_call, guards_on}
-use Rattle.ac_meaning.specs.Holdings.{Held, of_rows, Guards, number_of}
+use Rattle.ac_meaning.specs.Holdings.{Held, of_rows, of_holder, as_object, counted_as, Guards, number_of}
 use Rattle.ac_meaning.specs.Environment.{Bound, binds_type, binds_object, binds_cursor, binds_value, binds_element, bound_by, bound_in, object_in, State, objects_by, under, bound_at, object_at, leaving}
 use Rattle.ac_meaning.specs.UnderGuards.{held_with, held_without}
 use Rattle.ac_meaning.proofs.CountsStay.{guards_come_and_go, release_hold, objects_twice, objects_alike, bound_under}
@@ -26,8 +27,16 @@ releasing_under (g ∷ more) guards e =
     ap (releasing more) (guards_come_and_go.released g (more ++ guards) e) ∙ releasing_under more guards e
 
 -- whatever was held before
+holder_back : {T : Type 0} (k : GuardKind) (b : Bool) (h : Holder T) →
+    let held = counted_as h (if b then hold_call false k (as_object h) else as_object h) in
+    counted_as held (if b then release_call false k (as_object held) else as_object held) ≡ h
+holder_back guard.Cursors true h = let p : h.cursor_guards + 1 - 1 ≡ h.cursor_guards = omega arith in λ i. record h { cursor_guards = p i }
+holder_back guard.Elements true h = let p : h.element_guards + 1 - 1 ≡ h.element_guards = omega arith in λ i. record h { element_guards = p i }
+holder_back k false h = refl
+
 held_back : (g : HeldGuard) (h : Held) → held_without g (held_with g h) ≡ h
 held_back g (of_rows kind o) = ap (of_rows kind) (release_hold g o)
+held_back g (of_holder e h) = ap (of_holder e) (holder_back g.kind (g.object == h.number) h)
 
 bound_self : (b : Bound) → bound_by (λ h. h) b ≡ b
 bound_self binds_type = refl
@@ -70,13 +79,31 @@ object_without guard.Cursors true o = refl
 object_without guard.Elements true o = refl
 object_without k false o = refl
 
+-- and of a holder
+
+holder_with : {T : Type 0} (k : GuardKind) (b : Bool) (h : Holder T) →
+    guards_on (as_object (counted_as h (if b then hold_call false k (as_object h) else as_object h)))
+    ≡ (if b then one_more k (guards_on (as_object h)) else guards_on (as_object h))
+holder_with guard.Cursors true h = refl
+holder_with guard.Elements true h = refl
+holder_with k false h = refl
+
+holder_without : {T : Type 0} (k : GuardKind) (b : Bool) (h : Holder T) →
+    guards_on (as_object (counted_as h (if b then release_call false k (as_object h) else as_object h)))
+    ≡ (if b then one_less k (guards_on (as_object h)) else guards_on (as_object h))
+holder_without guard.Cursors true h = refl
+holder_without guard.Elements true h = refl
+holder_without k false h = refl
+
 held_with_counts : (g : HeldGuard) (h : Held) → counts_in_held (held_with g h) ≡ counts_with g (counts_in_held h)
 unfolding counts_with
 held_with_counts g (of_rows kind o) = object_with g.kind (g.object == o.number) o
+held_with_counts g (of_holder e h) = holder_with g.kind (g.object == h.number) h
 
 held_without_counts : (g : HeldGuard) (h : Held) → counts_in_held (held_without g h) ≡ counts_without g (counts_in_held h)
 unfolding counts_without
 held_without_counts g (of_rows kind o) = object_without g.kind (g.object == o.number) o
+held_without_counts g (of_holder e h) = holder_without g.kind (g.object == h.number) h
 
 bound_counts : (f : Held → Held) (count : GuardCounts → GuardCounts) → ((h : Held) → counts_in_held (f h) ≡ count (counts_in_held h)) →
     (b : Bound) → counts_in (bound_by f b) ≡ option_map count (counts_in b)
@@ -148,6 +175,7 @@ within_take (x ∷ xs) (suc place) (suc count) h = within_take xs place count (o
 
 number_counted : (h : Held) → (counts_in_held h).number ≡ number_of h
 number_counted (of_rows kind o) = refl
+number_counted (of_holder e h) = refl
 
 -- it is, where the counts of so many names are as they were
 pub held_still : (e now : State) (place count : ℕ) (g : HeldGuard) → place < count → take count (counts_of now) ≡ take count (counts_of e) →
@@ -193,6 +221,7 @@ number_stays g (of_rows kind o) = go (g.object == o.number)
     go : (b : Bool) → (if b then hold_call false g.kind o else o).number ≡ o.number
     go true = refl
     go false = refl
+number_stays g (of_holder e h) = refl
 
 pub object_by_there : (f : Held → Held) (e : State) (place : ℕ) (h : Held) → object_at e place ≡ Some h → object_at (objects_by f e) place ≡ Some (f h)
 object_by_there f e place h there =

@@ -1,5 +1,5 @@
 -- What begins a block.
-use Rattle.std.proofs.Common.{◌≡◌, ◌==◌, ◌&&◌, ◌||◌, ℕ, Bool, true, false, not, List, [], ◌∷◌, ◌++◌, length, slice_get, option_map, refl, sym, ap, subst, ◌∙◌, arith, Option, Some, None, if◌then◌else◌}
+use Rattle.std.proofs.Common.{◌≡◌, ◌==◌, ◌&&◌, ◌||◌, ◌⊎◌, inl, inr, ℕ, Bool, true, false, not, List, [], ◌∷◌, ◌++◌, length, slice_get, option_map, refl, sym, ap, subst, ◌∙◌, arith, Option, Some, None, if◌then◌else◌}
 use Rattle.std.proofs.lemmas.List.{length-map, take_all}
 use Rattle.std.proofs.lemmas.Option.{none-some, same_Some}
 use Rattle.std.proofs.lemmas.Bool.Decides.{nat_tests}
@@ -14,31 +14,32 @@ use Rattle.ac_model.specs.Objects.{Object}
 use Rattle.ac_model.specs.Rows.{is_named}
 use Rattle.ac_model.specs.Letters.{Mark, no_mark, mark_at as mark_of_name, stale_mark, needs, reason_if, tampers_cursors}
 use Rattle.ac_model.specs.Cursors.{seen}
+use Rattle.ac_model.proofs.Depths.{both_true}
 use Rattle.ac_model.proofs.Reasons.{none_others}
 use Rattle.ac_syntax.specs.declared.view_kind.ViewKind.{ViewKind}
 use Rattle.ac_syntax.specs.declared.view_kind.ViewKind.TheVariants.{Query, Update, Reference, UpdateKey}
-use Rattle.ac_meaning.specs.Holdings.{a_sequence, a_map, a_set, a_keyed_set, Held, of_rows, Guards, number_of, names_of, held_under, guard_on, element_value}
+use Rattle.ac_meaning.specs.Holdings.{RowKind, RowOf, a_sequence, a_map, a_set, a_keyed_set, Held, of_rows, of_holder, Guards, number_of, names_of, holds_element, held_under, guard_on, element_value}
 use Rattle.ac_meaning.specs.Environment.{Bound, binds_value, binds_element, bound_by, State, under, object_at, with_name, leaving}
 use Rattle.ac_meaning.specs.Execution.{guards_of_loop, guards_of_stable, guards_of_view, head_reason, in_order}
-use Rattle.ac_meaning.specs.GuardedNames.{is_guarded, of_object, frame, kept}
+use Rattle.ac_meaning.specs.GuardedNames.{is_guarded, is_element_guarded, of_object, frame, kept}
 use Rattle.ac_meaning.specs.Walks.{first_mark}
 use Rattle.ac_meaning.specs.Numbers.{GuardsBelow}
 use Rattle.ac_meaning.proofs.CountsStay.{parts_under}
 use Rattle.ac_meaning.proofs.RowKinds.{element_needs}
-use Rattle.ac_meaning.proofs.GuardedGoesOn.{blocks_guard}
+use Rattle.ac_meaning.proofs.GuardedGoesOn.{blocks_guard, views_guard_elements}
 use Rattle.ac_objects.specs.Blocks.{holding}
 use Rattle.ac_objects.specs.World.{World, state_of}
-use Rattle.ac_host.specs.Ready.{IsKept, IsUnder}
+use Rattle.ac_host.specs.Ready.{IsNamed, IsKept, IsUnder}
 use Rattle.ac_host.specs.Running.{Turning}
 use Rattle.ac_host.proofs.Holding.{holding_under}
-use Rattle.ac_host.proofs.Standing.{Among, kept_at, object_framed, below_held, kept_named, kept_longer, ready_more, ready_named, number_under, names_under}
+use Rattle.ac_host.proofs.Standing.{Among, keeps_element, object_framed, below_held, kept_named, kept_longer, ready_more, ready_named, number_under, names_under, has_under}
 
 -- A cursor that designates an element
 
-record Designates (h : Held) (at : Mark) : Type 0 where
+record Designates {V : Type 0} (o : Object ℕ V) (at : Mark) : Type 0 where
   name : ℕ
-  among : Among (names_of h) name
-  is : at ≡ mark_of_name (number_of h) name
+  among : Among (names o.rows) name
+  is : at ≡ mark_of_name o.number name
 
 among_rest : (first : ℕ) (all : List ℕ) (name : ℕ) → Among all name → Among (first ∷ all) name
 among_rest first all name a = record { before = first ∷ a.before; after = a.after; is = ap (λ l. first ∷ l) a.is }
@@ -68,31 +69,44 @@ needed_at o number name true true e is none = let same : number ≡ o.number = g
 needed_at o number name true false e is none = absurd (judged_not (number == o.number) none)
 needed_at o number name false b e is none = absurd (foreign (number == o.number) (is_named o.rows name) e none)
 
-designated_in : {V : Type 0} (o : Object ℕ V) (at : Mark) → first_reason (needs o (seen o at) ∷ []) ≡ None →
-    (name : ℕ) × Among (names o.rows) name × (at ≡ mark_of_name o.number name)
+designated_in : {V : Type 0} (o : Object ℕ V) (at : Mark) → first_reason (needs o (seen o at) ∷ []) ≡ None → Designates o at
 designated_in o no_mark none = absurd (some_found NoElement none)
 designated_in o (stale_mark number) none = absurd (judged_not (number == o.number) none)
 designated_in o (mark_of_name number name) none =
     let r = needed_at o number name (number == o.number) (is_named o.rows name) refl refl none in
-    (name, named_among o.rows name r.1, ap (λ n. mark_of_name n name) r.0)
+    record { name = name; among = named_among o.rows name r.1; is = ap (λ n. mark_of_name n name) r.0 }
 
-designated : (h : Held) (at : Mark) → (element_value h at).reason ≡ None → Designates h at
-designated (of_rows kind o) at none =
-    let r = designated_in o at (sym (element_needs kind o (seen o at)) ∙ none) in record { name = r.0; among = r.1; is = r.2 }
+designated : (kind : RowKind) (o : Object ℕ (RowOf kind)) (at : Mark) → (element_value (of_rows kind o) at).reason ≡ None → Designates o at
+designated kind o at none = designated_in o at (sym (element_needs kind o (seen o at)) ∙ none)
 
-updates_designate : (h : Held) (at : Mark) → head_reason UpdateKey h at ≡ None → Designates h at
-updates_designate (of_rows (a_keyed_set which) o) at none =
-    let r = designated_in o at (none_others (tampers_cursors o) (needs o (seen o at) ∷ []) none) in
-    record { name = r.0; among = r.1; is = r.2 }
-updates_designate (of_rows (a_sequence which e) o) at none = absurd (none-some NoElement (sym none))
-updates_designate (of_rows (a_map which k e) o) at none = absurd (none-some NoElement (sym none))
-updates_designate (of_rows (a_set which e) o) at none = absurd (none-some NoElement (sym none))
+updates_designate : (kind : RowKind) (o : Object ℕ (RowOf kind)) (at : Mark) → head_reason UpdateKey (of_rows kind o) at ≡ None → Designates o at
+updates_designate (a_keyed_set which) o at none = designated_in o at (none_others (tampers_cursors o) (needs o (seen o at) ∷ []) none)
+updates_designate (a_sequence which e) o at none = absurd (none-some NoElement (sym none))
+updates_designate (a_map which k e) o at none = absurd (none-some NoElement (sym none))
+updates_designate (a_set which e) o at none = absurd (none-some NoElement (sym none))
 
-viewed_designates : (kind : ViewKind) (h : Held) (at : Mark) → head_reason kind h at ≡ None → Designates h at
-viewed_designates Query h at none = designated h at none
-viewed_designates Update h at none = designated h at none
-viewed_designates Reference h at none = designated h at none
-viewed_designates UpdateKey h at none = updates_designate h at none
+viewed_designates : (view : ViewKind) (kind : RowKind) (o : Object ℕ (RowOf kind)) (at : Mark) → head_reason view (of_rows kind o) at ≡ None → Designates o at
+viewed_designates Query kind o at none = designated kind o at none
+viewed_designates Update kind o at none = designated kind o at none
+viewed_designates Reference kind o at none = designated kind o at none
+viewed_designates UpdateKey kind o at none = updates_designate kind o at none
+
+-- what a view stands for is kept by its guard
+viewed_stands : (view : ViewKind) (h : Held) (at : Mark) (guards : Guards) → head_reason view h at ≡ None →
+    let held = guards_of_view view h ++ guards in IsNamed held (number_of h) (names_of h) at ⊎ (keeps_element held h ≡ true)
+viewed_stands view (of_rows kind o) at guards none =
+    let d = viewed_designates view kind o at none in
+    inl (record {
+      guarded = blocks_guard.views view (of_rows kind o) guards;
+      before = d.among.before;
+      name = d.name;
+      after = d.among.after;
+      among = d.among.is;
+      is = d.is;
+    })
+viewed_stands view (of_holder e h) at guards none =
+    let v = views_guard_elements view e h at guards none in
+    inr (both_true (holds_element (of_holder e h)) (is_element_guarded (guards_of_view view (of_holder e h) ++ guards) h.number) v.has_element v.guarded)
 
 -- Objects that are found while guards are held
 
@@ -110,13 +124,14 @@ found_under guards e place h there = go (object_at e place) refl (sym (parts_und
     go (Some k) is f = record { held = k; there = is; is = sym (same_Some (held_under guards k) h f) }
 
 object_there_kept : (guards more : Guards) (e : State) (place : ℕ) (h : Held) → object_at (under guards e) place ≡ Some h →
-    is_guarded more (number_of h) ≡ true → slice_get (kept more e) place ≡ Some (of_object (number_of h) (names_of h))
+    is_guarded more (number_of h) ≡ true → slice_get (kept more e) place ≡ Some (of_object (number_of h) (names_of h) (keeps_element more h))
 object_there_kept guards more e place h there guarded =
     let f = found_under guards e place h there in
     let number : number_of h ≡ number_of f.held = ap number_of f.is ∙ number_under guards f.held in
     let all : names_of h ≡ names_of f.held = ap names_of f.is ∙ names_under guards f.held in
+    let has : holds_element h ≡ holds_element f.held = ap holds_element f.is ∙ has_under guards f.held in
     object_framed more e place f.held f.there (ap (is_guarded more) (sym number) ∙ guarded)
-    ∙ sym (λ i. Some (of_object (number i) (all i)))
+    ∙ sym (λ i. Some (of_object (number i) (all i) (has i && is_element_guarded more (number i))))
 
 left_whole : (e : State) (count : ℕ) → count ≡ length e.bounds → leaving count e ≡ e
 left_whole e count is = ap (λ n. leaving n e) is ∙ (λ i. record e { bounds = take_all (length e.bounds) e.bounds (omega arith) i })
@@ -151,10 +166,13 @@ module _ (w : World) (guards : Guards) (e : State) (u : IsUnder w guards e) (pla
       IsKept (guards_of_view kind h ++ guards) (kept (guards_of_view kind h ++ guards) e) place at
   own_element kind at none =
       let held = guards_of_view kind h ++ guards in
-      let d = viewed_designates kind h at none in
-      let guarded = blocks_guard.views kind h guards in
-      subst (IsKept held (kept held e) place) (sym d.is)
-      (kept_at held (kept held e) place (number_of h) (names_of h) d.name (object_there_kept guards held e place h found guarded) guarded d.among)
+      record {
+        number = number_of h;
+        names = names_of h;
+        has_element = keeps_element held h;
+        there = object_there_kept guards held e place h found (blocks_guard.views kind h guards);
+        stands = viewed_stands kind h at guards none;
+      }
 
   named_more : (more : Guards) (b : Bound) (now : World) → b ≡ bound_by (held_under (more ++ guards)) b →
       state_of now ≡ with_name (holding more (state_of w)) b → state_of now ≡ under (more ++ guards) (with_name e b)
@@ -217,6 +235,7 @@ module _ (w : World) (guards : Guards) (e : State) (u : IsUnder w guards e) (pla
             ∙ ap (under (more ++ guards)) (left_whole e count as_many));
         ready = ready_more more guards e (below_loop elements) u.ready;
         as_many = as_many;
+        has_element = keeps_element (more ++ guards) h;
         there = object_there_kept guards (more ++ guards) e place h found guarded;
         guarded = guarded;
         before = [];

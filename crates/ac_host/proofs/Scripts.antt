@@ -8,7 +8,7 @@ use Rattle.ac_check.specs.Scopes.{with_decls}
 use Rattle.ac_check.specs.Resolved.{ResolvedCode, resolve, resolve_decls}
 use Rattle.ac_check.specs.declared.resolved.ResolvedDecl.{ResolvedDecl}
 use Rattle.ac_meaning.specs.Answers.{lines_text}
-use Rattle.ac_meaning.specs.Holdings.{of_rows, Guards, held_under}
+use Rattle.ac_meaning.specs.Holdings.{of_rows, of_holder, Guards, held_under}
 use Rattle.ac_meaning.specs.Environment.{Bound, binds_type, binds_object, binds_cursor, binds_value, binds_element, bound_by, State, first_state, under, after_decls, nodes_in, nodes}
 use Rattle.ac_meaning.specs.Execution.{Outcome, exec_resolved, run, text_of}
 use Rattle.ac_meaning.proofs.NewObjects.{new_objects_are_unguarded}
@@ -52,6 +52,7 @@ script_text script r is = ap (λ (x : Outcome). lines_text x.lines) is
 bound_nodes : (guards : Guards) (b : Bound) → nodes_in (bound_by (held_under guards) b) ≡ nodes_in b
 bound_nodes guards binds_type = refl
 bound_nodes guards (binds_object (of_rows kind o)) = refl
+bound_nodes guards (binds_object (of_holder e h)) = refl
 bound_nodes guards (binds_cursor mark) = refl
 bound_nodes guards (binds_value v) = refl
 bound_nodes guards (binds_element object at) = refl

@@ -7,6 +7,7 @@ use Rattle.std.proofs.lemmas.Bool.Decides.{nat_tests}
 use Rattle.ac_base.specs.FirstReason.{first_reason}
 use Rattle.ac_base.specs.Guards.{HeldGuard}
 use Rattle.ac_base.specs.declared.guard.GuardKind.{GuardKind}
+use Rattle.ac_base.specs.declared.guard.GuardKind.TheVariants as guard
 use Rattle.ac_base.specs.declared.reason.Reason.TheVariants.{ForeignCursor, DeadCursor}
 use Rattle.ac_base.specs.Rows.{names}
 use Rattle.ac_model.specs.Objects.{Object}
@@ -14,24 +15,27 @@ use Rattle.ac_model.specs.Rows.{is_named}
 use Rattle.ac_model.specs.Letters.{Mark, mark_at, stale_mark, needs, judged_in, reason_if}
 use Rattle.ac_model.specs.Cursors.{seen}
 use Rattle.ac_check.specs.Resolved.{ResolvedCode}
-use Rattle.ac_meaning.specs.Holdings.{Held, of_rows, Guards, number_of, names_of, held_under, element_value, guard_on}
+use Rattle.ac_check.proofs.Apart.{and_parts}
+use Rattle.ac_model.proofs.Depths.{both_true}
+use Rattle.ac_meaning.specs.Holdings.{Held, of_rows, of_holder, Guards, is_on, held_on, number_of, names_of, holds_element, held_under, element_value, guard_on}
 use Rattle.ac_meaning.specs.Environment.{Bound, binds_type, binds_object, binds_cursor, binds_value, binds_element, bound_by, bound_in, object_in, State, under, bound_at, object_at, with_name, leaving}
 use Rattle.ac_meaning.specs.Execution.{exec_resolved, in_order}
-use Rattle.ac_meaning.specs.GuardedNames.{is_guarded, Frame, of_type, of_object, of_cursor, of_value, of_element, names_if, frame, kept}
+use Rattle.ac_meaning.specs.GuardedNames.{is_guarded, is_element_guarded, Frame, of_type, of_object, of_cursor, of_value, of_element, names_if, frame, kept}
 use Rattle.ac_meaning.specs.Numbers.{NumbersDiffer, GuardsBelow}
 use Rattle.ac_meaning.proofs.BoundsStay.{object_there}
 use Rattle.ac_meaning.proofs.CountsStay.{bound_under}
 use Rattle.ac_meaning.proofs.ExecKeeps.{resolved_keeps}
 use Rattle.ac_meaning.proofs.Frames.{kept_back}
 use Rattle.ac_meaning.proofs.Guarded.{held_some}
+use Rattle.ac_meaning.proofs.HoldersStay.{element_stands}
 use Rattle.ac_meaning.proofs.NewObjects.{new_objects_are_unguarded}
 use Rattle.ac_meaning.proofs.NextRises.{next_rises}
 use Rattle.ac_meaning.proofs.NumbersApart.{numbers_go_on}
 use Rattle.ac_meaning.proofs.RowKinds.{element_needs}
 use Rattle.ac_meaning.proofs.Walks.{named_there, turned}
-use Rattle.ac_objects.specs.Standing.{ElementStands, ElementsStand, counts_in_held}
+use Rattle.ac_objects.specs.Standing.{ElementStands, ElementsStand, keeping_guards}
 use Rattle.ac_objects.specs.World.{World, state_of}
-use Rattle.ac_host.specs.Ready.{IsKept, ElementsKept, Ready, IsReady}
+use Rattle.ac_host.specs.Ready.{IsNamed, IsKept, ElementsKept, Ready, IsReady}
 use Rattle.ac_host.proofs.Holding.{object_by_there}
 
 -- An element that an object has
@@ -54,20 +58,63 @@ needed o name there =
     ap (λ m. first_reason (needs o m ∷ [])) (seen_own (o.number == o.number) (is_named o.rows name) o.number name there)
     ∙ judged_own o.number (is_named o.rows name) there
 
+no_row : (before : List ℕ) (name : ℕ) (after : List ℕ) → [] ≡ before ++ name ∷ after → ⊥
+no_row [] name after e = cc
+no_row (x ∷ before) name after e = cc
+
 pub element_there : (h : Held) (before : List ℕ) (name : ℕ) (after : List ℕ) → names_of h ≡ before ++ name ∷ after →
     (element_value h (mark_at (number_of h) name)).reason ≡ None
 element_there (of_rows kind o) before name after e =
     element_needs kind o (seen o (mark_at o.number name)) ∙ needed o name (named_there o.rows before name after e)
+element_there (of_holder e h) before name after is = absurd (no_row before name after is)
 
 pub number_under : (guards : Guards) (h : Held) → number_of (held_under guards h) ≡ number_of h
 number_under guards (of_rows kind o) = refl
+number_under guards (of_holder e h) = refl
 
 pub names_under : (guards : Guards) (h : Held) → names_of (held_under guards h) ≡ names_of h
 names_under guards (of_rows kind o) = refl
+names_under guards (of_holder e h) = refl
 
-guarded_counts : (guards : Guards) (h : Held) → is_guarded guards (number_of h) ≡ true →
-    0 < (counts_in_held (held_under guards h)).cursor_guards + (counts_in_held (held_under guards h)).element_guards
-guarded_counts guards (of_rows kind o) g = held_some guards o.number g
+pub has_under : (guards : Guards) (h : Held) → holds_element (held_under guards h) ≡ holds_element h
+has_under guards (of_rows kind o) = refl
+has_under guards (of_holder e h) = refl
+
+guarded_counts : (guards : Guards) (h : Held) (before : List ℕ) (name : ℕ) (after : List ℕ) → is_guarded guards (number_of h) ≡ true →
+    names_of h ≡ before ++ name ∷ after → 0 < keeping_guards (held_under guards h)
+guarded_counts guards (of_rows kind o) before name after g e = held_some guards o.number g
+guarded_counts guards (of_holder e h) before name after g is = absurd (no_row before name after is)
+
+-- an element that is kept, as those of holders are
+
+abbrev pub keeps_element : Guards → Held → Bool
+keeps_element guards h = holds_element h && is_element_guarded guards (number_of h)
+
+any_later : (a b : Bool) → b ≡ true → (a || b) ≡ true
+any_later true b e = refl
+any_later false b e = e
+
+keeps_more : (more guards : Guards) (h : Held) → keeps_element guards h ≡ true → keeps_element (more ++ guards) h ≡ true
+keeps_more more guards h e =
+    let n = number_of h in
+    let p = and_parts (holds_element h) (is_element_guarded guards n) e in
+    both_true (holds_element h) (is_element_guarded (more ++ guards) n) p.0
+    (list_any-append (λ (g : HeldGuard). is_on g n guard.Elements) more guards
+    ∙ any_later (is_element_guarded more n) (is_element_guarded guards n) p.1)
+
+element_step : (g : HeldGuard) (guards : Guards) (n : ℕ) (b : Bool) → is_on g n guard.Elements ≡ b → (b || is_element_guarded guards n) ≡ true →
+    (is_element_guarded guards n ≡ true → 0 < held_on guards n guard.Elements) →
+    0 < (if b then 1 else 0) + held_on guards n guard.Elements
+element_step g guards n true e k rest = omega arith
+element_step g guards n false e k rest = omega (arith, rest k)
+
+element_some : (guards : Guards) (n : ℕ) → is_element_guarded guards n ≡ true → 0 < held_on guards n guard.Elements
+element_some [] n h = absurd (cc)
+element_some (g ∷ guards) n h = element_step g guards n (is_on g n guard.Elements) refl h (element_some guards n)
+
+element_counts : (guards : Guards) (h : Held) → is_element_guarded guards (number_of h) ≡ true → 0 < keeping_guards (held_under guards h)
+element_counts guards (of_rows kind o) g = let some = element_some guards o.number g in omega (arith, some)
+element_counts guards (of_holder e h) g = element_some guards h.number g
 
 -- What stays of a name, and what it holds
 
@@ -88,29 +135,37 @@ frame_there guards (x ∷ bs) (suc place) b e = frame_there guards bs place b e
 
 number_in : Frame → ℕ
 number_in of_type = 0
-number_in (of_object number names) = number
+number_in (of_object number names has_element) = number
 number_in of_cursor = 0
 number_in of_value = 0
 number_in (of_element object at) = 0
 
 names_in : Frame → List ℕ
 names_in of_type = []
-names_in (of_object number names) = names
+names_in (of_object number names has_element) = names
 names_in of_cursor = []
 names_in of_value = []
 names_in (of_element object at) = []
 
--- an object that has these names, where a guard is held on it
-pub record ObjectKept (guards : Guards) (e : State) (place number : ℕ) (all : List ℕ) : Type 0 where
+element_in : Frame → Bool
+element_in of_type = false
+element_in (of_object number names has_element) = has_element
+element_in of_cursor = false
+element_in of_value = false
+element_in (of_element object at) = false
+
+-- an object that has these names, where a guard is held on it, and whether it keeps an element
+pub record ObjectKept (guards : Guards) (e : State) (place number : ℕ) (all : List ℕ) (has_element : Bool) : Type 0 where
   pub held : Held
   pub there : object_at e place ≡ Some held
   pub number_is : number_of held ≡ number
   pub names_are : is_guarded guards number ≡ true → names_of held ≡ all
+  pub keeps : keeps_element guards held ≡ has_element
 
-framed_object : (guards : Guards) (e : State) (place number : ℕ) (all : List ℕ) (b : Bound) → slice_get e.bounds place ≡ Some b →
-    frame guards b ≡ of_object number all → ObjectKept guards e place number all
-unfolding number_in names_in
-framed_object guards e place number all (binds_object h) there is =
+framed_object : (guards : Guards) (e : State) (place number : ℕ) (all : List ℕ) (has : Bool) (b : Bound) → slice_get e.bounds place ≡ Some b →
+    frame guards b ≡ of_object number all has → ObjectKept guards e place number all has
+unfolding number_in names_in element_in
+framed_object guards e place number all has (binds_object h) there is =
     let n : number_of h ≡ number = ap number_in is in
     record {
       held = h;
@@ -119,16 +174,17 @@ framed_object guards e place number all (binds_object h) there is =
       names_are = λ g.
           let own : is_guarded guards (number_of h) ≡ true = ap (is_guarded guards) n ∙ g in
           sym (ap (λ t. names_if t (names_of h)) own) ∙ ap names_in is;
+      keeps = ap element_in is;
     }
-framed_object guards e place number all binds_type there is = absurd (cc)
-framed_object guards e place number all (binds_cursor mark) there is = absurd (cc)
-framed_object guards e place number all (binds_value v) there is = absurd (cc)
-framed_object guards e place number all (binds_element object at) there is = absurd (cc)
+framed_object guards e place number all has binds_type there is = absurd (cc)
+framed_object guards e place number all has (binds_cursor mark) there is = absurd (cc)
+framed_object guards e place number all has (binds_value v) there is = absurd (cc)
+framed_object guards e place number all has (binds_element object at) there is = absurd (cc)
 
-pub kept_object : (guards : Guards) (e : State) (place number : ℕ) (all : List ℕ) → slice_get (kept guards e) place ≡ Some (of_object number all) →
-    ObjectKept guards e place number all
-kept_object guards e place number all there =
-    let f = framed guards e.bounds place (of_object number all) there in framed_object guards e place number all f.bound f.there f.is
+pub kept_object : (guards : Guards) (e : State) (place number : ℕ) (all : List ℕ) (has : Bool) →
+    slice_get (kept guards e) place ≡ Some (of_object number all has) → ObjectKept guards e place number all has
+kept_object guards e place number all has there =
+    let f = framed guards e.bounds place (of_object number all has) there in framed_object guards e place number all has f.bound f.there f.is
 
 pub bound_found : (bs : List Bound) (place : ℕ) (b : Bound) → bound_in (slice_get bs place) ≡ b → (b ≡ binds_type → ⊥) → slice_get bs place ≡ Some b
 bound_found [] place b e other = absurd (other (sym e))
@@ -141,12 +197,17 @@ no_type_object h e = cc
 no_type_element : (object : ℕ) (at : Mark) → binds_element object at ≡ binds_type → ⊥
 no_type_element object at e = cc
 
-pub object_framed : (guards : Guards) (e : State) (place : ℕ) (h : Held) → object_at e place ≡ Some h → is_guarded guards (number_of h) ≡ true →
-    slice_get (kept guards e) place ≡ Some (of_object (number_of h) (names_of h))
-object_framed guards e place h there guarded =
+any_framed : (guards : Guards) (e : State) (place : ℕ) (h : Held) → object_at e place ≡ Some h →
+    slice_get (kept guards e) place ≡ Some (frame guards (binds_object h))
+any_framed guards e place h there =
     frame_there guards e.bounds place (binds_object h)
     (bound_found e.bounds place (binds_object h) (object_there (bound_at e place) h there) (no_type_object h))
-    ∙ ap (λ t. Some (of_object (number_of h) (names_if t (names_of h)))) guarded
+
+pub object_framed : (guards : Guards) (e : State) (place : ℕ) (h : Held) → object_at e place ≡ Some h → is_guarded guards (number_of h) ≡ true →
+    slice_get (kept guards e) place ≡ Some (of_object (number_of h) (names_of h) (keeps_element guards h))
+object_framed guards e place h there guarded =
+    any_framed guards e place h there
+    ∙ ap (λ t. Some (of_object (number_of h) (names_if t (names_of h)) (keeps_element guards h))) guarded
 
 element_framed : (guards : Guards) (e : State) (place object : ℕ) (at : Mark) → bound_at e place ≡ binds_element object at →
     slice_get (kept guards e) place ≡ Some (of_element object at)
@@ -168,19 +229,41 @@ element_by f (binds_cursor mark) object at is = absurd (cc)
 element_by f (binds_value v) object at is = absurd (cc)
 
 -- so an element that is kept stands, while the guards are held
+
+module _ (guards : Guards) (e : State) (object : ℕ) (at : Mark) (number : ℕ) (all : List ℕ) (has : Bool) (o : ObjectKept guards e object number all has) where
+  named_stands : IsNamed guards number all at → ElementStands (under guards e) object at
+  named_stands k =
+      let h = held_under guards o.held in
+      let same : number_of h ≡ number = number_under guards o.held ∙ o.number_is in
+      let among : names_of h ≡ k.before ++ k.name ∷ k.after = names_under guards o.held ∙ (o.names_are k.guarded ∙ k.among) in
+      let is : at ≡ mark_at (number_of h) k.name = k.is ∙ ap (λ n. mark_at n k.name) (sym same) in
+      record {
+        held = h;
+        there = object_by_there (held_under guards) e object o.held o.there;
+        stands = ap (λ m. (element_value h m).reason) is ∙ element_there h k.before k.name k.after among;
+        guarded =
+            guarded_counts guards o.held k.before k.name k.after (ap (is_guarded guards) o.number_is ∙ k.guarded) (o.names_are k.guarded ∙ k.among);
+      }
+
+  own_stands : has ≡ true → ElementStands (under guards e) object at
+  own_stands k =
+      let keeps = and_parts (holds_element o.held) (is_element_guarded guards (number_of o.held)) (o.keeps ∙ k) in
+      record {
+        held = held_under guards o.held;
+        there = object_by_there (held_under guards) e object o.held o.there;
+        stands = element_stands (held_under guards o.held) at (has_under guards o.held ∙ keeps.0);
+        guarded = element_counts guards o.held keeps.1;
+      }
+
 pub kept_stands : (guards : Guards) (e : State) (object : ℕ) (at : Mark) → IsKept guards (kept guards e) object at → ElementStands (under guards e) object at
-kept_stands guards e object at k =
-    let o = kept_object guards e object k.number k.names k.there in
-    let h = held_under guards o.held in
-    let number : number_of h ≡ k.number = number_under guards o.held ∙ o.number_is in
-    let among : names_of h ≡ k.before ++ k.name ∷ k.after = names_under guards o.held ∙ (o.names_are k.guarded ∙ k.among) in
-    let is : at ≡ mark_at (number_of h) k.name = k.is ∙ ap (λ n. mark_at n k.name) (sym number) in
-    record {
-      held = h;
-      there = object_by_there (held_under guards) e object o.held o.there;
-      stands = ap (λ m. (element_value h m).reason) is ∙ element_there h k.before k.name k.after among;
-      guarded = guarded_counts guards o.held (ap (is_guarded guards) o.number_is ∙ k.guarded);
-    }
+kept_stands guards e object at k = go k.stands
+  where
+    o : ObjectKept guards e object k.number k.names k.has_element
+    o = kept_object guards e object k.number k.names k.has_element k.there
+
+    go : IsNamed guards k.number k.names at ⊎ (k.has_element ≡ true) → ElementStands (under guards e) object at
+    go (inl named) = named_stands guards e object at k.number k.names k.has_element o named
+    go (inr own) = own_stands guards e object at k.number k.names k.has_element o own
 
 pub elements_stand : (guards : Guards) (e : State) → Ready guards e → ElementsStand (under guards e)
 elements_stand guards e r place object at is =
@@ -201,29 +284,46 @@ ready_exec code guards e r =
       elements = subst (ElementsKept guards) (sym (resolved_keeps code guards e)) r.elements;
     }
 
-any_later : (a b : Bool) → b ≡ true → (a || b) ≡ true
-any_later true b e = refl
-any_later false b e = e
-
 guarded_more : (more guards : Guards) (number : ℕ) → is_guarded guards number ≡ true → is_guarded (more ++ guards) number ≡ true
 guarded_more more guards number g =
     list_any-append (λ (x : HeldGuard). x.object == number) more guards ∙ any_later (is_guarded more number) (is_guarded guards number) g
 
 kept_more : (more guards : Guards) (e : State) (object : ℕ) (at : Mark) → IsKept guards (kept guards e) object at →
     IsKept (more ++ guards) (kept (more ++ guards) e) object at
-kept_more more guards e object at k =
-    let o = kept_object guards e object k.number k.names k.there in
-    let own : is_guarded (more ++ guards) (number_of o.held) ≡ true = ap (is_guarded (more ++ guards)) o.number_is ∙ guarded_more more guards k.number k.guarded in
-    record {
+kept_more more guards e object at k = go k.stands
+  where
+    all : Guards
+    all = more ++ guards
+
+    o : ObjectKept guards e object k.number k.names k.has_element
+    o = kept_object guards e object k.number k.names k.has_element k.there
+
+    named : IsNamed guards k.number k.names at → IsKept all (kept all e) object at
+    named n =
+        let own : is_guarded all (number_of o.held) ≡ true = ap (is_guarded all) o.number_is ∙ guarded_more more guards k.number n.guarded in
+        record {
+          number = number_of o.held;
+          names = names_of o.held;
+          has_element = keeps_element all o.held;
+          there = object_framed all e object o.held o.there own;
+          stands = inl (record {
+            guarded = own;
+            before = n.before;
+            name = n.name;
+            after = n.after;
+            among = o.names_are n.guarded ∙ n.among;
+            is = n.is ∙ ap (λ m. mark_at m n.name) (sym o.number_is);
+          });
+        }
+
+    go : IsNamed guards k.number k.names at ⊎ (k.has_element ≡ true) → IsKept all (kept all e) object at
+    go (inl n) = named n
+    go (inr own) = record {
       number = number_of o.held;
-      names = names_of o.held;
-      there = object_framed (more ++ guards) e object o.held o.there own;
-      guarded = own;
-      before = k.before;
-      name = k.name;
-      after = k.after;
-      among = o.names_are k.guarded ∙ k.among;
-      is = k.is ∙ ap (λ n. mark_at n k.name) (sym o.number_is);
+      names = names_if (is_guarded all (number_of o.held)) (names_of o.held);
+      has_element = keeps_element all o.held;
+      there = any_framed all e object o.held o.there;
+      stands = inr (keeps_more more guards o.held (o.keeps ∙ own));
     }
 
 -- under more guards
@@ -249,18 +349,15 @@ among_order false all before name after e = record { before = before; after = af
 among_order true all before name after e = record { before = reverse after; after = reverse before; is = turned all before name after e }
 
 -- an object at a place is kept there with each of its names
-pub kept_at : (guards : Guards) (frames : List Frame) (place number : ℕ) (all : List ℕ) (name : ℕ) → slice_get frames place ≡ Some (of_object number all) →
-    is_guarded guards number ≡ true → Among all name → IsKept guards frames place (mark_at number name)
-kept_at guards frames place number all name there guarded among = record {
+pub kept_at : (guards : Guards) (frames : List Frame) (place number : ℕ) (all : List ℕ) (has : Bool) (name : ℕ) →
+    slice_get frames place ≡ Some (of_object number all has) → is_guarded guards number ≡ true → Among all name →
+    IsKept guards frames place (mark_at number name)
+kept_at guards frames place number all has name there guarded among = record {
   number = number;
   names = all;
+  has_element = has;
   there = there;
-  guarded = guarded;
-  before = among.before;
-  name = name;
-  after = among.after;
-  among = among.is;
-  is = refl;
+  stands = inl (record { guarded = guarded; before = among.before; name = name; after = among.after; among = among.is; is = refl });
 }
 
 pub longer : {A : Type 0} (xs ys : List A) (place : ℕ) (x : A) → slice_get xs place ≡ Some x → slice_get (xs ++ ys) place ≡ Some x
@@ -278,13 +375,9 @@ pub kept_longer : (guards : Guards) (frames more : List Frame) (object : ℕ) (a
 kept_longer guards frames more object at k = record {
   number = k.number;
   names = k.names;
-  there = longer frames more object (of_object k.number k.names) k.there;
-  guarded = k.guarded;
-  before = k.before;
-  name = k.name;
-  after = k.after;
-  among = k.among;
-  is = k.is;
+  has_element = k.has_element;
+  there = longer frames more object (of_object k.number k.names k.has_element) k.there;
+  stands = k.stands;
 }
 
 pub elements_longer : (guards : Guards) (frames : List Frame) (last : Frame) → ElementsKept guards frames →

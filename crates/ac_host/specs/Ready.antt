@@ -1,5 +1,5 @@
 -- What is known where statements stand: which guards are held, and that the elements for which names stand have one.
-use Rattle.std.specs.Prelude.{◌≡◌, ℕ, true, List, ◌∷◌, ◌++◌, slice_get, Some}
+use Rattle.std.specs.Prelude.{◌≡◌, ◌⊎◌, ℕ, Bool, true, List, ◌∷◌, ◌++◌, slice_get, Some}
 use Rattle.ac_model.specs.Letters.{Mark, mark_at}
 use Rattle.ac_meaning.specs.Holdings.{Guards}
 use Rattle.ac_meaning.specs.Environment.{State, under}
@@ -7,17 +7,23 @@ use Rattle.ac_meaning.specs.GuardedNames.{is_guarded, Frame, of_object, of_eleme
 use Rattle.ac_meaning.specs.Numbers.{NumbersDiffer, GuardsBelow}
 use Rattle.ac_objects.specs.World.{World, state_of}
 
--- an element of an object with a guard, by what stays of the names in scope while the guards are held
-pub record IsKept (guards : Guards) (frames : List Frame) (object : ℕ) (at : Mark) : Type 0 where
-  pub number : ℕ
-  pub names : List ℕ
-  pub there : slice_get frames object ≡ Some (of_object number names)
+-- an element in the rows of an object with a guard
+pub record IsNamed (guards : Guards) (number : ℕ) (names : List ℕ) (at : Mark) : Type 0 where
   pub guarded : is_guarded guards number ≡ true
   pub before : List ℕ
   pub name : ℕ
   pub after : List ℕ
   pub among : names ≡ before ++ name ∷ after
   pub is : at ≡ mark_at number name
+
+-- an element of an object with a guard, by what stays of the names in scope while the guards are held: one of its rows, or a holder's,
+-- which needs no mark
+pub record IsKept (guards : Guards) (frames : List Frame) (object : ℕ) (at : Mark) : Type 0 where
+  pub number : ℕ
+  pub names : List ℕ
+  pub has_element : Bool
+  pub there : slice_get frames object ≡ Some (of_object number names has_element)
+  pub stands : IsNamed guards number names at ⊎ (has_element ≡ true)
 
 -- so is each for which a name stands
 abbrev pub ElementsKept : Guards → List Frame → Type 0

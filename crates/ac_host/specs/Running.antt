@@ -55,7 +55,8 @@ pub record Turning (w : World) (count object : ℕ) (backward : Bool) (coming : 
   pub is : leaving count (state_of w) ≡ under guards e
   pub ready : Ready guards e
   pub as_many : count ≡ length e.bounds
-  pub there : slice_get (kept guards e) object ≡ Some (of_object number all)
+  pub has_element : Bool
+  pub there : slice_get (kept guards e) object ≡ Some (of_object number all has_element)
   pub guarded : is_guarded guards number ≡ true
   pub before : List ℕ
   pub among : in_order backward all ≡ before ++ names
