@@ -3,6 +3,8 @@
 #![tactic(auto)]
 
 #[cfg(test)]
+mod holders;
+#[cfg(test)]
 mod key_updates;
 #[cfg(test)]
 mod keyed;

@@ -68,6 +68,16 @@ X := "abc
 tasks
 ==> line 1: syntax
 ====
+type Q is bounded queue (integer);
+A : Q (1);
+tasks
+task P is
+begin
+A.Enqueue (1);
+end;
+end tasks;
+==> line 3: syntax
+====
 end;
 ==> line 1: syntax
 ====

@@ -200,6 +200,11 @@ B.Append (7, 2);
 end;
 ";
 
+const HOLDER: &str = "type H is holder (integer);
+A : H;
+A.Replace_Element (5);
+";
+
 const WRONG_TYPE: &str = "type L is list (integer);
 A : L;
 A.Append (\"7\");
@@ -209,6 +214,7 @@ A.Append (\"7\");
 fn an_audit_is_of_what_ran_and_of_outermost_objects(rt: HostRuntime) -> Result<(), Fail> {
     let rows = [
         (INNER_SCOPE, ("0", "3: ok\n7: ok\nnodes 1\n")),
+        (HOLDER, ("0", "3: ok\nnodes 0\n")),
         (WRONG_TYPE, ("1", "line 3: wrong type\n")),
     ];
     for (script, wanted) in rows {
