@@ -21,7 +21,7 @@ use Rattle.ac_meaning.proofs.CommandsStay.{command_stays}
 use Rattle.ac_objects.specs.declared.reply.Said.{Said}
 use Rattle.ac_objects.specs.declared.reply.Said.TheVariants as said
 use Rattle.ac_objects.specs.declared.reply.Reply.{Reply}
-use Rattle.ac_objects.specs.Performs.{Performs, answered}
+use Rattle.ac_objects.specs.Performs.{Performs, Untouched, answered}
 use Rattle.ac_objects.specs.Shown.{Shows}
 use Rattle.ac_objects.specs.Standing.{ElementsStand}
 use Rattle.ac_objects.specs.Steps.{AssignsTo, SaidKnown, placed_of, IsCalledAt, CalledAt, IsPerformed, PerformsAt, reply_in, if_integer, sum_given}
@@ -258,6 +258,18 @@ sets_given target s answer old new (Err (fault.Raised reason)) shows g =
     subst (λ p. Performs p target old new (Err (fault.Raised reason))) (sym (unless_some e answer (assigned e (Some target) answer) reason g.0))
     (refl, ap state_of g.1, ap state_of g.1)
 sets_given target s answer old new (Err fault.NoMemory) shows g = tt
+
+-- where the target or the call itself refuses, all is as it was
+
+pub given_untouched : (a : Assigned) (old new : World) (result : Result Done Fault) → AssignsTo a old new result → Untouched old new result
+given_untouched a old new (Ok done) g = tt
+given_untouched a old new (Err (fault.Raised reason)) g = g.1
+given_untouched a old new (Err fault.NoMemory) g = tt
+
+pub refused_untouched : (r : replies.Reply Held) (object : ℕ) (args : List ResolvedArg) (old new : World) (f : Fault) →
+    PerformsAt r object args old new (Err f) → Untouched old new (Err f)
+refused_untouched r object args old new (fault.Raised reason) k = k.1
+refused_untouched r object args old new fault.NoMemory k = tt
 
 sum_by : (e : State) (target : ℕ) (n : ℤ) (b : Bool) → is_integer n ≡ b → sum_given e target (if b then Some n else None) ≡ sum_assigned e target n
 sum_by e target n true f = rw (f, sum_assigned) refl

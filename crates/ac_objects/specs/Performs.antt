@@ -20,3 +20,9 @@ abbrev pub Performs : Performed → (object : ℕ) → (old new : World) → Res
 Performs p object old new (Ok said) = (state_of new ≡ p.after) × Shows p.after object said p.answer
 Performs p object old new (Err (fault.Raised reason)) = (p.answer ≡ answers_raised reason) × (state_of new ≡ p.after) × (state_of new ≡ state_of old)
 Performs p object old new (Err fault.NoMemory) = ⊤
+
+-- where it was refused, all is left as it was, in memory too
+abbrev pub Untouched : (old new : World) → Result Done Fault → Type 0
+Untouched old new (Ok done) = ⊤
+Untouched old new (Err (fault.Raised reason)) = new ≡ old
+Untouched old new (Err fault.NoMemory) = ⊤

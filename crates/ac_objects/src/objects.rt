@@ -4,7 +4,8 @@ ghost use Rattle.ac_meaning.specs.Commands.{called, set_from, summed, sum_of, va
 ghost use Rattle.ac_meaning.specs.Elements.{integer_in};
 ghost use Rattle.ac_meaning.specs.Environment.{object_at};
 ghost use Rattle.ac_meaning.specs.Holdings.{Held};
-ghost use Rattle.ac_objects.specs.Performs.{Performs, answered};
+ghost use Rattle.ac_base.specs.declared.reason.Reason.{Reason as Refusal};
+ghost use Rattle.ac_objects.specs.Performs.{Performs, Untouched, answered};
 ghost use Rattle.ac_objects.specs.Standing.{IsObject, ElementsStand, counts_of};
 ghost use Rattle.ac_objects.specs.Steps.{PerformsAt, PlacedKnown, placed_of, reply_in, if_integer, sum_given};
 ghost use Rattle.ac_objects.specs.World.{state_of, world, Persists};
@@ -62,6 +63,8 @@ impl Objects {
         requires stand { ElementsStand (state_of self.old) }
         ensures performed { Performs (called (state_of self.old) target object operation args.now) object self.old self.new
             (answered frame.new.reply.said result) }
+        ensures untouched { (h : Held) (reason : Refusal) → object_at (state_of self.old) object ≡ Some h →
+            (reply_in (state_of self.old) h operation args.now).reason ≡ Some reason → Untouched self.old self.new result }
         ensures persists { Persists self.old self.new }
         ensures counts { counts_of (state_of self.new) ≡ counts_of (state_of self.old) }
     {
@@ -118,6 +121,7 @@ impl Objects {
         requires stand { ElementsStand (state_of self.old) }
         ensures performed { Performs (set_from (state_of self.old) target from.now) target self.old self.new
             (answered frame.new.reply.said result) }
+        ensures untouched { Untouched self.old self.new result }
         ensures persists { Persists self.old self.new }
         ensures counts { counts_of (state_of self.new) ≡ counts_of (state_of self.old) }
     {
@@ -143,6 +147,7 @@ impl Objects {
         requires stand { ElementsStand (state_of self.old) }
         ensures performed { Performs (summed (state_of self.old) target from minus number) target self.old self.new
             (answered frame.new.reply.said result) }
+        ensures untouched { Untouched self.old self.new result }
         ensures persists { Persists self.old self.new }
         ensures counts { counts_of (state_of self.new) ≡ counts_of (state_of self.old) }
     {
@@ -160,6 +165,7 @@ impl Objects {
         requires stand { ElementsStand (state_of self.old) }
         ensures performed { Performs (sum_given (state_of self.old) target sum) target self.old self.new
             (answered frame.new.reply.said result) }
+        ensures untouched { Untouched self.old self.new result }
         ensures persists { Persists self.old self.new }
         ensures counts { counts_of (state_of self.new) ≡ counts_of (state_of self.old) }
     {

@@ -1,7 +1,8 @@
-use Rattle.std.proofs.Common.{refl}
+use Rattle.std.proofs.Common.{refl, sym, ◌∙◌}
+use Rattle.ac_meaning.proofs.CallsStay.{none_some}
 use Rattle.ac_objects.specs.Steps.{reply_in}
 use Rattle.ac_objects.specs.World.{state_of}
-use Rattle.ac_objects.proofs.Performing.{call_given, call_refused, stand_after}
+use Rattle.ac_objects.proofs.Performing.{call_given, call_refused, refused_untouched, stand_after}
 use Rattle.ac_objects.proofs.objects.Objects.call.Goals as goal
 
 pub give-requires-clause-stand : goal.give-requires-clause-stand
@@ -26,3 +27,13 @@ returns-in-Err-clause-performed c =
     let a = c.args in
     let o = c.if-not-is_object.ensures.yes refl in
     call_refused a.target a.object a.operation a.args.now o.held a.self.now c.perform.new.self c.in-Err.fault o.there (c.in-Err.ensures.performed o.held o.there)
+
+pub returns-in-Ok-clause-untouched : goal.returns-in-Ok-clause-untouched
+returns-in-Ok-clause-untouched c h reason there refused =
+    none_some reason (sym (c.in-Ok.ensures.performed h there).reason ∙ refused)
+
+pub returns-in-Err-clause-untouched : goal.returns-in-Err-clause-untouched
+returns-in-Err-clause-untouched c h reason there refused =
+    let a = c.args in
+    refused_untouched (reply_in (state_of a.self.now) h a.operation a.args.now) a.object a.args.now a.self.now c.perform.new.self c.in-Err.fault
+    (c.in-Err.ensures.performed h there)
