@@ -8,13 +8,14 @@ use Rattle.ac_base.specs.declared.fault.NoMemory.{NoMemory}
 use Rattle.ac_queue.specs.declared.any_queue.AnyQueue.{AnyQueue}
 use Rattle.ac_queue.specs.Kinds.{discipline_of, state_of}
 use Rattle.ac_queue.specs.QueueStates.{QueueState, with_spare}
-use Rattle.ac_book.specs.declared.code.TaskStep.{TaskStep}
-use Rattle.ac_book.specs.declared.code.TaskCode.{TaskCode}
-use Rattle.ac_book.specs.declared.entry.Entry.{Entry}
-use Rattle.ac_book.specs.Blocks.{commands_in, new_block}
+use Rattle.ac_history.specs.declared.code.TaskStep.{TaskStep}
+use Rattle.ac_history.specs.declared.code.TaskCode.{TaskCode}
+use Rattle.ac_history.specs.declared.entry.Entry.{Entry}
+use Rattle.ac_history.specs.Blocks.{commands_in, new_block}
+use Rattle.ac_history.specs.States.{TaskQueue, TaskState, begun}
 use Rattle.ac_book.specs.Books.{IsBook, block_of, CodeFits, TaskFits, left, one_each}
 use Rattle.ac_book.specs.Running.{Fits, HaveSpare, added_by}
-use Rattle.ac_book.specs.States.{TaskQueue, TaskState, begun, shared}
+use Rattle.ac_book.specs.Shared.{shared}
 use Rattle.ac_book.specs.Tasks.{code_of}
 use Rattle.ac_book.proofs.Turning.{written_back}
 

@@ -1,16 +1,16 @@
 -- Each turn of a task that is able brings the end nearer.
 use Rattle.std.proofs.Common.{◌≡◌, ◌+◌, ◌<◌, ℕ, Bool, true, false, List, ◌++◌, Option, Some, None, refl, ap, ◌∙◌, arith, append_assoc, if◌then◌else◌}
 use Rattle.std.specs.List.{slice_get}
-use Rattle.ac_book.specs.declared.code.TaskStep.{TaskStep}
-use Rattle.ac_book.specs.declared.entry.Entry.{Entry}
-use Rattle.ac_book.specs.Blocks.{Block, opening, present, with_entries}
+use Rattle.ac_history.specs.declared.code.TaskStep.{TaskStep}
+use Rattle.ac_history.specs.declared.entry.Entry.{Entry}
+use Rattle.ac_history.specs.Blocks.{Block, opening, present, with_entries}
+use Rattle.ac_history.specs.Histories.{over, held_up, done, is_done, is_able, outcome, outcome_of, entries_of, state_after}
+use Rattle.ac_history.specs.States.{State, TaskState}
+use Rattle.ac_history.specs.Steps.{step_call}
+use Rattle.ac_history.proofs.LegalHistories.{replay_append, one_turn}
 use Rattle.ac_book.specs.Books.{left, one_each}
-use Rattle.ac_book.specs.Histories.{over, held_up, done, is_done, is_able, outcome, outcome_of, entries_of, state_after}
-use Rattle.ac_book.specs.States.{State, TaskState}
-use Rattle.ac_book.specs.Steps.{step_call}
 use Rattle.ac_book.specs.Tasks.{next_of}
 use Rattle.ac_book.proofs.Left.{left_falls}
-use Rattle.ac_book.proofs.LegalHistories.{replay_append, one_turn}
 
 falls_if : (b : Bool) (s after : State) (e : Entry) → left one_each after.tasks + 1 ≡ left one_each s.tasks → is_done (if b then held_up else done e after) ≡ true → left one_each (state_after s (if b then held_up else done e after)).tasks + 1 ≡ left one_each s.tasks
 falls_if true s after e falls h = cc

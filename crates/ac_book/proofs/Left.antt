@@ -2,10 +2,10 @@
 use Rattle.std.proofs.Common.{◌≡◌, ◌+◌, ◌<◌, ℕ, zero, suc, List, [], ◌∷◌, length, drop, get_or, set, Some, subst, arith}
 use Rattle.std.specs.List.{sum_by, slice_get}
 use Rattle.std.proofs.lemmas.List.Sums.{sum_by-set, sum_by-drop_more}
-use Rattle.ac_book.specs.declared.code.TaskStep.{TaskStep}
-use Rattle.ac_book.specs.declared.entry.Reply.{Reply}
-use Rattle.ac_book.specs.States.{TaskState}
-use Rattle.ac_book.specs.Steps.{advanced}
+use Rattle.ac_history.specs.declared.code.TaskStep.{TaskStep}
+use Rattle.ac_history.specs.declared.entry.Reply.{Reply}
+use Rattle.ac_history.specs.States.{TaskState}
+use Rattle.ac_history.specs.Steps.{advanced}
 use Rattle.ac_book.specs.Books.{left}
 
 pub found_within : {X : Type 0} (xs : List X) (i : ℕ) (x : X) → slice_get xs i ≡ Some x → i < length xs

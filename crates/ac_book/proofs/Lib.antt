@@ -4,7 +4,5 @@ pub mod Beginning
 pub mod Ending
 pub mod KindsKept
 pub mod Left
-pub mod LegalHistories
 pub mod Shared
-pub mod Starts
 pub mod Turning

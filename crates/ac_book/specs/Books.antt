@@ -2,15 +2,16 @@
 use Rattle.std.specs.Prelude.{◌≡◌, ◌+◌, ◌≤◌, ◌<◌, ◌^◌, ℕ, List, [], ◌∷◌, map, length, drop, Result, Ok, Err}
 use Rattle.std.specs.List.{All, sum_by}
 use Rattle.ac_queue.specs.declared.any_queue.AnyQueue.{AnyQueue}
-use Rattle.ac_book.specs.declared.code.TaskStep.{TaskStep}
-use Rattle.ac_book.specs.declared.code.TaskCode.{TaskCode}
-use Rattle.ac_book.specs.declared.entry.Entry.{Entry}
-use Rattle.ac_book.specs.declared.entry.Turn.{Turn}
-use Rattle.ac_book.specs.declared.entry.Turn.TheVariants as turn
-use Rattle.ac_book.specs.Blocks.{Block, commands_in}
-use Rattle.ac_book.specs.Histories.{Explains}
+use Rattle.ac_history.specs.declared.code.TaskStep.{TaskStep}
+use Rattle.ac_history.specs.declared.code.TaskCode.{TaskCode}
+use Rattle.ac_history.specs.declared.entry.Entry.{Entry}
+use Rattle.ac_history.specs.declared.entry.Turn.{Turn}
+use Rattle.ac_history.specs.declared.entry.Turn.TheVariants as turn
+use Rattle.ac_history.specs.Blocks.{Block, commands_in}
+use Rattle.ac_history.specs.Histories.{Explains}
+use Rattle.ac_history.specs.States.{State, TaskQueue, TaskState, opening_state}
 use Rattle.ac_book.specs.Running.{Fits, HaveSpare, added_by}
-use Rattle.ac_book.specs.States.{State, TaskQueue, TaskState, opening_state, shared}
+use Rattle.ac_book.specs.Shared.{shared}
 use Rattle.ac_book.specs.Tasks.{code_of}
 
 abbrev pub block_of : List AnyQueue → List TaskState → List Entry → Block

@@ -1,9 +1,5 @@
--- Tasks that share queues: what a step does, which histories are legal, and what a block leaves.
-pub mod Blocks
+-- A block in memory: its queues and tasks, what its steps want of them, and what the history says of both.
 pub mod Books
-pub mod Examples
-pub mod Histories
 pub mod Running
-pub mod States
-pub mod Steps
+pub mod Shared
 pub mod Tasks

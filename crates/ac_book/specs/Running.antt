@@ -4,13 +4,13 @@ use Rattle.std.specs.List.{All}
 use Rattle.ac_model.specs.Queues.{by_priority}
 use Rattle.ac_queue.specs.declared.any_queue.AnyQueue.{AnyQueue}
 use Rattle.ac_queue.specs.Kinds.{state_of}
-use Rattle.ac_book.specs.declared.code.TaskArg.{TaskArg}
-use Rattle.ac_book.specs.declared.code.TaskArg.TheVariants as arg
-use Rattle.ac_book.specs.declared.code.TaskStep.{TaskStep}
-use Rattle.ac_book.specs.declared.code.TaskStep.TheVariants.{Enqueue, Dequeue, High, CurrentUse, PeakUse, Set}
-use Rattle.ac_book.specs.declared.entry.Reply.{Reply}
-use Rattle.ac_book.specs.States.{TaskQueue}
-use Rattle.ac_book.specs.Steps.{QueueStep, StepCall, queue_at}
+use Rattle.ac_history.specs.declared.code.TaskArg.{TaskArg}
+use Rattle.ac_history.specs.declared.code.TaskArg.TheVariants as arg
+use Rattle.ac_history.specs.declared.code.TaskStep.{TaskStep}
+use Rattle.ac_history.specs.declared.code.TaskStep.TheVariants.{Enqueue, Dequeue, High, CurrentUse, PeakUse, Set}
+use Rattle.ac_history.specs.declared.entry.Reply.{Reply}
+use Rattle.ac_history.specs.States.{TaskQueue}
+use Rattle.ac_history.specs.Steps.{QueueStep, StepCall, queue_at}
 
 -- nothing, where it would wait
 abbrev pub answered : Bool → Reply → Option Reply

@@ -2,14 +2,14 @@
 use Rattle.std.specs.Prelude.{◌≡◌, ◌≤◌, ◌<◌, ◌^◌, ℕ, ℤ, Bool, true, false, List, length, Option, Some, None, Result, Ok, Err}
 use Rattle.std.specs.List.{slice_get}
 use Rattle.std.specs.Coded.{Coded, codes}
-use Rattle.ac_book.specs.declared.code.TaskStep.{TaskStep}
-use Rattle.ac_book.specs.declared.code.TaskCode.{TaskCode}
-use Rattle.ac_book.specs.declared.entry.Entry.{Entry}
-use Rattle.ac_book.specs.declared.entry.Turn.{Turn}
-use Rattle.ac_book.specs.declared.entry.Turn.TheVariants as turn
-use Rattle.ac_book.specs.States.{TaskQueue, TaskState}
-use Rattle.ac_book.specs.Steps.{StepCall, step_call, advanced}
-use Rattle.ac_book.specs.Histories.{entry}
+use Rattle.ac_history.specs.declared.code.TaskStep.{TaskStep}
+use Rattle.ac_history.specs.declared.code.TaskCode.{TaskCode}
+use Rattle.ac_history.specs.declared.entry.Entry.{Entry}
+use Rattle.ac_history.specs.declared.entry.Turn.{Turn}
+use Rattle.ac_history.specs.declared.entry.Turn.TheVariants as turn
+use Rattle.ac_history.specs.States.{TaskQueue, TaskState}
+use Rattle.ac_history.specs.Steps.{StepCall, step_call, advanced}
+use Rattle.ac_history.specs.Histories.{entry}
 
 pub coded_task : Coded TaskState
 coded_task = hlevel codes

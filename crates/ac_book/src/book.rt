@@ -2,20 +2,20 @@
 ghost use Rattle.std.specs.Prelude.{◌≡◌, ◌<◌, ◌^◌, true, List, IfNone, IfSome, IfOk, map, length, get_or};
 ghost use Rattle.std.specs.Bool.{Decides};
 ghost use Rattle.std.specs.List.{All};
-ghost use Rattle.ac_book.specs.declared.entry.Entry.{Entry};
-ghost use Rattle.ac_book.specs.Blocks.{IsComplete, SameStart, commands_in, new_block, opening, present, with_entries};
+ghost use Rattle.ac_history.specs.declared.entry.Entry.{Entry};
+ghost use Rattle.ac_history.specs.Blocks.{IsComplete, SameStart, commands_in, new_block, opening, present, with_entries};
+ghost use Rattle.ac_history.specs.Histories.{IsLegal, entries_of, is_able, outcome, turn_told};
+ghost use Rattle.ac_history.specs.States.{TaskState};
 ghost use Rattle.ac_book.specs.Books.{CodeFits};
-ghost use Rattle.ac_book.specs.Histories.{IsLegal, entries_of, is_able, outcome, turn_told};
-ghost use Rattle.ac_book.specs.States.{TaskState, shared};
+ghost use Rattle.ac_book.specs.Shared.{shared};
 
-use crate::code::TaskCode;
 use crate::copies::{copy_entries, copy_queues, copy_tasks};
-use crate::entry::{Entry, Turn};
 use crate::prepare::{begin, items_added, reserve_all, steps_in};
 use crate::same::{same_code, same_queues};
 use crate::step::would_wait;
 use crate::task::{Task, take_turn};
 use ac_base::NoMemory;
+use ac_history::{Entry, TaskCode, Turn};
 use ac_queue::AnyQueue;
 use std::alloc::Global;
 use std::marker::Model;
@@ -33,9 +33,9 @@ pub struct Book {
 impl Model for Book {
     ghost use Rattle.std.specs.Prelude.{map};
     ghost use Rattle.std.specs.Vec.{vec_capacity};
-    ghost use Rattle.ac_book.specs.Blocks.{Block, coded_block};
+    ghost use Rattle.ac_history.specs.Blocks.{Block, coded_block};
     ghost use Rattle.ac_book.specs.Books.{IsBook, block_of};
-    ghost use Rattle.ac_book.specs.States.{shared};
+    ghost use Rattle.ac_book.specs.Shared.{shared};
 
     ghost Value = { Block };
 

@@ -2,9 +2,9 @@
 ghost use Rattle.std.specs.Prelude.{◌≡◌, ◌≤◌, IfOk, length};
 ghost use Rattle.std.specs.Vec.{vec_capacity};
 
-use crate::entry::Entry;
 use crate::task::Task;
 use ac_base::NoMemory;
+use ac_history::Entry;
 use ac_queue::AnyQueue;
 use std::alloc::Global;
 

@@ -3,11 +3,7 @@
 #![tactic(auto)]
 
 mod book;
-mod code;
 mod copies;
-mod entry;
-pub mod examples;
-mod law;
 mod one_queue;
 mod prepare;
 mod same;
@@ -15,10 +11,11 @@ mod step;
 mod sum;
 mod task;
 
+pub use ac_history::{
+    Entry, Reply, Steplist, TaskArg, TaskCode, TaskStep, Turn, begun_alike, every_list_of_turns,
+    in_parts, start_stays,
+};
 pub use book::Book;
-pub use code::{Steplist, TaskArg, TaskCode, TaskStep};
-pub use entry::{Entry, Reply, Turn};
-pub use law::{begun_alike, every_list_of_turns, in_parts, start_stays};
 
 #[cfg(test)]
 mod tests;

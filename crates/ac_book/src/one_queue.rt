@@ -2,12 +2,12 @@
 ghost use Rattle.std.specs.Prelude.{◌≡◌, ◌+◌, ◌<◌, ◌≤◌, IfNone};
 ghost use Rattle.ac_model.specs.Queues.{by_priority, dequeue_call, high_only_call};
 ghost use Rattle.ac_queue.specs.Kinds.{discipline_of, state_of};
-ghost use Rattle.ac_book.specs.States.{shared};
-ghost use Rattle.ac_book.specs.Steps.{enqueue_step, taking_step};
+ghost use Rattle.ac_history.specs.Steps.{enqueue_step, taking_step};
+ghost use Rattle.ac_book.specs.Shared.{shared};
 ghost use Rattle.ac_book.specs.Running.{answered, queue_after};
 
-use crate::entry::Reply;
 use ac_base::Reason;
+use ac_history::Reply;
 use ac_queue::{AnyQueue, Dequeued, Enqueued};
 
 pub(crate) fn enqueue(queue: &mut AnyQueue, item: i64) -> Option<Reply>

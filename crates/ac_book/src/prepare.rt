@@ -3,13 +3,14 @@ ghost use Rattle.std.specs.Prelude.{◌≡◌, ◌≢◌, ◌+◌, ◌<◌, ◌�
 ghost use Rattle.std.specs.List.{All, sum_by};
 ghost use Rattle.ac_queue.specs.declared.any_queue.AnyQueue.{AnyQueue};
 ghost use Rattle.ac_queue.specs.Kinds.{state_of};
-ghost use Rattle.ac_book.specs.Blocks.{commands_in};
+ghost use Rattle.ac_history.specs.Blocks.{commands_in};
+ghost use Rattle.ac_history.specs.States.{begun};
 ghost use Rattle.ac_book.specs.Running.{HaveSpare, added_by};
-ghost use Rattle.ac_book.specs.States.{begun, shared};
+ghost use Rattle.ac_book.specs.Shared.{shared};
 
-use crate::code::{TaskCode, TaskStep};
 use crate::task::Task;
 use ac_base::NoMemory;
+use ac_history::{TaskCode, TaskStep};
 use ac_queue::AnyQueue;
 use std::alloc::Global;
 

@@ -1,11 +1,11 @@
 //! Whether two blocks began alike.
 ghost use Rattle.std.specs.Prelude.{◌≡◌, map};
 ghost use Rattle.std.specs.Bool.{Decides};
-ghost use Rattle.ac_book.specs.States.{shared};
+ghost use Rattle.ac_book.specs.Shared.{shared};
 ghost use Rattle.ac_book.specs.Tasks.{code_of};
 
-use crate::code::TaskStep;
 use crate::task::Task;
+use ac_history::TaskStep;
 use ac_queue::AnyQueue;
 
 pub(crate) fn same_queues(queues: &[AnyQueue], others: &[AnyQueue]) -> bool

@@ -2,15 +2,14 @@
 ghost use Rattle.std.specs.Prelude.{◌≡◌, ◌+◌, ◌<◌, ℕ, IfNone, map, length, get_or};
 ghost use Rattle.ac_model.specs.Queues.{by_priority, is_full, is_without_items, current_use_call, peak_use_call};
 ghost use Rattle.ac_queue.specs.Kinds.{discipline_of, state_of};
-ghost use Rattle.ac_book.specs.declared.entry.Reply.TheVariants as reply;
-ghost use Rattle.ac_book.specs.States.{shared};
-ghost use Rattle.ac_book.specs.Steps.{dequeue_on, enqueue_on, high_on, queue_at, step_call, value_of};
+ghost use Rattle.ac_history.specs.declared.entry.Reply.TheVariants as reply;
+ghost use Rattle.ac_history.specs.Steps.{dequeue_on, enqueue_on, high_on, queue_at, step_call, value_of};
+ghost use Rattle.ac_book.specs.Shared.{shared};
 ghost use Rattle.ac_book.specs.Running.{HaveSpare, Fits, IsArg, added_by, answered, queues_after};
 
-use crate::code::{TaskArg, TaskStep};
-use crate::entry::Reply;
 use crate::one_queue::{dequeue, enqueue, high_only};
 use crate::sum::sum;
+use ac_history::{Reply, TaskArg, TaskStep};
 use ac_queue::AnyQueue;
 
 fn value(locals: &[i64], arg: TaskArg) -> i64

@@ -1,8 +1,8 @@
 ghost use Rattle.std.specs.Prelude.{◌≡◌, ◌+ℤ◌, Bool};
-ghost use Rattle.ac_book.specs.Steps.{is_integer, sum_reply};
+ghost use Rattle.ac_history.specs.Steps.{is_integer, sum_reply};
 
-use crate::entry::Reply;
 use ac_base::Reason;
+use ac_history::Reply;
 
 /// The sum as a reply, refused where it is outside the integers.
 pub(crate) fn sum(base: i64, add: i64) -> Reply

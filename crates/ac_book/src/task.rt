@@ -1,16 +1,16 @@
 //! A task in memory.
 ghost use Rattle.std.specs.Prelude.{◌≡◌, ◌+◌, ◌<◌, ℕ, IfSome, OnSome, IfErr, IfOk, ◌^◌, map, length};
 ghost use Rattle.std.specs.Bool.{Decides};
+ghost use Rattle.ac_history.specs.States.{begun};
+ghost use Rattle.ac_history.specs.Steps.{advanced, kept, target_of};
 ghost use Rattle.ac_book.specs.Running.{Fits, HaveSpare, IsTarget, added_next};
-ghost use Rattle.ac_book.specs.States.{begun, shared};
-ghost use Rattle.ac_book.specs.Steps.{advanced, kept, target_of};
+ghost use Rattle.ac_book.specs.Shared.{shared};
 ghost use Rattle.ac_book.specs.Tasks.{TakesTurn, code_of, next_of};
 
-use crate::code::{Steplist, TaskCode, TaskStep};
-use crate::entry::{Entry, Reply, Turn};
 use crate::same::same_steps;
 use crate::step::run;
 use ac_base::NoMemory;
+use ac_history::{Entry, Reply, Steplist, TaskCode, TaskStep, Turn};
 use ac_queue::AnyQueue;
 use std::alloc::Global;
 use std::marker::Model;
@@ -23,7 +23,7 @@ pub(crate) struct Task {
 }
 
 impl Model for Task {
-    ghost use Rattle.ac_book.specs.States.{TaskState};
+    ghost use Rattle.ac_history.specs.States.{TaskState};
     ghost use Rattle.ac_book.specs.Tasks.{IsTask, coded_task, task_of};
 
     ghost Value = { TaskState };

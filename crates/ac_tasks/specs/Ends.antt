@@ -1,6 +1,6 @@
 -- What becomes of a block that is run to its end.
-use Rattle.ac_book.specs.Blocks.{Block, IsComplete, SameStart, opening}
-use Rattle.ac_book.specs.Histories.{IsLegal}
+use Rattle.ac_history.specs.Blocks.{Block, IsComplete, SameStart, opening}
+use Rattle.ac_history.specs.Histories.{IsLegal}
 
 -- done has the code of start and began with its queues; each entry of its history is a legal step there, in order, with the reply
 -- that the queues give at that point; and after it no task has a next step that wouldn't wait

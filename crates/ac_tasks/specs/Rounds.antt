@@ -1,7 +1,7 @@
 -- A round of a worker.
 use Rattle.std.specs.Prelude.{◌≡◌, ◌<◌, ℕ, Bool, true, false, length}
-use Rattle.ac_book.specs.Blocks.{Block, IsComplete, present, with_entries}
-use Rattle.ac_book.specs.Histories.{entries_of, is_able, outcome}
+use Rattle.ac_history.specs.Blocks.{Block, IsComplete, present, with_entries}
+use Rattle.ac_history.specs.Histories.{entries_of, is_able, outcome}
 
 -- the turn of a task that is able
 pub record IsTurnOf (old new : Block) (task : ℕ) : Type 0 where

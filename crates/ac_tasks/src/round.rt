@@ -1,7 +1,7 @@
 //! A round of a worker.
 ghost use Rattle.std.specs.Prelude.{◌≡◌, ◌<◌, ◌≤◌, ℕ, true, false, Some, IfNone, IfSome, length};
-ghost use Rattle.ac_book.specs.Blocks.{IsComplete, present};
-ghost use Rattle.ac_book.specs.Histories.{is_able};
+ghost use Rattle.ac_history.specs.Blocks.{IsComplete, present};
+ghost use Rattle.ac_history.specs.Histories.{is_able};
 ghost use Rattle.ac_tasks.specs.Rounds.{IsRound};
 
 use ac_book::Book;

@@ -1,6 +1,6 @@
 ghost use Rattle.std.specs.Prelude.{◌≡◌, ◌∷◌, [], IfOk, length};
-ghost use Rattle.ac_book.specs.declared.code.TaskArg.TheVariants as arg;
-ghost use Rattle.ac_book.specs.declared.code.TaskStep.TheVariants as step;
+ghost use Rattle.ac_history.specs.declared.code.TaskArg.TheVariants as arg;
+ghost use Rattle.ac_history.specs.declared.code.TaskStep.TheVariants as step;
 
 use super::*;
 use ac_base::{Limit, NoMemory};

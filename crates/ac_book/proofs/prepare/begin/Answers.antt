@@ -1,6 +1,6 @@
 use Rattle.std.proofs.Common.{rules, ◌<◌, ◌^◌, map, length}
-use Rattle.ac_book.specs.declared.code.TaskCode.{TaskCode}
-use Rattle.ac_book.specs.States.{begun}
+use Rattle.ac_history.specs.declared.code.TaskCode.{TaskCode}
+use Rattle.ac_history.specs.States.{begun}
 use Rattle.ac_book.proofs.Beginning.{one_more, fewer}
 use Rattle.ac_book.proofs.prepare.begin.Goals as goal
 

@@ -1,7 +1,7 @@
 use Rattle.std.proofs.Common.{◌≡◌, ◌<◌, ◌^◌, ◌++◌, map, length}
 use Rattle.std.specs.List.{All}
-use Rattle.ac_book.specs.declared.code.TaskCode.{TaskCode}
-use Rattle.ac_book.specs.States.{begun}
+use Rattle.ac_history.specs.declared.code.TaskCode.{TaskCode}
+use Rattle.ac_history.specs.States.{begun}
 use Rattle.ac_book.proofs.prepare.begin.Given as goal
 
 abbrev pub invariant-loop-task : goal.invariant-loop-task

@@ -1,6 +1,6 @@
 use Rattle.std.proofs.Common.{◌≡◌, take}
 use Rattle.std.specs.List.{sum_by}
-use Rattle.ac_book.specs.declared.code.TaskCode.{TaskCode}
+use Rattle.ac_history.specs.declared.code.TaskCode.{TaskCode}
 use Rattle.ac_book.specs.Running.{added_by}
 use Rattle.ac_book.proofs.prepare.items_added.Given as goal
 

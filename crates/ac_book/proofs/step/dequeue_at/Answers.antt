@@ -1,6 +1,6 @@
 use Rattle.std.proofs.Common.{rules}
 use Rattle.ac_model.specs.Queues.{dequeue_call}
-use Rattle.ac_book.specs.Steps.{taking_step}
+use Rattle.ac_history.specs.Steps.{taking_step}
 use Rattle.ac_book.proofs.Shared.{stepped}
 use Rattle.ac_book.proofs.step.dequeue_at.Goals as goal
 

@@ -1,5 +1,5 @@
 use Rattle.std.proofs.Common.{rules}
-use Rattle.ac_book.specs.Steps.{enqueue_step}
+use Rattle.ac_history.specs.Steps.{enqueue_step}
 use Rattle.ac_book.proofs.Shared.{stepped}
 use Rattle.ac_book.proofs.step.enqueue_at.Goals as goal
 

@@ -1,6 +1,6 @@
 use Rattle.std.proofs.Common.{rules}
 use Rattle.ac_model.specs.Queues.{high_only_call}
-use Rattle.ac_book.specs.Steps.{taking_step}
+use Rattle.ac_history.specs.Steps.{taking_step}
 use Rattle.ac_book.proofs.Shared.{stepped}
 use Rattle.ac_book.proofs.step.high_at.Goals as goal
 

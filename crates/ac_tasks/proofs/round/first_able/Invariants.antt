@@ -1,6 +1,6 @@
 use Rattle.std.proofs.Common.{◌≡◌, ◌<◌, ◌≤◌, ℕ, false}
-use Rattle.ac_book.specs.Blocks.{present}
-use Rattle.ac_book.specs.Histories.{is_able}
+use Rattle.ac_history.specs.Blocks.{present}
+use Rattle.ac_history.specs.Histories.{is_able}
 use Rattle.ac_tasks.proofs.round.first_able.Given as goal
 
 abbrev pub invariant-loop-task : goal.invariant-loop-task

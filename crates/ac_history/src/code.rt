@@ -58,7 +58,7 @@ pub struct Steplist {
 
 impl Model for Steplist {
     ghost use Rattle.std.specs.Prelude.{List};
-    ghost use Rattle.ac_book.specs.declared.code.TaskStep.{TaskStep};
+    ghost use Rattle.ac_history.specs.declared.code.TaskStep.{TaskStep};
 
     ghost Value = { List TaskStep };
 
@@ -78,7 +78,8 @@ impl Steplist {
         &self.items
     }
 
-    pub(crate) fn copy(&self, alloc: Global) -> Result<Steplist, NoMemory>
+    /// The same steps again.
+    pub fn copy(&self, alloc: Global) -> Result<Steplist, NoMemory>
         ensures { IfOk result (λ made. made ≡ self.now) }
     {
         Ok(Steplist {

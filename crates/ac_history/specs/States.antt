@@ -1,10 +1,8 @@
 -- What the tasks of a block share and have: the queues, and of each task its steps, its place and its locals.
 use Rattle.std.specs.Prelude.{ℕ, ℤ, pos, List, map, replicate}
 use Rattle.ac_model.specs.Queues.{Queue, Discipline}
-use Rattle.ac_queue.specs.declared.any_queue.AnyQueue.{AnyQueue}
-use Rattle.ac_queue.specs.Kinds.{discipline_of, state_of}
-use Rattle.ac_book.specs.declared.code.TaskStep.{TaskStep}
-use Rattle.ac_book.specs.declared.code.TaskCode.{TaskCode}
+use Rattle.ac_history.specs.declared.code.TaskStep.{TaskStep}
+use Rattle.ac_history.specs.declared.code.TaskCode.{TaskCode}
 
 -- a queue with its discipline
 pub record TaskQueue : Type 0 where
@@ -20,10 +18,6 @@ pub record TaskState : Type 0 where
 pub record State : Type 0 where
   pub queues : List TaskQueue
   pub tasks : List TaskState
-
--- a queue in memory, without its spare
-abbrev pub shared : AnyQueue → TaskQueue
-shared q = record { discipline = discipline_of q; queue = (state_of q).queue }
 
 -- all locals are 0 at first
 abbrev pub begun : TaskCode → TaskState

@@ -1,9 +1,9 @@
 //! What holds of histories, and of blocks that began alike.
 ghost use Rattle.std.specs.Prelude.{◌≡◌, ◌++◌, [], List, ℕ};
-ghost use Rattle.ac_book.specs.declared.entry.Entry.{Entry};
-ghost use Rattle.ac_book.specs.Blocks.{Block, SameStart, after_turns, with_entries};
-ghost use Rattle.ac_book.specs.Histories.{IsLegal, Turned, begun_at, turned, replay};
-ghost use Rattle.ac_book.specs.States.{State};
+ghost use Rattle.ac_history.specs.declared.entry.Entry.{Entry};
+ghost use Rattle.ac_history.specs.Blocks.{Block, SameStart, after_turns, with_entries};
+ghost use Rattle.ac_history.specs.Histories.{IsLegal, Turned, begun_at, turned, replay};
+ghost use Rattle.ac_history.specs.States.{State};
 
 /// Turns of tasks, as they come, make a legal history, and leave what its replay leaves.
 pub fn every_list_of_turns()

@@ -1,13 +1,13 @@
 -- Which histories of a task block are legal: each entry is the next step of its task, and has the reply that the queues give at that point.
 use Rattle.std.specs.Prelude.{◌≡◌, ⊤, ℕ, Bool, true, false, List, [], ◌∷◌, ◌++◌, Option, Some, None, set, if◌then◌else◌}
 use Rattle.std.specs.List.{slice_get}
-use Rattle.ac_book.specs.declared.code.TaskStep.{TaskStep}
-use Rattle.ac_book.specs.declared.entry.Entry.{Entry}
-use Rattle.ac_book.specs.declared.entry.Reply.{Reply}
-use Rattle.ac_book.specs.declared.entry.Turn.{Turn}
-use Rattle.ac_book.specs.declared.entry.Turn.TheVariants as turn
-use Rattle.ac_book.specs.States.{State, TaskState}
-use Rattle.ac_book.specs.Steps.{step_call, advanced}
+use Rattle.ac_history.specs.declared.code.TaskStep.{TaskStep}
+use Rattle.ac_history.specs.declared.entry.Entry.{Entry}
+use Rattle.ac_history.specs.declared.entry.Reply.{Reply}
+use Rattle.ac_history.specs.declared.entry.Turn.{Turn}
+use Rattle.ac_history.specs.declared.entry.Turn.TheVariants as turn
+use Rattle.ac_history.specs.States.{State, TaskState}
+use Rattle.ac_history.specs.Steps.{step_call, advanced}
 
 -- what a turn of a task comes to: it has no next step, the next step would wait, or it is done
 pub data Outcome : Type 0 where

@@ -1,11 +1,11 @@
 -- A turn after a legal history makes a legal one, and its replay is what the turn leaves.
 use Rattle.std.proofs.Common.{◌≡◌, ℕ, Bool, true, false, List, [], ◌∷◌, ◌++◌, Option, Some, None, refl, sym, ap, ◌∙◌, subst, if◌then◌else◌}
 use Rattle.std.specs.List.{slice_get}
-use Rattle.ac_book.specs.declared.code.TaskStep.{TaskStep}
-use Rattle.ac_book.specs.declared.entry.Entry.{Entry}
-use Rattle.ac_book.specs.States.{State, TaskState}
-use Rattle.ac_book.specs.Steps.{step_call}
-use Rattle.ac_book.specs.Histories.{Outcome, over, held_up, done, outcome, outcome_of, entries_of, state_after, replay, IsLegal, Explains, Turned, begun_at, turned}
+use Rattle.ac_history.specs.declared.code.TaskStep.{TaskStep}
+use Rattle.ac_history.specs.declared.entry.Entry.{Entry}
+use Rattle.ac_history.specs.States.{State, TaskState}
+use Rattle.ac_history.specs.Steps.{step_call}
+use Rattle.ac_history.specs.Histories.{Outcome, over, held_up, done, outcome, outcome_of, entries_of, state_after, replay, IsLegal, Explains, Turned, begun_at, turned}
 
 task_if : (b : Bool) (e given : Entry) (after left : State) (task : ℕ) → given.task ≡ task → (if b then held_up else done given left) ≡ done e after → e.task ≡ task
 task_if true e given after left task own same = cc

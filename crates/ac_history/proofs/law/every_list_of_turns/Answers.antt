@@ -1,5 +1,5 @@
-use Rattle.ac_book.proofs.LegalHistories.{from_the_start}
-use Rattle.ac_book.proofs.law.every_list_of_turns.Goals as goal
+use Rattle.ac_history.proofs.LegalHistories.{from_the_start}
+use Rattle.ac_history.proofs.law.every_list_of_turns.Goals as goal
 
 pub returns-clause-legal : goal.returns-clause-legal
 returns-clause-legal c = λ start tasks. (from_the_start start tasks).legal

@@ -2,10 +2,10 @@
 use Rattle.std.specs.Prelude.{◌≡◌, ◌<◌, ℕ, false, List, [], ◌∷◌, ◌++◌, length}
 use Rattle.std.specs.List.{sum_by}
 use Rattle.std.specs.Coded.{Coded, codes}
-use Rattle.ac_book.specs.declared.code.TaskCode.{TaskCode}
-use Rattle.ac_book.specs.declared.entry.Entry.{Entry}
-use Rattle.ac_book.specs.Histories.{entries_of, is_able, outcome, replay}
-use Rattle.ac_book.specs.States.{State, TaskQueue, opening_state}
+use Rattle.ac_history.specs.declared.code.TaskCode.{TaskCode}
+use Rattle.ac_history.specs.declared.entry.Entry.{Entry}
+use Rattle.ac_history.specs.Histories.{entries_of, is_able, outcome, replay}
+use Rattle.ac_history.specs.States.{State, TaskQueue, opening_state}
 
 pub record Block : Type 0 where
   pub queues : List TaskQueue

@@ -1,5 +1,5 @@
-use Rattle.ac_book.proofs.LegalHistories.{legal_append, replay_append}
-use Rattle.ac_book.proofs.law.in_parts.Goals as goal
+use Rattle.ac_history.proofs.LegalHistories.{legal_append, replay_append}
+use Rattle.ac_history.proofs.law.in_parts.Goals as goal
 
 pub returns-clause-legal : goal.returns-clause-legal
 returns-clause-legal c = λ start first second. legal_append first second start

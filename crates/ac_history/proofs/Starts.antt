@@ -1,7 +1,7 @@
 -- Blocks that began alike.
 use Rattle.std.proofs.Common.{ℕ, List, [], ◌∷◌, refl, sym, ◌∙◌}
-use Rattle.ac_book.specs.Blocks.{Block, SameStart, after_turns, present, with_entries}
-use Rattle.ac_book.specs.Histories.{outcome, entries_of}
+use Rattle.ac_history.specs.Blocks.{Block, SameStart, after_turns, present, with_entries}
+use Rattle.ac_history.specs.Histories.{outcome, entries_of}
 
 pub with_itself : (b : Block) → SameStart b b
 with_itself b = record { queues = refl; code = refl }

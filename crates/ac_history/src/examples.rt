@@ -2,10 +2,10 @@
 ghost use Rattle.std.specs.Prelude.{◌≡◌, ◌∷◌, [], pos, true, false, map};
 ghost use Rattle.ac_base.specs.declared.limit.Limit.TheVariants.{Unbounded, Bounded};
 ghost use Rattle.ac_base.specs.declared.reason.Reason.TheVariants.{Overflow};
-ghost use Rattle.ac_book.specs.declared.entry.Reply.TheVariants as reply;
-ghost use Rattle.ac_book.specs.Histories.{IsLegal, entry, is_able, replay};
-ghost use Rattle.ac_book.specs.States.{TaskQueue};
-ghost use Rattle.ac_book.specs.Examples.{pass_on, too_great};
+ghost use Rattle.ac_history.specs.declared.entry.Reply.TheVariants as reply;
+ghost use Rattle.ac_history.specs.Histories.{IsLegal, entry, is_able, replay};
+ghost use Rattle.ac_history.specs.States.{TaskQueue};
+ghost use Rattle.ac_history.specs.Examples.{pass_on, too_great};
 
 /// Through a queue of one item, the two tasks go by turns: this history is the only one.
 pub fn by_turns()

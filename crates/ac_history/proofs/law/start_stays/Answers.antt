@@ -1,6 +1,6 @@
 use Rattle.std.proofs.Common.{refl}
-use Rattle.ac_book.proofs.Starts.{turns_keep_start}
-use Rattle.ac_book.proofs.law.start_stays.Goals as goal
+use Rattle.ac_history.proofs.Starts.{turns_keep_start}
+use Rattle.ac_history.proofs.law.start_stays.Goals as goal
 
 pub returns-clause-any_entries : goal.returns-clause-any_entries
 returns-clause-any_entries c = λ b more. record { queues = refl; code = refl }

@@ -1,5 +1,5 @@
-use Rattle.ac_book.proofs.Starts.{with_itself, turned_round, passed_on}
-use Rattle.ac_book.proofs.law.begun_alike.Goals as goal
+use Rattle.ac_history.proofs.Starts.{with_itself, turned_round, passed_on}
+use Rattle.ac_history.proofs.law.begun_alike.Goals as goal
 
 pub returns-clause-with_itself : goal.returns-clause-with_itself
 returns-clause-with_itself c = with_itself

@@ -1,0 +1,3 @@
+-- Proofs on histories.
+pub mod LegalHistories
+pub mod Starts

@@ -1,0 +1,6 @@
+-- Tasks that share queues: what a step does, which histories are legal, and what a block has come to.
+pub mod Blocks
+pub mod Examples
+pub mod Histories
+pub mod States
+pub mod Steps
