@@ -1,20 +1,22 @@
 -- Values that are put behind the last row and then turned to their place.
-use Rattle.std.proofs.Common.{◌≡◌, ℕ, zero, suc, ◌+◌, ◌-◌, ◌^◌, ◌<◌, ◌≤◌, List, [], ◌∷◌, ◌++◌, length, replicate, take, drop, Option, Some, None, refl, sym, ap, ◌∙◌, subst, inl, arith, append_assoc, append-nil, length-append, ne_eqb}
+use Rattle.std.proofs.Common.{◌≡◌, ℕ, zero, suc, ◌+◌, ◌-◌, ◌^◌, ◌<◌, ◌≤◌, List, [], ◌∷◌, ◌++◌, length, replicate, take, drop, Option, Some, None, Result, refl, sym, ap, ◌∙◌, subst, inl, arith, append_assoc, append-nil, length-append, ne_eqb}
 use Rattle.std.specs.Prelude.{◌==◌, if◌then◌else◌}
+use Rattle.std.specs.Result.{IfOk}
 use Rattle.std.specs.Option.{ForSome, option_map}
 use Rattle.std.proofs.Math.Seq.{take-append_seam, drop-append_seam}
 use Rattle.std.proofs.lemmas.List.{length-replicate, nil_from_length, replicate_more}
 use Rattle.std.proofs.lemmas.Bool.{cond-false}
 use Rattle.std.proofs.lemmas.Option.{none-some}
+use Rattle.ac_base.specs.declared.fault.NoMemory.{NoMemory}
 use Rattle.ac_base.specs.declared.name.Name.{Name}
 use Rattle.ac_base.specs.Rows.{Row, row}
 use Rattle.ac_chain.specs.ChainFields.{first_or}
-use Rattle.ac_pool.specs.NamedRows.{HasName, name_at}
-use Rattle.ac_chain.specs.Put.{IsPut, HasFirst}
+use Rattle.ac_pool.specs.NamedRows.{HasName, index_of, name_at}
+use Rattle.ac_chain.specs.Put.{IsPut, IsFirst, HasFirst}
 use Rattle.ac_chain.specs.Rows.{Chained, IsFresh, IsLive, IsSound, inserted, place_of, reserved, slots_in, with_rows}
 use Rattle.ac_chain.proofs.Ends.{split}
 use Rattle.ac_pool.proofs.Cuts.{live_has, has_live, HasName-right, slice_get-cut}
-use Rattle.ac_chain.proofs.Puts.{put_none, put_one, put_length, reserved_enough, reserved_kept, reserved_put}
+use Rattle.ac_chain.proofs.Puts.{put_none, put_one, put_length, live_new, reserved_enough, reserved_kept, reserved_live, reserved_put}
 use Rattle.ac_model.specs.Objects.{plains}
 use Rattle.ac_model.specs.Rows.{fresh}
 use Rattle.ac_model.proofs.Lengths.{length-fresh}
@@ -32,6 +34,9 @@ turned_is xs ys zs =
     let rest : drop (length xs) all ≡ ys ++ zs = ap (drop (length xs)) (append_assoc xs ys zs) ∙ drop-append_seam xs (ys ++ zs) in
     let middle : take (length all - length zs - length xs) (drop (length xs) all) ≡ ys = (λ i. take (mid i) (rest i)) ∙ take-append_seam ys zs in
     λ i. (first i ++ last i) ++ middle i
+
+pub several : (n : ℕ) → 1 < n → n ≡ 0 → ⊥
+several n more none = omega arith
 
 module _ {X : Type 0} where
   -- so far: some were put at the end, and the others are left
@@ -181,3 +186,68 @@ module _ {X : Type 0} where
   -- nothing was put
   pub nothing_put : (c d now : Chained X) (n : ℕ) (place : Option Name) (vs : List X) → n ≡ length vs → d ≡ reserved c n → length vs ≡ 0 → IsPut d.rows d.next_serial place vs now → now.spare + length vs ≡ d.spare → now ≡ c
   nothing_put c d now n place vs count is none p spare = same_put d now place vs none p spare ∙ is ∙ reserved_kept c n (omega (arith, count, none))
+
+  -- one value that went behind the last row
+  module _ (from now : Chained X) (a : Name) (v : X) (is : now ≡ inserted from None (row a v)) where
+    at_end : ForSome None (IsLive from)
+    at_end b q = absurd (none-some b q)
+
+    pub one_put : IsSound from → IsFresh from a → IsPut from.rows from.next_serial None (v ∷ []) now
+    one_put s f = put_one from.rows from.next_serial None [] from now a v s (put_none from None at_end) f is
+
+    pub one_put_at : (place : Option Name) → place ≡ None → IsSound from → IsFresh from a → IsPut from.rows from.next_serial place (v ∷ []) now
+    one_put_at place none s f = subst (λ p. IsPut from.rows from.next_serial p (v ∷ []) now) (sym none) (one_put s f)
+
+    pub one_first : IsFresh from a → IsFirst from.next_serial now a
+    one_first f = record { serial = f.serial; live = (live_new from now None a v at_end is).0 }
+
+    pub one_spare : 0 < from.spare → now.spare + 1 ≡ from.spare
+    one_spare some = let less : now.spare ≡ from.spare - 1 = ap (λ (d : Chained X). d.spare) is in omega arith
+
+  -- and was then turned to its place before a live name's row
+  module _ (from now : Chained X) (b : Name) (at : ℕ) (v : X) (live : IsLive from b) (is : at ≡ index_of b from.rows) where
+    before_live : ForSome (Some b) (IsLive from)
+    before_live c q = let same : b ≡ c = cc in subst (λ d. IsLive from d) same live
+
+    one : 1 ≡ length (v ∷ [])
+    one = omega arith
+
+    pub one_fits : IsPut from.rows from.next_serial None (v ∷ []) now → at + 1 ≤ length now.rows
+    one_fits p = put_fits from now (Some b) None (v ∷ []) at 1 before_live is one p
+
+    pub one_turned : (later : Chained X) → IsPut from.rows from.next_serial None (v ∷ []) now → later ≡ with_rows now (turned now.rows at 1) → IsPut from.rows from.next_serial (Some b) (v ∷ []) later
+    one_turned later p turn = turned_put from now later (Some b) (v ∷ []) at 1 before_live p is one turn
+
+    pub one_stands : IsPut from.rows from.next_serial (Some b) (v ∷ []) now → at < length now.rows
+    one_stands p = let more = put_length from.rows from.next_serial (Some b) (v ∷ []) now p in omega arith
+
+    pub one_there : (first : Name) → IsPut from.rows from.next_serial (Some b) (v ∷ []) now → Some first ≡ name_at now.rows at → IsFirst from.next_serial now first
+    one_there first p e = first_there from now (Some b) (v ∷ []) at 1 (Some first) p is one e
+
+  -- one value, for which a slot was reserved
+  module _ (c d now : Chained X) (place : Option Name) (v : X) (is : d ≡ reserved c 1) where
+    pub one_room : 0 < d.spare
+    one_room = let enough = (reserved_enough c d 1 is).enough in omega arith
+
+    pub one_serial : c.next_serial < 2 ^ 64 - 1 → d.next_serial < 2 ^ 64 - 1
+    one_serial h = subst (λ n. n < 2 ^ 64 - 1) (sym (reserved_enough c d 1 is).next) h
+
+    pub one_live : ForSome place (IsLive c) → ForSome place (IsLive d)
+    one_live h = reserved_live c d 1 place is h
+
+    pub one_named : (a : Name) → IsFirst d.next_serial now a → HasFirst c.next_serial 1 now (Some a)
+    one_named a f = subst (λ next. IsFirst next now a) (reserved_enough c d 1 is).next f
+
+    pub one_slots : IsPut d.rows d.next_serial place (v ∷ []) now → now.spare + 1 ≡ d.spare → slots_in now ≡ slots_in (reserved c 1)
+    one_slots p spare = put_slots c d now 1 place (v ∷ []) is p spare
+
+  -- one value is as many copies of it, where these are one
+  module _ {A : Type 0} (r : Result A NoMemory) (c now : Chained X) (n : ℕ) (is : n ≡ 1) where
+    pub single_put : (place : Option Name) (v : X) → IfOk r (λ _. IsPut c.rows c.next_serial place (v ∷ []) now) → IfOk r (λ _. IsPut c.rows c.next_serial place (replicate n v) now)
+    single_put place v h = subst (λ m. IfOk r (λ _. IsPut c.rows c.next_serial place (replicate m v) now)) (sym is) h
+
+    pub single_slots : IfOk r (λ _. slots_in now ≡ slots_in (reserved c 1)) → IfOk r (λ _. slots_in now ≡ slots_in (reserved c n))
+    single_slots h = subst (λ m. IfOk r (λ _. slots_in now ≡ slots_in (reserved c m))) (sym is) h
+
+  pub single_first : (r : Result (Option Name) NoMemory) (c now : Chained X) (n : ℕ) → n ≡ 1 → IfOk r (λ first. HasFirst c.next_serial 1 now first) → IfOk r (λ first. HasFirst c.next_serial n now first)
+  single_first r c now n is h = subst (λ m. IfOk r (λ first. HasFirst c.next_serial m now first)) (sym is) h

@@ -1,9 +1,9 @@
 //! Values that are put into an array as new rows: behind the last one, and then the end is turned to its place.
-ghost use Rattle.std.specs.Prelude.{◌≡◌, ◌==◌, ◌+◌, ◌^◌, ◌<◌, ◌≤◌, ◌∷◌, ◌++◌, [], None, IfOk, IfErr, IsOk, length, replicate, if◌then◌else◌};
+ghost use Rattle.std.specs.Prelude.{◌≡◌, ◌==◌, ◌+◌, ◌-◌, ◌^◌, ◌<◌, ◌≤◌, ◌∷◌, ◌++◌, [], None, Some, IfOk, IfErr, IsOk, length, replicate, if◌then◌else◌};
 ghost use Rattle.std.specs.Option.{ForSome};
 ghost use Rattle.ac_chain.specs.Rows.{IsLive, IsSound, place_of, reserved, slots_in};
 ghost use Rattle.ac_pool.specs.NamedRows.{name_at};
-ghost use Rattle.ac_chain.specs.Put.{IsPut, HasFirst};
+ghost use Rattle.ac_chain.specs.Put.{IsPut, IsFirst, HasFirst};
 
 use crate::array::Array;
 use ac_base::{Elem, GREATEST_LENGTH, Name, NoMemory};
@@ -110,6 +110,87 @@ fn put_with_last<T: Drop>(
     first_of(array, at, count)
 }
 
+/// Puts the value before the name's row. The answer is the new row's name.
+#[inline(never)]
+fn put_before<T>(array: &mut Array<T>, name: Name, value: T) -> Name
+    requires place { IsLive array.old name }
+    requires spare { 0 < array.old.spare }
+    requires unspent { array.old.next_serial < 2 ^ 64 - 1 }
+    requires sound { IsSound array.old }
+    ensures put { IsPut array.old.rows array.old.next_serial (Some name) (value ∷ []) array.new }
+    ensures first { IsFirst array.old.next_serial array.new result }
+    ensures spare { array.new.spare + 1 ≡ array.old.spare }
+    ensures sound { IsSound array.new }
+{
+    let at = array.index_of(name);
+    let _last = array.append(value);
+    array.turn(at, 1);
+    array.name_at(at)
+}
+
+/// Puts the value before the place. The answer is the new row's name.
+fn put_value<T>(array: &mut Array<T>, place: Option<Name>, value: T) -> Name
+    requires place { ForSome place (IsLive array.old) }
+    requires spare { 0 < array.old.spare }
+    requires unspent { array.old.next_serial < 2 ^ 64 - 1 }
+    requires sound { IsSound array.old }
+    ensures put { IsPut array.old.rows array.old.next_serial place (value ∷ []) array.new }
+    ensures first { IsFirst array.old.next_serial array.new result }
+    ensures spare { array.new.spare + 1 ≡ array.old.spare }
+    ensures sound { IsSound array.new }
+{
+    match place {
+        None => array.append(value),
+        Some(name) => put_before(array, name, value),
+    }
+}
+
+/// As `put_value`, with all memory taken before any change.
+fn put_single<T: Drop>(
+    array: &mut Array<T>,
+    place: Option<Name>,
+    value: T,
+) -> Result<Option<Name>, NoMemory>
+    requires place { ForSome place (IsLive array.old) }
+    requires few { length array.old.rows + 1 ≤ GREATEST_LENGTH }
+    requires unspent { array.old.next_serial < 2 ^ 64 - 1 }
+    requires sound { IsSound array.old }
+    ensures put { IfOk result (λ _. IsPut array.old.rows array.old.next_serial place (value ∷ []) array.new) }
+    ensures first { IfOk result (λ first. HasFirst array.old.next_serial 1 array.new first) }
+    ensures refused { IfErr result (λ _. array.new ≡ array.old) }
+    ensures room { 1 ≤ array.old.spare → IsOk result }
+    ensures slots { IfOk result (λ _. slots_in array.new ≡ slots_in (reserved array.old 1)) }
+    ensures sound { IsSound array.new }
+{
+    array.reserve(1)?;
+    Ok(Some(put_value(array, place, value)))
+}
+
+/// Puts several copies of the element before the place, with all memory taken before any change.
+#[inline(never)]
+fn put_several<T: Elem>(
+    array: &mut Array<T>,
+    alloc: Global,
+    place: Option<Name>,
+    e: T,
+    n: u64,
+) -> Result<Option<Name>, NoMemory>
+    requires several { 1 < n }
+    requires place { ForSome place (IsLive array.old) }
+    requires few { length array.old.rows + n ≤ GREATEST_LENGTH }
+    requires unspent { array.old.next_serial + n < 2 ^ 64 }
+    requires sound { IsSound array.old }
+    ensures put { IfOk result (λ _. IsPut array.old.rows array.old.next_serial place (replicate n e) array.new) }
+    ensures first { IfOk result (λ first. HasFirst array.old.next_serial n array.new first) }
+    ensures refused { IfErr result (λ _. array.new ≡ array.old) }
+    ensures slots { IfOk result (λ _. slots_in array.new ≡ slots_in (reserved array.old n)) }
+    ensures sound { IsSound array.new }
+{
+    let more = copies(alloc, &e, n - 1)?;
+    array.reserve(n)?;
+    Ok(put_with_last(array, place, more, e))
+}
+
 /// Puts so many copies of the element before the place, with all memory taken before any change. The answer is the first one's name.
 pub(crate) fn put_copies<T: Elem>(
     array: &mut Array<T>,
@@ -133,7 +214,8 @@ pub(crate) fn put_copies<T: Elem>(
     if n == 0 {
         return Ok(None);
     }
-    let more = copies(alloc, &e, n - 1)?;
-    array.reserve(n)?;
-    Ok(put_with_last(array, place, more, e))
+    if n == 1 {
+        return put_single(array, place, e);
+    }
+    put_several(array, alloc, place, e, n)
 }
