@@ -19,7 +19,7 @@ use Rattle.ac_model.specs.Cursors.{Agrees, IsNamed, mark, plain_mark}
 use Rattle.ac_model.proofs.Unslotted.{agreement_kept, seen_marks}
 use Rattle.ac_check.specs.declared.operation.Operation.{Operation}
 use Rattle.ac_meaning.specs.Answers.{answers_list}
-use Rattle.ac_meaning.specs.Holdings.{RowKind, RowOf, Held, of_rows, number_of, rows_in, own_calls, listing_of, Written, written, write, rows_reply, reply_of}
+use Rattle.ac_meaning.specs.Holdings.{RowKind, RowOf, Held, of_rows, of_holder, number_of, rows_in, own_calls, listing_of, Written, written, write, rows_reply, reply_of}
 use Rattle.ac_meaning.specs.Replies.{itself, another, seen_by, source_in, carried}
 use Rattle.ac_meaning.specs.Replies as replies
 use Rattle.ac_meaning.specs.Stays.{Stays}
@@ -280,6 +280,7 @@ module _ (kind : RowKind) where
       kind_in : Option Held → RowKind
       kind_in None = kind
       kind_in (Some (of_rows k _)) = k
+      kind_in (Some (of_holder _ _)) = kind
 
       own_found : (other : RowKind) (p : Object ℕ (RowOf other)) → other ≡ kind → rows_in kind (Some (of_rows other p)) ≡ None → ⊥
       own_found other p e none =
