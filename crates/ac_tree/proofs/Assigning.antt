@@ -28,11 +28,11 @@ use Rattle.ac_tree.proofs.Outlines.{is_outlined}
 use Rattle.ac_tree.proofs.Levels.{nodes_reverse}
 
 module _ {X : Type 0} where
-  levels_are : (items : List (Leveled X)) → levels_in items ≡ map (λ (n : Node X). n.depth) (nodes_in items)
+  pub levels_are : (items : List (Leveled X)) → levels_in items ≡ map (λ (n : Node X). n.depth) (nodes_in items)
   levels_are [] = refl
   levels_are (i ∷ items) = ap (λ z. i.depth ∷ z) (levels_are items)
 
-  depths_are : (rows : List (Row Name (Node X))) → map (λ (n : Node X). n.depth) (values rows) ≡ depths (plains rows)
+  pub depths_are : (rows : List (Row Name (Node X))) → map (λ (n : Node X). n.depth) (values rows) ≡ depths (plains rows)
   depths_are [] = refl
   depths_are (r ∷ rows) = ap (λ z. r.value.depth ∷ z) (depths_are rows)
 

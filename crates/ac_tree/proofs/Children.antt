@@ -57,7 +57,7 @@ module _ {X : Type 0} where
   if_err_rows (Ok a) l m h = tt
   if_err_rows (Err e) l m h = ap rows_of h
 
-  spot_is : (g : GuardCounts) (limit : Limit) (l : Links X) → IsSound (rows_of l) → (place : Option Name) → ((a : Name) → place ≡ Some a → IsLive (rows_of l) a) → spot (tree_object g limit l) place ≡ place_of place (rows_of l).rows
+  pub spot_is : (g : GuardCounts) (limit : Limit) (l : Links X) → IsSound (rows_of l) → (place : Option Name) → ((a : Name) → place ≡ Some a → IsLive (rows_of l) a) → spot (tree_object g limit l) place ≡ place_of place (rows_of l).rows
   spot_is g limit l s None h = length-plains (rows_of l).rows
   spot_is g limit l s (Some a) h = place_live (rows_of l) a s (h a refl)
 

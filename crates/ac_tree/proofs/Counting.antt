@@ -87,7 +87,7 @@ module _ {X : Type 0} where
           counted ∙ sym (ap length kids) ∙ ap (λ n. length (children_of (plains rows) n)) (parent_serial steps ∙ ap serial_in up)
           ∙ sym (ap (λ t. length (children_of (plains (outline 2 t)) (serial_in parent))) (forest-is l (plugged steps bare) s))
 
-  depth_low : (steps : List (Step X)) → 2 ≤ depth_in steps
+  pub depth_low : (steps : List (Step X)) → 2 ≤ depth_in steps
   depth_low [] = omega arith
   depth_low (under x rest ∷ steps) = let up = depth_low steps in omega arith
   depth_low (after x below ∷ steps) = depth_low steps

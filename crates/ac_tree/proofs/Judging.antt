@@ -7,7 +7,7 @@ use Rattle.ac_base.specs.declared.name.Name.{Name}
 use Rattle.ac_base.specs.declared.cursor.Cursor.{Cursor}
 use Rattle.ac_base.specs.declared.cursor.Cursor.TheVariants.{NoElement, At}
 use Rattle.ac_base.specs.declared.reason.Reason.{Reason}
-use Rattle.ac_base.specs.declared.reason.Reason.TheVariants.{RootNode, DeadCursor, ForeignCursor}
+use Rattle.ac_base.specs.declared.reason.Reason.TheVariants.{RootNode, RootSource, DeadCursor, ForeignCursor}
 use Rattle.ac_base.specs.FirstReason.{earlier}
 use Rattle.ac_base.proofs.FirstReason.{none_found}
 use Rattle.ac_base.specs.Rows.{Row, names}
@@ -73,6 +73,18 @@ may_is p object serial false = refl
 pub may_at : {V : Type 0} (o : Object Name V) (object : ℕ) (a : Name) → may_node (plain o) (tree_mark o (At object a)) ≡ needs_node (plain o) (tree_mark o (At object a))
 may_at o object a = may_is (plain o) object a.serial ((object == o.number) && not (is_among (root_name ∷ names o.rows) a))
 
+stale_source : {V : Type 0} (p : Object ℕ V) (object serial : ℕ) (among same : Bool) → (object == p.number) ≡ same
+    → earlier (may_node p (if (object == p.number) && not among then stale_mark object else mark_at object serial)) (reason_if (serial == 0) RootSource)
+    ≡ earlier (may_node p (if (object == p.number) && not among then stale_mark object else mark_at object serial)) (reason_if (is_root (if (object == p.number) && not among then stale_mark object else mark_at object serial)) RootSource)
+stale_source p object serial true true e = rw e refl
+stale_source p object serial true false e = rw e refl
+stale_source p object serial false false e = rw e refl
+stale_source p object serial false true e = rw e (subst (λ z. earlier z (reason_if (serial == 0) RootSource) ≡ earlier z None) (sym (is_dead p object e)) (dead_first (serial == 0)))
+  where
+    dead_first : (b : Bool) → earlier (Some DeadCursor) (reason_if b RootSource) ≡ Some DeadCursor
+    dead_first true = refl
+    dead_first false = refl
+
 -- what is found as a root by its serial is the root, or refused before
 root_mark : {V : Type 0} (p : Object ℕ V) (object serial : ℕ) (among same : Bool) → (object == p.number) ≡ same
     → earlier (needs_node p (if (object == p.number) && not among then stale_mark object else mark_at object serial)) (reason_if (serial == 0) RootNode)
@@ -85,6 +97,10 @@ root_mark p object serial false true e = rw e (subst (λ z. earlier z (reason_if
     dead_first true = refl
     dead_first false = refl
 root_mark p object serial false false e = rw e refl
+
+pub root_source : {V : Type 0} (o : Object Name V) (c : Cursor) → earlier (may_node (plain o) (tree_mark o c)) (reason_if (is_root_cursor c) RootSource) ≡ earlier (may_node (plain o) (tree_mark o c)) (reason_if (is_root (tree_mark o c)) RootSource)
+root_source o NoElement = refl
+root_source o (At object a) = stale_source (plain o) object a.serial (is_among (root_name ∷ names o.rows) a) (object == o.number) refl
 
 pub root_needed : {V : Type 0} (o : Object Name V) (c : Cursor) → earlier (needs_node (plain o) (tree_mark o c)) (reason_if (is_root_cursor c) RootNode) ≡ needs_element (plain o) (tree_mark o c)
 root_needed o NoElement = refl

@@ -60,7 +60,7 @@ module _ {X : Type 0} where
           let up : parent_of l y.name ≡ Some name = q.parent ∙ ap Some named in
           ap (λ n. node_depth l (Some n)) (sym same) ∙ (deeper l s y.name lives).one ∙ ap (λ p. node_depth l p + 1) up
 
-  top_level : (l : Links X) → IsForest l → (first : Option Name) → first ≡ first_of l None → ForSome first (λ b. 2 ≡ node_depth l (Some b))
+  pub top_level : (l : Links X) → IsForest l → (first : Option Name) → first ≡ first_of l None → ForSome first (λ b. 2 ≡ node_depth l (Some b))
   top_level l s first is b e = by_forest (forest_in l) s
     where
       by_forest : (t : Forest X) → StandsFor l t → 2 ≡ node_depth l (Some b)

@@ -7,6 +7,8 @@ pub mod Emptying
 pub mod Equals
 pub mod Following
 pub mod Forests
+pub mod GraftedRows
+pub mod Grafts
 pub mod Holes
 pub mod Inserting
 pub mod Judging
@@ -27,6 +29,7 @@ pub mod Splices
 pub mod Spots
 pub mod Standing
 pub mod Steps
+pub mod Subtrees
 pub mod Swapping
 pub mod Within
 pub mod Writes

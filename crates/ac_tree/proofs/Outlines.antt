@@ -256,7 +256,7 @@ module _ {X : Type 0} where
   depths-append : (xs ys : List (Row Name (Node X))) → depths (plains (xs ++ ys)) ≡ depths (plains xs) ++ depths (plains ys)
   depths-append xs ys = ap (λ k. map (λ (r : Row ℕ (Node X)). r.value.depth) k) (map-append plain_row xs ys) ∙ map-append (λ (r : Row ℕ (Node X)). r.value.depth) (plains xs) (plains ys)
 
-  all_from : (least depth : ℕ) (t : Forest X) → least ≤ depth → AllFrom least (depths (plains (outline depth t)))
+  pub all_from : (least depth : ℕ) (t : Forest X) → least ≤ depth → AllFrom least (depths (plains (outline depth t)))
   all_from least depth bare le = tt
   all_from least depth (grove x below rest) le =
       (le, subst (λ k. AllFrom least k) (sym (depths-append (outline (depth + 1) below) (outline depth rest))) (from_both (depths (plains (outline (depth + 1) below))) (depths (plains (outline depth rest))) (all_from least (depth + 1) below (omega arith)) (all_from least depth rest le)))
@@ -266,7 +266,7 @@ module _ {X : Type 0} where
       from_both (x ∷ xs) ys p q = (p.0, from_both xs ys p.1 q)
 
   -- the rows are an outline
-  outline_follows : (before depth : ℕ) (t : Forest X) → 2 ≤ depth → depth ≤ before + 1 → follows before (depths (plains (outline depth t))) ≡ true
+  pub outline_follows : (before depth : ℕ) (t : Forest X) → 2 ≤ depth → depth ≤ before + 1 → follows before (depths (plains (outline depth t))) ≡ true
   outline_follows before depth bare low le = refl
   outline_follows before depth (grove x below rest) low le =
       let xs = depths (plains (outline (depth + 1) below)) in let ys = depths (plains (outline depth rest)) in

@@ -9,7 +9,7 @@ use Rattle.ac_base.specs.declared.name.Name.{Name}
 use Rattle.ac_base.specs.Rows.{row}
 use Rattle.ac_pool.specs.Contents.{live_count}
 use Rattle.ac_chain.specs.Rows as chain
-use Rattle.ac_chain.specs.Rows.{inserted}
+use Rattle.ac_chain.specs.Rows.{inserted, IsFresh}
 use Rattle.ac_chain.specs.ChainFields.{first_or}
 use Rattle.ac_pool.proofs.Cuts.{insert-cut}
 use Rattle.ac_model.specs.Rows.{Node, node, fresh}
@@ -27,101 +27,113 @@ use Rattle.ac_tree.proofs.Standing.{some_name}
 use Rattle.ac_tree.proofs.Forests.{links_at, forest-is, is_forest}
 use Rattle.ac_tree.proofs.Counting.{depth_size}
 
-both_nil : {A : Type 0} (xs ys : List A) → xs ++ ys ≡ [] → (xs ≡ []) × (ys ≡ [])
-both_nil [] ys e = (refl, e)
-both_nil (x ∷ xs) ys e = absurd (let n = ap length e in omega (arith, n))
-
-and_parts : (a b c : Bool) → (a && b && c) ≡ true → (a ≡ true) × (b ≡ true) × (c ≡ true)
+pub and_parts : (a b c : Bool) → (a && b && c) ≡ true → (a ≡ true) × (b ≡ true) × (c ≡ true)
 and_parts true true c e = (refl, refl, e)
 and_parts true false c e = absurd (true≢false (sym e))
 and_parts false b c e = absurd (true≢false (sym e))
 
 module _ {X : Type 0} where
-  -- the end of a forest below the node, where the next row may stand
-  pub record Ending (l : Links X) (node_name : Option Name) (depth : ℕ) : Type 0 where
-    pub steps : List (Step X)
-    pub stands : StandsFor l (plugged steps bare)
-    pub tail : after_in steps ≡ []
-    pub parent_is : parent_in steps ≡ node_name
-    pub depth_is : depth_in steps ≡ depth + 1
+  -- nothing stands behind a place, up to where it ends
+  abbrev pub Tail : List (Step X) → Type 0
+  Tail [] = Unit {0}
+  Tail (under x rest ∷ steps) = (rest ≡ bare) × Tail steps
+  Tail (after x below ∷ steps) = Tail steps
+
+  tail_after : (inner outer : List (Step X)) → Tail inner → after_in (inner ++ outer) ≡ after_in outer
+  tail_after [] outer t = refl
+  tail_after (under x rest ∷ inner) outer t = ap (λ z. outline (depth_in (inner ++ outer)) z ++ after_in (inner ++ outer)) t.0 ∙ tail_after inner outer t.1
+  tail_after (after x below ∷ inner) outer t = tail_after inner outer t
+
+  -- the end below the node of what stands at the outer place, where the next row may stand
+  pub record Ending (l : Links X) (outer : List (Step X)) (node_name : Option Name) (depth : ℕ) : Type 0 where
+    pub inner : List (Step X)
+    pub stands : StandsFor l (plugged (inner ++ outer) bare)
+    pub tail : Tail inner
+    pub parent_is : parent_in (inner ++ outer) ≡ node_name
+    pub depth_is : depth_in (inner ++ outer) ≡ depth + 1
 
   top_depth : (steps : List (Step X)) → parent_in steps ≡ None → depth_in steps ≡ 2
   top_depth [] e = refl
   top_depth (under x rest ∷ steps) e = absurd (none-some x.name (sym e))
   top_depth (after x below ∷ steps) e = top_depth steps e
 
-  bare_nil : (depth : ℕ) (t : Forest X) → outline depth t ≡ [] → t ≡ bare
-  bare_nil depth bare e = refl
-  bare_nil depth (grove x below rest) e = absurd (let n = ap length e in omega (arith, n))
+  depth_low : (steps : List (Step X)) → 2 ≤ depth_in steps
+  depth_low [] = omega arith
+  depth_low (under x rest ∷ steps) = let low = depth_low steps in omega (arith, low)
+  depth_low (after x below ∷ steps) = depth_low steps
 
   -- one level up, behind all that stands there
-  record Level_up (l : Links X) (steps : List (Step X)) (t : Forest X) (a : Name) : Type 0 where
+  record Level_up (l : Links X) (outer inner : List (Step X)) (t : Forest X) (a : Name) : Type 0 where
     pub up : List (Step X)
-    pub is : plugged up bare ≡ plugged steps t
-    pub tail : after_in up ≡ []
-    pub parent : parent_of l a ≡ parent_in up
-    pub depth : depth_in up + 1 ≡ depth_in steps
+    pub is : plugged (up ++ outer) bare ≡ plugged (inner ++ outer) t
+    pub tail : Tail up
+    pub parent : parent_of l a ≡ parent_in (up ++ outer)
+    pub depth : depth_in (up ++ outer) + 1 ≡ depth_in (inner ++ outer)
 
-  level_up : (l : Links X) (steps : List (Step X)) (t : Forest X) (a : Name) → StandsFor l (plugged steps t) → after_in steps ≡ [] → parent_in steps ≡ Some a → Level_up l steps t a
-  level_up l [] t a s tail e = absurd (none-some a e)
-  level_up l (under x rest ∷ steps) t a s tail e =
-      let both = both_nil (outline (depth_in steps) rest) (after_in steps) tail in
-      let none : rest ≡ bare = bare_nil (depth_in steps) rest both.0 in
-      record {
-        up = after x t ∷ steps;
-        is = ap (λ z. plugged steps (grove x t z)) (sym none);
-        tail = both.1;
-        parent = ap (parent_of l) (sym (some_name x.name a e)) ∙ (links_at l steps x t rest s).parent;
-        depth = refl;
-      }
-  level_up l (after x below ∷ steps) t a s tail e =
-      let k = level_up l steps (grove x below t) a s tail e in
+  level_up : (l : Links X) (outer inner : List (Step X)) (t : Forest X) (a : Name) → StandsFor l (plugged (inner ++ outer) t) → Tail inner → parent_in (inner ++ outer) ≡ Some a → depth_in outer < depth_in (inner ++ outer) → Level_up l outer inner t a
+  level_up l outer [] t a s tail e over = absurd (omega (arith, over))
+  level_up l outer (under x rest ∷ inner) t a s tail e over = record {
+    up = after x t ∷ inner;
+    is = ap (λ z. plugged (inner ++ outer) (grove x t z)) (sym tail.0);
+    tail = tail.1;
+    parent = ap (parent_of l) (sym (some_name x.name a e)) ∙ (links_at l (inner ++ outer) x t rest s).parent;
+    depth = refl;
+  }
+  level_up l outer (after x below ∷ inner) t a s tail e over =
+      let k = level_up l outer inner (grove x below t) a s tail e over in
       record { up = k.up; is = k.is; tail = k.tail; parent = k.parent; depth = k.depth }
 
-  up_one : (l : Links X) (o : Option Name) (d : ℕ) → 1 ≤ d → Ending l o (d + 1) → Ending l (up_of l o) d
-  up_one l None d low k = let top = top_depth k.steps k.parent_is in let deep = k.depth_is in absurd (omega (arith, low, top, deep))
-  up_one l (Some a) d low k =
-      let u = level_up l k.steps bare a k.stands k.tail k.parent_is in
-      let one = u.depth in let deep = k.depth_is in
+  up_one : (l : Links X) (outer : List (Step X)) (o : Option Name) (d : ℕ) → depth_in outer ≤ d + 1 → Ending l outer o (d + 1) → Ending l outer (up_of l o) d
+  up_one l outer None d low k = let top = top_depth (k.inner ++ outer) k.parent_is in let deep = k.depth_is in let least = depth_low outer in absurd (omega (arith, low, top, deep, least))
+  up_one l outer (Some a) d low k =
+      let deep = k.depth_is in
+      let u = level_up l outer k.inner bare a k.stands k.tail k.parent_is (omega (arith, low, deep)) in
+      let one = u.depth in
       record {
-        steps = u.up;
+        inner = u.up;
         stands = subst (λ z. StandsFor l z) (sym u.is) k.stands;
         tail = u.tail;
         parent_is = sym u.parent;
         depth_is = omega (arith, one, deep);
       }
 
-  pub raised_ends : (l : Links X) (o : Option Name) (n d : ℕ) → 1 ≤ d → Ending l o (d + n) → Ending l (raised_by l n o) d
-  raised_ends l o zero d low k = subst (λ m. Ending l o m) (let e : d + 0 ≡ d = omega arith in e) k
-  raised_ends l o (suc n) d low k = up_one l (raised_by l n o) d low (raised_ends l o n (d + 1) (omega (arith, low)) (subst (λ m. Ending l o m) (let e : d + suc n ≡ (d + 1) + n = omega arith in e) k))
+  pub raised_ends : (l : Links X) (outer : List (Step X)) (o : Option Name) (n d : ℕ) → depth_in outer ≤ d + 1 → Ending l outer o (d + n) → Ending l outer (raised_by l n o) d
+  raised_ends l outer o zero d low k = subst (λ m. Ending l outer o m) (let e : d + 0 ≡ d = omega arith in e) k
+  raised_ends l outer o (suc n) d low k =
+      up_one l outer (raised_by l n o) d low (raised_ends l outer o n (d + 1) (omega (arith, low)) (subst (λ m. Ending l outer o m) (let e : d + suc n ≡ (d + 1) + n = omega arith in e) k))
+
+  -- the place for the next row
+  pub ending_hole : (l : Links X) (outer : List (Step X)) (o : Option Name) (depth : ℕ) → Ending l outer o depth → Hole l o None
+  ending_hole l outer o depth k = record { steps = k.inner ++ outer; rest = bare; stands = k.stands; parent_is = sym k.parent_is; before_is = refl }
 
   -- a row more at the end
-  record More (l m : Links X) (v : X) (a : Name) (depth : ℕ) : Type 0 where
-    pub ending : Ending m (Some a) (depth + 1)
-    pub rows : plains (rows_of m).rows ≡ plains (rows_of l).rows ++ row (rows_of l).next_serial (node (depth + 1) v) ∷ []
-    pub next : m.nodes.next_serial ≡ l.nodes.next_serial + 1
-    pub spare : m.nodes.spare ≡ l.nodes.spare - 1
+  pub record More (l m : Links X) (outer : List (Step X)) (v : X) (a : Name) (depth : ℕ) : Type 0 where
+    pub ending : Ending m outer (Some a) (depth + 1)
+    pub rows : rows_of m ≡ inserted (rows_of l) (first_or (after_in outer) None) (row a (node (depth + 1) v))
+    pub fresh : IsFresh (rows_of l) a
 
-  more : (l m : Links X) (o : Option Name) (depth : ℕ) (v : X) (a : Name) → Ending l o depth → Inserts l o None v m a → More l m v a depth
-  more l m o depth v a k ins =
-      let h : Hole l o None = record { steps = k.steps; rest = bare; stands = k.stands; parent_is = sym k.parent_is; before_is = refl } in
-      let i = ins h in let deep = k.depth_is in
-      let last : place_at h ≡ None = ap (λ z. first_or z None) k.tail in
-      let r = row a (node (depth_in k.steps) v) in
-      let all : (rows_of m).rows ≡ (rows_of l).rows ++ r ∷ [] =
-      ap (λ (c : chain.Chained (Node X)). c.rows) (i.rows ∙ ap (λ p. inserted (rows_of l) p r) last)
-      ∙ ap (λ z. insert z (length (rows_of l).rows) r) (sym (append-nil (rows_of l).rows)) ∙ insert-cut (rows_of l).rows r [] in
+  pub more : (l m : Links X) (outer : List (Step X)) (o : Option Name) (depth : ℕ) (v : X) (a : Name) → Ending l outer o depth → Inserts l o None v m a → More l m outer v a depth
+  more l m outer o depth v a k ins =
+      let i = ins (record { steps = k.inner ++ outer; rest = bare; stands = k.stands; parent_is = sym k.parent_is; before_is = refl }) in let deep = k.depth_is in
+      let last : first_or (after_in (k.inner ++ outer)) None ≡ first_or (after_in outer) None = ap (λ z. first_or z None) (tail_after k.inner outer k.tail) in
       record {
-        ending = record { steps = under (row a v) bare ∷ k.steps; stands = i.stands; tail = k.tail; parent_is = refl; depth_is = omega (arith, deep) };
-        rows = ap plains all ∙ plains-append (rows_of l).rows (r ∷ []) ∙ (λ j. plains (rows_of l).rows ++ row (i.fresh.serial j) (node (deep j) v) ∷ []);
-        next = ap (λ (c : chain.Chained (Node X)). c.next_serial) i.rows;
-        spare = ap (λ (c : chain.Chained (Node X)). c.spare) i.rows;
+        ending = record { inner = under (row a v) bare ∷ k.inner; stands = i.stands; tail = (refl, k.tail); parent_is = refl; depth_is = omega (arith, deep) };
+        rows = i.rows ∙ (λ j. inserted (rows_of l) (last j) (row a (node (deep j) v)));
+        fresh = i.fresh;
       }
+
+  -- where nothing stands behind the place it is the last row
+  last_row : (l m : Links X) (v : X) (a : Name) (depth : ℕ) → More l m [] v a depth → plains (rows_of m).rows ≡ plains (rows_of l).rows ++ row (rows_of l).next_serial (node (depth + 1) v) ∷ []
+  last_row l m v a depth w =
+      let r = row a (node (depth + 1) v) in
+      let all : (rows_of m).rows ≡ (rows_of l).rows ++ r ∷ [] =
+      ap (λ (c : chain.Chained (Node X)). c.rows) w.rows ∙ ap (λ z. insert z (length (rows_of l).rows) r) (sym (append-nil (rows_of l).rows)) ∙ insert-cut (rows_of l).rows r [] in
+      ap plains all ∙ plains-append (rows_of l).rows (r ∷ []) ∙ (λ j. plains (rows_of l).rows ++ row (w.fresh.serial j) (node (depth + 1) v) ∷ [])
 
   -- so far: these values are put, and those on the stack are still to come
   pub record Filling (l : Links X) (all : List (Leveled X)) (m : Links X) (node_name : Option Name) (depth : ℕ) (left : List (Leveled X)) : Type 0 where
     pub done : List (Node X)
-    pub ending : Ending m node_name depth
+    pub ending : Ending m [] node_name depth
     pub low : 1 ≤ depth
     pub legal : follows depth (levels_in (reverse left)) ≡ true
     pub rows : plains (rows_of m).rows ≡ fresh l.nodes.next_serial done
@@ -132,7 +144,7 @@ module _ {X : Type 0} where
   pub filling_start : (l : Links X) (all : List (Leveled X)) → StandsFor l bare → follows 1 (levels_in (reverse all)) ≡ true → Filling l all l None 1 all
   filling_start l all s legal = record {
     done = [];
-    ending = record { steps = []; stands = s; tail = refl; parent_is = refl; depth_is = refl };
+    ending = record { inner = []; stands = s; tail = tt; parent_is = refl; depth_is = refl };
     low = omega arith;
     legal = legal;
     rows = ap (λ t. plains (outline 2 t)) (forest-is l bare s);
@@ -153,7 +165,7 @@ module _ {X : Type 0} where
   next_of_stack l all m o depth left rest v k split =
       let turned : reverse left ≡ v ∷ reverse rest = ap reverse split ∙ reverse-append rest (v ∷ []) in
       let parts = and_parts (nat_le 2 v.depth) (nat_le v.depth (depth + 1)) (follows v.depth (levels_in (reverse rest))) (ap (λ z. follows depth (levels_in z)) (sym turned) ∙ k.legal) in
-      let deep = k.ending.depth_is in let most = depth_size k.ending.steps bare in let count = k.ending.stands.count in
+      let deep = k.ending.depth_is in let most = depth_size (k.ending.inner ++ []) bare in let count = k.ending.stands.count in
       record {
         turned = turned;
         low = leb-true 2 v.depth parts.0;
@@ -172,28 +184,28 @@ module _ {X : Type 0} where
       (omega (arith, spare, some, one, room), omega (arith, next, some, one, whole, both, a, b, c, d, serials))
 
   pub filling_hole : (l : Links X) (all : List (Leveled X)) (m : Links X) (o : Option Name) (depth : ℕ) (left rest : List (Leveled X)) (v : Leveled X) → Filling l all m o depth left → left ≡ rest ++ v ∷ []
-      → (n : ℕ) → n ≡ (depth + 1) - v.depth → Ending m (raised_by m n o) (v.depth - 1)
+      → (n : ℕ) → n ≡ (depth + 1) - v.depth → Ending m [] (raised_by m n o) (v.depth - 1)
   filling_hole l all m o depth left rest v k split n is =
       let x = next_of_stack l all m o depth left rest v k split in
       let low = x.low in let few = x.few in
-      raised_ends m o n (v.depth - 1) (omega (arith, low)) (subst (λ z. Ending m o z) (let e : depth ≡ (v.depth - 1) + n = omega (arith, low, few, is) in e) k.ending)
+      raised_ends m [] o n (v.depth - 1) (omega (arith, low)) (subst (λ z. Ending m [] o z) (let e : depth ≡ (v.depth - 1) + n = omega (arith, low, few, is) in e) k.ending)
 
   pub filling_more : (l : Links X) (all : List (Leveled X)) (m now : Links X) (o : Option Name) (depth : ℕ) (left rest : List (Leveled X)) (v : Leveled X) → Filling l all m o depth left → left ≡ rest ++ v ∷ []
       → (n : ℕ) → n ≡ (depth + 1) - v.depth → (parent : Option Name) → parent ≡ raised_by m n o → (a : Name) → Inserts m parent None v.value now a → length all ≤ l.nodes.spare → Filling l all now (Some a) v.depth rest
   filling_more l all m now o depth left rest v k split n is parent up a ins room =
       let x = next_of_stack l all m o depth left rest v k split in
       let low = x.low in
-      let place : Ending m parent (v.depth - 1) = subst (λ p. Ending m p (v.depth - 1)) (sym up) (filling_hole l all m o depth left rest v k split n is) in
-      let w = more m now parent (v.depth - 1) v.value a place ins in
+      let place : Ending m [] parent (v.depth - 1) = subst (λ p. Ending m [] p (v.depth - 1)) (sym up) (filling_hole l all m o depth left rest v k split n is) in
+      let w = more m now [] parent (v.depth - 1) v.value a place ins in
       let deep : (v.depth - 1) + 1 ≡ v.depth = omega (arith, low) in
-      let spare = k.spare in let less = w.spare in let some = ap length split in let one = length-append rest (v ∷ []) in
-      let next = k.next in let risen = w.next in let longer = length-append k.done (in_node v ∷ []) in
+      let spare = k.spare in let less = ap (λ (c : chain.Chained (Node X)). c.spare) w.rows in let some = ap length split in let one = length-append rest (v ∷ []) in
+      let next = k.next in let risen = ap (λ (c : chain.Chained (Node X)). c.next_serial) w.rows in let longer = length-append k.done (in_node v ∷ []) in
       record {
         done = k.done ++ in_node v ∷ [];
-        ending = subst (λ d. Ending now (Some a) d) deep w.ending;
+        ending = subst (λ d. Ending now [] (Some a) d) deep w.ending;
         low = omega (arith, low);
         legal = x.legal;
-        rows = w.rows ∙ (λ j. k.rows j ++ row (k.next j) (node (deep j) v.value) ∷ []) ∙ sym (fresh-append l.nodes.next_serial k.done (in_node v));
+        rows = last_row m now v.value a (v.depth - 1) w ∙ (λ j. k.rows j ++ row (k.next j) (node (deep j) v.value) ∷ []) ∙ sym (fresh-append l.nodes.next_serial k.done (in_node v));
         whole = append_assoc k.done (in_node v ∷ []) (nodes_in (reverse rest)) ∙ ap (λ z. k.done ++ nodes_in z) (sym x.turned) ∙ k.whole;
         next = omega (arith, next, risen, longer);
         spare = omega (arith, spare, less, some, one, room);
@@ -211,7 +223,7 @@ module _ {X : Type 0} where
       let count = ap length whole in let c = length-map (reverse all) in_node in let d = length-reverse all in
       let next = k.next in let spare = k.spare in let zero = ap length none in
       record {
-        forest = is_forest m (plugged k.ending.steps bare) k.ending.stands;
+        forest = is_forest m (plugged (k.ending.inner ++ []) bare) k.ending.stands;
         rows = k.rows ∙ ap (fresh l.nodes.next_serial) whole;
         next = omega (arith, next, count, c, d);
         spare = omega (arith, spare, zero);

@@ -70,12 +70,12 @@ module _ {X : Type 0} where
   abbrev pub part_rows : ℕ → Row Name X → Forest X → List (Row Name (Node X))
   part_rows d x below = row x.name (node d x.value) ∷ outline (d + 1) below
 
-  parts : (steps : List (Step X)) (x : Row Name X) (below rest : Forest X) → outline 2 (plugged steps (grove x below rest)) ≡ before_in steps ++ (part_rows (depth_in steps) x below ++ (outline (depth_in steps) rest ++ after_in steps))
+  pub parts : (steps : List (Step X)) (x : Row Name X) (below rest : Forest X) → outline 2 (plugged steps (grove x below rest)) ≡ before_in steps ++ (part_rows (depth_in steps) x below ++ (outline (depth_in steps) rest ++ after_in steps))
   parts steps x below rest =
       let d = depth_in steps in
       outline_plugged steps (grove x below rest) ∙ ap (λ z. before_in steps ++ z) (append_assoc (part_rows d x below) (outline d rest) (after_in steps))
 
-  three_plains : (xs ys zs : List (Row Name (Node X))) → plains (xs ++ (ys ++ zs)) ≡ plains xs ++ (plains ys ++ plains zs)
+  pub three_plains : (xs ys zs : List (Row Name (Node X))) → plains (xs ++ (ys ++ zs)) ≡ plains xs ++ (plains ys ++ plains zs)
   three_plains xs ys zs = plains-append xs (ys ++ zs) ∙ ap (λ z. plains xs ++ z) (plains-append ys zs)
 
   depth_left : (steps : List (Step X)) (x : Row Name X) (below rest : Forest X) (n : ℕ) → is_in n (seen (part_rows (depth_in steps) x below)) ≡ false
@@ -87,7 +87,7 @@ module _ {X : Type 0} where
       ∙ depth_cut (root ∷ seen (before_in steps)) (seen mid) (seen ys) n out
       ∙ sym (ap at (ap seen (outline_plugged steps rest) ∙ seen-append (before_in steps) ys))
 
-  moved_outline : (d e k : ℕ) (t : Forest X) → moved_to_depth d e (plains (outline (d + k) t)) ≡ plains (outline (e + k) t)
+  pub moved_outline : (d e k : ℕ) (t : Forest X) → moved_to_depth d e (plains (outline (d + k) t)) ≡ plains (outline (e + k) t)
   moved_outline d e k bare = refl
   moved_outline d e k (grove x below rest) =
       let head : (d + k) + e - d ≡ e + k = omega arith in
@@ -101,16 +101,16 @@ module _ {X : Type 0} where
       ∙ (λ i. b i ++ r i) ∙ sym (plains-append (outline ((e + k) + 1) below) (outline (e + k) rest)) in
       λ i. row x.name.serial (node (head i) x.value) ∷ rows i
 
-  moved_part : (d e : ℕ) (x : Row Name X) (below : Forest X) → moved_to_depth d e (plains (part_rows d x below)) ≡ plains (part_rows e x below)
+  pub moved_part : (d e : ℕ) (x : Row Name X) (below : Forest X) → moved_to_depth d e (plains (part_rows d x below)) ≡ plains (part_rows e x below)
   moved_part d e x below =
       let head : d + e - d ≡ e = omega arith in let r = moved_outline d e 1 below in
       λ i. row x.name.serial (node (head i) x.value) ∷ r i
 
-  taken_part : (xs ys zs : List (Row ℕ (Node X))) → take (length ys) (drop (length xs) (xs ++ (ys ++ zs))) ≡ ys
+  pub taken_part : (xs ys zs : List (Row ℕ (Node X))) → take (length ys) (drop (length xs) (xs ++ (ys ++ zs))) ≡ ys
   taken_part xs ys zs = ap (take (length ys)) (drop-append_seam xs (ys ++ zs)) ∙ take-append_seam ys zs
 
   -- where the node was, and all about it in words of rows
-  module _ (l : Links X) (o : Object Name (Node X)) (from : List (Step X)) (x : Row Name X) (below rest : Forest X) (rows_is : o.rows ≡ outline 2 (plugged from (grove x below rest))) (top : Mark) (named : name_of top ≡ x.name.serial)
+  module _ (rows : List (Row Name (Node X))) (from : List (Step X)) (x : Row Name X) (below rest : Forest X) (rows_is : rows ≡ outline 2 (plugged from (grove x below rest))) (top : Mark) (named : name_of top ≡ x.name.serial)
       (start : run_start (plains (outline 2 (plugged from (grove x below rest)))) x.name.serial ≡ suc (length (before_in from)))
       (run : length (run_of (plains (outline 2 (plugged from (grove x below rest)))) x.name.serial) ≡ length (outline (depth_in from + 1) below))
       (deep : depth_of (plains (outline 2 (plugged from (grove x below rest)))) x.name.serial ≡ depth_in from) where
@@ -126,7 +126,7 @@ module _ {X : Type 0} where
     longs : subtree_length all x.name.serial ≡ length (plains mid)
     longs = let e = length-plains mid in omega (arith, run, e)
 
-    cut_is : without_subtree (plain o).rows top ≡ plains (outline 2 (plugged from rest))
+    cut_is : without_subtree (plains rows) top ≡ plains (outline 2 (plugged from rest))
     cut_is =
         let ys = outline (depth_in from) rest ++ after_in from in
         (λ i. cut (plains (rows_is i)) (subtree_start (plains (rows_is i)) (named i)) (subtree_length (plains (rows_is i)) (named i)))
@@ -134,23 +134,23 @@ module _ {X : Type 0} where
         ∙ cut_middle (plains (before_in from)) (plains mid) (plains ys)
         ∙ sym (ap plains (outline_plugged from rest) ∙ plains-append (before_in from) ys)
 
-    part_is : (e : ℕ) → subtree_at_depth e (plain o).rows top ≡ plains (part_rows e x below)
+    pub part_is : (e : ℕ) → subtree_at_depth e (plains rows) top ≡ plains (part_rows e x below)
     part_is e =
         let ys = outline (depth_in from) rest ++ after_in from in
-        let rows : subtree_rows all x.name.serial ≡ plains mid =
+        let those : subtree_rows all x.name.serial ≡ plains mid =
         (λ i. take (longs i) (drop (starts i) ((ap plains (parts from x below rest) ∙ three_plains (before_in from) mid ys) i))) ∙ taken_part (plains (before_in from)) (plains mid) (plains ys) in
         (λ i. moved_to_depth (depth_of (plains (rows_is i)) (named i)) e (subtree_rows (plains (rows_is i)) (named i)))
-        ∙ (λ i. moved_to_depth (deep i) e (rows i)) ∙ moved_part (depth_in from) e x below
+        ∙ (λ i. moved_to_depth (deep i) e (those i)) ∙ moved_part (depth_in from) e x below
 
     -- the rows once the subtree is put where it goes
-    pub put_there : (parent before : Mark) (p b : Option Name) (np : New_place (plugged from rest) p b) → (name_of before == name_of top) ≡ false → ((rows : List (Row ℕ (Node X))) → child_place rows parent before ≡ row_place rows p b)
-        → child_depth (plain o).rows parent ≡ depth_in np.to → plains (outline 2 (plugged np.to (grove x below np.rest))) ≡ with_subtree_moved (plain o).rows parent before top
+    pub put_there : (parent before : Mark) (p b : Option Name) (np : New_place (plugged from rest) p b) → (name_of before == name_of top) ≡ false → ((these : List (Row ℕ (Node X))) → child_place these parent before ≡ row_place these p b)
+        → child_depth (plains rows) parent ≡ depth_in np.to → plains (outline 2 (plugged np.to (grove x below np.rest))) ≡ with_subtree_moved (plains rows) parent before top
     put_there parent before p b np other places depth =
         let e = depth_in np.to in let ys = outline e np.rest ++ after_in np.to in let left = plains (outline 2 (plugged from rest)) in
         let cuts : left ≡ plains (before_in np.to) ++ plains ys = ap (λ z. plains (outline 2 z)) (sym np.same) ∙ ap plains (outline_plugged np.to np.rest) ∙ plains-append (before_in np.to) ys in
-        let at : child_place (without_subtree (plain o).rows top) parent before ≡ length (plains (before_in np.to)) =
-        places (without_subtree (plain o).rows top) ∙ ap (λ z. row_place z p b) cut_is ∙ np.place ∙ sym (length-plains (before_in np.to)) in
-        let part : subtree_at_depth (child_depth (plain o).rows parent) (plain o).rows top ≡ plains (part_rows e x below) = ap (λ d. subtree_at_depth d (plain o).rows top) depth ∙ part_is e in
+        let at : child_place (without_subtree (plains rows) top) parent before ≡ length (plains (before_in np.to)) =
+        places (without_subtree (plains rows) top) ∙ ap (λ z. row_place z p b) cut_is ∙ np.place ∙ sym (length-plains (before_in np.to)) in
+        let part : subtree_at_depth (child_depth (plains rows) parent) (plains rows) top ≡ plains (part_rows e x below) = ap (λ d. subtree_at_depth d (plains rows) top) depth ∙ part_is e in
         ap plains (parts np.to x below np.rest) ∙ three_plains (before_in np.to) (part_rows e x below) ys
         ∙ sym (append_assoc (plains (before_in np.to)) (plains (part_rows e x below)) (plains ys))
         ∙ sym (put_cut (plains (before_in np.to)) (plains ys) (plains (part_rows e x below)))
@@ -204,7 +204,7 @@ or_second true b e = refl
 or_second false b e = e
 
 module _ {X : Type 0} (l : Links X) (s : IsForest l) (o : Object Name (Node X)) (rows_is : o.rows ≡ outline 2 (forest_in l)) where
-  places_are : (parent before : Cursor) → needs_node (plain o) (tree_mark o parent) ≡ None → may_node (plain o) (tree_mark o before) ≡ None → (rows : List (Row ℕ (Node X)))
+  pub places_are : (parent before : Cursor) → needs_node (plain o) (tree_mark o parent) ≡ None → may_node (plain o) (tree_mark o before) ≡ None → (rows : List (Row ℕ (Node X)))
       → child_place rows (tree_mark o parent) (tree_mark o before) ≡ row_place rows (node_in parent) (place_in before)
   places_are parent NoElement hp may rows = ap (λ k. run_start rows (name_of k) + length (run_of rows (name_of k))) (at_node l s o rows_is parent hp).mark
   places_are parent (At object n) hp may rows =
@@ -311,7 +311,7 @@ module _ {X : Type 0} (g : GuardCounts) (limit : Limit) (l : Links X) (is : IsTr
             let off = others_are l is.forest o refl before (tree_mark o position) k.at.name no_reasons.1 w.top_is live k.alone.not_root st.before_live st.before_other in
             let depth : child_depth (plain o).rows (tree_mark o parent) ≡ depth_in np.to =
             (λ i. depth_of (plains (outline 2 (sym k.is i))) (w.parent_is i) + 1) ∙ ap (λ d. d + 1) (depth_left k.steps k.at k.below k.rest (serial_in (node_in parent)) (parent_out w)) ∙ np.depth in
-            let rows = put_there l o k.steps k.at k.below k.rest (ap (outline 2) (sym k.is)) (tree_mark o position) w.top_is w.start w.run w.deep (tree_mark o parent) (tree_mark o before) (node_in parent) (place_in before) np off
+            let rows = put_there o.rows k.steps k.at k.below k.rest (ap (outline 2) (sym k.is)) (tree_mark o position) w.top_is w.start w.run w.deep (tree_mark o parent) (tree_mark o before) (node_in parent) (place_in before) np off
             (places_are l is.forest o refl parent before no_reasons.0 no_reasons.1) depth in
             same_nodes g limit l m (plugged k.steps t) u (with_subtree_moved (plain o).rows (tree_mark o parent) (tree_mark o before) (tree_mark o position)) is k.stands moved (omega (arith, more, were, left)) (had k np) rows
           where

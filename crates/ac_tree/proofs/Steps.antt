@@ -3,7 +3,7 @@ use Rattle.std.proofs.Common.{◌≡◌, ◌≤◌, ◌+◌, ℕ, ℤ, pos, negs
 use Rattle.std.specs.Prelude.{◌==◌, nat_lt, if◌then◌else◌, IfSome}
 use Rattle.std.proofs.lemmas.Bool.{cond-false, le-ltb}
 use Rattle.ac_base.specs.declared.reason.Reason.{Reason}
-use Rattle.ac_base.specs.declared.reason.Reason.TheVariants.{CursorTampering, ElementTampering, ForeignCursor, DeadCursor, RootNode, BelowItself, NotChild, NotLeaf, LengthRange, CapacityFull, NamesSpent}
+use Rattle.ac_base.specs.declared.reason.Reason.TheVariants.{CursorTampering, ElementTampering, ForeignCursor, DeadCursor, RootNode, RootSource, BelowItself, NotChild, NotLeaf, LengthRange, CapacityFull, NamesSpent}
 use Rattle.ac_base.specs.Limits.{is_past, numbers_end}
 use Rattle.ac_base.specs.declared.limit.TheConstants.{GREATEST_LENGTH}
 use Rattle.ac_base.specs.FirstReason.{first_reason, earlier, step_of}
@@ -131,3 +131,25 @@ late_splice a b =
 
 pub four_first : (a b c d late : Option Reason) → Early a → Early b → Early c → Early d → Late late → earlier a (earlier b (earlier c (earlier d late))) ≡ or_else (first_reason (a ∷ b ∷ c ∷ d ∷ [])) late
 four_first a b c d late ea eb ec ed l = ap (earlier a) (three_first b c d late eb ec ed l) ∙ absorbed a (first_reason (b ∷ c ∷ d ∷ [])) late ea l
+
+pub source_early : {V : Type 0} (o : Object ℕ V) (m : Mark) → Early (earlier (may_node o m) (reason_if (is_root m) RootSource))
+source_early o m = both_by (λ r. step_of r ≤ 5) (may_node o m) (reason_if (is_root m) RootSource) (may_early o m) (reason_by (λ r. step_of r ≤ 5) (is_root m) RootSource (omega arith))
+
+-- why rows are refused, once their cursors aren't
+pub late_rows : {V : Type 0} (o : Object ℕ V) (t : Bool) (length more : ℕ) → Late (first_reason (reason_if t NotChild ∷ room o length more))
+late_rows o t length more = both_by (λ r. 6 ≤ step_of r) (reason_if t NotChild) (first_reason (room o length more)) (reason_by (λ r. 6 ≤ step_of r) t NotChild (omega arith)) (room_late o length more)
+
+-- two reasons next to each other are one
+pub joined_early : (a b late : Option Reason) → Early a → Early b → Late late → earlier a (earlier b late) ≡ earlier (earlier a b) late
+joined_early a b late ea eb l =
+    two_first a b late ea eb l ∙ ap (λ z. or_else (earlier a z) late) (last_none b) ∙ sym (absorbed (earlier a b) None late (both_by (λ r. step_of r ≤ 5) a b ea eb) l ∙ ap (λ z. or_else z late) (last_none (earlier a b)))
+  where
+    last_none : (c : Option Reason) → earlier c None ≡ c
+    last_none None = refl
+    last_none (Some r) = refl
+
+pub five_first : (a b c d e late : Option Reason) → Early a → Early b → Early c → Early d → Early e → Late late → earlier a (earlier b (earlier c (earlier d (earlier e late)))) ≡ or_else (first_reason (a ∷ b ∷ c ∷ d ∷ e ∷ [])) late
+five_first a b c d e late ea eb ec ed ee l = ap (earlier a) (four_first b c d e late eb ec ed ee l) ∙ absorbed a (first_reason (b ∷ c ∷ d ∷ e ∷ [])) late ea l
+
+pub root_early : (m : Mark) → Early (reason_if (is_root m) RootSource)
+root_early m = reason_by (λ r. step_of r ≤ 5) (is_root m) RootSource (omega arith)

@@ -92,7 +92,7 @@ fn up<T>(links: &Links<T>, node: Option<Name>) -> Option<Name>
 }
 
 /// The node so many levels above one.
-fn raised<T>(links: &Links<T>, node: Option<Name>, levels: u64) -> Option<Name>
+pub(crate) fn raised<T>(links: &Links<T>, node: Option<Name>, levels: u64) -> Option<Name>
     ensures { result ≡ raised_by links.now levels node }
 {
     let mut place = node;

@@ -6,6 +6,7 @@ mod comparing;
 mod copying;
 mod counts;
 mod finding;
+mod grafting;
 mod growing;
 mod links;
 mod preorder;
