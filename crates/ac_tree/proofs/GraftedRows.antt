@@ -1,5 +1,5 @@
 -- What a tree is after nodes came into it as a forest of children of a node.
-use Rattle.std.proofs.Common.{◌≡◌, ℕ, ◌+◌, ◌<◌, ◌≤◌, Bool, true, false, true≢false, List, [], ◌∷◌, length, reverse, Option, Some, None, Result, Ok, Err, IsTrue, refl, sym, ap, ◌∙◌, subst, arith, eq-eqb}
+use Rattle.std.proofs.Common.{◌≡◌, ℕ, ◌+◌, ◌-◌, ◌<◌, ◌≤◌, Bool, true, false, true≢false, List, [], ◌∷◌, length, reverse, Option, Some, None, Result, Ok, Err, IsTrue, refl, sym, ap, ◌∙◌, subst, arith, eq-eqb}
 use Rattle.std.specs.Prelude.{◌==◌, IfOk, IfErr, if◌then◌else◌}
 use Rattle.std.specs.Option.{ForSome}
 use Rattle.std.proofs.lemmas.List.{length-map, length-reverse, reverse-reverse}
@@ -25,31 +25,32 @@ use Rattle.ac_chain.proofs.SequenceGrows.{takes_few, takes_within, sequence_grow
 use Rattle.ac_model.specs.Rows.{Node, node, place_of}
 use Rattle.ac_model.specs.Objects.{Object, plain, plains, plain_row, length_of}
 use Rattle.ac_model.specs.Letters.{Mark, no_mark, mark_at, stale_mark, mark_of, name_of, is_no_mark, reason_if, room}
-use Rattle.ac_model.specs.Calls.{Call, call, Done, Changing, IsAfter, Marks, Same, takes_some}
-use Rattle.ac_model.specs.Cursors.{place_in, cursor_at, spot}
+use Rattle.ac_model.specs.Calls.{Call, call, Done, Changing, ChangingBoth, IsAfter, Marks, Same, Both, both, takes_some}
+use Rattle.ac_model.specs.Cursors.{place_in, name_in, cursor_at, spot}
 use Rattle.ac_model.specs.Outline.{depth_of, run_of, run_start, subtree_length}
 use Rattle.ac_model.specs.Putting.{Takes, done}
 use Rattle.ac_model.specs.Sequences.{with_new, first_new}
-use Rattle.ac_model.specs.Trees.{tree_mark, needs_node, may_node, is_root, child_or_none, child_depth, child_place, copied_rows, subtree_at_depth, with_moved, room_for_rows}
+use Rattle.ac_model.specs.Trees.{tree_mark, needs_node, may_node, needs_element, is_root, child_or_none, child_depth, child_place, copied_rows, subtree_at_depth, run_at_depth, with_moved, room_for_rows}
 use Rattle.ac_model.proofs.Changes.{no_capacity}
 use Rattle.ac_model.proofs.Plains.{length-plains}
 use Rattle.ac_model.proofs.Reasons.{room_none, none_first, none_others}
 use Rattle.ac_tree.specs.declared.copying.Leveled.{Leveled}
 use Rattle.ac_tree.specs.declared.links.Links.{Links}
 use Rattle.ac_tree.specs.Children.{IsPlace, place_among, nodes_call}
-use Rattle.ac_tree.specs.Copying.{in_node, nodes_in, subtree_nodes, Hole_at, Planted}
+use Rattle.ac_tree.specs.Copying.{in_node, nodes_in, subtree_nodes, run_nodes, Hole_at, Planted}
 use Rattle.ac_tree.specs.Forests.{outline}
 use Rattle.ac_tree.specs.Inserting.{Hole, depth_at, place_at}
 use Rattle.ac_tree.specs.TreeFields.{forest_in, IsForest}
 use Rattle.ac_tree.specs.TreeCursors.{node_of, node_in, serial_in}
 use Rattle.ac_tree.specs.TreeRows.{rows_of, tree_object, IsTree}
-use Rattle.ac_tree.proofs.Children.{held_in, spot_is}
+use Rattle.ac_tree.proofs.Children.{held_in, spot_is, element_mark}
 use Rattle.ac_tree.proofs.Holes.{Held}
-use Rattle.ac_tree.proofs.Judging.{both_none, at_node, needed, may_at, serial_of_node}
+use Rattle.ac_tree.proofs.Judging.{both_none, at_node, at_element, needed, may_at, serial_of_node}
 use Rattle.ac_tree.proofs.Levels.{nodes_reverse}
 use Rattle.ac_tree.proofs.Objects.{sound_of}
 use Rattle.ac_tree.proofs.Putting.{place_live}
-use Rattle.ac_tree.proofs.Subtrees.{subtree_long}
+use Rattle.ac_tree.proofs.Looking.{node_live, live_needed}
+use Rattle.ac_tree.proofs.Subtrees.{subtree_long, below_long}
 use Rattle.ac_tree.proofs.SplicedRows.{places_are}
 use Rattle.ac_tree.proofs.NewPlaces.{row_place}
 
@@ -179,3 +180,47 @@ module _ {X : Type 0} (g : GuardCounts) (limit : Limit) (l m : Links X) (is : Is
             (put_after g limit None None (rows_of l) (rows_of m) (length vs) (place_at h.hole) vs (no_capacity limit (length (rows_of m).rows)) refl is.sequence.sound lives k.put),
         ap (mark_of g.number (names (rows_of m).rows)) at ∙ first_marked g limit None (rows_of l) (rows_of m) (length vs) made k.first,
       )
+
+module _ {X : Type 0} (l : Links X) (s : IsForest l) (o : Object Name (Node X)) (rows_is : o.rows ≡ outline 2 (forest_in l)) where
+  -- a subtree at a cursor, as nodes of the links
+  element_nodes : (c : Cursor) (a : Name) (depth : ℕ) → needs_element (plain o) (tree_mark o c) ≡ None → a ≡ name_in c → values (subtree_at_depth depth (plain o).rows (tree_mark o c)) ≡ subtree_nodes l a depth
+  element_nodes c a depth h is =
+      let e = at_element l s o rows_is c h in
+      ap (λ m. values (subtree_at_depth depth (plain o).rows m)) e.mark ∙ ap (λ k. values (subtree_at_depth depth (plains k) (mark_at 0 e.name.serial))) rows_is ∙ ap (λ n. subtree_nodes l n depth) (sym (is ∙ e.is))
+
+  pub element_there : (c : Cursor) (a : Name) (depth : ℕ) (items : List (Leveled X)) → needs_element (plain o) (tree_mark o c) ≡ None → a ≡ name_in c → nodes_in items ≡ reverse (subtree_nodes l a depth)
+      → nodes_in (reverse items) ≡ values (subtree_at_depth depth (plain o).rows (tree_mark o c))
+  element_there c a depth items h is copies = nodes_reverse items ∙ ap reverse copies ∙ reverse-reverse (subtree_nodes l a depth) ∙ sym (element_nodes c a depth h is)
+
+  pub element_long : (c : Cursor) (a : Name) (depth n : ℕ) → needs_element (plain o) (tree_mark o c) ≡ None → a ≡ name_in c → n ≡ subtree_length (plains (outline 2 (forest_in l))) a.serial → n ≡ length (subtree_at_depth depth (plain o).rows (tree_mark o c))
+  element_long c a depth n h is count =
+      let live = live_needed l s o rows_is c a is h in
+      count ∙ sym (subtree_long l s a live depth) ∙ sym (ap length (element_nodes c a depth h is)) ∙ length-map (subtree_at_depth depth (plain o).rows (tree_mark o c)) (λ (r : Row ℕ (Node X)). r.value)
+
+  -- what is below the node at a cursor
+  run_nodes_are : (c : Cursor) (at : Option Name) (depth : ℕ) → needs_node (plain o) (tree_mark o c) ≡ None → at ≡ node_in c → values (run_at_depth depth (plain o).rows (tree_mark o c)) ≡ run_nodes l at depth
+  run_nodes_are c at depth h is =
+      let e = at_node l s o rows_is c h in
+      ap (λ m. values (run_at_depth depth (plain o).rows m)) e.mark ∙ ap (λ k. values (run_at_depth depth (plains k) (mark_at 0 (serial_in (node_in c))))) rows_is ∙ ap (λ n. run_nodes l n depth) (sym is)
+
+  pub run_there : (c : Cursor) (at : Option Name) (depth : ℕ) (items : List (Leveled X)) → needs_node (plain o) (tree_mark o c) ≡ None → at ≡ node_in c → nodes_in items ≡ reverse (run_nodes l at depth)
+      → nodes_in (reverse items) ≡ values (run_at_depth depth (plain o).rows (tree_mark o c))
+  run_there c at depth items h is copies = nodes_reverse items ∙ ap reverse copies ∙ reverse-reverse (run_nodes l at depth) ∙ sym (run_nodes_are c at depth h is)
+
+  pub run_long : (c : Cursor) (at : Option Name) (depth n m : ℕ) → needs_node (plain o) (tree_mark o c) ≡ None → at ≡ node_in c → n ≡ subtree_length (plains (outline 2 (forest_in l))) (serial_in at) → m ≡ n - 1
+      → m ≡ length (run_at_depth depth (plain o).rows (tree_mark o c))
+  run_long c at depth n m h is count less =
+      let live = node_live l s o rows_is c at h is in
+      let long = below_long l s at live depth in let all = ap length (run_nodes_are c at depth h is) in let map = length-map (run_at_depth depth (plain o).rows (tree_mark o c)) (λ (r : Row ℕ (Node X)). r.value) in
+      omega (arith, count, less, long, all, map)
+
+module _ {X : Type 0} where
+  -- nodes that were put, and rows that went from another tree
+  pub both_changed : {A B : Type 0} (Answers : B → A → Type 0) (o new p left : Object Name (Node X)) (c : Call (Both (Object ℕ (Node X))) A) (k : Call (Object ℕ (Node X)) Mark) (x : B) → c.reason ≡ None → k.after ≡ c.after.target → IsAfter o new k.after → IsAfter p left c.after.source → Answers x c.answer
+      → ChangingBoth Answers c (both o p) (both new left) (Ok x)
+  both_changed Answers o new p left c k x none after put gone answer = (none, record { target = subst (λ z. IsAfter o new z) after put; source = gone }, answer)
+
+  -- the cursor of the first of them
+  pub first_marks : (o new : Object Name (Node X)) (c : Cursor) (vs : List (Node X)) → 0 < length vs → Marks new c (first_new (plain o) no_mark (length vs)) → tree_mark new c ≡ mark_at o.number o.next
+  first_marks o new c [] some h = absurd (omega (arith, some))
+  first_marks o new c (v ∷ vs) some h = element_mark new.number (names new.rows) c o.number o.next h

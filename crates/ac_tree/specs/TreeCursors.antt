@@ -6,9 +6,9 @@ use Rattle.ac_base.specs.declared.fault.Fault.{Fault}
 use Rattle.ac_base.specs.declared.name.Name.{Name}
 use Rattle.ac_model.specs.Objects.{Object}
 use Rattle.ac_model.specs.Letters.{Mark}
-use Rattle.ac_model.specs.Calls.{Call}
+use Rattle.ac_model.specs.Calls.{Call, Both}
 use Rattle.ac_model.specs.Containers.{Container}
-use Rattle.ac_model.specs.Forms.{Does}
+use Rattle.ac_model.specs.Forms.{Does, DoesBoth}
 use Rattle.ac_model.specs.Trees.{root_name, tree_mark}
 
 -- what the cursor means to the tree
@@ -23,6 +23,11 @@ NodeMarks o cursor mark = tree_mark o cursor ≡ mark
 abbrev pub SetsNode : {V X : Type 0} → (Object ℕ V → Call (Object ℕ V) Mark) → Container V → Cursor → Container V → Cursor → Result X Fault → Type 0
 SetsNode call old variable_old new variable_new result =
     Does (λ _ mark. NodeMarks new.object variable_new mark) call old new result × OnErr result (variable_new ≡ variable_old)
+
+-- the same of a target and a source: the variable is set to a cursor of the target
+abbrev pub SetsNodeBoth : {V X : Type 0} → (Object ℕ V → Object ℕ V → Call (Both (Object ℕ V)) Mark) → (target source : Container V) → Cursor → (target_new source_new : Container V) → Cursor → Result X Fault → Type 0
+SetsNodeBoth call target source variable_old target_new source_new variable_new result =
+    DoesBoth (λ _ mark. NodeMarks target_new.object variable_new mark) call target source target_new source_new result × OnErr result (variable_new ≡ variable_old)
 
 -- the name of the node at which a cursor is: none for the root, and for No_Element
 abbrev pub node_of : Name → Option Name

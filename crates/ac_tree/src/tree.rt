@@ -17,6 +17,7 @@ mod loops;
 mod moves;
 mod searches;
 mod splices;
+mod transfers;
 mod values;
 
 use crate::links::Links;

@@ -79,7 +79,7 @@ impl<T: Drop> Tree<T> {
         Ok(())
     }
 
-    fn take_subtree(&mut self, position: Cursor)
+    pub(super) fn take_subtree(&mut self, position: Cursor)
         requires { trees.needs_element (plain self.old.object) (seen_by self.old position) ≡ None }
         ensures gone { IsAfter self.old.object self.new.object
             (trees.delete_subtree_call (plain self.old.object) (seen_by self.old position)).after }
@@ -98,7 +98,7 @@ impl<T: Drop> Tree<T> {
         Ok(())
     }
 
-    fn take_below(&mut self, parent: Cursor)
+    pub(super) fn take_below(&mut self, parent: Cursor)
         requires { trees.needs_node (plain self.old.object) (seen_by self.old parent) ≡ None }
         ensures gone { IsAfter self.old.object self.new.object
             (trees.delete_children_call (plain self.old.object) (seen_by self.old parent)).after }
