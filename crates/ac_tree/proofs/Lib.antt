@@ -1,5 +1,8 @@
+pub mod AdoptedRows
+pub mod Adoptions
 pub mod Ancestors
 pub mod Assigning
+pub mod ChildPlaces
 pub mod Children
 pub mod Counting
 pub mod Deleting

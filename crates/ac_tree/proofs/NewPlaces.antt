@@ -15,9 +15,9 @@ use Rattle.ac_tree.specs.declared.links.TreeNode.{TreeNode}
 use Rattle.ac_tree.specs.declared.links.Links.{Links}
 use Rattle.ac_tree.specs.Forests.{Forest, bare, grove, Step, under, outline, size, first_in, Has, Once, plugged, parent_in, prev_in, depth_in, before_in}
 use Rattle.ac_tree.specs.TreeCursors.{serial_in}
-use Rattle.ac_tree.specs.TreeFields.{StandsFor, parent_link, parent_of, first_put, last_put, prev_put, next_put, written_at, with_next, with_prev, closed}
+use Rattle.ac_tree.specs.TreeFields.{StandsFor, IsForest, parent_link, parent_of, first_put, last_put, prev_put, next_put, written_at, with_next, with_prev, closed}
 use Rattle.ac_tree.proofs.Places.{Place, placed, plugged_has, around_has, plugged_either, size_is, to_end, plugged_end, parent_end}
-use Rattle.ac_tree.proofs.Writes.{writes}
+use Rattle.ac_tree.proofs.Writes.{Keeps, writes}
 use Rattle.ac_tree.proofs.Standing.{Open, opened}
 use Rattle.ac_tree.proofs.Forests.{live_of, is_forest, links_at, parent_has}
 use Rattle.ac_tree.proofs.Following.{plugged-append, parent_top, parent_within}
@@ -50,7 +50,7 @@ module _ {X : Type 0} where
   prev_parent l None None to a = refl
 
   -- nodes keep their parents where another one is cut off
-  closed_parent : (l : Links X) (p q n : Option Name) (a : Name) → parent_link (value_of (closed l p q n).nodes a) ≡ parent_link (value_of l.nodes a)
+  pub closed_parent : (l : Links X) (p q n : Option Name) (a : Name) → parent_link (value_of (closed l p q n).nodes a) ≡ parent_link (value_of l.nodes a)
   closed_parent l p q n a = prev_parent (with_next l p q n) p n q a ∙ next_parent l p q n a
 
   -- the place of children among rows
@@ -86,13 +86,13 @@ module _ {X : Type 0} where
           ∙ depth_above to rest (all_alone_in c sound to rest (subst (λ z. Once z) (sym same) once) (λ a h. lives a (subst (λ z. Has a z) same h)));
     }
 
-    root_end : New_place whole None None
+    pub root_end : New_place whole None None
     root_end =
         let run : length (run_of (plains (outline 2 whole)) 0) ≡ size whole = ap length (position_run (outline 2 whole) 0 1 whole (root_position whole)) ∙ length_seen (outline 2 whole) ∙ size_is 2 whole in
         let start = root_start whole in let end = before_end [] whole in
         made (to_end [] whole) bare None None (plugged_end [] whole) (sym (parent_end [] whole)) refl (omega (arith, start, run, end))
 
-    node_end : (a : Name) → Has a whole → New_place whole (Some a) None
+    pub node_end : (a : Name) → Has a whole → New_place whole (Some a) None
     node_end a h =
         let p = placed a [] whole h in let t = grove p.at p.below p.rest in
         let up = under p.at p.rest ∷ p.steps in let d = depth_in p.steps in let rows = outline 2 (plugged p.steps t) in let n = p.at.name.serial in
@@ -104,11 +104,26 @@ module _ {X : Type 0} where
         let end = before_end up p.below in let front = length-append (before_in p.steps) (row p.at.name (node d p.at.value) ∷ []) in
         made (to_end up p.below) bare (Some a) None (plugged_end up p.below ∙ p.is) (sym (parent_end up p.below ∙ ap Some p.named)) refl (omega (arith, back, start, run, end, front))
 
-    before_node : (parent : Option Name) (b : Name) (p : Place b whole) → parent_in p.steps ≡ parent → New_place whole parent (Some b)
+    pub before_node : (parent : Option Name) (b : Name) (p : Place b whole) → parent_in p.steps ≡ parent → New_place whole parent (Some b)
     before_node parent b p up =
         let alone = alone_in c sound p.steps p.at p.below p.rest (subst (λ z. Once z) (sym p.is) once) (λ a k. lives a (subst (λ z. Has a z) p.is k)) in
         made p.steps (grove p.at p.below p.rest) parent (Some b) p.is (sym up) (ap Some (sym p.named))
         ((λ i. place_of (plains (outline 2 (sym p.is i))) (sym p.named i).serial) ∙ place_at_place p.steps p.at p.below p.rest alone)
+
+  -- nodes that are left keep their parents where others are cut off
+  pub parent_kept : (l : Links X) → IsForest l → (d : Links X) (whole : Forest X) → Open d [] whole → Keeps l.nodes d.nodes → ((a : Name) → parent_link (value_of d.nodes a) ≡ parent_link (value_of l.nodes a))
+      → (b : Name) → IsLive l.nodes b → (k : Place b whole) → parent_in k.steps ≡ parent_of l b
+  parent_kept l s d whole cut keeps parents b live k =
+      let t = grove k.at k.below k.rest in
+      let o : Open d [] (plugged k.steps t) = subst (λ z. Open d [] z) (sym k.is) cut in
+      let m = at_place l s b live in
+      let link : link_of (parent_in k.steps) ≡ link_of (parent_in m.steps) =
+      sym (ap parent_link (opened d k.steps t o).stands.0) ∙ parents k.at.name
+      ∙ ap (λ n. parent_link (value_of l.nodes n)) (k.named ∙ sym m.named) ∙ ap parent_link m.links.node in
+      sym (linked_name d.nodes (keeps.sound s.sound) (parent_in k.steps) (λ a e. around_live d k.steps t o a (parent_has k.steps a e)))
+      ∙ ap (name_in d.nodes) link
+      ∙ linked_name d.nodes (keeps.sound s.sound) (parent_in m.steps) (λ a e. keeps.live a ∙ live_of l (plugged m.steps (grove m.at m.below m.rest)) m.stands a (around_has m.steps (grove m.at m.below m.rest) a (parent_has m.steps a e)))
+      ∙ sym m.links.parent ∙ ap (parent_of l) m.named
 
   module _ (l : Links X) (from : List (Step X)) (x : Row Name X) (below rest : Forest X) (s : StandsFor l (plugged from (grove x below rest))) where
     -- the node that goes, or one below it
@@ -138,18 +153,8 @@ module _ {X : Type 0} where
     -- a node that stays keeps its parent
     parent_left : (b : Name) → IsLive l.nodes b → (k : Place b (plugged from rest)) → parent_in k.steps ≡ parent_of l b
     parent_left b live k =
-        let d = closed l (parent_in from) (prev_in from) (first_in rest) in let keeps = cut_keeps l from from x below rest rest s refl in
-        let t = grove k.at k.below k.rest in
-        let o : Open d [] (plugged k.steps t) = subst (λ z. Open d [] z) (sym k.is) (cut_open l from from x below rest rest s refl) in
-        let m = at_place l (is_forest l (plugged from (grove x below rest)) s) b live in
-        let sound = keeps.sound s.sound in
-        let link : link_of (parent_in k.steps) ≡ link_of (parent_in m.steps) =
-        sym (ap parent_link (opened d k.steps t o).stands.0) ∙ closed_parent l (parent_in from) (prev_in from) (first_in rest) k.at.name
-        ∙ ap (λ n. parent_link (value_of l.nodes n)) (k.named ∙ sym m.named) ∙ ap parent_link m.links.node in
-        sym (linked_name d.nodes sound (parent_in k.steps) (λ a e. around_live d k.steps t o a (parent_has k.steps a e)))
-        ∙ ap (name_in d.nodes) link
-        ∙ linked_name d.nodes sound (parent_in m.steps) (λ a e. keeps.live a ∙ live_of l (plugged m.steps (grove m.at m.below m.rest)) m.stands a (around_has m.steps (grove m.at m.below m.rest) a (parent_has m.steps a e)))
-        ∙ sym m.links.parent ∙ ap (parent_of l) m.named
+        parent_kept l (is_forest l (plugged from (grove x below rest)) s) (closed l (parent_in from) (prev_in from) (first_in rest)) (plugged from rest) (cut_open l from from x below rest rest s refl) (cut_keeps l from from x below rest rest s refl)
+        (closed_parent l (parent_in from) (prev_in from) (first_in rest)) b live k
 
     -- what a parent and a child before which a node goes must be
     pub record Stays (parent before : Option Name) : Type 0 where

@@ -49,12 +49,12 @@ use Rattle.ac_tree.proofs.Ancestors.{has_in}
 use Rattle.ac_tree.proofs.Leaves.{cut_middle}
 use Rattle.ac_tree.proofs.NewPlaces.{row_place, New_place, Stays, new_place, still_has}
 
-not_inside : (b : Bool) → reason_if b BelowItself ≡ None → b ≡ false
+pub not_inside : (b : Bool) → reason_if b BelowItself ≡ None → b ≡ false
 not_inside false h = refl
 not_inside true h = absurd (let k : Some BelowItself ≡ None = h in cc)
 
 -- the depth of a spot is the same without a part in which it isn't
-depth_cut : (front mid tail : List Spot) (n : ℕ) → is_in n mid ≡ false → depth_at (front ++ (mid ++ tail)) (spot_place (front ++ (mid ++ tail)) n) ≡ depth_at (front ++ tail) (spot_place (front ++ tail) n)
+pub depth_cut : (front mid tail : List Spot) (n : ℕ) → is_in n mid ≡ false → depth_at (front ++ (mid ++ tail)) (spot_place (front ++ (mid ++ tail)) n) ≡ depth_at (front ++ tail) (spot_place (front ++ tail) n)
 depth_cut [] [] tail n out = refl
 depth_cut [] (m ∷ mid) tail n out = elim (cases_Bool (m.name == n)) [
   | inl t ↦ absurd (true≢false (sym (ap (λ b. b || is_in n mid) t) ∙ out))
@@ -165,7 +165,7 @@ module _ {X : Type 0} where
     pub marks : (c : Cursor) → tree_mark (tree_object g limit m) c ≡ tree_mark (tree_object g limit l) c
 
   -- the same nodes in another forest
-  same_nodes : (g : GuardCounts) (limit : Limit) (l m : Links X) (t u : Forest X) (rows : List (Row ℕ (Node X))) → IsTree limit l → StandsFor l t → Moved l m u → size u ≡ size t → ((a : Name) → Has a u → Has a t) → plains (outline 2 u) ≡ rows → Relocated g limit l m rows
+  pub same_nodes : (g : GuardCounts) (limit : Limit) (l m : Links X) (t u : Forest X) (rows : List (Row ℕ (Node X))) → IsTree limit l → StandsFor l t → Moved l m u → size u ≡ size t → ((a : Name) → Has a u → Has a t) → plains (outline 2 u) ≡ rows → Relocated g limit l m rows
   same_nodes g limit l m t u rows is s moved sizes had rows_are =
       let old : outline 2 (forest_in l) ≡ outline 2 t = ap (outline 2) (forest-is l t s) in
       let new : outline 2 (forest_in m) ≡ outline 2 u = ap (outline 2) (forest-is m u moved.stands) in

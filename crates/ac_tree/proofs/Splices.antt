@@ -17,7 +17,7 @@ use Rattle.ac_tree.proofs.Forests.{open_of, links_at, prev_has}
 use Rattle.ac_tree.proofs.Inserting.{last_framed}
 
 module _ {X : Type 0} where
-  keeps_closed : (l : Links X) (p q n : Option Name) → Keeps l.nodes (closed l p q n).nodes
+  pub keeps_closed : (l : Links X) (p q n : Option Name) → Keeps l.nodes (closed l p q n).nodes
   keeps_closed l p q n = keeps_then l.nodes _ (closed l p q n).nodes (keeps_next l p q n) (keeps_prev (with_next l p q n) p n q)
 
   keeps_tied : (l : Links X) (p q n : Option Name) (a : Name) → Keeps l.nodes (tied l p q n a).nodes
@@ -27,7 +27,7 @@ module _ {X : Type 0} where
   around_live l steps t o a h = Stands-live (value_of l.nodes) None None (plugged steps t) o.stands a (around_has steps t a h)
 
   -- the node before a place, where the links may have nodes besides
-  prev_open : (l : Links X) → IsSound l.nodes → (steps : List (Step X)) (t : Forest X) → Open l [] (plugged steps t) → prev_before l (parent_in steps) (first_in t) ≡ prev_in steps
+  pub prev_open : (l : Links X) → IsSound l.nodes → (steps : List (Step X)) (t : Forest X) → Open l [] (plugged steps t) → prev_before l (parent_in steps) (first_in t) ≡ prev_in steps
   prev_open l sound steps bare o =
       last_framed l sound steps None None (λ a e. around_live l steps bare o a (prev_has steps a (sym (last_none steps) ∙ e))) (opened l steps bare o).framed ∙ last_none steps
   prev_open l sound steps (grove x below rest) o =

@@ -83,7 +83,7 @@ module _ {X : Type 0} where
       )
 
   -- the name is written alone
-  next-aside : (l : Links X) (steps : List (Step X)) (to : Option Name) (a : Name) → (IsAround a steps → ⊥) → value_of (with_next l (parent_in steps) (prev_in steps) to).nodes a ≡ value_of l.nodes a
+  pub next-aside : (l : Links X) (steps : List (Step X)) (to : Option Name) (a : Name) → (IsAround a steps → ⊥) → value_of (with_next l (parent_in steps) (prev_in steps) to).nodes a ≡ value_of l.nodes a
   unfolding with_next
   next-aside l [] to a n = refl
   next-aside l (under x rest ∷ steps) to a n = (writes l.nodes x.name (first_put to)).there a (λ e. n (inl e))
@@ -135,10 +135,10 @@ module _ {X : Type 0} where
   pub framed-last : (l : Links X) (steps : List (Step X)) (o e to : Option Name) → OnceAround steps → Framed l steps o e → Framed (with_prev l (parent_in steps) None (last_at steps to)) steps o to
   framed-last l steps o e to once h = last-framed l (with_prev l (parent_in steps) None (last_at steps to)) steps o e to once (lasts l (parent_in steps) (last_at steps to)) h
 
-  last-aside : (l : Links X) (steps : List (Step X)) (to : Option Name) (a : Name) → (IsAround a steps → ⊥) → value_of (with_prev l (parent_in steps) None to).nodes a ≡ value_of l.nodes a
+  pub last-aside : (l : Links X) (steps : List (Step X)) (to : Option Name) (a : Name) → (IsAround a steps → ⊥) → value_of (with_prev l (parent_in steps) None to).nodes a ≡ value_of l.nodes a
   last-aside l steps to a n = (lasts l (parent_in steps) to).there a (λ e. n (parent_around steps a e))
 
-  last_some : (steps : List (Step X)) (a : Name) → last_at steps (Some a) ≡ Some a
+  pub last_some : (steps : List (Step X)) (a : Name) → last_at steps (Some a) ≡ Some a
   last_some [] a = refl
   last_some (under x rest ∷ steps) a = refl
   last_some (after x below ∷ steps) a = last_some steps a

@@ -14,6 +14,7 @@ use Rattle.ac_model.specs.Rows.{Node, node}
 use Rattle.ac_model.specs.Objects.{plains}
 use Rattle.ac_model.specs.Letters.{mark_at}
 use Rattle.ac_model.specs.Outline.{depth_of, run_of, run_rows, run_start, subtree_length, moved_to_depth}
+use Rattle.ac_model.specs.Trees.{run_at_depth}
 use Rattle.ac_model.proofs.Plains.{plains-append, length-plains}
 use Rattle.ac_tree.specs.declared.copying.Leveled.{Leveled}
 use Rattle.ac_tree.specs.declared.links.TreeNode.{TreeNode}
@@ -191,9 +192,12 @@ module _ {X : Type 0} (l : Links X) (s : IsForest l) (parent : Option Name) (liv
       let zero : depth_in u.steps + 0 ≡ depth_in u.steps = omega arith in let none : first + 0 ≡ first = omega arith in
       ap (λ d. moved_to_depth (depth_in u.steps) first (plains (outline d u.below))) (sym zero) ∙ moved_outline (depth_in u.steps) first 0 u.below ∙ ap (λ d. plains (outline d u.below)) none
 
+  pub below_moved : (first : ℕ) → run_at_depth first (plains (outline 2 (forest_in l))) (mark_at 0 (serial_in parent)) ≡ plains (outline first u.below)
+  below_moved first = (λ i. moved_to_depth (below_depth i) first (below_cut i)) ∙ moved_below first
+
   -- what the copies are to be
   pub below_nodes : (first : ℕ) → run_nodes l parent first ≡ values (plains (outline first u.below))
-  below_nodes first = ap values ((λ i. moved_to_depth (below_depth i) first (below_cut i)) ∙ moved_below first)
+  below_nodes first = ap values (below_moved first)
 
   pub below_long : (first : ℕ) → length (run_nodes l parent first) ≡ length (run_of (plains (outline 2 (forest_in l))) (serial_in parent))
   below_long first =

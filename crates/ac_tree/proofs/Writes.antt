@@ -24,7 +24,7 @@ module _ {X : Type 0} where
   pub keeps_then : (c d e : Contents (TreeNode X)) → Keeps c d → Keeps d e → Keeps c e
   keeps_then c d e p q = record { live = λ a. q.live a ∙ p.live a; count = q.count ∙ p.count; next = q.next ∙ p.next; spare = q.spare ∙ p.spare; sound = λ s. q.sound (p.sound s) }
 
-  keeps_itself : (c : Contents (TreeNode X)) → Keeps c c
+  pub keeps_itself : (c : Contents (TreeNode X)) → Keeps c c
   keeps_itself c = record { live = λ a. refl; count = refl; next = refl; spare = refl; sound = λ s. s }
 
   pub keeps_value : (c : Contents (TreeNode X)) (a : Name) (n w : TreeNode X) → value_of c a ≡ Some n → Keeps c (with_value c a w)

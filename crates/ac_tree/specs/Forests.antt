@@ -28,6 +28,11 @@ module _ {X : Type 0} where
   size bare = 0
   size (grove x below rest) = suc (size below + size rest)
 
+  -- the topmost rows of one forest, and then those of another
+  abbrev pub beside : Forest X → Forest X → Forest X
+  beside bare t = t
+  beside (grove x below rest) t = grove x below (beside rest t)
+
   -- the names of the first and the last of the topmost rows
   abbrev pub first_in : Forest X → Option Name
   first_in bare = None

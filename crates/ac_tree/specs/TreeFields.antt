@@ -119,6 +119,9 @@ module _ {X : Type 0} where
   abbrev pub next_put : Option Name → TreeNode X → TreeNode X
   next_put to n = node_with n.value n.parent n.first n.last n.prev (link_of to)
 
+  abbrev pub parent_put : Option Name → TreeNode X → TreeNode X
+  parent_put to n = node_with n.value (link_of to) n.first n.last n.prev n.next
+
   -- with another parent and other siblings
   abbrev pub place_put : Option Name → Option Name → Option Name → TreeNode X → TreeNode X
   place_put parent prev next n = node_with n.value (link_of parent) n.first n.last (link_of prev) (link_of next)

@@ -2,7 +2,7 @@
 ghost use Rattle.std.specs.Prelude.{◌≡◌};
 ghost use Rattle.std.specs.Option.{ForSome};
 ghost use Rattle.ac_model.specs.Objects.{plains};
-ghost use Rattle.ac_model.specs.Outline.{is_in_subtree};
+ghost use Rattle.ac_model.specs.Outline.{is_in, is_in_subtree, run_of};
 ghost use Rattle.ac_pool.specs.Contents.{IsLive};
 ghost use Rattle.ac_tree.specs.Searching.{found_in, rows_below, rows_on, rows_up};
 ghost use Rattle.ac_tree.specs.TreeCursors.{serial_in};
@@ -78,4 +78,20 @@ pub fn is_within<T>(links: &Links<T>, top: Name, node: Option<Name>) -> bool
         above = links.parent(name);
     }
     false
+}
+
+/// Whether a node is below the top, where none is the root.
+pub fn is_under<T>(links: &Links<T>, top: Option<Name>, node: Option<Name>) -> bool
+    requires forest { IsForest links.now }
+    requires top { ForSome top (IsLive links.now.nodes) }
+    requires live { ForSome node (IsLive links.now.nodes) }
+    ensures { result ≡ is_in (serial_in node) (run_of (plains (rows_of links.now).rows) (serial_in top)) }
+{
+    let Some(name) = top else {
+        return node.is_some();
+    };
+    if is_same(node, top) {
+        return false;
+    }
+    is_within(links, name, node)
 }

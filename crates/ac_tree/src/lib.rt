@@ -1,6 +1,7 @@
 //! Multiway trees (A.18.10): elements in nodes that have any number of children, each under a name that it keeps, with tampering checks.
 #![tactic(auto)]
 
+mod adopting;
 mod clearing;
 mod comparing;
 mod copying;

@@ -9,7 +9,7 @@ ghost use Rattle.ac_pool.specs.Link.{link_of, name_in};
 ghost use Rattle.ac_tree.specs.Inserting.{Inserts, Reserves};
 ghost use Rattle.ac_tree.specs.Removing.{Removes};
 ghost use Rattle.ac_tree.specs.Splicing.{Moves};
-ghost use Rattle.ac_tree.specs.TreeFields.{parent_link, first_link, last_link, prev_link, next_link, parent_of, first_of, last_of, prev_of, next_of, prev_before, first_put, last_put, prev_put, next_put, written_at, with_next, with_prev, tied, closed, links, place_put, value_put, links_in, links_put, exchanged_in, IsEmptied};
+ghost use Rattle.ac_tree.specs.TreeFields.{parent_link, first_link, last_link, prev_link, next_link, parent_of, first_of, last_of, prev_of, next_of, prev_before, first_put, last_put, prev_put, next_put, written_at, with_next, with_prev, tied, closed, links, parent_put, place_put, value_put, links_in, links_put, exchanged_in, IsEmptied};
 
 use ac_base::{Limit, Name, NoMemory};
 use ac_pool::{NO_SLOT, Pool, link_to};
@@ -278,6 +278,31 @@ impl<T> Links<T> {
         let last = self.prev_before(parent, before);
         self.set_place(name, parent, last, before);
         self.tie(parent, last, before, name);
+    }
+
+    /// Gives the name's node another parent, and leaves it its siblings.
+    #[tactic(auto, unfolding(crate::specs::TreeFields::written_at))]
+    pub fn set_parent(&mut self, name: Name, parent: Option<Name>)
+        ensures { self.new ≡ links (written_at self.old.nodes name (parent_put parent)) self.old.first self.old.last }
+    {
+        if let Some(node) = self.nodes.get_mut(name) {
+            node.parent = link_to(parent);
+        }
+    }
+
+    /// Links nodes that are linked with each other, from the first to the last one, before a child of the parent, or behind the last.
+    pub fn join(
+        &mut self,
+        parent: Option<Name>,
+        before: Option<Name>,
+        first: Option<Name>,
+        last: Option<Name>,
+    )
+        ensures { self.new ≡ closed (closed self.old parent (prev_before self.old parent before) first) parent last before }
+    {
+        let prev = self.prev_before(parent, before);
+        self.close(parent, prev, first);
+        self.close(parent, last, before);
     }
 
     /// The links of the name's node, which lead to no node where it isn't live.

@@ -10,6 +10,7 @@ ghost use Rattle.ac_model.specs.Trees as trees;
 mod copies;
 mod cursors;
 mod deletions;
+mod families;
 mod grafts;
 mod insertions;
 mod looking;
