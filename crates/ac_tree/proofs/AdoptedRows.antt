@@ -1,5 +1,5 @@
 -- What a tree's rows are after all children of a node went to another place.
-use Rattle.std.proofs.Common.{◌≡◌, ℕ, ◌+◌, Bool, true, false, true≢false, List, [], ◌∷◌, ◌++◌, length, take, drop, Option, Some, None, IsTrue, refl, sym, ap, ◌∙◌, subst, inl, inr, arith, ne_eqb, eq-eqb, append_assoc, append-nil}
+use Rattle.std.proofs.Common.{◌≡◌, ℕ, ◌+◌, false, true≢false, List, [], ◌∷◌, ◌++◌, length, Option, Some, None, IsTrue, refl, sym, ap, ◌∙◌, subst, inl, inr, arith, ne_eqb, eq-eqb, append_assoc}
 use Rattle.std.specs.Prelude.{◌==◌, ◌<◌}
 use Rattle.std.specs.Option.{ForSome}
 use Rattle.std.proofs.lemmas.Bool.{cond-true, cond-false}
@@ -8,21 +8,21 @@ use Rattle.ac_base.specs.declared.name.Name.{Name}
 use Rattle.ac_base.specs.declared.cursor.Cursor.{Cursor}
 use Rattle.ac_base.specs.declared.reason.Reason.TheVariants.{BelowItself}
 use Rattle.ac_base.specs.Guards.{GuardCounts}
-use Rattle.ac_base.specs.Rows.{Row, names}
+use Rattle.ac_base.specs.Rows.{names}
 use Rattle.ac_base.proofs.FirstReason.{none_found}
 use Rattle.ac_pool.specs.Contents.{IsLive}
 use Rattle.ac_chain.proofs.Grows.{all_from, put_cut}
 use Rattle.ac_chain.proofs.Marks.{has_among}
 use Rattle.ac_model.specs.Rows.{Node, cut, put}
 use Rattle.ac_model.specs.Objects.{Object, plain, plains, with_rows}
-use Rattle.ac_model.specs.Letters.{name_of, is_among, mark_at, tampers_cursors, reason_if}
+use Rattle.ac_model.specs.Letters.{name_of, is_among, tampers_cursors, reason_if}
 use Rattle.ac_model.specs.Calls.{IsAfter}
 use Rattle.ac_model.specs.Cursors.{place_in}
 use Rattle.ac_model.specs.Outline.{Spot, root, spot_place, depth_at, depth_of, run_of, run_start, is_in}
 use Rattle.ac_model.specs.Trees.{tree_mark, needs_node, may_node, child_or_none, child_place, child_depth, without_run, run_at_depth, with_children_moved, splice_children_call}
 use Rattle.ac_model.proofs.Plains.{plains-append, length-plains}
 use Rattle.ac_tree.specs.declared.links.Links.{Links}
-use Rattle.ac_tree.specs.Forests.{Forest, bare, beside, Step, outline, size, Has, plugged, parent_in, depth_in, before_in, after_in}
+use Rattle.ac_tree.specs.Forests.{Forest, bare, beside, Step, outline, size, Has, plugged, depth_in, before_in, after_in}
 use Rattle.ac_tree.specs.TreeFields.{forest_in, IsForest}
 use Rattle.ac_tree.specs.TreeRows.{tree_object, IsTree}
 use Rattle.ac_tree.specs.TreeCursors.{node_in, serial_in}

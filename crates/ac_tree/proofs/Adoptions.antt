@@ -1,5 +1,5 @@
 -- Links that stand for a forest, after all children of a node went to another place in it.
-use Rattle.std.proofs.Common.{◌≡◌, ◌≢◌, ℕ, suc, ◌+◌, ◌-◌, ◌<◌, ◌≤◌, ◌⊎◌, List, [], ◌∷◌, ◌++◌, length, Option, Some, None, is_none, true, false, true≢false, refl, sym, ap, ◌∙◌, subst, inl, inr, arith, append_assoc}
+use Rattle.std.proofs.Common.{◌≡◌, ◌≢◌, ℕ, suc, ◌+◌, ◌-◌, ◌<◌, ◌≤◌, ◌⊎◌, List, [], ◌∷◌, ◌++◌, length, Option, Some, None, is_none, true, true≢false, refl, sym, ap, ◌∙◌, subst, inl, inr, arith, append_assoc}
 use Rattle.std.specs.Option.{ForSome, option_map}
 use Rattle.std.proofs.lemmas.Option.{none-some}
 use Rattle.std.proofs.lemmas.List.{length-append}
@@ -8,7 +8,6 @@ use Rattle.ac_base.specs.Rows.{Row, row}
 use Rattle.ac_pool.specs.Contents.{value_of, IsLive}
 use Rattle.ac_pool.specs.Link.{name_in}
 use Rattle.ac_pool.specs.NamedRows.{IsOnce}
-use Rattle.ac_pool.proofs.NameLaws.{cases_name}
 use Rattle.ac_pool.proofs.SlotNames.{linked_name}
 use Rattle.ac_chain.specs.Rows as chain
 use Rattle.ac_chain.proofs.Puts.{place_cut}
@@ -16,12 +15,12 @@ use Rattle.ac_model.specs.Rows.{node}
 use Rattle.ac_tree.specs.declared.links.TreeNode.{TreeNode}
 use Rattle.ac_tree.specs.declared.links.Links.{Links}
 use Rattle.ac_tree.specs.Forests.{Forest, bare, grove, beside, Step, under, after, outline, size, first_in, last_in, or_name, Has, Once, plugged, parent_in, prev_in, depth_in, before_in, after_in}
-use Rattle.ac_tree.specs.TreeFields.{linked, links, Stands, Framed, StandsFor, forest_in, IsForest, next_link, parent_of, next_of, first_of, last_of, prev_before, parent_put, prev_put, next_put, written_at, with_next, with_prev, closed}
+use Rattle.ac_tree.specs.TreeFields.{links, Stands, Framed, StandsFor, forest_in, IsForest, next_link, next_of, first_of, last_of, prev_before, parent_put, prev_put, next_put, written_at, with_next, with_prev, closed}
 use Rattle.ac_tree.specs.Splicing.{Moved, reparented}
 use Rattle.ac_tree.proofs.Places.{IsAround, OnceAround, Parted, parted, joint, plugged_has, around_has, plugged_either, plugged_size, outline_plugged, once_rows, size_is}
-use Rattle.ac_tree.proofs.Writes.{Nodes, Keeps, keeps_itself, keeps_then, keeps_at, keeps_next, keeps_prev, Writes, writes}
-use Rattle.ac_tree.proofs.Standing.{some_name, Stands-live, Stands-same, Stands-behind, Framed-same, Open, opened, shut, framed-next, framed-last, next-aside, last-aside, last_at, last_some, last_none, closed-aside}
-use Rattle.ac_tree.proofs.Forests.{open_of, links_at, first_has, last_has, live_of, forest-is, is_forest}
+use Rattle.ac_tree.proofs.Writes.{Nodes, Keeps, keeps_itself, keeps_then, keeps_at, Writes, writes}
+use Rattle.ac_tree.proofs.Standing.{some_name, Stands-same, Stands-behind, Framed-same, Open, opened, shut, framed-next, framed-last, next-aside, last-aside, last_some, last_none, closed-aside}
+use Rattle.ac_tree.proofs.Forests.{open_of, links_at, first_has, last_has, live_of, forest-is}
 use Rattle.ac_tree.proofs.Holes.{Under, under_of}
 use Rattle.ac_tree.proofs.Splices.{keeps_closed, prev_open}
 

@@ -1,12 +1,12 @@
 -- Where the children of a node go, once they are gone from where they stood.
-use Rattle.std.proofs.Common.{◌≡◌, ◌⊎◌, List, [], ◌∷◌, ◌++◌, Option, Some, None, refl, sym, ap, ◌∙◌, subst, inl, inr}
+use Rattle.std.proofs.Common.{◌≡◌, ◌⊎◌, List, [], ◌++◌, Option, Some, None, refl, sym, ap, ◌∙◌, subst, inl, inr}
 use Rattle.std.specs.Option.{ForSome}
 use Rattle.ac_base.specs.declared.name.Name.{Name}
 use Rattle.ac_pool.specs.Contents.{IsLive}
 use Rattle.ac_tree.specs.declared.links.Links.{Links}
 use Rattle.ac_tree.specs.Forests.{Forest, bare, grove, Step, first_in, last_in, Has, Once, plugged, parent_in, prev_in}
 use Rattle.ac_tree.specs.TreeFields.{StandsFor, parent_of, closed}
-use Rattle.ac_tree.proofs.Places.{Place, placed, Parted, parted, joint, plugged_has, around_has, plugged_either}
+use Rattle.ac_tree.proofs.Places.{Place, placed, Parted, parted, joint, around_has, plugged_either}
 use Rattle.ac_tree.proofs.Standing.{Open, opened, shut}
 use Rattle.ac_tree.proofs.Forests.{open_of, live_of, is_forest, links_at, parent_has}
 use Rattle.ac_tree.proofs.Following.{plugged-append, parent_top, parent_within}

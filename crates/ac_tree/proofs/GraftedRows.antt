@@ -1,11 +1,9 @@
 -- What a tree is after nodes came into it as a forest of children of a node.
-use Rattle.std.proofs.Common.{◌≡◌, ℕ, ◌+◌, ◌-◌, ◌<◌, ◌≤◌, Bool, true, false, true≢false, List, [], ◌∷◌, length, reverse, Option, Some, None, Result, Ok, Err, IsTrue, refl, sym, ap, ◌∙◌, subst, arith, eq-eqb}
-use Rattle.std.specs.Prelude.{◌==◌, IfOk, IfErr, if◌then◌else◌}
-use Rattle.std.specs.Option.{ForSome}
+use Rattle.std.proofs.Common.{◌≡◌, ℕ, ◌+◌, ◌-◌, ◌<◌, ◌≤◌, List, [], ◌∷◌, length, reverse, Option, Some, None, Result, Ok, Err, IsTrue, refl, sym, ap, ◌∙◌, subst, arith}
+use Rattle.std.specs.Prelude.{IfOk, IfErr}
 use Rattle.std.proofs.lemmas.List.{length-map, length-reverse, reverse-reverse}
 use Rattle.std.proofs.lemmas.Option.{none-some}
 use Rattle.ac_base.specs.declared.limit.Limit.{Limit}
-use Rattle.ac_base.specs.declared.limit.TheConstants.{GREATEST_LENGTH}
 use Rattle.ac_base.specs.declared.name.Name.{Name}
 use Rattle.ac_base.specs.declared.cursor.Cursor.{Cursor}
 use Rattle.ac_base.specs.declared.cursor.Cursor.TheVariants.{NoElement, At}
@@ -22,15 +20,15 @@ use Rattle.ac_pool.specs.Contents.{IsLive}
 use Rattle.ac_chain.specs.Rows.{slots_in}
 use Rattle.ac_chain.proofs.Puts.{put_length}
 use Rattle.ac_chain.proofs.SequenceGrows.{takes_few, takes_within, sequence_grown, put_after, first_marked}
-use Rattle.ac_model.specs.Rows.{Node, node, place_of}
-use Rattle.ac_model.specs.Objects.{Object, plain, plains, plain_row, length_of}
-use Rattle.ac_model.specs.Letters.{Mark, no_mark, mark_at, stale_mark, mark_of, name_of, is_no_mark, reason_if, room}
-use Rattle.ac_model.specs.Calls.{Call, call, Done, Changing, ChangingBoth, IsAfter, Marks, Same, Both, both, takes_some}
+use Rattle.ac_model.specs.Rows.{Node}
+use Rattle.ac_model.specs.Objects.{Object, plain, plains, length_of}
+use Rattle.ac_model.specs.Letters.{Mark, no_mark, mark_at, mark_of, name_of, reason_if}
+use Rattle.ac_model.specs.Calls.{Call, Done, Changing, ChangingBoth, IsAfter, Marks, Same, Both, both}
 use Rattle.ac_model.specs.Cursors.{place_in, name_in, cursor_at, spot}
-use Rattle.ac_model.specs.Outline.{depth_of, run_of, run_start, subtree_length}
+use Rattle.ac_model.specs.Outline.{depth_of, subtree_length}
 use Rattle.ac_model.specs.Putting.{Takes, done}
 use Rattle.ac_model.specs.Sequences.{with_new, first_new}
-use Rattle.ac_model.specs.Trees.{tree_mark, needs_node, may_node, needs_element, is_root, child_or_none, child_depth, child_place, copied_rows, subtree_at_depth, run_at_depth, with_moved, room_for_rows}
+use Rattle.ac_model.specs.Trees.{tree_mark, needs_node, may_node, needs_element, is_root, child_depth, child_place, copied_rows, subtree_at_depth, run_at_depth, with_moved, room_for_rows}
 use Rattle.ac_model.proofs.Changes.{no_capacity}
 use Rattle.ac_model.proofs.Plains.{length-plains}
 use Rattle.ac_model.proofs.Reasons.{room_none, none_first, none_others}
@@ -39,13 +37,13 @@ use Rattle.ac_tree.specs.declared.links.Links.{Links}
 use Rattle.ac_tree.specs.Children.{IsPlace, place_among, nodes_call}
 use Rattle.ac_tree.specs.Copying.{in_node, nodes_in, subtree_nodes, run_nodes, Hole_at, Planted}
 use Rattle.ac_tree.specs.Forests.{outline}
-use Rattle.ac_tree.specs.Inserting.{Hole, depth_at, place_at}
+use Rattle.ac_tree.specs.Inserting.{place_at}
 use Rattle.ac_tree.specs.TreeFields.{forest_in, IsForest}
-use Rattle.ac_tree.specs.TreeCursors.{node_of, node_in, serial_in}
+use Rattle.ac_tree.specs.TreeCursors.{node_in, serial_in}
 use Rattle.ac_tree.specs.TreeRows.{rows_of, tree_object, IsTree}
 use Rattle.ac_tree.proofs.Children.{held_in, spot_is, element_mark}
 use Rattle.ac_tree.proofs.Holes.{Held}
-use Rattle.ac_tree.proofs.Judging.{both_none, at_node, at_element, needed, may_at, serial_of_node}
+use Rattle.ac_tree.proofs.Judging.{both_none, at_node, at_element, needed, may_at}
 use Rattle.ac_tree.proofs.Levels.{nodes_reverse}
 use Rattle.ac_tree.proofs.Objects.{sound_of}
 use Rattle.ac_tree.proofs.Putting.{place_live}

@@ -1,10 +1,10 @@
 -- Values that are put as a forest below a node, in preorder, each at its depth.
-use Rattle.std.proofs.Common.{◌≡◌, ℕ, zero, suc, ◌+◌, ◌-◌, ◌<◌, ◌≤◌, ◌^◌, Bool, true, false, true≢false, List, [], ◌∷◌, ◌++◌, length, reverse, Option, Some, None, refl, sym, ap, ◌∙◌, subst, inl, inr, arith, append-nil, append_assoc, eqb-true, eq-eqb}
+use Rattle.std.proofs.Common.{◌≡◌, ℕ, suc, ◌+◌, ◌-◌, ◌<◌, ◌≤◌, ◌^◌, true, true≢false, List, [], ◌∷◌, ◌++◌, length, reverse, Option, Some, None, refl, sym, ap, ◌∙◌, subst, inl, inr, arith, append-nil, append_assoc, eqb-true, eq-eqb}
 use Rattle.std.specs.Prelude.{◌==◌, nat_le, map, if◌then◌else◌}
 use Rattle.std.proofs.lemmas.Bool.{leb-true, cases_Bool, cases_eq, cond-true, cond-false}
 use Rattle.std.proofs.lemmas.List.{length-append, length-map, reverse-append, length-reverse}
 use Rattle.ac_base.specs.declared.name.Name.{Name}
-use Rattle.ac_base.specs.Rows.{Row, row, values}
+use Rattle.ac_base.specs.Rows.{Row, row}
 use Rattle.ac_pool.specs.Contents.{live_count}
 use Rattle.ac_chain.specs.Rows as chain
 use Rattle.ac_chain.specs.Rows.{Chained, IsFresh, inserted}
@@ -20,7 +20,7 @@ use Rattle.ac_tree.specs.declared.links.Links.{Links}
 use Rattle.ac_tree.specs.Copying.{in_node, nodes_in, levels_in, up_of, raised_by, IsForestOf, Hole_at, Grafted, Planted}
 use Rattle.ac_tree.specs.Forests.{Forest, bare, grove, Step, under, after, or_name, outline, first_in, plugged, parent_in, depth_in, after_in}
 use Rattle.ac_tree.specs.Inserting.{Hole, place_at, depth_at, Inserts, Reserves}
-use Rattle.ac_tree.specs.TreeFields.{StandsFor, IsForest, parent_of}
+use Rattle.ac_tree.specs.TreeFields.{StandsFor}
 use Rattle.ac_tree.specs.TreeRows.{rows_of}
 use Rattle.ac_tree.proofs.Forests.{is_forest, links_at}
 use Rattle.ac_tree.proofs.Following.{plugged-append}
@@ -28,7 +28,7 @@ use Rattle.ac_tree.proofs.Counting.{depth_size, depth_low}
 use Rattle.ac_tree.proofs.Outlines.{outline_follows, all_from}
 use Rattle.ac_tree.proofs.Assigning.{levels_are, depths_are}
 use Rattle.ac_tree.proofs.Putting.{place_live, hole_sound, readied}
-use Rattle.ac_tree.proofs.Refilling.{Ending, raised_ends, ending_hole, more, and_parts}
+use Rattle.ac_tree.proofs.Refilling.{Ending, raised_ends, more, and_parts}
 
 module _ {X : Type 0} where
   -- no higher than the place from which it goes down

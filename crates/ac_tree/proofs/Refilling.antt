@@ -20,7 +20,7 @@ use Rattle.ac_tree.specs.declared.copying.Leveled.{Leveled}
 use Rattle.ac_tree.specs.declared.links.Links.{Links}
 use Rattle.ac_tree.specs.Copying.{in_node, nodes_in, levels_in, up_of, raised_by}
 use Rattle.ac_tree.specs.Forests.{Forest, bare, grove, Step, under, after, outline, plugged, parent_in, depth_in, after_in}
-use Rattle.ac_tree.specs.Inserting.{Hole, place_at, Inserts}
+use Rattle.ac_tree.specs.Inserting.{Hole, Inserts}
 use Rattle.ac_tree.specs.TreeFields.{StandsFor, IsForest, parent_of}
 use Rattle.ac_tree.specs.TreeRows.{rows_of}
 use Rattle.ac_tree.proofs.Standing.{some_name}

@@ -1,6 +1,6 @@
 -- Rows of a tree that are copied in a walk that counts them: a subtree, and what is below a node.
-use Rattle.std.proofs.Common.{◌≡◌, ◌≢◌, ℕ, suc, ◌+◌, ◌-◌, ◌<◌, ◌≤◌, List, [], ◌∷◌, ◌++◌, length, reverse, Option, Some, None, true, refl, sym, ap, ◌∙◌, subst, arith, append-nil, append_assoc}
-use Rattle.std.specs.Prelude.{map, drop, take, Result, Ok, Err, IfOk}
+use Rattle.std.proofs.Common.{◌≡◌, ◌≢◌, ℕ, ◌+◌, ◌-◌, List, [], ◌∷◌, ◌++◌, length, reverse, Option, Some, None, refl, sym, ap, ◌∙◌, arith, append-nil, append_assoc}
+use Rattle.std.specs.Prelude.{drop, take, Result, Ok, Err, IfOk}
 use Rattle.std.specs.Option.{ForSome, option_map}
 use Rattle.std.proofs.Math.Seq.{take-append_seam, drop-append_seam}
 use Rattle.std.proofs.lemmas.List.{length-append, length-map, map-append, reverse-reverse}
@@ -20,7 +20,7 @@ use Rattle.ac_tree.specs.declared.copying.Leveled.{Leveled}
 use Rattle.ac_tree.specs.declared.links.TreeNode.{TreeNode}
 use Rattle.ac_tree.specs.declared.links.Links.{Links}
 use Rattle.ac_tree.specs.Copying.{in_node, nodes_in, Part, subtree_nodes, run_nodes, level_of, IsForestOf}
-use Rattle.ac_tree.specs.Forests.{Forest, bare, grove, Step, outline, first_in, plugged, depth_in, before_in, after_in}
+use Rattle.ac_tree.specs.Forests.{Forest, bare, grove, outline, first_in, plugged, depth_in, before_in, after_in}
 use Rattle.ac_tree.specs.TreeCursors.{serial_in}
 use Rattle.ac_tree.specs.TreeFields.{forest_in, IsForest, first_of}
 use Rattle.ac_tree.specs.Walking.{Follows}
@@ -30,7 +30,7 @@ use Rattle.ac_tree.proofs.Counting.{node_depth, root_depth}
 use Rattle.ac_tree.proofs.Outlines.{position_run, position_depth, node_position, node_start}
 use Rattle.ac_tree.proofs.Holes.{length_seen, Under, under_of}
 use Rattle.ac_tree.proofs.Looking.{At_place, at_place}
-use Rattle.ac_tree.proofs.Levels.{Walk, Here, walk_here, walk_more, none_left, nodes_reverse, child_level, top_level}
+use Rattle.ac_tree.proofs.Levels.{Walk, walk_more, none_left, nodes_reverse, child_level, top_level}
 use Rattle.ac_tree.proofs.Standing.{some_name}
 use Rattle.ac_tree.proofs.SplicedRows.{part_rows, parts, part_is, moved_part, moved_outline, taken_part, three_plains}
 

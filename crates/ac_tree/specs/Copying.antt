@@ -1,6 +1,5 @@
 -- Nodes that are copied with their depths, and put as the nodes of another tree, or below one of its nodes.
 use Rattle.std.specs.Prelude.{◌≡◌, ◌+◌, ℕ, zero, suc, List, ◌++◌, length, map, reverse, Option, Some, None}
-use Rattle.std.specs.Option.{ForSome}
 use Rattle.ac_base.specs.declared.name.Name.{Name}
 use Rattle.ac_base.specs.Rows.{Row, values}
 use Rattle.ac_chain.specs.ChainFields.{first_or}

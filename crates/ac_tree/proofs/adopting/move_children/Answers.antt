@@ -1,4 +1,4 @@
-use Rattle.std.proofs.Common.{true, false, true≢false, is_none, sym, ap, ◌∙◌}
+use Rattle.std.proofs.Common.{true≢false, is_none, sym, ap, ◌∙◌}
 use Rattle.ac_tree.proofs.Judging.{none_is}
 use Rattle.ac_tree.proofs.Adoptions.{children_moved, none_moved, none_first}
 use Rattle.ac_tree.proofs.adopting.move_children.Goals as goal

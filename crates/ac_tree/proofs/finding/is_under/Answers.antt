@@ -1,6 +1,6 @@
-use Rattle.std.proofs.Common.{◌≡◌, Some, false, sym, ap, ◌∙◌, subst}
+use Rattle.std.proofs.Common.{sym, ap, ◌∙◌}
 use Rattle.ac_model.specs.Objects.{plains}
-use Rattle.ac_model.specs.Outline.{is_in, is_in_subtree, run_of}
+use Rattle.ac_model.specs.Outline.{is_in, run_of}
 use Rattle.ac_tree.specs.TreeCursors.{serial_in}
 use Rattle.ac_tree.specs.TreeRows.{rows_of}
 use Rattle.ac_tree.proofs.Within.{under_root, under_itself, under_other}

@@ -1,4 +1,4 @@
-use Rattle.std.proofs.Common.{◌≡◌, ◌+◌, ◌-◌, sym, ap, ◌∙◌, arith}
+use Rattle.std.proofs.Common.{◌≡◌, ◌+◌, sym, ap, ◌∙◌, arith}
 use Rattle.ac_model.specs.Objects.{plains}
 use Rattle.ac_model.specs.Outline.{run_of}
 use Rattle.std.proofs.Common.{length}

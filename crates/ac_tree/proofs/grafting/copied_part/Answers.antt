@@ -1,4 +1,4 @@
-use Rattle.std.proofs.Common.{Some, ◌≡◌, ◌-◌, ◌+◌, reverse, sym, ap, subst, ◌∙◌, arith}
+use Rattle.std.proofs.Common.{Some, ◌-◌, reverse, sym, ap, subst, ◌∙◌, arith}
 use Rattle.ac_tree.specs.Copying.{nodes_in}
 use Rattle.ac_tree.proofs.Counting.{deeper}
 use Rattle.ac_tree.proofs.Levels.{nodes_reverse, walk_live, walk_less}

@@ -1,4 +1,3 @@
-use Rattle.std.proofs.Common.{sym}
 use Rattle.ac_tree.proofs.Subtrees.{if_copied, subtree_part, subtree_copied, subtree_is, subtree_forest}
 use Rattle.ac_tree.proofs.grafting.copied_subtree.Goals as goal
 

@@ -1,4 +1,4 @@
-use Rattle.std.proofs.Common.{◌≡◌, [], refl, rules, arith}
+use Rattle.std.proofs.Common.{◌≡◌, [], rules, arith}
 use Rattle.ac_tree.proofs.Counting.{depth_low}
 use Rattle.ac_tree.proofs.Grafts.{graft_start, graft_few, graft_small, graft_room, graft_more, graft_end}
 use Rattle.ac_tree.proofs.grafting.graft.Goals as goal

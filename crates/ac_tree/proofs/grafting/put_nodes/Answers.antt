@@ -1,9 +1,9 @@
-use Rattle.std.proofs.Common.{◌≡◌, ◌∙◌, sym, subst, arith}
+use Rattle.std.proofs.Common.{◌∙◌, sym, subst, arith}
 use Rattle.ac_tree.specs.declared.links.Links.{Links}
 use Rattle.ac_tree.specs.Forests.{plugged}
 use Rattle.ac_tree.specs.TreeFields.{IsForest}
 use Rattle.ac_tree.proofs.Forests.{is_forest}
-use Rattle.ac_tree.proofs.Putting.{row_count, readied}
+use Rattle.ac_tree.proofs.Putting.{row_count}
 use Rattle.ac_tree.proofs.Grafts.{graft_fits, hole_ready, planted}
 use Rattle.ac_tree.proofs.grafting.put_nodes.Goals as goal
 

@@ -5,7 +5,6 @@ use Rattle.ac_model.specs.Objects.{Object, plain}
 use Rattle.ac_model.specs.Trees as trees
 use Rattle.ac_model.specs.Trees.{tree_mark}
 use Rattle.ac_tree.specs.TreeRows.{tree_object}
-use Rattle.ac_tree.proofs.Looking.{node_live}
 use Rattle.ac_tree.proofs.AdoptedRows.{live, adopted, unadopted}
 use Rattle.ac_tree.proofs.tree.Tree.adopt.Goals as goal
 

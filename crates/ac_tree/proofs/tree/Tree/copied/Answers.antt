@@ -1,4 +1,4 @@
-use Rattle.std.proofs.Common.{sym, ap, subst, ◌∙◌, reverse}
+use Rattle.std.proofs.Common.{sym, ap, ◌∙◌, reverse}
 use Rattle.ac_base.specs.Rows.{values}
 use Rattle.ac_model.specs.Containers.{Container}
 use Rattle.ac_tree.specs.Copying.{nodes_in}

@@ -1,7 +1,6 @@
-use Rattle.std.proofs.Common.{length, reverse, ◌+◌, None, ◌≡◌, Ok, Err, refl, sym, ap, ◌∙◌, subst}
+use Rattle.std.proofs.Common.{length, reverse, ◌+◌, None, ◌≡◌, Ok, sym, ap, ◌∙◌, subst}
 use Rattle.std.proofs.lemmas.List.{length-map, length-reverse}
-use Rattle.ac_base.specs.declared.fault.Fault.TheVariants as fault
-use Rattle.ac_chain.proofs.SequenceGrows.{takes_few, takes_names, grown_slots}
+use Rattle.ac_chain.proofs.SequenceGrows.{grown_slots}
 use Rattle.ac_model.specs.Objects.{Object}
 use Rattle.ac_model.specs.Calls.{Changing, Marks}
 use Rattle.ac_model.specs.Containers.{Container}
@@ -12,7 +11,7 @@ use Rattle.ac_tree.specs.Children.{IsPlace, nodes_call}
 use Rattle.ac_tree.specs.Copying.{in_node, nodes_in}
 use Rattle.ac_tree.specs.TreeCursors.{serial_in}
 use Rattle.ac_tree.specs.TreeRows.{rows_of, tree_object}
-use Rattle.ac_tree.proofs.GraftedRows.{h, hole_of, planted_tree, planted_done}
+use Rattle.ac_tree.proofs.GraftedRows.{hole_of, planted_tree, planted_done}
 use Rattle.ac_tree.proofs.tree.Tree.put_rows.Goals as goal
 
 pub put_nodes-requires-clause-hole : goal.put_nodes-requires-clause-hole
