@@ -42,7 +42,8 @@ impl<T> Tree<T> {
     fn is_below(&self, parent: Cursor, source_parent: Cursor) -> bool
         requires parent { trees.needs_node (plain self.now.object) (seen_by self.now parent) ≡ None }
         requires source { trees.needs_node (plain self.now.object) (seen_by self.now source_parent) ≡ None }
-        ensures { result ≡ is_in (name_of (seen_by self.now parent)) (run_of (plain self.now.object).rows (name_of (seen_by self.now source_parent))) }
+        ensures { result ≡ is_in (name_of (seen_by self.now parent))
+            (run_of (plain self.now.object).rows (name_of (seen_by self.now source_parent))) }
     {
         is_under(&self.links, node_in(source_parent), node_in(parent))
     }

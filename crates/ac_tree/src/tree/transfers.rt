@@ -41,7 +41,8 @@ impl<T> Tree<T> {
     /// How many rows go with a node.
     fn count_with(&self, position: Cursor) -> u64
         requires { trees.needs_element (plain self.now.object) (seen_by self.now position) ≡ None }
-        ensures count { (depth : ℕ) → result ≡ length (trees.subtree_at_depth depth (plain self.now.object).rows (seen_by self.now position)) }
+        ensures count { (depth : ℕ) →
+            result ≡ length (trees.subtree_at_depth depth (plain self.now.object).rows (seen_by self.now position)) }
         ensures few { result ≤ 2 ^ 32 }
     {
         count_subtree(&self.links, Some(name_in(position)))
