@@ -17,6 +17,8 @@ mod pools;
 #[cfg(test)]
 mod prints;
 #[cfg(test)]
+mod tree_splices;
+#[cfg(test)]
 mod trees;
 #[cfg(test)]
 mod values;

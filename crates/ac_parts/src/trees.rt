@@ -5,7 +5,7 @@ use ac_tree::Tree;
 use std::alloc::Global;
 use std::process::Abort;
 
-fn made(rt: &impl Abort, alloc: Global, limit: Limit) -> Tree<i64> {
+pub(crate) fn made(rt: &impl Abort, alloc: Global, limit: Limit) -> Tree<i64> {
     assert!(rt; limit == Limit::Unbounded || limit == Limit::Bounded(2));
     match Tree::new(alloc, tag(rt, 1), limit) {
         Ok(made) => made,
@@ -14,7 +14,7 @@ fn made(rt: &impl Abort, alloc: Global, limit: Limit) -> Tree<i64> {
 }
 
 /// The node's children are these, in this order.
-fn holds(tree: &Tree<i64>, parent: Cursor, wanted: &[i64]) -> bool {
+pub(crate) fn holds(tree: &Tree<i64>, parent: Cursor, wanted: &[i64]) -> bool {
     let mut c = tree.first_child(parent).unwrap_or(Cursor::NoElement);
     for value in wanted {
         if tree.element(c).ok().copied() != Some(*value) {
@@ -66,7 +66,7 @@ fn a_bounded_tree_uses_its_memory_again(rt: HostRuntime) {
 }
 
 /// Two children of the root, 1 and 2, and a 2 below the first. The answer is the first one's cursor, and the last one's.
-fn branched(tree: &mut Tree<i64>) -> Option<(Cursor, Cursor)> {
+pub(crate) fn branched(tree: &mut Tree<i64>) -> Option<(Cursor, Cursor)> {
     let root = tree.root();
     tree.append_child(root, 1, 1).ok()?;
     tree.append_child(root, 2, 1).ok()?;
@@ -191,9 +191,9 @@ fn deepen(tree: &mut Tree<i64>, n: u64) -> Cursor {
 #[test]
 fn a_deep_tree_is_walked_and_goes_within_the_stack(rt: HostRuntime) {
     let mut tree = made(&rt, rt.alloc(), Limit::Unbounded);
-    let deepest = deepen(&mut tree, 100_000);
-    assert!(rt; tree.depth(deepest).ok() == Some(100_001));
-    assert!(rt; tree.subtree_node_count(tree.root()).ok() == Some(100_001));
+    let deepest = deepen(&mut tree, 1_000_000);
+    assert!(rt; tree.depth(deepest).ok() == Some(1_000_001));
+    assert!(rt; tree.subtree_node_count(tree.root()).ok() == Some(1_000_001));
     assert!(rt; tree.ancestor_find(deepest, &2).ok() == Some(Cursor::NoElement));
     assert!(rt; tree.clear().is_ok());
     assert!(rt; tree.node_count() == 1);
