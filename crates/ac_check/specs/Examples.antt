@@ -25,6 +25,7 @@ use Rattle.ac_check.specs.declared.operation.MapCall.TheVariants as map_call
 use Rattle.ac_check.specs.declared.operation.SetCall.TheVariants as set_call
 use Rattle.ac_check.specs.declared.operation.SetPairCall.TheVariants as set_pair_call
 use Rattle.ac_check.specs.declared.operation.KeyedCall.TheVariants as keyed_call
+use Rattle.ac_check.specs.declared.operation.TreeChangeCall.TheVariants as tree_change_call
 use Rattle.ac_check.specs.declared.operation.QueueCall.TheVariants as queue_call
 use Rattle.ac_check.specs.Operations.{operation_of}
 use Rattle.ac_check.specs.Faults.{is_crowded}
@@ -245,22 +246,22 @@ abbrev pairs : List Kind
 pairs = kind.HashedMap ∷ kind.OrderedMap ∷ []
 
 abbrev singles : List Kind
-singles = kind.Vector ∷ kind.List ∷ kind.HashedSet ∷ kind.OrderedSet ∷ kind.Holder ∷ []
+singles = kind.Vector ∷ kind.List ∷ kind.HashedSet ∷ kind.OrderedSet ∷ kind.Tree ∷ kind.Holder ∷ []
 
 abbrev sets : List Kind
 sets = kind.HashedSet ∷ kind.OrderedSet ∷ []
 
 abbrev refused : List Kind
-refused = kind.Tree ∷ kind.Queue ∷ kind.PriorityQueue ∷ []
+refused = kind.Queue ∷ kind.PriorityQueue ∷ []
 
--- vectors, lists, sets and holders of one sort of element and maps of two are made yet, and sets of strings alone have keys
+-- vectors, lists, sets, trees and holders of one sort of element and maps of two are made yet, and sets of strings alone have keys
 abbrev pub MakesRows : Type 0
 MakesRows = TellsDecls []
     (map (λ k. declares (def false k Integer None false)) singles ++ map (λ k. declares (def true k Str None false)) singles
     ++ map (λ k. declares (def false k Integer (Some Str) false)) pairs ++ map (λ k. declares (def true k Str (Some Str) false)) pairs
     ++ map (λ k. declares (def false k Str None true)) sets ++ map (λ k. declares (def true k Str None true)) sets)
     (map (λ k. declares (def false k Integer (Some Integer) false)) singles ++ map (λ k. declares (def false k Integer None true)) singles
-    ++ map (λ k. declares (def false k Str None true)) (kind.Vector ∷ kind.List ∷ kind.Holder ∷ [])
+    ++ map (λ k. declares (def false k Str None true)) (kind.Vector ∷ kind.List ∷ kind.Tree ∷ kind.Holder ∷ [])
     ++ map (λ k. declares (def false k Str (Some Str) true)) sets
     ++ map (λ k. declares (def false k Integer None false)) pairs ++ map (λ k. declares (def false k Str (Some Str) true)) pairs
     ++ map (λ k. declares (def false k Integer None false)) refused ++ map (λ k. declares (def false k Str (Some Integer) false)) refused)
@@ -302,3 +303,25 @@ MeansByKind =
     ∷ Some (operation.Map map_call.DeleteKey) ∷ Some (operation.Set set_call.DeleteItem)
     ∷ Some (operation.Keyed keyed_call.KeyExclude) ∷ Some (operation.Queue queue_call.PeakUse)
     ∷ Some (operation.SetPair set_pair_call.Difference) ∷ Some (operation.SetPair set_pair_call.IsSubset) ∷ None ∷ [])
+
+-- of trees: within one tree, with another as the source, and with a variable where one is set
+abbrev tree_call : (word : List ℕ) → List Arg → Option Operation
+tree_call word args = meant (kinds ++ entry C (a_cursor (codes "tree") true) ∷ []) (codes "tree") word args
+
+abbrev tree : Arg
+tree = Var (codes "tree")
+
+abbrev pub TreesMeanByArguments : Type 0
+TreesMeanByArguments =
+    (tree_call (codes "insert_child") (Var C ∷ NoElement ∷ number 5 ∷ []) ∷ tree_call (codes "insert_child") (Var C ∷ Var C ∷ number 5 ∷ number 2 ∷ [])
+    ∷ tree_call (codes "insert_child") (Var C ∷ Var C ∷ number 5 ∷ Var C ∷ number 2 ∷ [])
+    ∷ tree_call (codes "copy_subtree") (Var C ∷ NoElement ∷ tree ∷ NoElement ∷ []) ∷ tree_call (codes "copy_subtree") (Var C ∷ NoElement ∷ Var C ∷ [])
+    ∷ tree_call (codes "splice_subtree") (Var C ∷ Var C ∷ tree ∷ Var C ∷ []) ∷ tree_call (codes "splice_subtree") (Var C ∷ Var C ∷ tree ∷ NoElement ∷ [])
+    ∷ tree_call (codes "splice_subtree") (Var C ∷ Var C ∷ NoElement ∷ []) ∷ tree_call (codes "splice_children") (Var C ∷ Var C ∷ tree ∷ NoElement ∷ [])
+    ∷ tree_call (codes "splice_children") (Var C ∷ NoElement ∷ Var C ∷ []) ∷ tree_call (codes "splice_children") (Var C ∷ NoElement ∷ []) ∷ [])
+    ≡ (Some (operation.TreeChange tree_change_call.InsertChild) ∷ Some (operation.TreeChange tree_change_call.InsertChild)
+    ∷ Some (operation.TreeChange tree_change_call.InsertChildPos)
+    ∷ Some (operation.TreeChange tree_change_call.CopySubtree) ∷ None
+    ∷ Some (operation.TreeChange tree_change_call.SpliceSubtreeFrom) ∷ None
+    ∷ Some (operation.TreeChange tree_change_call.SpliceSubtree) ∷ Some (operation.TreeChange tree_change_call.SpliceChildrenFrom)
+    ∷ Some (operation.TreeChange tree_change_call.SpliceChildren) ∷ None ∷ [])

@@ -2,7 +2,7 @@
 ghost use Rattle.ac_check.specs.Examples.{TakesElements, CountsArguments, SplicesOfOneType, TakesCursors, TakesAnswers, SumsIntegers, CallsByKind};
 ghost use Rattle.ac_check.specs.Examples.{KeepsLoopCursor, WritesNothingQueried, WritesUpdated, WritesLooped, WritesNoSet, LoopsOverCursors};
 ghost use Rattle.ac_check.specs.Examples.{ViewsElements, ViewsSets, UpdatesNoKey, ViewsHolders, FitsCapacity, NeedsCursors, MakesRows};
-ghost use Rattle.ac_check.specs.Examples.{CountsNames, MeansByArguments, MeansByKind};
+ghost use Rattle.ac_check.specs.Examples.{CountsNames, MeansByArguments, MeansByKind, TreesMeanByArguments};
 ghost use Rattle.ac_check.specs.ResolvedExamples.{PlacesInBlocks, PlacesNoName, ResolvesArguments, ResolvesByArguments, ResolvesObjects, ResolvesScript};
 
 /// Commands that keep the rules, and beside them some that break them.
@@ -42,6 +42,7 @@ pub fn declaration_examples()
 pub fn operation_examples()
     ensures by_arguments { MeansByArguments }
     ensures by_kind { MeansByKind }
+    ensures trees { TreesMeanByArguments }
 {}
 
 /// What statements and declarations are resolved to.

@@ -60,6 +60,7 @@ fn is_built(kind: Kind) -> bool
             | Kind::OrderedMap
             | Kind::HashedSet
             | Kind::OrderedSet
+            | Kind::Tree
             | Kind::Holder
     )
 }
