@@ -12,7 +12,7 @@ use Rattle.ac_meaning.specs.Stays.{Stays, SourceStays, ReplyStays}
 pub none_some : {A : Type 0} {B : Type 0} (x : A) → None ≡ Some x → B
 none_some x e = absurd (cc)
 
-earlier_none : (a b : Option Reason) → earlier a b ≡ None → (a ≡ None) × (b ≡ None)
+pub earlier_none : (a b : Option Reason) → earlier a b ≡ None → (a ≡ None) × (b ≡ None)
 earlier_none None b h = (refl, h)
 earlier_none (Some r) None h = cc
 earlier_none (Some r) (Some q) h = grind arith

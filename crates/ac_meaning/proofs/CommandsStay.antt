@@ -7,14 +7,13 @@ use Rattle.ac_model.specs.Objects.{Object}
 use Rattle.ac_model.specs.Holders.{Holder}
 use Rattle.ac_syntax.specs.declared.kind.ElemKind.{ElemKind}
 use Rattle.ac_model.specs.Letters.{Mark, name_of}
-use Rattle.ac_model.specs.Cursors.{seen}
 use Rattle.ac_check.specs.declared.operation.Operation.{Operation}
 use Rattle.ac_check.specs.declared.resolved.ResolvedArg.{ResolvedArg}
 use Rattle.ac_check.specs.Resolved.{ResolvedSimple, calls_at, sets_at, sums_at}
 use Rattle.ac_meaning.specs.Elements.{ElementOf, tools_of, integer_in}
 use Rattle.ac_meaning.specs.Answers.{Answer, answers_ok, answers_value, answers_truth, answers_place, answers_list, answers_raised, answers_stalled, answers_integer}
-use Rattle.ac_meaning.specs.Replies.{Arguments, Source, itself, another, seen_by, source_in, Reply, Placed}
-use Rattle.ac_meaning.specs.Holdings.{RowKind, a_sequence, a_map, a_set, a_keyed_set, RowOf, Held, of_rows, of_holder, same_element, same_kind, rows_in, holder_in, rows_reply, own_calls, write, reply_of}
+use Rattle.ac_meaning.specs.Replies.{Arguments, Source, itself, another, arguments_seen, source_in, Reply, Placed}
+use Rattle.ac_meaning.specs.Holdings.{RowKind, a_sequence, a_map, a_set, a_keyed_set, a_tree, RowOf, Held, of_rows, of_holder, same_element, same_kind, rows_in, holder_in, rows_reply, seen_in, own_calls, write, reply_of}
 use Rattle.ac_meaning.specs.HolderReplies.{holder_source, holder_write}
 use Rattle.ac_meaning.specs.Environment.{Bound, binds_type, binds_object, binds_cursor, binds_value, binds_element, State, bound_at, with_bound, object_at, value_at}
 use Rattle.ac_meaning.specs.Commands.{Assigned, value_set, mark_set, assigned, element_written, place_in, variable_to, variable_set, source_place, source_of, source_set, after_call, unless_refused, waits_or_goes, replied, call_on, arguments, answer_from, assigned_from, is_integer, sum_of, sum_assigned, performed}
@@ -22,6 +21,7 @@ use Rattle.ac_meaning.specs.Stays.{Stays, SourceStays, ReplyStays, HeldStays, St
 use Rattle.ac_meaning.proofs.CallsStay.{none_some, same, renamed, names-with_value, names-with_some_value}
 use Rattle.ac_meaning.proofs.VectorsStay.{replies_stay}
 use Rattle.ac_meaning.proofs.KeyedStay.{map_stays, set_stays, keyed_set_stays}
+use Rattle.ac_meaning.proofs.TreesStay.{names-with_element, tree_stays}
 use Rattle.ac_meaning.proofs.HoldersStay.{holder_passed, holder_write_stays, holder_stays, another_holder_stays}
 use Rattle.ac_meaning.proofs.BoundsStay.{passed, state_same, state_then, state_set, object_there}
 
@@ -32,9 +32,11 @@ own_write_stays (a_sequence which e) o at v = renamed o None _ (names-with_value
 own_write_stays (a_map which k e) o at v = renamed o None _ (names-with_some_value o.rows _ _)
 own_write_stays (a_set which e) o at v = same o None
 own_write_stays (a_keyed_set which) o at v = same o None
+own_write_stays (a_tree e) o at v = renamed o None _ (names-with_element o.rows (name_of at) (Some ((tools_of e).from_value v)))
 
 write_stays : (h : Held) (at : Mark) (v : Value) → (write h at v).reason ≡ None → HeldStays h (write h at v).after
-write_stays (of_rows kind o) at v none = (((own_calls kind o).write (seen o at) v).after, refl, own_write_stays kind o (seen o at) v)
+write_stays (of_rows kind o) at v none =
+    (((own_calls kind o).write (seen_in kind o at) v).after, refl, own_write_stays kind o (seen_in kind o at) v)
 write_stays (of_holder e h) at v none = ((holder_write (tools_of e) h v).after, refl, holder_write_stays (tools_of e) h v none)
 
 -- an assignment that isn't refused
@@ -103,10 +105,12 @@ itself_or s seen true reason after h t f = none_some t (sym h ∙ f)
 itself_or s seen false reason None h t f = none_some t f
 itself_or s seen false reason (Some u) h t f = let p : u ≡ t = cc in subst (λ x. Stays s reason x) p h
 
-another_stays : {V : Type 0} (o : Object ℕ V) (found : Option (Object ℕ V)) (args : Arguments) (reason : Option Reason) (after : Option (Object ℕ V)) →
-    SourceStays (source_in o found args) reason after → (t : Object ℕ V) → after ≡ Some t → (s : Object ℕ V) × (found ≡ Some s) × Stays s reason t
-another_stays o None args reason after h t f = none_some t (sym h ∙ f)
-another_stays o (Some s) args reason after h t f = (s, refl, itself_or s (seen_by s args) (o.number == s.number) reason after h t f)
+another_stays : {V : Type 0} (see : Object ℕ V → Mark → Mark) (o : Object ℕ V) (found : Option (Object ℕ V)) (args : Arguments) (reason : Option Reason)
+    (after : Option (Object ℕ V)) → SourceStays (source_in see o found args) reason after → (t : Object ℕ V) → after ≡ Some t →
+    (s : Object ℕ V) × (found ≡ Some s) × Stays s reason t
+another_stays see o None args reason after h t f = none_some t (sym h ∙ f)
+another_stays see o (Some s) args reason after h t f =
+    (s, refl, itself_or s (arguments_seen (see s) args) (o.number == s.number) reason after h t f)
 
 -- what is held in this way
 mapped : {S R : Type 0} (f : S → R) (found : Option S) (t : R) → option_map f found ≡ Some t → (s : S) × (found ≡ Some s) × (f s ≡ t)
@@ -143,17 +147,18 @@ rows_stay (a_sequence which e) o source args op = replies_stay which (tools_of e
 rows_stay (a_map which k e) o source args op = map_stays (tools_of k) (tools_of e) o source args which op
 rows_stay (a_set which e) o source args op = set_stays (tools_of e) o source args which op
 rows_stay (a_keyed_set which) o source args op = keyed_set_stays o source args which op
+rows_stay (a_tree e) o source args op = tree_stays (tools_of e) o source args op
 
 pub held_reply : (h : Held) (source : Option Held) (operation : Operation) (args : Arguments) →
     HeldReply h source (reply_of h source operation args)
 held_reply (of_rows kind o) source operation args =
     let found = rows_in kind source in
-    let stays = rows_stay kind o (source_in o found args) (seen_by o args) operation in
+    let stays = rows_stay kind o (source_in (seen_in kind) o found args) (arguments_seen (seen_in kind o) args) operation in
     record {
       target = λ none. (_, refl, passed o _ _ none stays.target);
       source_stays = λ none k f.
           let m = mapped (of_rows kind) _ k f in
-          let a = another_stays o found args _ _ stays.source_stays m.0 m.1 in
+          let a = another_stays (seen_in kind) o found args _ _ stays.source_stays m.0 m.1 in
           (of_rows kind a.0, rows_found kind source a.0 a.1, (m.0, sym m.2, passed a.0 _ m.0 none a.2));
     }
 held_reply (of_holder e h) source operation args =

@@ -6,7 +6,7 @@ use Rattle.std.proofs.lemmas.Option.{slice_get-map}
 use Rattle.std.proofs.Math.Seq.{take-append_seam}
 use Rattle.ac_base.specs.declared.guard.GuardKind.TheVariants as guard
 use Rattle.ac_base.specs.Guards.{HeldGuard}
-use Rattle.ac_meaning.specs.Holdings.{of_rows, of_holder, Guards, is_on, held_under, number_of, names_of, holds_element}
+use Rattle.ac_meaning.specs.Holdings.{of_rows, of_holder, Guards, is_on, held_under, number_of, names_of, holds_element, has_root}
 use Rattle.ac_meaning.specs.Environment.{Bound, binds_type, binds_object, binds_cursor, binds_value, binds_element, bound_by, bound_in, State, under, at_rest, bound_at, with_bound, leaving}
 use Rattle.ac_meaning.specs.GuardedNames.{is_guarded, is_element_guarded, Frame, of_type, of_object, of_cursor, of_value, of_element, names_if, frame, kept}
 
@@ -62,8 +62,8 @@ kept-with_bound guards e place b h = frames_set guards e.bounds place b h
 -- more guards keep more
 forget : Guards → Frame → Frame
 forget guards of_type = of_type
-forget guards (of_object number names has_element) =
-    of_object number (names_if (is_guarded guards number) names) (has_element && is_element_guarded guards number)
+forget guards (of_object number rooted names has_element) =
+    of_object number rooted (names_if (is_guarded guards number) names) (has_element && is_element_guarded guards number)
 forget guards of_cursor = of_cursor
 forget guards of_value = of_value
 forget guards (of_element object at) = of_element object at
@@ -91,7 +91,7 @@ forgotten more guards (binds_object h) =
     ap (λ t. (holds_element h && t) && is_element_guarded guards n)
     (list_any-append (λ (g : HeldGuard). is_on g n guard.Elements) more guards)
     ∙ element_twice (holds_element h) (is_element_guarded more n) (is_element_guarded guards n) in
-    λ i. of_object n ((ap (λ t. names_if (is_guarded guards n) (names_if t (names_of h))) (list_any-append (λ (g : HeldGuard). g.object == n) more guards)
+    λ i. of_object n (has_root h) ((ap (λ t. names_if (is_guarded guards n) (names_if t (names_of h))) (list_any-append (λ (g : HeldGuard). g.object == n) more guards)
     ∙ names_twice (is_guarded more n) (is_guarded guards n) (names_of h)) i) (has i)
 forgotten more guards (binds_cursor mark) = refl
 forgotten more guards (binds_value v) = refl
@@ -119,7 +119,7 @@ kept_back guards e now more h =
 -- the number of an object
 unfoldable pub number_in_frame : Frame → ℕ
 number_in_frame of_type = 0
-number_in_frame (of_object number names has_element) = number
+number_in_frame (of_object number rooted names has_element) = number
 number_in_frame of_cursor = 0
 number_in_frame of_value = 0
 number_in_frame (of_element object at) = 0

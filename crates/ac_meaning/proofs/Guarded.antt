@@ -13,7 +13,7 @@ use Rattle.ac_model.specs.Objects.{Object}
 use Rattle.ac_model.specs.Holders.{Holder}
 use Rattle.ac_model.specs.Letters.{tampers_cursors}
 use Rattle.ac_check.specs.Resolved.{ResolvedSimple}
-use Rattle.ac_meaning.specs.Holdings.{Held, of_rows, of_holder, Guards, is_on, is_kind, held_on, held_under}
+use Rattle.ac_meaning.specs.Holdings.{Held, of_rows, of_holder, have_root, Guards, is_on, is_kind, held_on, held_under}
 use Rattle.ac_meaning.specs.Environment.{Bound, binds_type, binds_object, binds_cursor, binds_value, binds_element, bound_by, State, under}
 use Rattle.ac_meaning.specs.Commands.{performed}
 use Rattle.ac_meaning.specs.Execution.{commanded}
@@ -119,12 +119,12 @@ held_frame : (guards : Guards) (h after : Held) → HeldStays h after → held_u
     frame guards (binds_object after) ≡ frame guards (binds_object h)
 held_frame guards (of_rows kind o) after s e =
     let m = object_names guards o s.0 (ap cursors_of e) (ap elements_of e) s.2 in
-    ap (λ x. frame guards (binds_object x)) s.1 ∙ (λ i. of_object (s.2.number i) (m i) false)
+    ap (λ x. frame guards (binds_object x)) s.1 ∙ (λ i. of_object (s.2.number i) (have_root kind) (m i) false)
 held_frame guards (of_holder element h) after s e =
     let none : names_if (is_guarded guards s.0.number) [] ≡ names_if (is_guarded guards h.number) [] =
     no_names (is_guarded guards s.0.number) ∙ sym (no_names (is_guarded guards h.number)) in
     let has = element_stays guards h s.0 (ap elements_of e) s.2 in
-    ap (λ x. frame guards (binds_object x)) s.1 ∙ (λ i. of_object (s.2.number i) (none i) (has i))
+    ap (λ x. frame guards (binds_object x)) s.1 ∙ (λ i. of_object (s.2.number i) false (none i) (has i))
 
 bound_frame : (guards : Guards) (b after : Bound) → BoundStays (bound_by (held_under guards) b) after →
     frame guards after ≡ frame guards (bound_by (held_under guards) b)

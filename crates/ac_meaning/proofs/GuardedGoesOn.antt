@@ -15,14 +15,21 @@ use Rattle.ac_meaning.proofs.ExecKeeps.{resolved_keeps}
 
 names_in_frame : Frame → List ℕ
 names_in_frame of_type = []
-names_in_frame (of_object number names has_element) = names
+names_in_frame (of_object number rooted names has_element) = names
 names_in_frame of_cursor = []
 names_in_frame of_value = []
 names_in_frame (of_element object at) = []
 
+rooted_in_frame : Frame → Bool
+rooted_in_frame of_type = false
+rooted_in_frame (of_object number rooted names has_element) = rooted
+rooted_in_frame of_cursor = false
+rooted_in_frame of_value = false
+rooted_in_frame (of_element object at) = false
+
 goes_on : (h : Held) (now : State) (place : ℕ) (b : Bound) → bound_at now place ≡ b → (guards : Guards) → is_guarded guards (number_of h) ≡ true →
     frame guards b ≡ frame guards (binds_object h) → GuardedGoesOn h now place
-unfolding number_in_frame names_in_frame
+unfolding number_in_frame rooted_in_frame names_in_frame
 goes_on h now place (binds_object k) f guards g e =
     let n : number_of k ≡ number_of h = ap number_in_frame e in
     let k_guarded : is_guarded guards (number_of k) ≡ true = ap (is_guarded guards) n ∙ g in
@@ -31,6 +38,7 @@ goes_on h now place (binds_object k) f guards g e =
       held = k;
       there = ap object_in f;
       number = n;
+      rooted = ap rooted_in_frame e;
       names = sym (ap (λ t. names_if t (names_of k)) k_guarded) ∙ (m ∙ ap (λ t. names_if t (names_of h)) g);
     }
 goes_on h now place binds_type f guards g e = absurd (cc)
@@ -46,7 +54,7 @@ guarded_stays code guards e place h there g =
 
 has_element_in_frame : Frame → Bool
 has_element_in_frame of_type = false
-has_element_in_frame (of_object number names has_element) = has_element
+has_element_in_frame (of_object number rooted names has_element) = has_element
 has_element_in_frame of_cursor = false
 has_element_in_frame of_value = false
 has_element_in_frame (of_element object at) = false

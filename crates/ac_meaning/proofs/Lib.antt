@@ -3,8 +3,10 @@ pub mod CallsStay
 pub mod ListsStay
 pub mod VectorsStay
 pub mod KeyedStay
+pub mod TreesStay
 pub mod HoldersStay
 pub mod RowKinds
+pub mod Designating
 pub mod BoundsStay
 pub mod CommandsStay
 pub mod CountsStay

@@ -28,7 +28,7 @@ use Rattle.ac_meaning.proofs.NextRises.{next_rises}
 
 numbered_frame : ℕ → Frame → ℕ
 numbered_frame number of_type = 0
-numbered_frame number (of_object own names has_element) = if own == number then 1 else 0
+numbered_frame number (of_object own rooted names has_element) = if own == number then 1 else 0
 numbered_frame number of_cursor = 0
 numbered_frame number of_value = 0
 numbered_frame number (of_element object at) = 0

@@ -2,7 +2,7 @@
 use Rattle.std.proofs.Common.{◌≡◌, ℕ, ℤ, Bool, true, false, List, refl, Option, Some, None}
 use Rattle.ac_base.specs.declared.reason.Reason.{Reason}
 use Rattle.ac_base.specs.declared.value.Value.{Value}
-use Rattle.ac_model.specs.Rows.{Entry}
+use Rattle.ac_model.specs.Rows.{Entry, Node}
 use Rattle.ac_model.specs.Objects.{Object}
 use Rattle.ac_model.specs.Calls.{Call, Done}
 use Rattle.ac_model.specs.Holders.{Holder}
@@ -20,6 +20,10 @@ use Rattle.ac_check.specs.declared.operation.VectorCall.{VectorCall}
 use Rattle.ac_check.specs.declared.operation.VectorCall.TheVariants as vector_call
 use Rattle.ac_check.specs.declared.operation.ListCall.{ListCall}
 use Rattle.ac_check.specs.declared.operation.ListCall.TheVariants as list_call
+use Rattle.ac_check.specs.declared.operation.TreeCall.{TreeCall}
+use Rattle.ac_check.specs.declared.operation.TreeCall.TheVariants as tree_call
+use Rattle.ac_check.specs.declared.operation.TreeChangeCall.{TreeChangeCall}
+use Rattle.ac_check.specs.declared.operation.TreeChangeCall.TheVariants as tree_change_call
 use Rattle.ac_check.specs.declared.operation.HolderCall.{HolderCall}
 use Rattle.ac_check.specs.declared.operation.HolderCall.TheVariants as holder_call
 use Rattle.ac_check.specs.declared.operation.WalkCall.{WalkCall}
@@ -43,7 +47,7 @@ use Rattle.ac_check.specs.declared.resolved.ResolvedArg.TheVariants.{Lit, NoElem
 use Rattle.ac_check.specs.Resolved.{calls_at, sets_at, sums_at}
 use Rattle.ac_meaning.specs.Elements.{Tools, Text, tools_of, keyed_texts, integer_in}
 use Rattle.ac_meaning.specs.Answers.{Answer, answers_integer}
-use Rattle.ac_meaning.specs.Replies.{Arguments, Source, without, itself, another, by_source, seen_by, source_in, Reply, value_answer}
+use Rattle.ac_meaning.specs.Replies.{Arguments, Source, without, itself, another, by_source, arguments_seen, source_in, Reply, value_answer}
 use Rattle.ac_meaning.specs.SequenceReplies.{OwnCalls, sequence_own, common_reply, sequence_reply, capacity_reply}
 use Rattle.ac_meaning.specs.ListReplies.{list_alone_reply, list_reply}
 use Rattle.ac_meaning.specs.VectorReplies.{vector_alone_reply, vector_reply}
@@ -51,8 +55,9 @@ use Rattle.ac_meaning.specs.KeyedReplies.{KeyedKind, of_hashed, of_ordered, walk
 use Rattle.ac_meaning.specs.MapReplies.{map_own, map_alone_reply, ordered_map_reply, map_reply}
 use Rattle.ac_meaning.specs.SetReplies.{set_own, set_alone_reply, set_pair_reply, ordered_set_reply, set_reply}
 use Rattle.ac_meaning.specs.KeyedSetReplies.{key_reply, keyed_set_reply}
+use Rattle.ac_meaning.specs.TreeReplies.{tree_own, tree_look_reply, tree_change_reply, tree_reply}
 use Rattle.ac_meaning.specs.HolderReplies.{holder_source, holder_alone_reply, holder_reply}
-use Rattle.ac_meaning.specs.Holdings.{SequenceKind, of_list, of_vector, RowKind, a_sequence, a_map, a_set, a_keyed_set, RowOf, Held, of_rows, of_holder, rows_in, holder_in, reply_by, rows_reply, reply_of}
+use Rattle.ac_meaning.specs.Holdings.{SequenceKind, of_list, of_vector, RowKind, a_sequence, a_map, a_set, a_keyed_set, a_tree, RowOf, Held, of_rows, of_holder, rows_in, holder_in, reply_by, rows_reply, seen_in, reply_of}
 use Rattle.ac_meaning.specs.Environment.{Bound, binds_type, binds_object, binds_cursor, binds_value, binds_element, State, bound_at, object_at, value_at}
 use Rattle.ac_meaning.specs.Commands.{Performed, Assigned, source_place, source_of, after_call, assigned, unless_refused, waits_or_goes, replied, call_on, arguments, answer_in, answer_from, assigned_from, is_integer, sum_of, sum_assigned}
 use Rattle.ac_meaning.specs.Laws.{IsRefusal, RefusalsLeave}
@@ -205,6 +210,23 @@ keyed_set_plain o source args of_hashed (operation.Keyed c) h = key_plain o args
 keyed_set_plain o source args of_ordered (operation.Keyed c) h = key_plain o args of_ordered c h
 keyed_set_plain o source args which op h = set_plain keyed_texts o source args which op h
 
+tree_plain : {T : Type 0} (tools : Tools T) (o : Object ℕ (Node T)) (source : Source (Object ℕ (Node T))) (args : Arguments) (op : Operation) →
+    Plain (tree_reply tools o source args op).answer
+tree_plain tools o source args (operation.Common c) h = common_plain o source args (tree_own tools o) c h
+tree_plain tools o source args (operation.Tree c) h = go c h
+  where
+    go : (c : TreeCall) → Plain (tree_look_reply tools o args c).answer
+    go tree_call.NodeCount h = h
+    go _ h = h
+tree_plain tools o source args (operation.TreeChange c) h = go c h
+  where
+    go : (c : TreeChangeCall) → Plain (tree_change_reply tools o source args c).answer
+    go tree_change_call.CopySubtree h = by_source_plain source _ _ (λ r. r) (λ s seen r. r) h
+    go tree_change_call.SpliceSubtreeFrom h = by_source_plain source _ _ (λ r. r) (λ s seen r. r) h
+    go tree_change_call.SpliceChildrenFrom h = by_source_plain source _ _ (λ r. r) (λ s seen r. r) h
+    go _ h = h
+tree_plain tools o source args _ h = h
+
 holder_plain : {T : Type 0} (tools : Tools T) (h : Holder T) (source : Source (Holder T)) (args : Arguments) (op : Operation) →
     Plain (holder_reply tools h source args op).answer
 holder_plain tools h source args (operation.Holder c) r = go c r
@@ -223,9 +245,11 @@ rows_plain (a_sequence which e) o source args op h = reply_plain (tools_of e) o 
 rows_plain (a_map which k e) o source args op h = map_plain (tools_of k) (tools_of e) o source args which op h
 rows_plain (a_set which e) o source args op h = set_plain (tools_of e) o source args which op h
 rows_plain (a_keyed_set which) o source args op h = keyed_set_plain o source args which op h
+rows_plain (a_tree e) o source args op h = tree_plain (tools_of e) o source args op h
 
 held_plain : (h : Held) (source : Option Held) (op : Operation) (args : Arguments) → Plain (reply_of h source op args).answer
-held_plain (of_rows kind o) source op args r = rows_plain kind o (source_in o (rows_in kind source) args) (seen_by o args) op r
+held_plain (of_rows kind o) source op args r =
+    rows_plain kind o (source_in (seen_in kind) o (rows_in kind source) args) (arguments_seen (seen_in kind o) args) op r
 held_plain (of_holder e h) source op args r = holder_plain (tools_of e) h (holder_source h (holder_in e source) args) args op r
 
 answer_plain : (e : State) (b : Bound) → Plain (answer_in e b)

@@ -6,7 +6,7 @@ use Rattle.ac_model.specs.Letters.{Mark, needs}
 use Rattle.ac_syntax.specs.declared.kind.ElemKind.{ElemKind}
 use Rattle.ac_syntax.specs.declared.kind.ElemKind.TheVariants.{Integer, Str}
 use Rattle.ac_meaning.specs.KeyedReplies.{KeyedKind, of_hashed, of_ordered}
-use Rattle.ac_meaning.specs.Holdings.{SequenceKind, of_list, of_vector, RowKind, a_sequence, a_map, a_set, a_keyed_set, RowOf, of_rows, both_same, all_same, same_element, same_sequence, same_keyed, same_kind, rows_in, own_calls}
+use Rattle.ac_meaning.specs.Holdings.{SequenceKind, of_list, of_vector, RowKind, a_sequence, a_map, a_set, a_keyed_set, a_tree, RowOf, of_rows, both_same, all_same, same_element, same_sequence, same_keyed, same_kind, rows_in, own_calls}
 
 element_is : (e : ElemKind) → same_element e e ≡ Some refl
 element_is Integer = refl
@@ -25,15 +25,9 @@ kind_is (a_sequence which e) = λ i. both_same (λ p q j. a_sequence (q j) (p j)
 kind_is (a_map which k e) = λ i. all_same (λ p q r j. a_map (r j) (p j) (q j)) (element_is k i) (element_is e i) (keyed_is which i)
 kind_is (a_set which e) = λ i. both_same (λ p q j. a_set (q j) (p j)) (element_is e i) (keyed_is which i)
 kind_is (a_keyed_set which) = λ i. option_map (λ p j. a_keyed_set (p j)) (keyed_is which i)
+kind_is (a_tree e) = λ i. option_map (λ p j. a_tree (p j)) (element_is e i)
 
 -- an object is of its own kind
 pub rows_own : (kind : RowKind) (o : Object ℕ (RowOf kind)) → rows_in kind (Some (of_rows kind o)) ≡ Some o
 rows_own kind o =
     ap (option_map (λ (p : kind ≡ kind). coe 0 1 (i. Object ℕ (RowOf (p i))) o)) (kind_is kind) ∙ (λ i. Some (coe i 1 (j. Object ℕ (RowOf kind)) o))
-
--- an element of any kind is refused as its cursor is
-pub element_needs : (kind : RowKind) (o : Object ℕ (RowOf kind)) (c : Mark) → ((own_calls kind o).element c).reason ≡ first_reason (needs o c ∷ [])
-element_needs (a_sequence which e) o c = refl
-element_needs (a_map which k e) o c = refl
-element_needs (a_set which e) o c = refl
-element_needs (a_keyed_set which) o c = refl

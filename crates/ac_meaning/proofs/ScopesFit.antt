@@ -69,7 +69,7 @@ all_stay (e ∷ scope) (b ∷ bs) (c ∷ cs) s h = (fits_stays e.meaning b c s.0
 
 FitsFrame : Meaning → Frame → Type 0
 FitsFrame (a_type _) of_type = Unit {0}
-FitsFrame (an_object _ _) (of_object _ _ _) = Unit {0}
+FitsFrame (an_object _ _) (of_object _ _ _ _) = Unit {0}
 FitsFrame (a_cursor _ _) of_cursor = Unit {0}
 FitsFrame (a_value _ _) of_value = Unit {0}
 FitsFrame (a_value _ _) (of_element _ _) = Unit {0}

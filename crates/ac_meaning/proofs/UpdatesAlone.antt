@@ -9,7 +9,7 @@ use Rattle.ac_model.specs.Letters.{Mark, needs}
 use Rattle.ac_model.specs.KeyedSets.{update_key_reason}
 use Rattle.ac_model.specs.Cursors.{seen}
 use Rattle.ac_syntax.specs.declared.view_kind.ViewKind.TheVariants.{UpdateKey}
-use Rattle.ac_meaning.specs.Holdings.{a_sequence, a_map, a_set, a_keyed_set, Held, of_rows, of_holder, Guards, held_on, guarded, held_under, number_of, names_of, holds_element, key_updated}
+use Rattle.ac_meaning.specs.Holdings.{a_sequence, a_map, a_set, a_keyed_set, a_tree, Held, of_rows, of_holder, Guards, held_on, guarded, held_under, number_of, names_of, holds_element, has_root, key_updated}
 use Rattle.ac_meaning.specs.Environment.{binds_object, State, under, bound_at, with_bound, object_at}
 use Rattle.ac_meaning.specs.Execution.{head_reason, key_end_on}
 use Rattle.ac_meaning.specs.UnderGuards.{UpdatesKeepCounts}
@@ -37,6 +37,7 @@ update_alone guards (of_rows (a_keyed_set which) o) at same none =
 update_alone guards (of_rows (a_sequence which e) o) at same none = none_some NoElement (sym none)
 update_alone guards (of_rows (a_map which k e) o) at same none = none_some NoElement (sym none)
 update_alone guards (of_rows (a_set which e) o) at same none = none_some NoElement (sym none)
+update_alone guards (of_rows (a_tree e) o) at same none = none_some NoElement (sym none)
 update_alone guards (of_holder e h) at same none = none_some NoElement (sym none)
 
 -- what is found under guards has their counts
@@ -60,6 +61,7 @@ number_stays (of_rows (a_keyed_set which) o) at copy = refl
 number_stays (of_rows (a_sequence which e) o) at copy = refl
 number_stays (of_rows (a_map which k e) o) at copy = refl
 number_stays (of_rows (a_set which e) o) at copy = refl
+number_stays (of_rows (a_tree e) o) at copy = refl
 number_stays (of_holder e h) at copy = refl
 
 no_element : (h : Held) (at : Mark) (copy : Value) → holds_element (key_updated h at copy).after ≡ holds_element h
@@ -67,16 +69,25 @@ no_element (of_rows (a_keyed_set which) o) at copy = refl
 no_element (of_rows (a_sequence which e) o) at copy = refl
 no_element (of_rows (a_map which k e) o) at copy = refl
 no_element (of_rows (a_set which e) o) at copy = refl
+no_element (of_rows (a_tree e) o) at copy = refl
 no_element (of_holder e h) at copy = refl
 
--- of an object without a guard nothing but its number is kept, and that it is no holder with an element
+same_root : (h : Held) (at : Mark) (copy : Value) → has_root (key_updated h at copy).after ≡ has_root h
+same_root (of_rows (a_keyed_set which) o) at copy = refl
+same_root (of_rows (a_sequence which e) o) at copy = refl
+same_root (of_rows (a_map which k e) o) at copy = refl
+same_root (of_rows (a_set which e) o) at copy = refl
+same_root (of_rows (a_tree e) o) at copy = refl
+same_root (of_holder e h) at copy = refl
+
+-- of an object without a guard nothing but its number is kept, whether it has a root, and that it is no holder with an element
 unguarded_frame : (guards : Guards) (h now : Held) → is_guarded guards (number_of h) ≡ false → number_of now ≡ number_of h →
-    holds_element now ≡ holds_element h → frame guards (binds_object now) ≡ frame guards (binds_object h)
-unguarded_frame guards h now free n has =
+    has_root now ≡ has_root h → holds_element now ≡ holds_element h → frame guards (binds_object now) ≡ frame guards (binds_object h)
+unguarded_frame guards h now free n root has =
     let own : is_guarded guards (number_of now) ≡ false = ap (is_guarded guards) n ∙ free in
     let none : names_if (is_guarded guards (number_of now)) (names_of now) ≡ names_if (is_guarded guards (number_of h)) (names_of h) =
     ap (λ t. names_if t (names_of now)) own ∙ sym (ap (λ t. names_if t (names_of h)) free) in
-    λ i. of_object (n i) (none i) (has i && is_element_guarded guards (n i))
+    λ i. of_object (n i) (root i) (none i) (has i && is_element_guarded guards (n i))
 
 found_frame : (guards held : Guards) (e : State) (place : ℕ) (h : Held) → object_at (under held e) place ≡ Some h →
     frame guards (bound_at e place) ≡ frame guards (binds_object h)
@@ -98,7 +109,7 @@ key_end_keeps guards held number object e left at copy h there free same (Some k
     let n : number_of k ≡ number_of h = ap number_in_frame is in
     let now = (key_updated k at copy).after in
     let stays : frame guards (binds_object now) ≡ frame guards (binds_object k) =
-    unguarded_frame guards k now (ap (is_guarded guards) n ∙ free) (number_stays k at copy) (no_element k at copy) in
+    unguarded_frame guards k now (ap (is_guarded guards) n ∙ free) (number_stays k at copy) (same_root k at copy) (no_element k at copy) in
     kept-at_rest guards (with_bound left object (binds_object now))
     ∙ (kept-with_bound guards left object (binds_object now) (stays ∙ sym own) ∙ same)
 

@@ -46,6 +46,7 @@ arguments e args = record {
   second = argument_of e (slice_get args 1);
   third = argument_of e (slice_get args 2);
   fourth = argument_of e (slice_get args 3);
+  fifth = (argument_of e (slice_get args 4)).count;
 }
 
 -- the place of the object among the arguments

@@ -1,4 +1,4 @@
--- What statements keep while guards are held: what kind of thing each name in scope holds, an object's number, and where a guard is held on it the names in its rows, in their order.
+-- What statements keep while guards are held: what kind of thing each name in scope holds, an object's number and whether it has a root, and where a guard is held on it the names in its rows, in their order.
 use Rattle.std.specs.Prelude.{◌≡◌, ◌==◌, ◌&&◌, ℕ, Bool, true, false, List, [], ◌++◌, map, Some, None, if◌then◌else◌}
 use Rattle.std.specs.List.{list_any}
 use Rattle.ac_base.specs.declared.guard.GuardKind.TheVariants as guard
@@ -12,7 +12,7 @@ use Rattle.ac_syntax.specs.declared.view_kind.ViewKind.TheVariants.{UpdateKey}
 use Rattle.ac_check.specs.Scopes.{Scope}
 use Rattle.ac_check.specs.Resolved.{ResolvedCode}
 use Rattle.ac_meaning.specs.Elements.{ElementOf}
-use Rattle.ac_meaning.specs.Holdings.{Held, of_holder, Guards, is_on, number_of, names_of, holds_element, element_value, held_under}
+use Rattle.ac_meaning.specs.Holdings.{Held, of_holder, Guards, is_on, number_of, names_of, holds_element, has_root, element_value, held_under}
 use Rattle.ac_meaning.specs.Environment.{Bound, binds_type, binds_object, binds_cursor, binds_value, binds_element, State, under, object_at, with_name}
 use Rattle.ac_meaning.specs.Execution.{scoped, exec, exec_resolved, guards_of_loop, guards_of_stable, guards_of_view, head_reason}
 
@@ -26,7 +26,7 @@ is_element_guarded guards number = list_any (λ (g : HeldGuard). is_on g number 
 -- what stays of what a name holds
 pub data Frame : Type 0 where
   of_type : Frame
-  of_object : (number : ℕ) → (names : List ℕ) → (has_element : Bool) → Frame
+  of_object : (number : ℕ) → (rooted : Bool) → (names : List ℕ) → (has_element : Bool) → Frame
   of_cursor : Frame
   of_value : Frame
   of_element : (object : ℕ) → (at : Mark) → Frame
@@ -37,7 +37,7 @@ names_if guarded names = if guarded then names else []
 abbrev pub frame : Guards → Bound → Frame
 frame guards binds_type = of_type
 frame guards (binds_object h) =
-    of_object (number_of h) (names_if (is_guarded guards (number_of h)) (names_of h))
+    of_object (number_of h) (has_root h) (names_if (is_guarded guards (number_of h)) (names_of h))
     (holds_element h && is_element_guarded guards (number_of h))
 frame guards (binds_cursor mark) = of_cursor
 frame guards (binds_value v) = of_value
@@ -58,6 +58,7 @@ pub record GuardedGoesOn (h : Held) (now : State) (place : ℕ) : Type 0 where
   pub held : Held
   pub there : object_at now place ≡ Some held
   pub number : number_of held ≡ number_of h
+  pub rooted : has_root held ≡ has_root h
   pub names : names_of held ≡ names_of h
 
 abbrev pub GuardedStays : Type 0

@@ -10,7 +10,7 @@ use Rattle.ac_base.specs.declared.guard.GuardKind.{GuardKind}
 use Rattle.ac_base.specs.declared.guard.GuardKind.TheVariants as guard
 use Rattle.ac_base.specs.Guards.{GuardCounts, HeldGuard, raised_kind}
 use Rattle.ac_base.specs.Rows.{names}
-use Rattle.ac_model.specs.Rows.{Entry}
+use Rattle.ac_model.specs.Rows.{Entry, Node}
 use Rattle.ac_model.specs.Objects.{Object, empty_object, length_of}
 use Rattle.ac_model.specs.Holders.{Holder, empty_holder}
 use Rattle.ac_model.specs.Letters.{Mark}
@@ -18,6 +18,7 @@ use Rattle.ac_model.specs.Calls.{Call, Look}
 use Rattle.ac_model.specs.Common.{under_guards}
 use Rattle.ac_model.specs.KeyedSets as by_key
 use Rattle.ac_model.specs.Cursors.{seen}
+use Rattle.ac_model.specs.Trees.{seen_in_tree}
 use Rattle.ac_syntax.specs.declared.kind.ElemKind.{ElemKind}
 use Rattle.ac_syntax.specs.declared.kind.ElemKind.TheVariants.{Integer, Str}
 use Rattle.ac_syntax.specs.declared.kind.Kind.{Kind}
@@ -26,7 +27,7 @@ use Rattle.ac_syntax.specs.declared.type_def.TypeDef.{TypeDef}
 use Rattle.ac_check.specs.declared.operation.Operation.{Operation}
 use Rattle.ac_check.specs.Kinds.{is_holder}
 use Rattle.ac_meaning.specs.Elements.{Tools, ElementOf, tools_of, Text, text_in, texts, keyed_texts}
-use Rattle.ac_meaning.specs.Replies.{Arguments, Source, seen_by, source_in, Reply, carried}
+use Rattle.ac_meaning.specs.Replies.{Arguments, Source, arguments_seen, source_in, Reply, carried}
 use Rattle.ac_meaning.specs.SequenceReplies.{OwnCalls, sequence_own}
 use Rattle.ac_meaning.specs.ListReplies.{list_reply}
 use Rattle.ac_meaning.specs.VectorReplies.{vector_reply}
@@ -34,6 +35,7 @@ use Rattle.ac_meaning.specs.KeyedReplies.{KeyedKind, of_hashed, of_ordered, orde
 use Rattle.ac_meaning.specs.KeyedSetReplies.{keyed_set_reply}
 use Rattle.ac_meaning.specs.MapReplies.{map_own, map_reply}
 use Rattle.ac_meaning.specs.SetReplies.{set_own, set_reply}
+use Rattle.ac_meaning.specs.TreeReplies.{tree_own, tree_reply}
 use Rattle.ac_meaning.specs.HolderReplies.{holder_source, holder_element, holder_write, holder_listing, holder_reply}
 
 -- the kinds whose objects are rows in an order that the program makes
@@ -48,6 +50,7 @@ pub data RowKind : Type 0 where
   a_set : KeyedKind → ElemKind → RowKind
   -- of texts with keys
   a_keyed_set : KeyedKind → RowKind
+  a_tree : ElemKind → RowKind
 
 -- what a row holds
 abbrev pub RowOf : RowKind → Type 0
@@ -55,6 +58,7 @@ RowOf (a_sequence _ e) = ElementOf e
 RowOf (a_map _ k e) = Entry (ElementOf k) (ElementOf e)
 RowOf (a_set _ e) = ElementOf e
 RowOf (a_keyed_set _) = Text
+RowOf (a_tree e) = Node (ElementOf e)
 
 -- of any kind
 pub data Held : Type 0 where
@@ -103,11 +107,24 @@ are_sets (a_sequence _ _) = false
 are_sets (a_map _ _ _) = false
 are_sets (a_set _ _) = true
 are_sets (a_keyed_set _) = true
+are_sets (a_tree _) = false
 
 -- a set has cursor guards alone
 abbrev pub is_a_set : Held → Bool
 is_a_set (of_rows kind o) = are_sets kind
 is_a_set (of_holder e h) = false
+
+-- trees have a root, at which something stands that is no element
+abbrev pub have_root : RowKind → Bool
+have_root (a_sequence _ _) = false
+have_root (a_map _ _ _) = false
+have_root (a_set _ _) = false
+have_root (a_keyed_set _) = false
+have_root (a_tree _) = true
+
+abbrev pub has_root : Held → Bool
+has_root (of_rows kind o) = have_root kind
+has_root (of_holder e h) = false
 
 -- Guards
 
@@ -188,6 +205,7 @@ same_kind (a_map which k e) (a_map other l f) =
     all_same (λ p q r i. a_map (r i) (p i) (q i)) (same_element k l) (same_element e f) (same_keyed which other)
 same_kind (a_set which e) (a_set other f) = both_same (λ p q i. a_set (q i) (p i)) (same_element e f) (same_keyed which other)
 same_kind (a_keyed_set which) (a_keyed_set other) = option_map (λ p i. a_keyed_set (p i)) (same_keyed which other)
+same_kind (a_tree e) (a_tree f) = option_map (λ p i. a_tree (p i)) (same_element e f)
 same_kind _ _ = None
 
 -- a held object as one of this kind
@@ -215,11 +233,21 @@ rows_reply (a_sequence which e) o source args operation = reply_by (tools_of e) 
 rows_reply (a_map which k e) o source args operation = map_reply (tools_of k) (tools_of e) o source args which operation
 rows_reply (a_set which e) o source args operation = set_reply (tools_of e) o source args which operation
 rows_reply (a_keyed_set which) o source args operation = keyed_set_reply o source args which operation
+rows_reply (a_tree e) o source args operation = tree_reply (tools_of e) o source args operation
+
+-- what a cursor is to an object: where it is a tree, something stands at the root too, though no row has it
+abbrev pub seen_by_root : {V : Type 0} → Bool → Object ℕ V → Mark → Mark
+seen_by_root false o c = seen o c
+seen_by_root true o c = seen_in_tree o c
+
+abbrev pub seen_in : {V : Type 0} → RowKind → Object ℕ V → Mark → Mark
+seen_in kind o c = seen_by_root (have_root kind) o c
 
 -- and of any kind, with the object among the arguments, if there is one
 abbrev pub reply_of : Held → Option Held → Operation → Arguments → Reply Held
 reply_of (of_rows kind o) source operation args =
-    carried (of_rows kind) (rows_reply kind o (source_in o (rows_in kind source) args) (seen_by o args) operation)
+    carried (of_rows kind)
+    (rows_reply kind o (source_in (seen_in kind) o (rows_in kind source) args) (arguments_seen (seen_in kind o) args) operation)
 reply_of (of_holder e h) source operation args =
     carried (of_holder e) (holder_reply (tools_of e) h (holder_source h (holder_in e source) args) args operation)
 
@@ -231,10 +259,11 @@ own_calls (a_sequence which e) o = sequence_own (tools_of e) o
 own_calls (a_map which k e) o = map_own (tools_of k) (tools_of e) which o
 own_calls (a_set which e) o = set_own (tools_of e) which o
 own_calls (a_keyed_set which) o = set_own keyed_texts which o
+own_calls (a_tree e) o = tree_own (tools_of e) o
 
 -- Element (C), as a value. A holder has one element, and no cursor designates it
 abbrev pub element_value : Held → Mark → Look (Option Value)
-element_value (of_rows kind o) c = (own_calls kind o).element (seen o c)
+element_value (of_rows kind o) c = (own_calls kind o).element (seen_in kind o c)
 element_value (of_holder e h) c = holder_element (tools_of e) h
 
 -- a write through a name that stands for an element
@@ -246,7 +275,7 @@ abbrev pub written : {S A : Type 0} → (S → Held) → Call S A → Written
 written hold c = record { reason = c.reason; after = hold c.after }
 
 abbrev pub write : Held → Mark → Value → Written
-write (of_rows kind o) c v = written (of_rows kind) ((own_calls kind o).write (seen o c) v)
+write (of_rows kind o) c v = written (of_rows kind) ((own_calls kind o).write (seen_in kind o c) v)
 write (of_holder e h) c v = written (of_holder e) (holder_write (tools_of e) h v)
 
 -- the text that Print answers
@@ -286,6 +315,7 @@ have_capacity (a_sequence which e) = is_vector which
 have_capacity (a_map which k e) = is_hashed which
 have_capacity (a_set which e) = is_hashed which
 have_capacity (a_keyed_set which) = is_hashed which
+have_capacity (a_tree e) = false
 
 abbrev pub element_or : ElemKind → Option ElemKind → ElemKind
 element_or first None = first
@@ -302,6 +332,7 @@ kind_by kinds.HashedMap first second keyed = a_map of_hashed first (element_or f
 kind_by kinds.OrderedMap first second keyed = a_map of_ordered first (element_or first second)
 kind_by kinds.HashedSet first second keyed = set_by of_hashed first keyed
 kind_by kinds.OrderedSet first second keyed = set_by of_ordered first keyed
+kind_by kinds.Tree first second keyed = a_tree first
 kind_by _ first second keyed = a_sequence of_list first
 
 -- a new object of the type, of this number and within this limit

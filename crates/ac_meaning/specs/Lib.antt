@@ -9,6 +9,7 @@ pub mod KeyedReplies
 pub mod MapReplies
 pub mod SetReplies
 pub mod KeyedSetReplies
+pub mod TreeReplies
 pub mod HolderReplies
 pub mod Holdings
 pub mod Environment
@@ -24,4 +25,5 @@ pub mod Numbers
 pub mod Laws
 pub mod Examples
 pub mod KeyedExamples
+pub mod TreeExamples
 pub mod HolderExamples

@@ -28,24 +28,33 @@ cursor_argument mark = record { cursor = mark; value = value.Int (pos 0); count 
 abbrev pub no_argument : Argument
 no_argument = cursor_argument start_left_out
 
--- the arguments of a call by their places, of which there are four at most
+-- the arguments of a call by their places. A fifth is a count
 pub record Arguments : Type 0 where
   pub first : Argument
   pub second : Argument
   pub third : Argument
   pub fourth : Argument
+  pub fifth : ℤ
 
--- an argument as an object sees it
+-- the arguments with their cursors as an object sees them, which is told by this function
+abbrev pub argument_seen : (Mark → Mark) → Argument → Argument
+argument_seen see argument = record argument { cursor = see argument.cursor }
+
+abbrev pub arguments_seen : (Mark → Mark) → Arguments → Arguments
+arguments_seen see args = record {
+  first = argument_seen see args.first;
+  second = argument_seen see args.second;
+  third = argument_seen see args.third;
+  fourth = argument_seen see args.fourth;
+  fifth = args.fifth;
+}
+
+-- as one sees them whose every element has a row
 abbrev pub seen_argument : {V : Type 0} → Object ℕ V → Argument → Argument
-seen_argument o argument = record argument { cursor = seen o argument.cursor }
+seen_argument o argument = argument_seen (seen o) argument
 
 abbrev pub seen_by : {V : Type 0} → Object ℕ V → Arguments → Arguments
-seen_by o args = record {
-  first = seen_argument o args.first;
-  second = seen_argument o args.second;
-  third = seen_argument o args.third;
-  fourth = seen_argument o args.fourth;
-}
+seen_by o args = arguments_seen (seen o) args
 
 -- the source of a call on an object of the kind S: there is none, it is the object itself, or another with the arguments as that one sees them
 pub data Source (S : Type 0) : Type 0 where
@@ -60,9 +69,9 @@ by_source itself own two = own
 by_source (another s seen_args) own two = two s seen_args
 
 -- where an object of its kind is named, it is the source
-abbrev pub source_in : {V : Type 0} → Object ℕ V → Option (Object ℕ V) → Arguments → Source (Object ℕ V)
-source_in o None args = without
-source_in o (Some s) args = if o.number == s.number then itself else another s (seen_by s args)
+abbrev pub source_in : {V : Type 0} → (Object ℕ V → Mark → Mark) → Object ℕ V → Option (Object ℕ V) → Arguments → Source (Object ℕ V)
+source_in see o None args = without
+source_in see o (Some s) args = if o.number == s.number then itself else another s (arguments_seen (see s) args)
 
 -- what the cursor variable at a place of the arguments is set to
 pub record Placed : Type 0 where

@@ -9,6 +9,9 @@ ghost use Rattle.ac_meaning.specs.KeyedExamples.{MapsKeepArrival, SetsStandAscen
 ghost use Rattle.ac_meaning.specs.KeyedExamples.{SetsMeetThemselves, KeysAreUpdated, KeysTellElements, KeysAreJoined, KeysAreReplaced};
 ghost use Rattle.ac_meaning.specs.KeyedExamples.{KeysAreLookedUp};
 ghost use Rattle.ac_meaning.specs.Examples.{MapIsListed, NoNodesAreListed, TreeIsListed, DeepTreeIsListed};
+ghost use Rattle.ac_meaning.specs.TreeExamples.{NodesComeAndGo, SubtreesAreCopied, NodesAreAsked, WaysLeadOn, NodesAreChanged};
+ghost use Rattle.ac_meaning.specs.TreeExamples.{SubtreesMove, TreesGiveAndTake, DepthsAreCompared, TreeLoopsHoldTheirGuards};
+ghost use Rattle.ac_meaning.specs.TreeExamples.{BoundedTreesAreFull, RootsAreNoNodes};
 ghost use Rattle.ac_meaning.specs.HolderExamples.{HolderIsBounded, ViewsGuardHolders, HoldersAreCompared, HoldersGiveAndTake};
 ghost use Rattle.ac_meaning.specs.HolderExamples.{LimitsAreOfBoth, WritesAreWithinLimits, IntegersHaveEightBytes, EmptyStringsHaveNone};
 ghost use Rattle.ac_meaning.specs.HolderExamples.{HoldersMeetThemselves, GuardsAreOfBoth, InnerHoldersAreNew, HoldersHaveNoNodes};
@@ -70,6 +73,25 @@ pub fn keyed_set_scripts()
     ensures keys_are_joined { KeysAreJoined }
     ensures keys_are_replaced { KeysAreReplaced }
     ensures keys_are_looked_up { KeysAreLookedUp }
+{}
+
+/// What small scripts with multiway trees write.
+pub fn tree_scripts()
+    ensures nodes_come_and_go { NodesComeAndGo }
+    ensures subtrees_are_copied { SubtreesAreCopied }
+    ensures depths_are_compared { DepthsAreCompared }
+    ensures tree_loops_hold_their_guards { TreeLoopsHoldTheirGuards }
+    ensures bounded_trees_are_full { BoundedTreesAreFull }
+    ensures roots_are_no_nodes { RootsAreNoNodes }
+{}
+
+/// The same of each call that scripts have on trees.
+pub fn tree_calls()
+    ensures nodes_are_asked { NodesAreAsked }
+    ensures ways_lead_on { WaysLeadOn }
+    ensures nodes_are_changed { NodesAreChanged }
+    ensures subtrees_move { SubtreesMove }
+    ensures trees_give_and_take { TreesGiveAndTake }
 {}
 
 /// What small scripts with holders write.
