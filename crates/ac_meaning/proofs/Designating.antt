@@ -1,6 +1,6 @@
 -- Which cursors designate elements: those of the object's number at a name of its rows, other than a tree's root. So they go on to while
 -- the number, the names and whether there is a root stay, whatever else the object has.
-use Rattle.std.proofs.Common.{◌≡◌, ◌==◌, ◌||◌, ◌&&◌, ◌++◌, ℕ, Bool, true, false, not, List, [], ◌∷◌, refl, sym, ap, subst, ◌∙◌, arith, Option, Some, None, if◌then◌else◌}
+use Rattle.std.proofs.Common.{◌≡◌, ◌==◌, ◌||◌, ◌&&◌, ℕ, Bool, true, false, not, List, [], ◌∷◌, refl, sym, ap, ◌∙◌, arith, Option, Some, None, if◌then◌else◌}
 use Rattle.std.proofs.lemmas.Bool.Decides.{nat_tests}
 use Rattle.std.specs.List.{list_any}
 use Rattle.ac_base.specs.declared.reason.Reason.{Reason}
@@ -9,7 +9,7 @@ use Rattle.ac_base.specs.FirstReason.{first_reason}
 use Rattle.ac_base.specs.Rows.{Row, names}
 use Rattle.ac_model.specs.Rows.{is_named}
 use Rattle.ac_model.specs.Objects.{Object}
-use Rattle.ac_model.specs.Letters.{Mark, no_mark, mark_at, stale_mark, reason_if, needs, judged_in}
+use Rattle.ac_model.specs.Letters.{Mark, no_mark, mark_at, stale_mark, reason_if, needs}
 use Rattle.ac_model.specs.Cursors.{seen}
 use Rattle.ac_model.specs.Trees.{seen_in_tree, needs_node, needs_element, is_root, view_reason}
 use Rattle.ac_meaning.specs.Holdings.{RowKind, a_sequence, a_map, a_set, a_keyed_set, a_tree, RowOf, have_root, seen_in, own_calls}
@@ -105,16 +105,16 @@ row_there o name false b e own there named = absurd (cc)
 node_there : {V : Type 0} (o : Object ℕ V) (name : ℕ) (t z b : Bool) → (o.number == o.number) ≡ t → t ≡ true → (name == 0) ≡ z → (name ≡ 0 → ⊥) →
     is_named o.rows name ≡ b → b ≡ true →
     view_reason o (if t && not (z || b) then stale_mark o.number else mark_at o.number name) ≡ None
-node_there o name true false true e own zero no there named = rw (e, zero, there) refl
-node_there o name true true b e own zero no there named = absurd (no (grind (arith, nat_tests)))
-node_there o name true false false e own zero no there named = absurd (cc)
-node_there o name false z b e own zero no there named = absurd (cc)
+node_there o name true false true e own zero other there named = rw (e, zero, there) refl
+node_there o name true true b e own zero other there named = absurd (other (grind (arith, nat_tests)))
+node_there o name true false false e own zero other there named = absurd (cc)
+node_there o name false z b e own zero other there named = absurd (cc)
 
 there : {V : Type 0} (rooted : Bool) (o : Object ℕ V) (name : ℕ) → is_named o.rows name ≡ true → (rooted ≡ true → name ≡ 0 → ⊥) →
     element_reason rooted o (mark_at o.number name) ≡ None
-there false o name named no = row_there o name (o.number == o.number) (is_named o.rows name) refl (same_number o.number) refl named
-there true o name named no =
-    node_there o name (o.number == o.number) (name == 0) (is_named o.rows name) refl (same_number o.number) refl (no refl) refl named
+there false o name named other = row_there o name (o.number == o.number) (is_named o.rows name) refl (same_number o.number) refl named
+there true o name named other =
+    node_there o name (o.number == o.number) (name == 0) (is_named o.rows name) refl (same_number o.number) refl (other refl) refl named
 
 pub designated : {V : Type 0} (rooted : Bool) (o : Object ℕ V) (at : Mark) → Designates rooted o at → element_reason rooted o at ≡ None
 designated rooted o at d = ap (element_reason rooted o) d.is ∙ there rooted o d.name d.named d.no_root

@@ -1,15 +1,20 @@
 -- An object with a guard stays in its place, with its names in their order.
-use Rattle.std.proofs.Common.{◌≡◌, ◌==◌, ◌||◌, ◌&&◌, ◌++◌, ℕ, Bool, true, false, List, [], ◌∷◌, length, refl, sym, ap, ◌∙◌, arith}
+use Rattle.std.proofs.Common.{◌≡◌, ◌==◌, ◌||◌, ◌&&◌, ◌++◌, ℕ, Bool, true, false, List, [], ◌∷◌, length, refl, sym, ap, ◌∙◌, arith, None}
 use Rattle.ac_base.specs.declared.reason.Reason.TheVariants.{NoElement}
+use Rattle.ac_base.specs.Rows.{Row, names}
+use Rattle.ac_model.specs.Letters.{Mark}
+use Rattle.ac_model.specs.Objects.{Object}
+use Rattle.ac_model.specs.Rows.{is_named}
 use Rattle.ac_syntax.specs.declared.view_kind.ViewKind.{ViewKind}
 use Rattle.ac_syntax.specs.declared.view_kind.ViewKind.TheVariants.{Query, Update, Reference, UpdateKey}
-use Rattle.ac_meaning.specs.Holdings.{Held, Guards, number_of, names_of, holds_element}
+use Rattle.ac_meaning.specs.Holdings.{RowKind, RowOf, have_root, Held, of_rows, of_holder, Guards, number_of, names_of, holds_element, has_root, element_value}
 use Rattle.ac_meaning.specs.Environment.{Bound, binds_type, binds_object, binds_cursor, binds_value, binds_element, object_in, State, bound_at, with_name, leaving}
 use Rattle.ac_meaning.specs.Execution.{exec_resolved, guards_of_loop, guards_of_view}
-use Rattle.ac_meaning.specs.GuardedNames.{is_guarded, is_element_guarded, Frame, of_type, of_object, of_cursor, of_value, of_element, names_if, frame, GuardedGoesOn, GuardedStays, ElementGoesOn, ElementsStay, ViewsGuardElements, BlocksGuard, TurnsKeepNames}
+use Rattle.ac_meaning.specs.GuardedNames.{is_guarded, is_element_guarded, Frame, of_type, of_object, of_cursor, of_value, of_element, names_if, frame, GuardedGoesOn, GuardedStays, DesignatedStays, ElementGoesOn, ElementsStay, ViewsGuardElements, BlocksGuard, TurnsKeepNames}
 use Rattle.ac_meaning.proofs.CallsStay.{none_some}
 use Rattle.ac_meaning.proofs.HoldersStay.{element_stands, stands_there}
 use Rattle.ac_meaning.proofs.BoundsStay.{object_there}
+use Rattle.ac_meaning.proofs.Designating.{element_reason, element_refused, Designates, designates, designated, designates_on}
 use Rattle.ac_meaning.proofs.Frames.{frame_stays, kept_back, number_in_frame}
 use Rattle.ac_meaning.proofs.ExecKeeps.{resolved_keeps}
 
@@ -51,6 +56,30 @@ guarded_stays code guards e place h there g =
     let now = (exec_resolved code guards e).after in
     goes_on h now place (bound_at now place) refl guards g
     (frame_stays guards e now place (resolved_keeps code guards e) ∙ ap (frame guards) (object_there (bound_at e place) h there))
+
+-- so an element that a cursor designates stands
+
+no_row : {V : Type 0} (rows : List (Row ℕ V)) (name : ℕ) → names rows ≡ [] → is_named rows name ≡ true → ⊥
+no_row [] name e there = cc
+no_row (r ∷ rows) name e there = cc
+
+designated_held : (kind : RowKind) (o : Object ℕ (RowOf kind)) (k : Held) (at : Mark) → number_of k ≡ o.number → has_root k ≡ have_root kind →
+    names_of k ≡ names o.rows → Designates (have_root kind) o at → (element_value k at).reason ≡ None
+designated_held kind o (of_rows other now) at number rooted same d =
+    element_refused other now at
+    ∙ (ap (λ r. element_reason r now at) rooted
+    ∙ designated (have_root kind) now at (designates_on (have_root kind) o now at number same d))
+designated_held kind o (of_holder e h) at number rooted same d = absurd (no_row o.rows d.name (sym same) d.named)
+
+pub designated_stays : DesignatedStays
+designated_stays code guards e place kind o at there g stands =
+    let on = guarded_stays code guards e place (of_rows kind o) there g in
+    record {
+      held = on.held;
+      there = on.there;
+      stands = designated_held kind o on.held at on.number on.rooted on.names
+          (designates (have_root kind) o at (sym (element_refused kind o at) ∙ stands));
+    }
 
 has_element_in_frame : Frame → Bool
 has_element_in_frame of_type = false

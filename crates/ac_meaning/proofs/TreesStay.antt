@@ -4,7 +4,7 @@ use Rattle.ac_base.specs.declared.reason.Reason.TheVariants.{RootSource, NotLeaf
 use Rattle.ac_base.specs.Rows.{Row, names}
 use Rattle.ac_model.specs.Rows.{Node, value_at}
 use Rattle.ac_model.specs.Objects.{Object}
-use Rattle.ac_model.specs.Letters.{Mark, name_of, tampers_cursors, reason_if}
+use Rattle.ac_model.specs.Letters.{name_of, tampers_cursors, reason_if}
 use Rattle.ac_model.specs.Outline.{is_in, is_in_subtree, run_of}
 use Rattle.ac_model.specs.Sequences.{room_for_copies}
 use Rattle.ac_model.specs.Trees.{needs_node, may_node, needs_element, child_or_none, is_root, is_leaf, child_depth, subtree_at_depth, run_at_depth, copied_rows, room_for_rows, element_of, with_element}

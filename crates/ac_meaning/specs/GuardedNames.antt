@@ -4,6 +4,7 @@ use Rattle.std.specs.List.{list_any}
 use Rattle.ac_base.specs.declared.guard.GuardKind.TheVariants as guard
 use Rattle.ac_base.specs.Guards.{HeldGuard}
 use Rattle.ac_model.specs.Holders.{Holder}
+use Rattle.ac_model.specs.Objects.{Object}
 use Rattle.ac_model.specs.Letters.{Mark}
 use Rattle.ac_syntax.specs.declared.kind.ElemKind.{ElemKind}
 use Rattle.ac_syntax.specs.Code.{Code}
@@ -12,7 +13,7 @@ use Rattle.ac_syntax.specs.declared.view_kind.ViewKind.TheVariants.{UpdateKey}
 use Rattle.ac_check.specs.Scopes.{Scope}
 use Rattle.ac_check.specs.Resolved.{ResolvedCode}
 use Rattle.ac_meaning.specs.Elements.{ElementOf}
-use Rattle.ac_meaning.specs.Holdings.{Held, of_holder, Guards, is_on, number_of, names_of, holds_element, has_root, element_value, held_under}
+use Rattle.ac_meaning.specs.Holdings.{RowKind, RowOf, Held, of_rows, of_holder, Guards, is_on, number_of, names_of, holds_element, has_root, element_value, held_under}
 use Rattle.ac_meaning.specs.Environment.{Bound, binds_type, binds_object, binds_cursor, binds_value, binds_element, State, under, object_at, with_name}
 use Rattle.ac_meaning.specs.Execution.{scoped, exec, exec_resolved, guards_of_loop, guards_of_stable, guards_of_view, head_reason}
 
@@ -64,6 +65,18 @@ pub record GuardedGoesOn (h : Held) (now : State) (place : ℕ) : Type 0 where
 abbrev pub GuardedStays : Type 0
 GuardedStays = (code : ResolvedCode) (guards : Guards) (e : State) (place : ℕ) (h : Held) →
     object_at e place ≡ Some h → is_guarded guards (number_of h) ≡ true → GuardedGoesOn h (exec_resolved code guards e).after place
+
+-- so a cursor that designates one of its elements goes on to
+pub record DesignatesOn (now : State) (place : ℕ) (at : Mark) : Type 0 where
+  pub held : Held
+  pub there : object_at now place ≡ Some held
+  pub stands : (element_value held at).reason ≡ None
+
+abbrev pub DesignatedStays : Type 0
+DesignatedStays = (code : ResolvedCode) (guards : Guards) (e : State) (place : ℕ) (kind : RowKind) (o : Object ℕ (RowOf kind)) (at : Mark) →
+    let h = of_rows kind o in
+    object_at e place ≡ Some h → is_guarded guards (number_of h) ≡ true → (element_value h at).reason ≡ None →
+    DesignatesOn (exec_resolved code guards e).after place at
 
 -- and a holder with an element has one while an element guard is held on it, so that a name that stands for it finds one
 pub record ElementGoesOn (h : Held) (now : State) (place : ℕ) : Type 0 where

@@ -1,5 +1,5 @@
 -- Worked rows: what scripts with multiway trees write, to the byte.
-use Rattle.std.specs.Prelude.{◌≡◌, ◌++◌, List, [], ◌∷◌, Bool, true, false, ℕ, Option, Some, None, codes}
+use Rattle.std.specs.Prelude.{◌≡◌, List, [], ◌∷◌, Bool, true, false, ℕ, Option, Some, None, codes}
 use Rattle.ac_syntax.specs.Code.{set_at, loop_at, view_at, stable_at, Code, stop, one, block}
 use Rattle.ac_syntax.specs.declared.arg.Arg.{Arg}
 use Rattle.ac_syntax.specs.declared.arg.Arg.TheVariants.{NoElement, Var}

@@ -2,8 +2,8 @@
 ghost use Rattle.ac_meaning.specs.Laws.{RunsResolved, ScriptRunsResolved, RepliesStay, CommandsStay};
 ghost use Rattle.ac_meaning.specs.Laws.{ObjectsGoOn, NamesStayInScope, RefusalsLeave};
 ghost use Rattle.ac_meaning.specs.Stays.{NamesComeAndGo};
-ghost use Rattle.ac_meaning.specs.GuardedNames.{ResolvedKeepsGuarded, KeepsGuarded, GuardedStays, BlocksGuard, TurnsKeepNames};
-ghost use Rattle.ac_meaning.specs.GuardedNames.{UpdatesAreAlone, ElementsStay, ViewsGuardElements};
+ghost use Rattle.ac_meaning.specs.GuardedNames.{ResolvedKeepsGuarded, KeepsGuarded, GuardedStays, DesignatedStays, BlocksGuard};
+ghost use Rattle.ac_meaning.specs.GuardedNames.{TurnsKeepNames, UpdatesAreAlone, ElementsStay, ViewsGuardElements};
 ghost use Rattle.ac_meaning.specs.Walks.{WalksInOrder};
 ghost use Rattle.ac_meaning.specs.FitsScope.{NamesFound, DeclaredFits, HeadsFit, GoesOnFitting};
 ghost use Rattle.ac_meaning.specs.Numbers.{NumbersTell, NumbersGoOnDiffering, NextRises};
@@ -39,11 +39,13 @@ pub fn counts_stay()
 
 /// While a guard is held on an object, no statement changes the names in its rows or their order, and each name in scope goes on to
 /// hold what it held: an object with its number, a cursor, a value, or the same element. A key is updated where no other guard is held
-/// on its set, whose element may go at the end. A holder keeps that it has an element while one is viewed.
+/// on its set, whose element may go at the end. So an element that a cursor designates stands, and a holder keeps that it has an
+/// element while one is viewed.
 pub fn guarded_names_stay()
     ensures resolved { ResolvedKeepsGuarded }
     ensures statements { KeepsGuarded }
     ensures objects { GuardedStays }
+    ensures designated { DesignatedStays }
     ensures blocks { BlocksGuard }
     ensures turns { TurnsKeepNames }
     ensures updates { UpdatesAreAlone }
