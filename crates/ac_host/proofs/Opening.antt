@@ -18,28 +18,24 @@ use Rattle.ac_model.proofs.Depths.{both_true}
 use Rattle.ac_model.proofs.Reasons.{none_others}
 use Rattle.ac_syntax.specs.declared.view_kind.ViewKind.{ViewKind}
 use Rattle.ac_syntax.specs.declared.view_kind.ViewKind.TheVariants.{Query, Update, Reference, UpdateKey}
-use Rattle.ac_meaning.specs.Holdings.{RowKind, RowOf, a_sequence, a_map, a_set, a_keyed_set, Held, of_rows, of_holder, Guards, number_of, names_of, holds_element, held_under, guard_on, element_value}
+use Rattle.ac_meaning.specs.Holdings.{RowKind, RowOf, a_sequence, a_map, a_set, a_keyed_set, a_tree, have_root, Held, of_rows, of_holder, Guards, number_of, names_of, has_root, holds_element, held_under, guard_on, element_value}
 use Rattle.ac_meaning.specs.Environment.{Bound, binds_value, binds_element, bound_by, State, under, object_at, with_name, leaving}
 use Rattle.ac_meaning.specs.Execution.{guards_of_loop, guards_of_stable, guards_of_view, head_reason, in_order}
 use Rattle.ac_meaning.specs.GuardedNames.{is_guarded, is_element_guarded, of_object, frame, kept}
 use Rattle.ac_meaning.specs.Walks.{first_mark}
 use Rattle.ac_meaning.specs.Numbers.{GuardsBelow}
 use Rattle.ac_meaning.proofs.CountsStay.{parts_under}
-use Rattle.ac_meaning.proofs.RowKinds.{element_needs}
+use Rattle.ac_meaning.proofs.Designating.{Designates, element_refused, designates}
 use Rattle.ac_meaning.proofs.GuardedGoesOn.{blocks_guard, views_guard_elements}
 use Rattle.ac_objects.specs.Blocks.{holding}
+use Rattle.ac_objects.specs.RootFree.{NoRootAmong}
 use Rattle.ac_objects.specs.World.{World, state_of}
 use Rattle.ac_host.specs.Ready.{IsNamed, IsKept, IsUnder}
 use Rattle.ac_host.specs.Running.{Turning}
 use Rattle.ac_host.proofs.Holding.{holding_under}
-use Rattle.ac_host.proofs.Standing.{Among, keeps_element, object_framed, below_held, kept_named, kept_longer, ready_more, ready_named, number_under, names_under, has_under}
+use Rattle.ac_host.proofs.Standing.{Among, keeps_element, object_framed, below_held, kept_named, kept_longer, ready_more, ready_named, number_under, names_under, root_under, has_under}
 
 -- A cursor that designates an element
-
-record Designates {V : Type 0} (o : Object ℕ V) (at : Mark) : Type 0 where
-  name : ℕ
-  among : Among (names o.rows) name
-  is : at ≡ mark_of_name o.number name
 
 among_rest : (first : ℕ) (all : List ℕ) (name : ℕ) → Among all name → Among (first ∷ all) name
 among_rest first all name a = record { before = first ∷ a.before; after = a.after; is = ap (λ l. first ∷ l) a.is }
@@ -52,40 +48,20 @@ named_among : {V : Type 0} (rows : List (Row ℕ V)) (name : ℕ) → is_named r
 named_among [] name e = absurd (cc)
 named_among (r ∷ rows) name e = named_either r.name name (names rows) (is_named rows name) (r.name == name) refl e (named_among rows name)
 
-some_found : (reason : Reason) → first_reason (Some reason ∷ []) ≡ None → ⊥
-some_found reason e = cc
+designated : (kind : RowKind) (o : Object ℕ (RowOf kind)) (at : Mark) → (element_value (of_rows kind o) at).reason ≡ None →
+    Designates (have_root kind) o at
+designated kind o at none = designates (have_root kind) o at (sym (element_refused kind o at) ∙ none)
 
-judged_not : (t : Bool) → first_reason ((if t then reason_if (not false) DeadCursor else Some ForeignCursor) ∷ []) ≡ None → ⊥
-judged_not true e = cc
-judged_not false e = cc
-
-foreign : (t there : Bool) → t ≡ false → first_reason ((if t then reason_if (not there) DeadCursor else Some ForeignCursor) ∷ []) ≡ None → ⊥
-foreign true there e none = absurd (cc)
-foreign false there e none = cc
-
-needed_at : {V : Type 0} (o : Object ℕ V) (number name : ℕ) (t b : Bool) → (number == o.number) ≡ t → is_named o.rows name ≡ b →
-    first_reason (needs o (if t && not b then stale_mark number else mark_of_name number name) ∷ []) ≡ None → (number ≡ o.number) × (b ≡ true)
-needed_at o number name true true e is none = let same : number ≡ o.number = grind (arith, nat_tests) in (same, refl)
-needed_at o number name true false e is none = absurd (judged_not (number == o.number) none)
-needed_at o number name false b e is none = absurd (foreign (number == o.number) (is_named o.rows name) e none)
-
-designated_in : {V : Type 0} (o : Object ℕ V) (at : Mark) → first_reason (needs o (seen o at) ∷ []) ≡ None → Designates o at
-designated_in o no_mark none = absurd (some_found NoElement none)
-designated_in o (stale_mark number) none = absurd (judged_not (number == o.number) none)
-designated_in o (mark_of_name number name) none =
-    let r = needed_at o number name (number == o.number) (is_named o.rows name) refl refl none in
-    record { name = name; among = named_among o.rows name r.1; is = ap (λ n. mark_of_name n name) r.0 }
-
-designated : (kind : RowKind) (o : Object ℕ (RowOf kind)) (at : Mark) → (element_value (of_rows kind o) at).reason ≡ None → Designates o at
-designated kind o at none = designated_in o at (sym (element_needs kind o (seen o at)) ∙ none)
-
-updates_designate : (kind : RowKind) (o : Object ℕ (RowOf kind)) (at : Mark) → head_reason UpdateKey (of_rows kind o) at ≡ None → Designates o at
-updates_designate (a_keyed_set which) o at none = designated_in o at (none_others (tampers_cursors o) (needs o (seen o at) ∷ []) none)
+updates_designate : (kind : RowKind) (o : Object ℕ (RowOf kind)) (at : Mark) → head_reason UpdateKey (of_rows kind o) at ≡ None →
+    Designates (have_root kind) o at
+updates_designate (a_keyed_set which) o at none = designates false o at (none_others (tampers_cursors o) (needs o (seen o at) ∷ []) none)
 updates_designate (a_sequence which e) o at none = absurd (none-some NoElement (sym none))
 updates_designate (a_map which k e) o at none = absurd (none-some NoElement (sym none))
 updates_designate (a_set which e) o at none = absurd (none-some NoElement (sym none))
+updates_designate (a_tree e) o at none = absurd (none-some NoElement (sym none))
 
-viewed_designates : (view : ViewKind) (kind : RowKind) (o : Object ℕ (RowOf kind)) (at : Mark) → head_reason view (of_rows kind o) at ≡ None → Designates o at
+viewed_designates : (view : ViewKind) (kind : RowKind) (o : Object ℕ (RowOf kind)) (at : Mark) → head_reason view (of_rows kind o) at ≡ None →
+    Designates (have_root kind) o at
 viewed_designates Query kind o at none = designated kind o at none
 viewed_designates Update kind o at none = designated kind o at none
 viewed_designates Reference kind o at none = designated kind o at none
@@ -93,15 +69,17 @@ viewed_designates UpdateKey kind o at none = updates_designate kind o at none
 
 -- what a view stands for is kept by its guard
 viewed_stands : (view : ViewKind) (h : Held) (at : Mark) (guards : Guards) → head_reason view h at ≡ None →
-    let held = guards_of_view view h ++ guards in IsNamed held (number_of h) (names_of h) at ⊎ (keeps_element held h ≡ true)
+    let held = guards_of_view view h ++ guards in IsNamed held (number_of h) (has_root h) (names_of h) at ⊎ (keeps_element held h ≡ true)
 viewed_stands view (of_rows kind o) at guards none =
     let d = viewed_designates view kind o at none in
+    let among = named_among o.rows d.name d.named in
     inl (record {
       guarded = blocks_guard.views view (of_rows kind o) guards;
-      before = d.among.before;
+      before = among.before;
       name = d.name;
-      after = d.among.after;
-      among = d.among.is;
+      after = among.after;
+      among = among.is;
+      no_root = d.no_root;
       is = d.is;
     })
 viewed_stands view (of_holder e h) at guards none =
@@ -124,14 +102,15 @@ found_under guards e place h there = go (object_at e place) refl (sym (parts_und
     go (Some k) is f = record { held = k; there = is; is = sym (same_Some (held_under guards k) h f) }
 
 object_there_kept : (guards more : Guards) (e : State) (place : ℕ) (h : Held) → object_at (under guards e) place ≡ Some h →
-    is_guarded more (number_of h) ≡ true → slice_get (kept more e) place ≡ Some (of_object (number_of h) (names_of h) (keeps_element more h))
+    is_guarded more (number_of h) ≡ true → slice_get (kept more e) place ≡ Some (of_object (number_of h) (has_root h) (names_of h) (keeps_element more h))
 object_there_kept guards more e place h there guarded =
     let f = found_under guards e place h there in
     let number : number_of h ≡ number_of f.held = ap number_of f.is ∙ number_under guards f.held in
     let all : names_of h ≡ names_of f.held = ap names_of f.is ∙ names_under guards f.held in
+    let rooted : has_root h ≡ has_root f.held = ap has_root f.is ∙ root_under guards f.held in
     let has : holds_element h ≡ holds_element f.held = ap holds_element f.is ∙ has_under guards f.held in
     object_framed more e place f.held f.there (ap (is_guarded more) (sym number) ∙ guarded)
-    ∙ sym (λ i. Some (of_object (number i) (all i) (has i && is_element_guarded more (number i))))
+    ∙ sym (λ i. Some (of_object (number i) (rooted i) (all i) (has i && is_element_guarded more (number i))))
 
 left_whole : (e : State) (count : ℕ) → count ≡ length e.bounds → leaving count e ≡ e
 left_whole e count is = ap (λ n. leaving n e) is ∙ (λ i. record e { bounds = take_all (length e.bounds) e.bounds (omega arith) i })
@@ -168,6 +147,7 @@ module _ (w : World) (guards : Guards) (e : State) (u : IsUnder w guards e) (pla
       let held = guards_of_view kind h ++ guards in
       record {
         number = number_of h;
+        rooted = has_root h;
         names = names_of h;
         has_element = keeps_element held h;
         there = object_there_kept guards held e place h found (blocks_guard.views kind h guards);
@@ -221,9 +201,10 @@ module _ (w : World) (guards : Guards) (e : State) (u : IsUnder w guards e) (pla
       (kept_longer held (kept held e) (frame held b ∷ []) place at (own_element UpdateKey at none))
 
   pub loop_begins : (elements backward : Bool) (coming : Mark) (now : World) (count : ℕ) → count ≡ length (state_of w).bounds →
-      coming ≡ first_mark (number_of h) (in_order backward (names_of h)) → state_of now ≡ holding (guards_of_loop elements h) (state_of w) →
+      coming ≡ first_mark (number_of h) (in_order backward (names_of h)) → NoRootAmong (names_of h) →
+      state_of now ≡ holding (guards_of_loop elements h) (state_of w) →
       Turning now count place backward coming (guards_of_loop elements h ++ guards) e (number_of h) (names_of h) (in_order backward (names_of h))
-  loop_begins elements backward coming now count many coming_is is =
+  loop_begins elements backward coming now count many coming_is no_root is =
       let more = guards_of_loop elements h in
       let as_many : count ≡ length e.bounds = many ∙ (ap (λ (s : State). length s.bounds) u.is ∙ length-map e.bounds _) in
       let guarded = blocks_guard.loops elements h guards in
@@ -235,8 +216,10 @@ module _ (w : World) (guards : Guards) (e : State) (u : IsUnder w guards e) (pla
             ∙ ap (under (more ++ guards)) (left_whole e count as_many));
         ready = ready_more more guards e (below_loop elements) u.ready;
         as_many = as_many;
+        rooted = has_root h;
         has_element = keeps_element (more ++ guards) h;
         there = object_there_kept guards (more ++ guards) e place h found guarded;
+        no_root = no_root;
         guarded = guarded;
         before = [];
         among = refl;

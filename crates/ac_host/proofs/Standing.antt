@@ -17,7 +17,7 @@ use Rattle.ac_model.specs.Cursors.{seen}
 use Rattle.ac_check.specs.Resolved.{ResolvedCode}
 use Rattle.ac_check.proofs.Apart.{and_parts}
 use Rattle.ac_model.proofs.Depths.{both_true}
-use Rattle.ac_meaning.specs.Holdings.{Held, of_rows, of_holder, Guards, is_on, held_on, number_of, names_of, holds_element, held_under, element_value, guard_on}
+use Rattle.ac_meaning.specs.Holdings.{Held, of_rows, of_holder, Guards, is_on, held_on, number_of, names_of, holds_element, has_root, have_root, held_under, element_value, guard_on}
 use Rattle.ac_meaning.specs.Environment.{Bound, binds_type, binds_object, binds_cursor, binds_value, binds_element, bound_by, bound_in, object_in, State, under, bound_at, object_at, with_name, leaving}
 use Rattle.ac_meaning.specs.Execution.{exec_resolved, in_order}
 use Rattle.ac_meaning.specs.GuardedNames.{is_guarded, is_element_guarded, Frame, of_type, of_object, of_cursor, of_value, of_element, names_if, frame, kept}
@@ -31,8 +31,9 @@ use Rattle.ac_meaning.proofs.HoldersStay.{element_stands}
 use Rattle.ac_meaning.proofs.NewObjects.{new_objects_are_unguarded}
 use Rattle.ac_meaning.proofs.NextRises.{next_rises}
 use Rattle.ac_meaning.proofs.NumbersApart.{numbers_go_on}
-use Rattle.ac_meaning.proofs.RowKinds.{element_needs}
+use Rattle.ac_meaning.proofs.Designating.{element_refused, designated}
 use Rattle.ac_meaning.proofs.Walks.{named_there, turned}
+use Rattle.ac_objects.specs.RootFree.{NoRootAmong}
 use Rattle.ac_objects.specs.Standing.{ElementStands, ElementsStand, keeping_guards}
 use Rattle.ac_objects.specs.World.{World, state_of}
 use Rattle.ac_host.specs.Ready.{IsNamed, IsKept, ElementsKept, Ready, IsReady}
@@ -40,33 +41,17 @@ use Rattle.ac_host.proofs.Holding.{object_by_there}
 
 -- An element that an object has
 
-seen_own : (b there : Bool) (number name : ℕ) → there ≡ true → (if b && not there then stale_mark number else mark_at number name) ≡ mark_at number name
-seen_own true true number name e = refl
-seen_own false there number name e = refl
-seen_own true false number name e = absurd (cc)
-
-judged_own : (number : ℕ) (there : Bool) → there ≡ true → first_reason (judged_in number number there ∷ []) ≡ None
-judged_own number there e = go (number == number) there (grind (arith, nat_tests)) e
-  where
-    go : (t b : Bool) → t ≡ true → b ≡ true → first_reason ((if t then reason_if (not b) DeadCursor else Some ForeignCursor) ∷ []) ≡ None
-    go true true h k = refl
-    go true false h k = absurd (cc)
-    go false b h k = absurd (cc)
-
-needed : {V : Type 0} (o : Object ℕ V) (name : ℕ) → is_named o.rows name ≡ true → first_reason (needs o (seen o (mark_at o.number name)) ∷ []) ≡ None
-needed o name there =
-    ap (λ m. first_reason (needs o m ∷ [])) (seen_own (o.number == o.number) (is_named o.rows name) o.number name there)
-    ∙ judged_own o.number (is_named o.rows name) there
-
 no_row : (before : List ℕ) (name : ℕ) (after : List ℕ) → [] ≡ before ++ name ∷ after → ⊥
 no_row [] name after e = cc
 no_row (x ∷ before) name after e = cc
 
 pub element_there : (h : Held) (before : List ℕ) (name : ℕ) (after : List ℕ) → names_of h ≡ before ++ name ∷ after →
-    (element_value h (mark_at (number_of h) name)).reason ≡ None
-element_there (of_rows kind o) before name after e =
-    element_needs kind o (seen o (mark_at o.number name)) ∙ needed o name (named_there o.rows before name after e)
-element_there (of_holder e h) before name after is = absurd (no_row before name after is)
+    (has_root h ≡ true → name ≡ 0 → ⊥) → (element_value h (mark_at (number_of h) name)).reason ≡ None
+element_there (of_rows kind o) before name after e other =
+    element_refused kind o (mark_at o.number name)
+    ∙ designated (have_root kind) o (mark_at o.number name)
+    (record { name = name; named = named_there o.rows before name after e; no_root = other; is = refl })
+element_there (of_holder e h) before name after is other = absurd (no_row before name after is)
 
 pub number_under : (guards : Guards) (h : Held) → number_of (held_under guards h) ≡ number_of h
 number_under guards (of_rows kind o) = refl
@@ -75,6 +60,10 @@ number_under guards (of_holder e h) = refl
 pub names_under : (guards : Guards) (h : Held) → names_of (held_under guards h) ≡ names_of h
 names_under guards (of_rows kind o) = refl
 names_under guards (of_holder e h) = refl
+
+pub root_under : (guards : Guards) (h : Held) → has_root (held_under guards h) ≡ has_root h
+root_under guards (of_rows kind o) = refl
+root_under guards (of_holder e h) = refl
 
 pub has_under : (guards : Guards) (h : Held) → holds_element (held_under guards h) ≡ holds_element h
 has_under guards (of_rows kind o) = refl
@@ -135,56 +124,65 @@ frame_there guards (x ∷ bs) (suc place) b e = frame_there guards bs place b e
 
 number_in : Frame → ℕ
 number_in of_type = 0
-number_in (of_object number names has_element) = number
+number_in (of_object number rooted names has_element) = number
 number_in of_cursor = 0
 number_in of_value = 0
 number_in (of_element object at) = 0
 
 names_in : Frame → List ℕ
 names_in of_type = []
-names_in (of_object number names has_element) = names
+names_in (of_object number rooted names has_element) = names
 names_in of_cursor = []
 names_in of_value = []
 names_in (of_element object at) = []
 
+rooted_in : Frame → Bool
+rooted_in of_type = false
+rooted_in (of_object number rooted names has_element) = rooted
+rooted_in of_cursor = false
+rooted_in of_value = false
+rooted_in (of_element object at) = false
+
 element_in : Frame → Bool
 element_in of_type = false
-element_in (of_object number names has_element) = has_element
+element_in (of_object number rooted names has_element) = has_element
 element_in of_cursor = false
 element_in of_value = false
 element_in (of_element object at) = false
 
 -- an object that has these names, where a guard is held on it, and whether it keeps an element
-pub record ObjectKept (guards : Guards) (e : State) (place number : ℕ) (all : List ℕ) (has_element : Bool) : Type 0 where
+pub record ObjectKept (guards : Guards) (e : State) (place number : ℕ) (rooted : Bool) (all : List ℕ) (has_element : Bool) : Type 0 where
   pub held : Held
   pub there : object_at e place ≡ Some held
   pub number_is : number_of held ≡ number
+  pub rooted_is : has_root held ≡ rooted
   pub names_are : is_guarded guards number ≡ true → names_of held ≡ all
   pub keeps : keeps_element guards held ≡ has_element
 
-framed_object : (guards : Guards) (e : State) (place number : ℕ) (all : List ℕ) (has : Bool) (b : Bound) → slice_get e.bounds place ≡ Some b →
-    frame guards b ≡ of_object number all has → ObjectKept guards e place number all has
-unfolding number_in names_in element_in
-framed_object guards e place number all has (binds_object h) there is =
+framed_object : (guards : Guards) (e : State) (place number : ℕ) (rooted : Bool) (all : List ℕ) (has : Bool) (b : Bound) → slice_get e.bounds place ≡ Some b →
+    frame guards b ≡ of_object number rooted all has → ObjectKept guards e place number rooted all has
+unfolding number_in rooted_in names_in element_in
+framed_object guards e place number rooted all has (binds_object h) there is =
     let n : number_of h ≡ number = ap number_in is in
     record {
       held = h;
       there = ap (λ o. object_in (bound_in o)) there;
       number_is = n;
+      rooted_is = ap rooted_in is;
       names_are = λ g.
           let own : is_guarded guards (number_of h) ≡ true = ap (is_guarded guards) n ∙ g in
           sym (ap (λ t. names_if t (names_of h)) own) ∙ ap names_in is;
       keeps = ap element_in is;
     }
-framed_object guards e place number all has binds_type there is = absurd (cc)
-framed_object guards e place number all has (binds_cursor mark) there is = absurd (cc)
-framed_object guards e place number all has (binds_value v) there is = absurd (cc)
-framed_object guards e place number all has (binds_element object at) there is = absurd (cc)
+framed_object guards e place number rooted all has binds_type there is = absurd (cc)
+framed_object guards e place number rooted all has (binds_cursor mark) there is = absurd (cc)
+framed_object guards e place number rooted all has (binds_value v) there is = absurd (cc)
+framed_object guards e place number rooted all has (binds_element object at) there is = absurd (cc)
 
-pub kept_object : (guards : Guards) (e : State) (place number : ℕ) (all : List ℕ) (has : Bool) →
-    slice_get (kept guards e) place ≡ Some (of_object number all has) → ObjectKept guards e place number all has
-kept_object guards e place number all has there =
-    let f = framed guards e.bounds place (of_object number all has) there in framed_object guards e place number all has f.bound f.there f.is
+pub kept_object : (guards : Guards) (e : State) (place number : ℕ) (rooted : Bool) (all : List ℕ) (has : Bool) →
+    slice_get (kept guards e) place ≡ Some (of_object number rooted all has) → ObjectKept guards e place number rooted all has
+kept_object guards e place number rooted all has there =
+    let f = framed guards e.bounds place (of_object number rooted all has) there in framed_object guards e place number rooted all has f.bound f.there f.is
 
 pub bound_found : (bs : List Bound) (place : ℕ) (b : Bound) → bound_in (slice_get bs place) ≡ b → (b ≡ binds_type → ⊥) → slice_get bs place ≡ Some b
 bound_found [] place b e other = absurd (other (sym e))
@@ -204,10 +202,10 @@ any_framed guards e place h there =
     (bound_found e.bounds place (binds_object h) (object_there (bound_at e place) h there) (no_type_object h))
 
 pub object_framed : (guards : Guards) (e : State) (place : ℕ) (h : Held) → object_at e place ≡ Some h → is_guarded guards (number_of h) ≡ true →
-    slice_get (kept guards e) place ≡ Some (of_object (number_of h) (names_of h) (keeps_element guards h))
+    slice_get (kept guards e) place ≡ Some (of_object (number_of h) (has_root h) (names_of h) (keeps_element guards h))
 object_framed guards e place h there guarded =
     any_framed guards e place h there
-    ∙ ap (λ t. Some (of_object (number_of h) (names_if t (names_of h)) (keeps_element guards h))) guarded
+    ∙ ap (λ t. Some (of_object (number_of h) (has_root h) (names_if t (names_of h)) (keeps_element guards h))) guarded
 
 element_framed : (guards : Guards) (e : State) (place object : ℕ) (at : Mark) → bound_at e place ≡ binds_element object at →
     slice_get (kept guards e) place ≡ Some (of_element object at)
@@ -230,8 +228,9 @@ element_by f (binds_value v) object at is = absurd (cc)
 
 -- so an element that is kept stands, while the guards are held
 
-module _ (guards : Guards) (e : State) (object : ℕ) (at : Mark) (number : ℕ) (all : List ℕ) (has : Bool) (o : ObjectKept guards e object number all has) where
-  named_stands : IsNamed guards number all at → ElementStands (under guards e) object at
+module _ (guards : Guards) (e : State) (object : ℕ) (at : Mark) (number : ℕ) (rooted : Bool) (all : List ℕ) (has : Bool)
+    (o : ObjectKept guards e object number rooted all has) where
+  named_stands : IsNamed guards number rooted all at → ElementStands (under guards e) object at
   named_stands k =
       let h = held_under guards o.held in
       let same : number_of h ≡ number = number_under guards o.held ∙ o.number_is in
@@ -240,7 +239,9 @@ module _ (guards : Guards) (e : State) (object : ℕ) (at : Mark) (number : ℕ)
       record {
         held = h;
         there = object_by_there (held_under guards) e object o.held o.there;
-        stands = ap (λ m. (element_value h m).reason) is ∙ element_there h k.before k.name k.after among;
+        stands =
+            ap (λ m. (element_value h m).reason) is
+            ∙ element_there h k.before k.name k.after among (λ t. k.no_root (sym (root_under guards o.held ∙ o.rooted_is) ∙ t));
         guarded =
             guarded_counts guards o.held k.before k.name k.after (ap (is_guarded guards) o.number_is ∙ k.guarded) (o.names_are k.guarded ∙ k.among);
       }
@@ -258,12 +259,12 @@ module _ (guards : Guards) (e : State) (object : ℕ) (at : Mark) (number : ℕ)
 pub kept_stands : (guards : Guards) (e : State) (object : ℕ) (at : Mark) → IsKept guards (kept guards e) object at → ElementStands (under guards e) object at
 kept_stands guards e object at k = go k.stands
   where
-    o : ObjectKept guards e object k.number k.names k.has_element
-    o = kept_object guards e object k.number k.names k.has_element k.there
+    o : ObjectKept guards e object k.number k.rooted k.names k.has_element
+    o = kept_object guards e object k.number k.rooted k.names k.has_element k.there
 
-    go : IsNamed guards k.number k.names at ⊎ (k.has_element ≡ true) → ElementStands (under guards e) object at
-    go (inl named) = named_stands guards e object at k.number k.names k.has_element o named
-    go (inr own) = own_stands guards e object at k.number k.names k.has_element o own
+    go : IsNamed guards k.number k.rooted k.names at ⊎ (k.has_element ≡ true) → ElementStands (under guards e) object at
+    go (inl named) = named_stands guards e object at k.number k.rooted k.names k.has_element o named
+    go (inr own) = own_stands guards e object at k.number k.rooted k.names k.has_element o own
 
 pub elements_stand : (guards : Guards) (e : State) → Ready guards e → ElementsStand (under guards e)
 elements_stand guards e r place object at is =
@@ -295,14 +296,15 @@ kept_more more guards e object at k = go k.stands
     all : Guards
     all = more ++ guards
 
-    o : ObjectKept guards e object k.number k.names k.has_element
-    o = kept_object guards e object k.number k.names k.has_element k.there
+    o : ObjectKept guards e object k.number k.rooted k.names k.has_element
+    o = kept_object guards e object k.number k.rooted k.names k.has_element k.there
 
-    named : IsNamed guards k.number k.names at → IsKept all (kept all e) object at
+    named : IsNamed guards k.number k.rooted k.names at → IsKept all (kept all e) object at
     named n =
         let own : is_guarded all (number_of o.held) ≡ true = ap (is_guarded all) o.number_is ∙ guarded_more more guards k.number n.guarded in
         record {
           number = number_of o.held;
+          rooted = has_root o.held;
           names = names_of o.held;
           has_element = keeps_element all o.held;
           there = object_framed all e object o.held o.there own;
@@ -312,14 +314,16 @@ kept_more more guards e object at k = go k.stands
             name = n.name;
             after = n.after;
             among = o.names_are n.guarded ∙ n.among;
+            no_root = λ t. n.no_root (sym o.rooted_is ∙ t);
             is = n.is ∙ ap (λ m. mark_at m n.name) (sym o.number_is);
           });
         }
 
-    go : IsNamed guards k.number k.names at ⊎ (k.has_element ≡ true) → IsKept all (kept all e) object at
+    go : IsNamed guards k.number k.rooted k.names at ⊎ (k.has_element ≡ true) → IsKept all (kept all e) object at
     go (inl n) = named n
     go (inr own) = record {
       number = number_of o.held;
+      rooted = has_root o.held;
       names = names_if (is_guarded all (number_of o.held)) (names_of o.held);
       has_element = keeps_element all o.held;
       there = any_framed all e object o.held o.there;
@@ -349,15 +353,24 @@ among_order false all before name after e = record { before = before; after = af
 among_order true all before name after e = record { before = reverse after; after = reverse before; is = turned all before name after e }
 
 -- an object at a place is kept there with each of its names
-pub kept_at : (guards : Guards) (frames : List Frame) (place number : ℕ) (all : List ℕ) (has : Bool) (name : ℕ) →
-    slice_get frames place ≡ Some (of_object number all has) → is_guarded guards number ≡ true → Among all name →
+pub kept_at : (guards : Guards) (frames : List Frame) (place number : ℕ) (rooted : Bool) (all : List ℕ) (has : Bool) (name : ℕ) →
+    slice_get frames place ≡ Some (of_object number rooted all has) → is_guarded guards number ≡ true → Among all name → NoRootAmong all →
     IsKept guards frames place (mark_at number name)
-kept_at guards frames place number all has name there guarded among = record {
+kept_at guards frames place number rooted all has name there guarded among none = record {
   number = number;
+  rooted = rooted;
   names = all;
   has_element = has;
   there = there;
-  stands = inl (record { guarded = guarded; before = among.before; name = name; after = among.after; among = among.is; is = refl });
+  stands = inl (record {
+    guarded = guarded;
+    before = among.before;
+    name = name;
+    after = among.after;
+    among = among.is;
+    no_root = λ _. none among.before name among.after among.is;
+    is = refl;
+  });
 }
 
 pub longer : {A : Type 0} (xs ys : List A) (place : ℕ) (x : A) → slice_get xs place ≡ Some x → slice_get (xs ++ ys) place ≡ Some x
@@ -374,9 +387,10 @@ last_or_before (z ∷ xs) y (suc place) x e = last_or_before xs y place x e
 pub kept_longer : (guards : Guards) (frames more : List Frame) (object : ℕ) (at : Mark) → IsKept guards frames object at → IsKept guards (frames ++ more) object at
 kept_longer guards frames more object at k = record {
   number = k.number;
+  rooted = k.rooted;
   names = k.names;
   has_element = k.has_element;
-  there = longer frames more object (of_object k.number k.names k.has_element) k.there;
+  there = longer frames more object (of_object k.number k.rooted k.names k.has_element) k.there;
   stands = k.stands;
 }
 

@@ -36,7 +36,7 @@ module _ {w : World} {count object : ℕ} {backward : Bool} {coming : Mark} {gua
     (t : Turning w count object backward coming guards e number all names) where
   pub turning_inner : object < count
   turning_inner =
-      let n = slice_get_within (kept guards e) object (of_object number all t.has_element) t.there in
+      let n = slice_get_within (kept guards e) object (of_object number t.rooted all t.has_element) t.there in
       omega (arith, n, length-map e.bounds (frame guards), t.as_many)
 
   pub turning_names : count ≤ length (state_of w).bounds
@@ -45,8 +45,8 @@ module _ {w : World} {count object : ℕ} {backward : Bool} {coming : Mark} {gua
       ap (λ (s : State). length s.bounds) t.is ∙ length-map e.bounds _ in
       omega (arith, n, t.as_many, length-take count (state_of w).bounds)
 
-  abbrev pub found : ObjectKept guards e object number all t.has_element
-  found = kept_object guards e object number all t.has_element t.there
+  abbrev pub found : ObjectKept guards e object number t.rooted all t.has_element
+  found = kept_object guards e object number t.rooted all t.has_element t.there
 
   abbrev pub held : Held
   held = held_under guards found.held
@@ -81,7 +81,7 @@ module _ {w : World} {count object : ℕ} {backward : Bool} {coming : Mark} {gua
             there = turning_there;
             stands =
                 ap (λ m. (element_value held m).reason) (turning_coming name rest e ∙ ap (λ n. mark_at n name) (sym turning_number))
-                ∙ element_there held a.before name a.after (turning_all ∙ a.is);
+                ∙ element_there held a.before name a.after (turning_all ∙ a.is) (λ _. t.no_root a.before name a.after a.is);
           })
 
   -- at no element there is no name to come
@@ -124,7 +124,7 @@ module _ {w : World} {count object : ℕ} {backward : Bool} {coming : Mark} {gua
           let m : mark ≡ at = cc in
           subst (λ x. IsKept guards (kept guards e) other x) m
           (subst (λ x. IsKept guards (kept guards e) x mark) p
-          (kept_at guards (kept guards e) object number all t.has_element name t.there t.guarded (next_among name rest is)))
+          (kept_at guards (kept guards e) object number t.rooted all t.has_element name t.there t.guarded (next_among name rest is) t.no_root))
 
   pub turn_ends : (code : ResolvedCode) (b : Bound) (name : ℕ) (rest : List ℕ) (now : World) (next : Mark) → names ≡ name ∷ rest →
       Ready guards (with_name e b) → state_of now ≡ under guards (exec_resolved code guards (with_name e b)).after → next ≡ first_mark number rest →
@@ -138,8 +138,10 @@ module _ {w : World} {count object : ℕ} {backward : Bool} {coming : Mark} {gua
         is = ap (leaving count) ended ∙ (ap (λ n. leaving n (under guards after)) t.as_many ∙ sym (parts_under.left guards (length e.bounds) after));
         ready = ready_back guards e after b same t.ready (ready_exec code guards (with_name e b) begun);
         as_many = t.as_many ∙ sym (many_kept guards e left back);
+        rooted = t.rooted;
         has_element = t.has_element;
         there = ap (λ l. slice_get l object) back ∙ t.there;
+        no_root = t.no_root;
         guarded = t.guarded;
         before = t.before ++ name ∷ [];
         among = t.among ∙ (ap (λ l. t.before ++ l) is ∙ sym (append_assoc t.before (name ∷ []) rest));

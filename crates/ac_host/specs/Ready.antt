@@ -7,23 +7,25 @@ use Rattle.ac_meaning.specs.GuardedNames.{is_guarded, Frame, of_object, of_eleme
 use Rattle.ac_meaning.specs.Numbers.{NumbersDiffer, GuardsBelow}
 use Rattle.ac_objects.specs.World.{World, state_of}
 
--- an element in the rows of an object with a guard
-pub record IsNamed (guards : Guards) (number : ℕ) (names : List ℕ) (at : Mark) : Type 0 where
+-- an element in the rows of an object with a guard, and not its root
+pub record IsNamed (guards : Guards) (number : ℕ) (rooted : Bool) (names : List ℕ) (at : Mark) : Type 0 where
   pub guarded : is_guarded guards number ≡ true
   pub before : List ℕ
   pub name : ℕ
   pub after : List ℕ
   pub among : names ≡ before ++ name ∷ after
+  pub no_root : rooted ≡ true → name ≡ 0 → ⊥
   pub is : at ≡ mark_at number name
 
 -- an element of an object with a guard, by what stays of the names in scope while the guards are held: one of its rows, or a holder's,
 -- which needs no mark
 pub record IsKept (guards : Guards) (frames : List Frame) (object : ℕ) (at : Mark) : Type 0 where
   pub number : ℕ
+  pub rooted : Bool
   pub names : List ℕ
   pub has_element : Bool
-  pub there : slice_get frames object ≡ Some (of_object number names has_element)
-  pub stands : IsNamed guards number names at ⊎ (has_element ≡ true)
+  pub there : slice_get frames object ≡ Some (of_object number rooted names has_element)
+  pub stands : IsNamed guards number rooted names at ⊎ (has_element ≡ true)
 
 -- so is each for which a name stands
 abbrev pub ElementsKept : Guards → List Frame → Type 0

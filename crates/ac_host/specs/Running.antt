@@ -13,6 +13,7 @@ use Rattle.ac_meaning.specs.GuardedNames.{is_guarded, of_object, kept}
 use Rattle.ac_meaning.specs.Walks.{first_mark}
 use Rattle.ac_objects.specs.declared.blocks.UpdateKey.{UpdateKey}
 use Rattle.ac_objects.specs.Blocks.{guards_of_update_key, IsHeldAt}
+use Rattle.ac_objects.specs.RootFree.{NoRootAmong}
 use Rattle.ac_objects.specs.Standing.{counts_of}
 use Rattle.ac_objects.specs.World.{World, state_of, IsKnown, Persists}
 use Rattle.ac_host.specs.declared.end.HostEnd.{HostEnd}
@@ -55,8 +56,10 @@ pub record Turning (w : World) (count object : ℕ) (backward : Bool) (coming : 
   pub is : leaving count (state_of w) ≡ under guards e
   pub ready : Ready guards e
   pub as_many : count ≡ length e.bounds
+  pub rooted : Bool
   pub has_element : Bool
-  pub there : slice_get (kept guards e) object ≡ Some (of_object number all has_element)
+  pub there : slice_get (kept guards e) object ≡ Some (of_object number rooted all has_element)
+  pub no_root : NoRootAmong all
   pub guarded : is_guarded guards number ≡ true
   pub before : List ℕ
   pub among : in_order backward all ≡ before ++ names

@@ -15,12 +15,13 @@ use Rattle.ac_model.specs.Letters.{Mark, is_among, is_same_name}
 use Rattle.ac_model.specs.Objects.{Object, IsValid, plain, plain_row, times}
 use Rattle.ac_model.specs.Calls.{Done, IsAfter}
 use Rattle.ac_model.specs.Containers.{Container}
-use Rattle.ac_model.specs.Cursors.{Agrees, IsNamed, mark, plain_mark}
-use Rattle.ac_model.proofs.Unslotted.{agreement_kept, seen_marks}
+use Rattle.ac_model.specs.Cursors.{IsNamed, plain_mark}
+use Rattle.ac_model.specs.Trees.{root_name}
+use Rattle.ac_model.proofs.Unslotted.{tree_agreement_kept}
 use Rattle.ac_check.specs.declared.operation.Operation.{Operation}
 use Rattle.ac_meaning.specs.Answers.{answers_list}
-use Rattle.ac_meaning.specs.Holdings.{RowKind, RowOf, Held, of_rows, of_holder, number_of, rows_in, own_calls, listing_of, Written, written, write, rows_reply, reply_of}
-use Rattle.ac_meaning.specs.Replies.{itself, another, seen_by, source_in, carried}
+use Rattle.ac_meaning.specs.Holdings.{RowKind, RowOf, Held, of_rows, of_holder, number_of, rows_in, have_root, seen_in, own_calls, listing_of, Written, written, write, rows_reply, reply_of}
+use Rattle.ac_meaning.specs.Replies.{itself, another, arguments_seen, source_in, carried}
 use Rattle.ac_meaning.specs.Replies as replies
 use Rattle.ac_meaning.specs.Stays.{Stays}
 use Rattle.ac_meaning.proofs.CommandsStay.{own_write_stays, rows_stay, rows_found}
@@ -30,17 +31,20 @@ use Rattle.ac_objects.specs.declared.reply.Said.{Said}
 use Rattle.ac_objects.specs.declared.reply.Said.TheVariants as said
 use Rattle.ac_objects.specs.declared.reply.Placed.{Placed}
 use Rattle.ac_objects.specs.declared.reply.Reply.{Reply}
+use Rattle.ac_objects.specs.Arguments.{SlotAgrees, mark_in}
 use Rattle.ac_objects.specs.Called.{IsFound, Tells, Places, HeldAfter, Called, CalledWith, Lasts, RowsLast, AreValid, WritesTo, WritesIn}
-use Rattle.ac_objects.specs.Replied.{IsOwnCursor, Says, SetsVariable, SourceAfter, Replied, RepliedWith}
+use Rattle.ac_objects.specs.Replied.{IsOwnName, IsOwnCursor, Says, SetsVariable, SourceAfter, Replied, RepliedWith}
 use Rattle.ac_objects.specs.Standing.{counts_in_held}
 use Rattle.ac_objects.specs.World.{in_rows, memory_of, held_in, held_of, AgreesIn, ObjectAgrees}
+use Rattle.ac_objects.proofs.Given.{no_root}
+use Rattle.ac_objects.proofs.Made.{seen_marks_by}
 use Rattle.ac_objects.proofs.Sources.{rows_alone, if_false, listed}
 
 -- what lasts of rows through a call that was made
 made_lasts : {V : Type 0} (old new : Container V) (after : Object ℕ V) (reason : Option Reason) → IsValid (plain old.object) →
     IsAfter old.object new.object after → Stays (plain old.object) reason after → RowsLast old new
 made_lasts old new after reason valid is stays = record {
-  cursors = λ c agrees. agreement_kept old.object new.object after c valid agrees is stays.number stays.next;
+  cursors = λ c agrees. tree_agreement_kept old.object new.object after c valid agrees is stays.number stays.next;
   counts = λ i. record {
     number = (ap (λ (o : Object ℕ _). o.number) is.plainly ∙ stays.number) i;
     cursor_guards = (ap (λ (o : Object ℕ _). o.cursor_guards) is.plainly ∙ stays.cursor_guards) i;
@@ -78,13 +82,30 @@ among_counts a (r ∷ rows) h =
 below_next : (next serial count : ℕ) → 1 ≤ count → (next ≤ serial → count ≡ 0) → serial < next
 below_next next serial count h k = grind (arith)
 
-own_agrees : {V : Type 0} (l : Container V) (object : ℕ) (name : Name) → IsValid (plain l.object) → IsNamed l.object name →
-    Agrees l.object (At object name)
-own_agrees l object name valid named e = record {
-  given = below_next l.object.next name.serial (times name.serial (plain l.object).rows) (among_counts name l.object.rows named)
-      (valid.names_below_next name.serial);
-  slot = λ _. named;
-}
+named_agrees : {V : Type 0} (l : Container V) (object : ℕ) (name : Name) → IsValid (plain l.object) → IsNamed l.object name →
+    SlotAgrees l.object (At object name)
+named_agrees l object name valid named e =
+    let counts = among_counts name l.object.rows named in (
+      λ zero. absurd (omega (arith, subst (λ n. 1 ≤ times n (plain l.object).rows) zero counts, valid.names_from_one)),
+      record {
+        given = below_next l.object.next name.serial (times name.serial (plain l.object).rows) counts (valid.names_below_next name.serial);
+        slot = λ _. named;
+      },
+    )
+
+root_agrees : {V : Type 0} (l : Container V) (object : ℕ) → IsValid (plain l.object) → SlotAgrees l.object (At object root_name)
+root_agrees l object valid e = (
+  λ _. refl,
+  record {
+    given = omega (arith, valid.next_from_one);
+    slot = λ named. absurd (no_root (plain l.object) 0 valid named refl);
+  },
+)
+
+own_agrees : {V : Type 0} (l : Container V) (object : ℕ) (name : Name) → IsValid (plain l.object) → IsOwnName l.object name →
+    SlotAgrees l.object (At object name)
+own_agrees l object name valid (inl named) = named_agrees l object name valid named
+own_agrees l object name valid (inr is) = subst (λ n. SlotAgrees l.object (At object n)) (sym is) (root_agrees l object valid)
 
 -- rows of a kind, as an object of a script
 module _ (kind : RowKind) where
@@ -171,24 +192,24 @@ module _ (kind : RowKind) where
   -- without a source, or with itself
 
   abbrev pub OwnReply : Container (RowOf kind) → Operation → replies.Arguments → replies.Reply (Object ℕ (RowOf kind))
-  OwnReply old op a = let o = plain old.object in rows_reply kind o itself (seen_by o a) op
+  OwnReply old op a = let o = plain old.object in rows_reply kind o itself (arguments_seen (seen_in kind o) a) op
 
   own_reply : (o : Object ℕ (RowOf kind)) (op : Operation) (a : replies.Arguments) →
-      reply_of (of_rows kind o) None op a ≡ carried (of_rows kind) (rows_reply kind o itself (seen_by o a) op)
-  own_reply o op a = ap (carried (of_rows kind)) (rows_alone kind o op (seen_by o a))
+      reply_of (of_rows kind o) None op a ≡ carried (of_rows kind) (rows_reply kind o itself (arguments_seen (seen_in kind o) a) op)
+  own_reply o op a = ap (carried (of_rows kind)) (rows_alone kind o op (arguments_seen (seen_in kind o) a))
 
   pub own_called : (old new : Container (RowOf kind)) (w v : AnyObject) (op : Operation) (a : replies.Arguments) (result : Result Reply Fault) →
       memory_of w ≡ in_rows kind old → memory_of v ≡ in_rows kind new → (new ≡ old → v ≡ w) → AreValid old new →
       Replied (OwnReply old op a) old new result → Called (reply_of (held_of w) None op a) w v result
   own_called old new w v op a result is now same valid h =
       subst (λ r. Called r w v result) (sym (ap (λ m. reply_of (held_in m) None op a) is ∙ own_reply (plain old.object) op a))
-      (called old new w v (OwnReply old op a) result now same valid.1 (is_listing (plain old.object) itself (seen_by (plain old.object) a) op) h)
+      (called old new w v (OwnReply old op a) result now same valid.1 (is_listing (plain old.object) itself (arguments_seen (seen_in kind (plain old.object)) a) op) h)
 
   own_rows_last : (old new : Container (RowOf kind)) (op : Operation) (a : replies.Arguments) (result : Result Reply Fault) → AreValid old new →
       Replied (OwnReply old op a) old new result → RowsLast old new
   own_rows_last old new op a result valid h =
       let o = plain old.object in
-      replied_lasts old new (OwnReply old op a) result valid.0 (rows_stay kind o itself (seen_by o a) op).target h
+      replied_lasts old new (OwnReply old op a) result valid.0 (rows_stay kind o itself (arguments_seen (seen_in kind o) a) op).target h
 
   pub own_lasts : (old new : Container (RowOf kind)) (w v : AnyObject) (op : Operation) (a : replies.Arguments) (result : Result Reply Fault) →
       memory_of w ≡ in_rows kind old → memory_of v ≡ in_rows kind new → AreValid old new → Replied (OwnReply old op a) old new result → Lasts w v
@@ -198,16 +219,16 @@ module _ (kind : RowKind) where
 
   abbrev pub PairReply : (old source : Container (RowOf kind)) → Operation → replies.Arguments → replies.Reply (Object ℕ (RowOf kind))
   PairReply old source op a =
-      let o = plain old.object in let s = plain source.object in rows_reply kind o (another s (seen_by s a)) (seen_by o a) op
+      let o = plain old.object in let s = plain source.object in rows_reply kind o (another s (arguments_seen (seen_in kind s) a)) (arguments_seen (seen_in kind o) a) op
 
-  apart : (o s : Object ℕ (RowOf kind)) (a : replies.Arguments) → (o.number ≡ s.number → ⊥) → source_in o (Some s) a ≡ another s (seen_by s a)
-  apart o s a differ = if_false itself (another s (seen_by s a)) (o.number == s.number) (ne_eqb o.number s.number differ)
+  apart : (o s : Object ℕ (RowOf kind)) (a : replies.Arguments) → (o.number ≡ s.number → ⊥) → source_in (seen_in kind) o (Some s) a ≡ another s (arguments_seen (seen_in kind s) a)
+  apart o s a differ = if_false itself (another s (arguments_seen (seen_in kind s) a)) (o.number == s.number) (ne_eqb o.number s.number differ)
 
   pair_reply : (o s : Object ℕ (RowOf kind)) (op : Operation) (a : replies.Arguments) → (o.number ≡ s.number → ⊥) →
-      reply_of (of_rows kind o) (Some (of_rows kind s)) op a ≡ carried (of_rows kind) (rows_reply kind o (another s (seen_by s a)) (seen_by o a) op)
+      reply_of (of_rows kind o) (Some (of_rows kind s)) op a ≡ carried (of_rows kind) (rows_reply kind o (another s (arguments_seen (seen_in kind s) a)) (arguments_seen (seen_in kind o) a) op)
   pair_reply o s op a differ =
-      ap (λ x. carried (of_rows kind) (rows_reply kind o x (seen_by o a) op))
-      (ap (λ x. source_in o x a) (rows_own kind s) ∙ apart o s a differ)
+      ap (λ x. carried (of_rows kind) (rows_reply kind o x (arguments_seen (seen_in kind o) a) op))
+      (ap (λ x. source_in (seen_in kind) o x a) (rows_own kind s) ∙ apart o s a differ)
 
   pub pair_called : (old new source now : Container (RowOf kind)) (w v s t : AnyObject) (op : Operation) (a : replies.Arguments) (result : Result Reply Fault) →
       memory_of w ≡ in_rows kind old → memory_of v ≡ in_rows kind new → (new ≡ old → v ≡ w) → memory_of s ≡ in_rows kind source →
@@ -223,7 +244,7 @@ module _ (kind : RowKind) where
       (λ i. reply_of (held_in (is i)) (Some (held_in (source_is i))) op a) ∙ pair_reply o p op a numbers in
       subst (λ r. CalledWith r w s v t result) (sym reply)
       (called_with old new source now w v s t (PairReply old source op a) result new_is same now_is same_source valid.1
-      (is_listing o (another p (seen_by p a)) (seen_by o a) op) h)
+      (is_listing o (another p (arguments_seen (seen_in kind p) a)) (arguments_seen (seen_in kind o) a) op) h)
 
   some_stays : (source now : Container (RowOf kind)) (reason : Option Reason) (found : Option (Object ℕ (RowOf kind))) → IsValid (plain source.object) →
       IfSome found (λ t. Stays (plain source.object) reason t) → SourceAfter source now found → RowsLast source now
@@ -236,7 +257,7 @@ module _ (kind : RowKind) where
       let o = plain old.object in
       let s = plain source.object in
       let r = PairReply old source op a in
-      let stays = rows_stay kind o (another s (seen_by s a)) (seen_by o a) op in (
+      let stays = rows_stay kind o (another s (arguments_seen (seen_in kind s) a)) (arguments_seen (seen_in kind o) a) op in (
         made_lasts old new r.after r.reason valid.0 h.after stays.target,
         some_stays source now r.reason r.source source_valid.0 stays.source_stays h.source_after,
       )
@@ -254,7 +275,7 @@ module _ (kind : RowKind) where
 
   pub unlike_reply : (o : Object ℕ (RowOf kind)) (h : Held) (op : Operation) (a : replies.Arguments) → rows_in kind (Some h) ≡ None →
       reply_of (of_rows kind o) (Some h) op a ≡ reply_of (of_rows kind o) None op a
-  unlike_reply o h op a none = ap (λ x. carried (of_rows kind) (rows_reply kind o (source_in o x a) (seen_by o a) op)) none
+  unlike_reply o h op a none = ap (λ x. carried (of_rows kind) (rows_reply kind o (source_in (seen_in kind) o x a) (arguments_seen (seen_in kind o) a) op)) none
 
   with_none : (r q : replies.Reply Held) (w v s : AnyObject) (result : Result Reply Fault) → q ≡ r → Called r w v result → CalledWith q w s v s result
   with_none r q w v s (Ok made) e h =
@@ -332,16 +353,16 @@ module _ (kind : RowKind) where
 
   pub wrote_to : (old new : Container (RowOf kind)) (w v : AnyObject) (at : Cursor) (x : Value) (result : Result Done Fault) →
       memory_of w ≡ in_rows kind old → memory_of v ≡ in_rows kind new → (new ≡ old → v ≡ w) → ObjectAgrees w at →
-      WritesIn (λ o. (own_calls kind o).write (mark old.object at) x) old new result → WritesTo (write (held_of w) (plain_mark at) x) w v result
+      WritesIn (λ o. (own_calls kind o).write (mark_in kind old.object at) x) old new result → WritesTo (write (held_of w) (plain_mark at) x) w v result
   wrote_to old new w v at x result is new_is same agrees h = to result h
     where
-      e : write (held_of w) (plain_mark at) x ≡ written (of_rows kind) ((own_calls kind (plain old.object)).write (mark old.object at) x)
+      e : write (held_of w) (plain_mark at) x ≡ written (of_rows kind) ((own_calls kind (plain old.object)).write (mark_in kind old.object at) x)
       e =
           ap (λ m. write (held_in m) (plain_mark at) x) is
           ∙ ap (λ c. written (of_rows kind) ((own_calls kind (plain old.object)).write c x))
-          (sym (seen_marks old.object at (subst (λ m. AgreesIn m at) is agrees)))
+          (sym (seen_marks_by (have_root kind) old.object at (subst (λ m. AgreesIn m at) is agrees)))
 
-      to : (result : Result Done Fault) → WritesIn (λ o. (own_calls kind o).write (mark old.object at) x) old new result →
+      to : (result : Result Done Fault) → WritesIn (λ o. (own_calls kind o).write (mark_in kind old.object at) x) old new result →
           WritesTo (write (held_of w) (plain_mark at) x) w v result
       to (Ok done) h = (
         ap (λ (r : Written). r.reason) e ∙ h.0,

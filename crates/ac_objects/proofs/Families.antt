@@ -3,7 +3,7 @@ use Rattle.std.proofs.Common.{◌≡◌, ℤ, refl, ap, ◌∙◌}
 use Rattle.ac_syntax.specs.declared.kind.ElemKind.{ElemKind}
 use Rattle.ac_syntax.specs.declared.kind.ElemKind.TheVariants.{Integer, Str}
 use Rattle.ac_meaning.specs.Elements.{ElementOf, Text}
-use Rattle.ac_meaning.specs.Holdings.{SequenceKind, of_list, of_vector, RowKind, a_sequence, a_map, a_set, a_keyed_set}
+use Rattle.ac_meaning.specs.Holdings.{SequenceKind, of_list, of_vector, RowKind, a_sequence, a_map, a_set, a_keyed_set, a_tree}
 use Rattle.ac_meaning.specs.KeyedReplies.{KeyedKind, of_hashed, of_ordered}
 use Rattle.ac_objects.specs.declared.object.Object.{Object}
 use Rattle.ac_objects.specs.declared.object.Object.TheVariants.{Integers, Texts, IntegerSet, TextSet, KeyedSet, IntegersByInteger, IntegersByText, TextsByInteger, TextsByText}
@@ -27,12 +27,14 @@ sequence_in (a_sequence which e) = which
 sequence_in (a_map which k e) = of_list
 sequence_in (a_set which e) = of_list
 sequence_in (a_keyed_set which) = of_list
+sequence_in (a_tree e) = of_list
 
 abbrev pub keyed_in : RowKind → KeyedKind
 keyed_in (a_sequence which e) = of_hashed
 keyed_in (a_map which k e) = which
 keyed_in (a_set which e) = which
 keyed_in (a_keyed_set which) = which
+keyed_in (a_tree e) = of_hashed
 
 list_is_none : of_list ≡ of_vector → ⊥
 list_is_none e = cc

@@ -1,5 +1,5 @@
 -- The cursors that an object gives are known.
-use Rattle.std.proofs.Common.{◌≡◌, ◌==◌, ◌&&◌, ◌||◌, ◌+◌, ◌<◌, ◌≤◌, ◌⊎◌, inl, inr, ℕ, Bool, true, false, not, List, [], ◌∷◌, map, get_or, slice_get, refl, sym, ap, subst, ◌∙◌, arith, eq-eqb, Some, if◌then◌else◌}
+use Rattle.std.proofs.Common.{◌≡◌, ◌==◌, ◌&&◌, ◌||◌, ◌+◌, ◌<◌, ◌≤◌, ◌⊎◌, inl, inr, ℕ, Bool, true, false, not, List, [], ◌∷◌, ◌++◌, map, get_or, slice_get, refl, sym, ap, subst, ◌∙◌, arith, eq-eqb, Some, if◌then◌else◌}
 use Rattle.std.proofs.lemmas.Bool.{eqb-true, cases_lt}
 use Rattle.std.proofs.lemmas.Option.{slice_get-get_or, same_Some}
 use Rattle.ac_base.specs.declared.name.Name.{Name}
@@ -11,13 +11,16 @@ use Rattle.ac_model.specs.Objects as model
 use Rattle.ac_model.specs.Objects.{plain, plain_row, IsValid, times}
 use Rattle.ac_model.specs.Letters.{Mark, no_mark, mark_at, stale_mark, is_among, is_same_name}
 use Rattle.ac_model.specs.Calls.{Marks}
-use Rattle.ac_model.specs.Cursors.{plain_mark, Agrees}
+use Rattle.ac_model.specs.Cursors.{plain_mark}
 use Rattle.ac_meaning.specs.Holdings.{number_of}
 use Rattle.ac_meaning.proofs.NumbersApart.{numbers_tell, is_there}
+use Rattle.ac_meaning.proofs.Walks.{named_there}
 use Rattle.ac_objects.specs.declared.object.Object.{Object}
 use Rattle.ac_objects.specs.declared.bound.Bound.{Bound}
 use Rattle.ac_objects.specs.declared.bound.Bound.TheVariants as bound
+use Rattle.ac_objects.specs.Arguments.{SlotAgrees}
 use Rattle.ac_objects.specs.Given.{HasNumber, GivenBy, IsGiven}
+use Rattle.ac_objects.specs.RootFree.{NoRootAmong}
 use Rattle.ac_objects.specs.World.{World, world, held_of, state_of, ObjectAgrees, BoundAgrees, IsKnown, IsSound, memory_of}
 use Rattle.ac_objects.proofs.Memory.{none_in, other_in, agrees_if_own}
 use Rattle.ac_objects.proofs.InScope.{object_there}
@@ -54,6 +57,10 @@ unstale : (t : Bool) (object : ℕ) (x y : Mark) → is_stale y ≡ false → (i
 unstale true object x y s e = absurd (cc (ap is_stale e, s))
 unstale false object x y s e = e
 
+pub none_among : NoRootAmong []
+none_among [] name after e zero = cc
+none_among (x ∷ before) name after e zero = cc
+
 module _ {V : Type 0} where
   named_among : (a : Name) (rows : List (Row Name V)) → is_among (names rows) a ≡ true → is_named (map plain_row rows) a.serial ≡ true
   named_among a [] h = h
@@ -82,11 +89,22 @@ module _ {V : Type 0} where
   below_next : (o : model.Object ℕ V) (n : ℕ) → IsValid o → is_named o.rows n ≡ true → n < o.next
   below_next o n v h = elim (cases_lt n o.next) [ inl below ↦ below | inr above ↦ absurd (omega (arith, counted n o.rows h, v.names_below_next n above)) ]
 
-  agrees_marked : (o : model.Object Name V) (c : Cursor) (m : Mark) → IsValid (plain o) → is_stale m ≡ false → Marks o c m → Agrees o c
+  -- and isn't the root
+  pub no_root : (o : model.Object ℕ V) (n : ℕ) → IsValid o → is_named o.rows n ≡ true → n ≡ 0 → ⊥
+  no_root o n v h zero = omega (arith, subst (λ k. 1 ≤ times k o.rows) zero (counted n o.rows h), v.names_from_one)
+
+  pub no_root_among : (o : model.Object ℕ V) → IsValid o → NoRootAmong (names o.rows)
+  no_root_among o v before name after e zero = no_root o name v (named_there o.rows before name after e) zero
+
+  agrees_marked : (o : model.Object Name V) (c : Cursor) (m : Mark) → IsValid (plain o) → is_stale m ≡ false → Marks o c m → SlotAgrees o c
   agrees_marked o cursor.NoElement m v fresh marks = tt
   agrees_marked o (cursor.At object name) m v fresh marks = λ e.
       let among = among_or_not (object == o.number) (is_among (names o.rows) name) object (mark_at object name.serial) m fresh marks (eq-eqb object o.number e) in
-      record { given = below_next (plain o) name.serial v (named_among name o.rows among); slot = λ _. among }
+      let named = named_among name o.rows among in
+      (
+        λ zero. absurd (no_root (plain o) name.serial v named zero),
+        record { given = below_next (plain o) name.serial v named; slot = λ _. among },
+      )
 
   pub mark_is : (o : model.Object Name V) (c : Cursor) (m : Mark) → is_stale m ≡ false → Marks o c m → plain_mark c ≡ m
   mark_is o cursor.NoElement m fresh marks = marks

@@ -14,38 +14,12 @@ use Rattle.ac_model.specs.Rows.{is_named}
 use Rattle.ac_model.specs.Letters.{Mark, no_mark, mark_at, stale_mark, needs, judged_in}
 use Rattle.ac_model.specs.Cursors.{seen}
 use Rattle.ac_meaning.specs.Environment.{Bound, binds_type, binds_object, binds_cursor, binds_value, binds_element, State, bound_at, object_in}
-use Rattle.ac_meaning.specs.Holdings.{Held, of_rows, of_holder, element_value}
+use Rattle.ac_meaning.specs.Holdings.{RowKind, RowOf, have_root, Held, of_rows, of_holder, element_value}
 use Rattle.ac_meaning.specs.Stays.{Stays, HeldStays, BoundStays, StateStays}
 use Rattle.ac_meaning.proofs.BoundsStay.{each_at, object_there}
 use Rattle.ac_meaning.proofs.HoldersStay.{element_stands, stands_there}
-use Rattle.ac_meaning.proofs.RowKinds.{element_needs}
+use Rattle.ac_meaning.proofs.Designating.{element_refused, designates, designated, designates_on}
 use Rattle.ac_objects.specs.Standing.{ElementStands, ElementsStand, keeping_guards}
-
--- the same names stand for the same
-
-named_by_names : {V : Type 0} (rows : List (Row ℕ V)) (n : ℕ) → is_named rows n ≡ list_any (λ (m : ℕ). m == n) (names rows)
-named_by_names [] n = refl
-named_by_names (r ∷ rows) n = ap (λ b. (r.name == n) || b) (named_by_names rows n)
-
-needs_same : {V : Type 0} (o now : Object ℕ V) → now.number ≡ o.number → ((n : ℕ) → is_named now.rows n ≡ is_named o.rows n) → (m : Mark) →
-    needs now m ≡ needs o m
-needs_same o now number named no_mark = refl
-needs_same o now number named (mark_at object name) = λ i. judged_in (number i) object (named name i)
-needs_same o now number named (stale_mark object) = ap (λ n. judged_in n object false) number
-
-seen_same : {V : Type 0} (o now : Object ℕ V) → now.number ≡ o.number → ((n : ℕ) → is_named now.rows n ≡ is_named o.rows n) → (m : Mark) →
-    seen now m ≡ seen o m
-seen_same o now number named no_mark = refl
-seen_same o now number named (mark_at object name) =
-    λ i. if (object == number i) && not (named name i) then stale_mark object else mark_at object name
-seen_same o now number named (stale_mark object) = refl
-
-needs_lasts : {V : Type 0} (o now : Object ℕ V) (m : Mark) → now.number ≡ o.number → names now.rows ≡ names o.rows →
-    needs now (seen now m) ≡ needs o (seen o m)
-needs_lasts o now m number same =
-    let named : (n : ℕ) → is_named now.rows n ≡ is_named o.rows n =
-    λ n. named_by_names now.rows n ∙ (ap (list_any (λ (k : ℕ). k == n)) same ∙ sym (named_by_names o.rows n)) in
-    needs_same o now number named (seen now m) ∙ ap (needs o) (seen_same o now number named m)
 
 -- a guard forbids to change them
 
@@ -61,11 +35,14 @@ either_held a b h e = grind (arith, nat_tests)
 guarded : (a b : ℕ) → 0 < a + b → (t : Reason) × (forbids class.Cursors a b ≡ Some t)
 guarded a b h = some_if (nat_lt 0 a) (nat_lt 0 b) (either_held a b h)
 
-list_lasts : {V : Type 0} (o now : Object ℕ V) (m : Mark) → Stays o None now → 0 < o.cursor_guards + o.element_guards →
-    first_reason (needs o (seen o m) ∷ []) ≡ None → first_reason (needs now (seen now m) ∷ []) ≡ None
-list_lasts o now m stays held h =
+row_lasts : (kind : RowKind) (o now : Object ℕ (RowOf kind)) (m : Mark) → Stays o None now → 0 < o.cursor_guards + o.element_guards →
+    (element_value (of_rows kind o) m).reason ≡ None → (element_value (of_rows kind now) m).reason ≡ None
+row_lasts kind o now m stays held h =
     let t = guarded o.cursor_guards o.element_guards held in
-    ap (λ r. first_reason (r ∷ [])) (needs_lasts o now m stays.number (stays.names refl t.0 t.1)) ∙ h
+    let rooted = have_root kind in
+    element_refused kind now m
+    ∙ designated rooted now m
+    (designates_on rooted o now m stays.number (stays.names refl t.0 t.1) (designates rooted o m (sym (element_refused kind o m) ∙ h)))
 
 -- and an element guard to take a holder's element out
 element_held : (b : ℕ) → 0 < b → (t : Reason) × ((if nat_lt 0 b then Some ElementTampering else None) ≡ Some t)
@@ -82,7 +59,7 @@ held_lasts : (h k : Held) (m : Mark) → HeldStays h k → 0 < keeping_guards h 
 held_lasts (of_rows kind o) k m s held h =
     subst (λ x. LastsAt (of_rows kind o) x m) (sym s.1)
     (record {
-      stands = element_needs kind s.0 (seen s.0 m) ∙ list_lasts o s.0 m s.2 held (sym (element_needs kind o (seen o m)) ∙ h);
+      stands = row_lasts kind o s.0 m s.2 held h;
       guarded = omega (arith, held, s.2.cursor_guards, s.2.element_guards);
     })
 held_lasts (of_holder e o) k m s held h =

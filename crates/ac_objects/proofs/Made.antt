@@ -5,6 +5,7 @@ use Rattle.ac_base.specs.declared.fault.Fault.{Fault}
 use Rattle.ac_base.specs.declared.fault.Fault.TheVariants as fault
 use Rattle.ac_base.specs.declared.name.Name.{Name}
 use Rattle.ac_base.specs.declared.cursor.Cursor.{Cursor}
+use Rattle.ac_base.specs.declared.cursor.Cursor.TheVariants.{NoElement, At}
 use Rattle.ac_base.specs.Rows.{names}
 use Rattle.ac_model.specs.Objects.{Object, plain}
 use Rattle.ac_model.specs.Letters.{Mark, is_among, is_same_name}
@@ -15,12 +16,13 @@ use Rattle.ac_meaning.specs.Replies as replies
 use Rattle.ac_objects.specs.declared.argument.Argument.{Argument}
 use Rattle.ac_objects.specs.declared.argument.Arguments.{Arguments}
 use Rattle.ac_objects.specs.declared.argument.Argument.TheVariants.{Absent, Place, Value}
-use Rattle.ac_objects.specs.Arguments.{AllAgree, argument_of, arguments_of, cursor_in, marked, marked_argument}
+use Rattle.ac_meaning.specs.Holdings.{seen_by_root}
+use Rattle.ac_objects.specs.Arguments.{AllAgree, SlotAgrees, argument_of, arguments_of, argument_marked, arguments_marked, mark_by_root, cursor_in, marked}
 use Rattle.ac_objects.specs.Replied.{IsAnswer}
 use Rattle.ac_objects.specs.RowCalls.{PlacesOwn}
 use Rattle.ac_objects.proofs.Own.{IsOwnMark, own_cursor}
-use Rattle.ac_model.proofs.Unslotted.{seen_marks}
-use Rattle.ac_model.specs.Cursors.{Agrees}
+use Rattle.ac_model.proofs.Unslotted.{seen_marks, seen_tree_marks}
+use Rattle.ac_model.specs.Cursors.{Agrees, plain_mark}
 
 or_left : (a b : Bool) → a ≡ true → (a || b) ≡ true
 or_left true b h = refl
@@ -59,15 +61,33 @@ module _ {V : Type 0} where
   own_inserted old new c q (Err (fault.Raised reason)) own h = h
   own_inserted old new c q (Err fault.NoMemory) own h = h
 
-  seen_argument : (o : Object Name V) (a : Argument) → Agrees o (cursor_in a) → replies.seen_argument (plain o) (argument_of a) ≡ marked_argument o a
-  seen_argument o Absent agrees = refl
-  seen_argument o (Place c) agrees = ap (λ m. replies.cursor_argument m) (sym (seen_marks o c agrees))
-  seen_argument o (Value v) agrees = refl
+  -- a cursor whose slot agrees, as an object with a root sees it and as one without
+  pub slot_agrees : (o : Object Name V) (c : Cursor) → SlotAgrees o c → Agrees o c
+  slot_agrees o NoElement agrees = tt
+  slot_agrees o (At object name) agrees = λ own. (agrees own).1
+
+  pub seen_marks_by : (rooted : Bool) (o : Object Name V) (c : Cursor) → SlotAgrees o c →
+      mark_by_root rooted o c ≡ seen_by_root rooted (plain o) (plain_mark c)
+  seen_marks_by false o c agrees = seen_marks o c (slot_agrees o c agrees)
+  seen_marks_by true o c agrees = seen_tree_marks o c agrees
+
+  seen_argument : (rooted : Bool) (o : Object Name V) (a : Argument) → SlotAgrees o (cursor_in a) →
+      replies.argument_seen (seen_by_root rooted (plain o)) (argument_of a) ≡ argument_marked (mark_by_root rooted o) a
+  seen_argument rooted o Absent agrees =
+      λ i. record (argument_of Absent) { cursor = sym (seen_marks_by rooted o NoElement agrees) i }
+  seen_argument rooted o (Place c) agrees =
+      λ i. record (argument_of (Place c)) { cursor = sym (seen_marks_by rooted o c agrees) i }
+  seen_argument rooted o (Value v) agrees =
+      λ i. record (argument_of (Value v)) { cursor = sym (seen_marks_by rooted o NoElement agrees) i }
+
+  pub seen_arguments_by : (rooted : Bool) (o : Object Name V) (args : Arguments) → AllAgree o args →
+      replies.arguments_seen (seen_by_root rooted (plain o)) (arguments_of args) ≡ arguments_marked (mark_by_root rooted o) args
+  seen_arguments_by rooted o args agree =
+      let first = seen_argument rooted o args.first agree.first in
+      let second = seen_argument rooted o args.second agree.second in
+      let third = seen_argument rooted o args.third agree.third in
+      let fourth = seen_argument rooted o args.fourth agree.fourth in
+      λ i. record { first = first i; second = second i; third = third i; fourth = fourth i; fifth = args.fifth }
 
   pub seen_arguments : (o : Object Name V) (args : Arguments) → AllAgree o args → replies.seen_by (plain o) (arguments_of args) ≡ marked o args
-  seen_arguments o args agree =
-      let first = seen_argument o args.first agree.first in
-      let second = seen_argument o args.second agree.second in
-      let third = seen_argument o args.third agree.third in
-      let fourth = seen_argument o args.fourth agree.fourth in
-      λ i. record { first = first i; second = second i; third = third i; fourth = fourth i }
+  seen_arguments o args agree = seen_arguments_by false o args agree

@@ -8,11 +8,10 @@ use Rattle.ac_base.specs.declared.name.Name.{Name}
 use Rattle.ac_base.specs.Guards.{GuardCounts, one_more, one_less, raised_kind}
 use Rattle.ac_model.specs.Common.{hold_call, release_call, under_guards, guards_on}
 use Rattle.ac_model.specs.Containers.{Container, with_guards}
-use Rattle.ac_model.specs.Cursors.{Agrees}
 use Rattle.ac_model.specs.Objects.{plain}
 use Rattle.ac_meaning.specs.Holdings.{RowKind, RowOf, of_rows, number_of, is_a_set, are_sets, with_rows_by}
 use Rattle.ac_objects.specs.declared.argument.Arguments.{Arguments}
-use Rattle.ac_objects.specs.Arguments.{cursor_in}
+use Rattle.ac_objects.specs.Arguments.{SlotAgrees, cursor_in}
 use Rattle.ac_objects.specs.Called.{AllAgreeIn}
 use Rattle.ac_objects.specs.Counts.{counted_in}
 use Rattle.ac_objects.specs.Standing.{counts_in_held}
@@ -51,11 +50,11 @@ pub number_counted : (m : InMemory) (counts : GuardCounts) → counts.number ≡
 number_counted (in_rows kind l) counts same = same
 number_counted (in_holder e h) counts same = same
 
-guards_agree : {V : Type 0} (l : Container V) (counts : GuardCounts) (c : Cursor) → counts.number ≡ l.object.number → Agrees l.object c →
-    Agrees (with_guards l counts).object c
+guards_agree : {V : Type 0} (l : Container V) (counts : GuardCounts) (c : Cursor) → counts.number ≡ l.object.number → SlotAgrees l.object c →
+    SlotAgrees (with_guards l counts).object c
 guards_agree l counts cursor.NoElement same agrees = tt
 guards_agree l counts (cursor.At object name) same agrees =
-    λ e. let own = agrees (e ∙ same) in record { given = own.given; slot = own.slot }
+    λ e. let own = agrees (e ∙ same) in (own.0, record { given = own.1.given; slot = own.1.slot })
 
 pub agrees_counted : (m : InMemory) (counts : GuardCounts) (c : Cursor) → counts.number ≡ number_of (held_in m) → AgreesIn m c →
     AgreesIn (counted_in m counts) c

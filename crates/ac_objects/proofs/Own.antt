@@ -1,5 +1,5 @@
 -- A cursor that a call answers is the object's own.
-use Rattle.std.proofs.Common.{◌≡◌, ◌==◌, ◌&&◌, ℕ, zero, suc, Bool, true, false, not, refl, sym, subst, eq-eqb, Option, Some, None, if◌then◌else◌}
+use Rattle.std.proofs.Common.{◌≡◌, inl, ◌==◌, ◌&&◌, ℕ, zero, suc, Bool, true, false, not, refl, sym, subst, eq-eqb, Option, Some, None, if◌then◌else◌}
 use Rattle.std.specs.Prelude.{⊤, IsTrue, Result, Ok, Err}
 use Rattle.std.proofs.lemmas.Bool.{eqb-true}
 use Rattle.ac_base.specs.declared.name.Name.{Name}
@@ -50,7 +50,7 @@ module _ {V : Type 0} where
   own_cursor o cursor.NoElement m own is = (sym is, tt)
   own_cursor o (cursor.At object name) m own is =
       let h = own_at o.number object name (is_among (names o.rows) name) (object == o.number) m refl own is in
-      (h.0, (h.1, h.2))
+      (h.0, (h.1, inl h.2))
 
   pub own_look : (o : Object Name V) (l : Look Mark) (result : Result Cursor Fault) → IsOwnMark o.number l.answer → Looking (Marks o) l result → Looking (IsAnswer o) l result
   own_look o l (Ok c) own h = (h.0, own_cursor o c l.answer own h.1)

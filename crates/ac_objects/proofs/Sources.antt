@@ -19,6 +19,10 @@ use Rattle.ac_check.specs.declared.operation.VectorCall.{VectorCall}
 use Rattle.ac_check.specs.declared.operation.VectorCall.TheVariants as vector_call
 use Rattle.ac_check.specs.declared.operation.ListCall.{ListCall}
 use Rattle.ac_check.specs.declared.operation.ListCall.TheVariants as list_call
+use Rattle.ac_check.specs.declared.operation.TreeCall.{TreeCall}
+use Rattle.ac_check.specs.declared.operation.TreeCall.TheVariants as tree_call
+use Rattle.ac_check.specs.declared.operation.TreeChangeCall.{TreeChangeCall}
+use Rattle.ac_check.specs.declared.operation.TreeChangeCall.TheVariants as tree_change_call
 use Rattle.ac_check.specs.declared.operation.HolderCall.{HolderCall}
 use Rattle.ac_check.specs.declared.operation.HolderCall.TheVariants as holder_call
 use Rattle.ac_check.specs.declared.operation.WalkCall.{WalkCall}
@@ -37,13 +41,14 @@ use Rattle.ac_check.specs.declared.operation.KeyedCall.{KeyedCall}
 use Rattle.ac_check.specs.declared.operation.KeyedCall.TheVariants as keyed_call
 use Rattle.ac_check.specs.declared.operation.OrderedSetCall.{OrderedSetCall}
 use Rattle.ac_check.specs.declared.operation.OrderedSetCall.TheVariants as ordered_set_call
-use Rattle.ac_model.specs.Rows.{Entry}
+use Rattle.ac_model.specs.Rows.{Entry, Node}
 use Rattle.ac_syntax.specs.declared.kind.ElemKind.{ElemKind}
 use Rattle.ac_syntax.specs.declared.kind.ElemKind.TheVariants.{Integer, Str}
 use Rattle.ac_meaning.specs.Elements.{Tools, ElementOf, tools_of, Text, keyed_texts}
 use Rattle.ac_meaning.specs.Answers.{Answer, answers_ok, answers_value, answers_truth, answers_place, answers_list, answers_raised, answers_stalled}
+use Rattle.ac_meaning.specs.TreeReplies.{tree_own, tree_look_reply, tree_change_reply, tree_reply}
 use Rattle.ac_meaning.specs.HolderReplies.{holder_source, holder_element, holder_alone_reply, holder_reply}
-use Rattle.ac_meaning.specs.Replies.{Arguments, Placed, Source, without, itself, another, by_source, seen_by, source_in, Reply, value_answer, carried}
+use Rattle.ac_meaning.specs.Replies.{Arguments, Placed, Source, without, itself, another, by_source, arguments_seen, source_in, Reply, value_answer, carried}
 use Rattle.ac_meaning.specs.SequenceReplies.{OwnCalls, sequence_own, common_reply, sequence_reply, capacity_reply}
 use Rattle.ac_meaning.specs.ListReplies.{list_alone_reply, list_reply}
 use Rattle.ac_meaning.specs.VectorReplies.{vector_alone_reply, vector_reply}
@@ -51,7 +56,7 @@ use Rattle.ac_meaning.specs.KeyedReplies.{KeyedKind, of_hashed, of_ordered, walk
 use Rattle.ac_meaning.specs.MapReplies.{map_own, map_alone_reply, ordered_map_reply, map_reply}
 use Rattle.ac_meaning.specs.KeyedSetReplies.{keyed_set_reply}
 use Rattle.ac_meaning.specs.SetReplies.{set_own, set_alone_reply, set_pair_reply, ordered_set_reply, set_reply}
-use Rattle.ac_meaning.specs.Holdings.{SequenceKind, of_list, of_vector, RowKind, a_sequence, a_map, a_set, a_keyed_set, RowOf, Held, of_rows, of_holder, same_element, rows_in, holder_in, own_calls, reply_by, rows_reply, reply_of}
+use Rattle.ac_meaning.specs.Holdings.{SequenceKind, of_list, of_vector, RowKind, a_sequence, a_map, a_set, a_keyed_set, a_tree, RowOf, Held, of_rows, of_holder, same_element, rows_in, holder_in, seen_in, own_calls, reply_by, rows_reply, reply_of}
 use Rattle.ac_meaning.proofs.RowKinds.{rows_own}
 use Rattle.ac_objects.proofs.KeyedOperations.{key_alone}
 
@@ -145,8 +150,8 @@ if_false x y true e = absurd (cc)
 if_false x y false e = refl
 
 -- the reply by the object as its own source, and with none
-own_source : {T : Type 0} (o : Object ℕ T) (args : Arguments) → (if o.number == o.number then itself else another o (seen_by o args)) ≡ itself
-own_source o args = if_true itself (another o (seen_by o args)) (o.number == o.number) (eq-eqb o.number o.number refl)
+own_source : {T : Type 0} (o : Object ℕ T) (args : Arguments) → (if o.number == o.number then itself else another o args) ≡ itself
+own_source o args = if_true itself (another o args) (o.number == o.number) (eq-eqb o.number o.number refl)
 
 module _ {K T : Type 0} (keys : Tools K) (tools : Tools T) (o : Object ℕ (Entry K T)) (args : Arguments) where
   map_alone : (which : KeyedKind) (op : Operation) → map_reply keys tools o without args which op ≡ map_reply keys tools o itself args which op
@@ -181,12 +186,34 @@ module _ (o : Object ℕ Text) (args : Arguments) where
   keyed_alone of_ordered (operation.Keyed c) = key_alone o without itself args of_ordered c
   keyed_alone of_ordered _ = refl
 
+module _ {T : Type 0} (tools : Tools T) (o : Object ℕ (Node T)) (args : Arguments) where
+  tree_change_alone : (c : TreeChangeCall) → tree_change_reply tools o without args c ≡ tree_change_reply tools o itself args c
+  tree_change_alone tree_change_call.InsertChild = refl
+  tree_change_alone tree_change_call.InsertChildPos = refl
+  tree_change_alone tree_change_call.AppendChild = refl
+  tree_change_alone tree_change_call.PrependChild = refl
+  tree_change_alone tree_change_call.DeleteLeaf = refl
+  tree_change_alone tree_change_call.DeleteSubtree = refl
+  tree_change_alone tree_change_call.DeleteChildren = refl
+  tree_change_alone tree_change_call.Swap = refl
+  tree_change_alone tree_change_call.CopySubtree = refl
+  tree_change_alone tree_change_call.SpliceSubtreeFrom = refl
+  tree_change_alone tree_change_call.SpliceSubtree = refl
+  tree_change_alone tree_change_call.SpliceChildrenFrom = refl
+  tree_change_alone tree_change_call.SpliceChildren = refl
+
+  tree_alone : (op : Operation) → tree_reply tools o without args op ≡ tree_reply tools o itself args op
+  tree_alone (operation.Common c) = common_own o args (tree_own tools o) c
+  tree_alone (operation.TreeChange c) = tree_change_alone c
+  tree_alone _ = refl
+
 pub rows_alone : (kind : RowKind) (o : Object ℕ (RowOf kind)) (op : Operation) (args : Arguments) →
     rows_reply kind o without args op ≡ rows_reply kind o itself args op
 rows_alone (a_sequence which e) o op args = reply_alone (tools_of e) o args which op
 rows_alone (a_map which k e) o op args = map_alone (tools_of k) (tools_of e) o args which op
 rows_alone (a_set which e) o op args = set_alone (tools_of e) o args which op
 rows_alone (a_keyed_set which) o op args = keyed_alone o args which op
+rows_alone (a_tree e) o op args = tree_alone (tools_of e) o args op
 
 -- a holder is of its own element type
 element_is : (e : ElemKind) → same_element e e ≡ Some refl
@@ -215,9 +242,10 @@ module _ {T : Type 0} (tools : Tools T) (h : Holder T) (args : Arguments) where
 
 pub itself_alone : (h : Held) (op : Operation) (args : Arguments) → reply_of h (Some h) op args ≡ reply_of h None op args
 itself_alone (of_rows kind o) op args =
-    ap (λ s. carried (of_rows kind) (rows_reply kind o (source_in o s args) (seen_by o args) op)) (rows_own kind o)
-    ∙ (ap (λ s. carried (of_rows kind) (rows_reply kind o s (seen_by o args) op)) (own_source o args)
-    ∙ ap (carried (of_rows kind)) (sym (rows_alone kind o op (seen_by o args))))
+    let seen = arguments_seen (seen_in kind o) args in
+    ap (λ s. carried (of_rows kind) (rows_reply kind o (source_in (seen_in kind) o s args) seen op)) (rows_own kind o)
+    ∙ (ap (λ s. carried (of_rows kind) (rows_reply kind o s seen op)) (own_source o seen)
+    ∙ ap (carried (of_rows kind)) (sym (rows_alone kind o op seen)))
 itself_alone (of_holder e h) op args =
     ap (λ s. carried (of_holder e) (holder_reply (tools_of e) h (holder_source h s args) args op)) (holder_own e h)
     ∙ (ap (λ s. carried (of_holder e) (holder_reply (tools_of e) h s args op))
@@ -407,12 +435,33 @@ module _ (o : Object ℕ Text) (source : Source (Object ℕ Text)) (args : Argum
   keyed_lists of_ordered (operation.Keyed c) = key_lists of_ordered (set_own keyed_texts of_ordered o).listing c
   keyed_lists of_ordered _ = tt
 
+module _ {T : Type 0} (tools : Tools T) (o : Object ℕ (Node T)) (source : Source (Object ℕ (Node T))) (args : Arguments) where
+  tree_look_lists : (listing : List ℕ) (c : TreeCall) → ReplyLists listing o (tree_look_reply tools o args c)
+  tree_look_lists listing tree_call.NodeCount = (refl, refl, refl)
+  tree_look_lists listing tree_call.Depth = (refl, refl, refl)
+  tree_look_lists listing tree_call.SubtreeNodeCount = (refl, refl, refl)
+  tree_look_lists listing tree_call.ChildCount = (refl, refl, refl)
+  tree_look_lists listing _ = tt
+
+  tree_change_lists : (listing : List ℕ) (c : TreeChangeCall) → ReplyLists listing o (tree_change_reply tools o source args c)
+  tree_change_lists listing tree_change_call.CopySubtree = by_source_lists listing o source _ _ tt (λ s seen. tt)
+  tree_change_lists listing tree_change_call.SpliceSubtreeFrom = by_source_lists listing o source _ _ tt (λ s seen. tt)
+  tree_change_lists listing tree_change_call.SpliceChildrenFrom = by_source_lists listing o source _ _ tt (λ s seen. tt)
+  tree_change_lists listing _ = tt
+
+  tree_lists : (op : Operation) → ReplyLists (tree_own tools o).listing o (tree_reply tools o source args op)
+  tree_lists (operation.Common c) = common_lists o source args (tree_own tools o) c
+  tree_lists (operation.Tree c) = tree_look_lists (tree_own tools o).listing c
+  tree_lists (operation.TreeChange c) = tree_change_lists (tree_own tools o).listing c
+  tree_lists _ = tt
+
 rows_lists : (kind : RowKind) (o : Object ℕ (RowOf kind)) (source : Source (Object ℕ (RowOf kind))) (args : Arguments) (op : Operation) →
     ReplyLists (own_calls kind o).listing o (rows_reply kind o source args op)
 rows_lists (a_sequence which e) o source args op = each_lists (tools_of e) o source args which op
 rows_lists (a_map which k e) o source args op = map_lists (tools_of k) (tools_of e) o source args which op
 rows_lists (a_set which e) o source args op = set_lists (tools_of e) o source args which op
 rows_lists (a_keyed_set which) o source args op = keyed_lists o source args which op
+rows_lists (a_tree e) o source args op = tree_lists (tools_of e) o source args op
 
 pub listed : (kind : RowKind) (o : Object ℕ (RowOf kind)) (source : Source (Object ℕ (RowOf kind))) (args : Arguments) (op : Operation) (text : List ℕ) →
     (rows_reply kind o source args op).answer ≡ answers_list text → (text ≡ (own_calls kind o).listing) × ((rows_reply kind o source args op).after ≡ o)
@@ -478,7 +527,7 @@ module _ {T : Type 0} (tools : Tools T) (h : Holder T) (source : Source (Holder 
 pub values_look : (h : Held) (source : Option Held) (op : Operation) (args : Arguments) (v : Value) →
     (reply_of h source op args).answer ≡ answers_value v → Looks h (reply_of h source op args)
 values_look (of_rows kind o) source op args v e =
-    let l = rows_look kind o (source_in o (rows_in kind source) args) (seen_by o args) op v e in
+    let l = rows_look kind o (source_in (seen_in kind) o (rows_in kind source) args) (arguments_seen (seen_in kind o) args) op v e in
     record { after = ap (of_rows kind) l.after; source = ap (option_map (of_rows kind)) l.source; variable = l.variable }
 values_look (of_holder e h) source op args v is =
     let s = holder_source h (holder_in e source) args in

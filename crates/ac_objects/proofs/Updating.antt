@@ -21,11 +21,12 @@ use Rattle.ac_model.specs.Letters.{Mark, needs, tampers_cursors}
 use Rattle.ac_model.specs.Objects.{IsValid, plain}
 use Rattle.ac_model.specs.Objects as model
 use Rattle.ac_model.proofs.Reasons.{none_others}
-use Rattle.ac_model.proofs.Unslotted.{agreement_kept, seen_marks}
+use Rattle.ac_model.proofs.Unslotted.{tree_agreement_kept, seen_marks}
+use Rattle.ac_objects.proofs.Made.{slot_agrees}
 use Rattle.ac_setwork.specs.KeyCalls.{cursor_guard_of}
 use Rattle.ac_meaning.specs.Elements.{Text, text_in, texts}
 use Rattle.ac_meaning.specs.KeyedReplies.{KeyedKind, order_by}
-use Rattle.ac_meaning.specs.Holdings.{RowKind, RowOf, Held, Guards, Written, of_rows, of_holder, as_object, counted_as, a_sequence, a_map, a_set, a_keyed_set, number_of, held_on, guarded, held_under, guard_on, with_rows_by, is_on, element_value, key_update_reason, key_updated}
+use Rattle.ac_meaning.specs.Holdings.{RowKind, RowOf, Held, Guards, Written, of_rows, of_holder, as_object, counted_as, a_sequence, a_map, a_set, a_keyed_set, a_tree, number_of, held_on, guarded, held_under, guard_on, with_rows_by, is_on, element_value, key_update_reason, key_updated}
 use Rattle.ac_meaning.specs.Environment.{Bound, binds_type, binds_object, binds_cursor, binds_value, binds_element, State, bound_at, bound_by, object_at, objects_by, under, at_rest, value_at, value_in, value_or_zero, element_in, with_bound, leaving}
 use Rattle.ac_meaning.specs.Execution.{end_lines, key_end, key_end_on}
 use Rattle.ac_meaning.specs.UnderGuards.{held_without}
@@ -61,6 +62,7 @@ update_reads (of_rows (a_keyed_set which) o) at e = none_others (tampers_cursors
 update_reads (of_rows (a_sequence which k) o) at e = absurd (cc)
 update_reads (of_rows (a_map which k v) o) at e = absurd (cc)
 update_reads (of_rows (a_set which k) o) at e = absurd (cc)
+update_reads (of_rows (a_tree k) o) at e = absurd (cc)
 update_reads (of_holder k h) at e = absurd (cc)
 
 -- a keyed set that an object is
@@ -81,7 +83,7 @@ module _ (o : Object) (s : KeyedTexts) (at : Cursor) (is : o ≡ KeyedSet s) whe
 
   module _ (agrees : ObjectAgrees o at) where
     own_agrees : Agrees (keyed_items s).object at
-    own_agrees = subst (λ m. AgreesIn m at) memory agrees
+    own_agrees = slot_agrees (keyed_items s).object at (subst (λ m. AgreesIn m at) memory agrees)
 
     marks : mark (keyed_items s).object at ≡ seen (plain (keyed_items s).object) (plain_mark at)
     marks = seen_marks (keyed_items s).object at own_agrees
@@ -124,7 +126,7 @@ module _ (o : Object) (s : KeyedTexts) (at : Cursor) (is : o ≡ KeyedSet s) whe
         pub keyed_cursors : IsValid (plain (keyed_items s).object) → (c : Cursor) → ObjectAgrees o c → ObjectAgrees (KeyedSet now) c
         keyed_cursors valid c h =
             subst (λ m. AgreesIn m c) (sym memory_now)
-            (agreement_kept (keyed_items s).object (keyed_items now).object (the_call (plain (keyed_items s).object) (mark (keyed_items s).object at)).after c valid
+            (tree_agreement_kept (keyed_items s).object (keyed_items now).object (the_call (plain (keyed_items s).object) (mark (keyed_items s).object at)).after c valid
             (subst (λ m. AgreesIn m c) memory h) after refl (omega arith))
 
 -- and of no other object
@@ -184,6 +186,7 @@ counts_ended (of_rows (a_keyed_set which) o) m copy = refl
 counts_ended (of_rows (a_sequence which k) o) m copy = refl
 counts_ended (of_rows (a_map which k v) o) m copy = refl
 counts_ended (of_rows (a_set which k) o) m copy = refl
+counts_ended (of_rows (a_tree k) o) m copy = refl
 counts_ended (of_holder k h) m copy = refl
 
 module _ (w : World) (bounds : List Place) (next place : ℕ) (x : Place) (o : Object) (view : world bounds next ≡ w) (sound : IsSound (world bounds next))
@@ -275,6 +278,7 @@ element_under guards (of_rows (a_keyed_set which) o) m = refl
 element_under guards (of_rows (a_sequence which k) o) m = refl
 element_under guards (of_rows (a_map which k v) o) m = refl
 element_under guards (of_rows (a_set which k) o) m = refl
+element_under guards (of_rows (a_tree k) o) m = refl
 element_under guards (of_holder k h) m = refl
 
 found_under : (guards : Guards) (found : Option Held) (m : Mark) → element_in (option_map (held_under guards) found) m ≡ element_in found m
@@ -338,6 +342,10 @@ module _ (g : HeldGuard) (guards : Guards) (cursors : g.kind ≡ guard.Cursors) 
       ap (of_rows (a_set which k))
       (fits (release_call false guard.Cursors o)
       (less_one o.cursor_guards _ (sym (cursor_count o.number own) ∙ ap cursors_of e)) (sym (sym (element_count o.number) ∙ ap elements_of e)))
+  counts_fit (of_rows (a_tree k) o) at v e own =
+      ap (of_rows (a_tree k))
+      (fits (release_call false guard.Cursors o)
+      (less_one o.cursor_guards _ (sym (cursor_count o.number own) ∙ ap cursors_of e)) (sym (sym (element_count o.number) ∙ ap elements_of e)))
   counts_fit (of_holder k h) at v e own =
       let o = as_object h in
       ap (λ p. of_holder k (counted_as h p))
@@ -349,6 +357,7 @@ reasons_fit (of_rows (a_keyed_set which) o) at v = refl
 reasons_fit (of_rows (a_sequence which k) o) at v = refl
 reasons_fit (of_rows (a_map which k x) o) at v = refl
 reasons_fit (of_rows (a_set which k) o) at v = refl
+reasons_fit (of_rows (a_tree k) o) at v = refl
 reasons_fit (of_holder k h) at v = refl
 
 module _ (key : UpdateKey) (old new : State) (copy : Text) (result : Option Reason) (held : IsHeldAt old key.object key.guard)

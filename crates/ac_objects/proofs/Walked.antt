@@ -14,13 +14,15 @@ use Rattle.ac_model.specs.Rows.{is_named}
 use Rattle.ac_model.specs.Objects.{Object, plain, IsValid}
 use Rattle.ac_model.specs.Letters.{Mark, no_mark, mark_at, stale_mark, mark_for, mark_in, reason_if, is_no_mark, place_at}
 use Rattle.ac_model.specs.Calls.{Look, look, Looking, Marks}
-use Rattle.ac_model.specs.Cursors.{mark, plain_mark, seen, Agrees}
+use Rattle.ac_model.specs.Cursors.{mark, plain_mark, seen}
 use Rattle.ac_model.specs.Sequences.{first_call, last_call, mark_before}
 use Rattle.ac_model.proofs.Unslotted.{seen_marks}
 use Rattle.ac_meaning.specs.Execution.{in_order}
 use Rattle.ac_meaning.specs.Walks.{step_call, first_mark}
 use Rattle.ac_meaning.proofs.Walks.{walks}
+use Rattle.ac_objects.specs.Arguments.{SlotAgrees}
 use Rattle.ac_objects.specs.Given.{GivenBy}
+use Rattle.ac_objects.proofs.Made.{slot_agrees}
 use Rattle.ac_objects.proofs.Given.{IsOf, given_by, marked_by}
 
 -- marks of one object
@@ -103,10 +105,10 @@ not_stale true true m n h = refl
 not_stale true false m n h = absurd (cc)
 not_stale false b m n h = refl
 
-module _ {V : Type 0} (o : Object Name V) (backward : Bool) (at : Cursor) (agrees : Agrees o at) (valid : IsValid (plain o)) where
+module _ {V : Type 0} (o : Object Name V) (backward : Bool) (at : Cursor) (agrees : SlotAgrees o at) (valid : IsValid (plain o)) where
   seen_there : (name : ℕ) → plain_mark at ≡ mark_at o.number name → is_named (plain o).rows name ≡ true → mark o at ≡ mark_at o.number name
   seen_there name e named =
-      seen_marks o at agrees
+      seen_marks o at (slot_agrees o at agrees)
       ∙ (ap (seen (plain o)) e ∙ not_stale (o.number == o.number) (is_named (plain o).rows name) (stale_mark o.number) (mark_at o.number name) named)
 
   pub next_given : (c : Cursor) → Marks o c (step_call backward (plain o) (mark o at)).answer → GivenBy o c

@@ -7,7 +7,7 @@ use Rattle.ac_base.specs.declared.fault.Fault.TheVariants as fault
 use Rattle.ac_model.specs.Objects.{IsValid, plain}
 use Rattle.ac_model.specs.Objects as lists
 use Rattle.ac_model.specs.Calls.{Call, Done, IsAfter}
-use Rattle.ac_model.specs.Cursors.{plain_mark, Agrees}
+use Rattle.ac_model.specs.Cursors.{plain_mark}
 use Rattle.ac_model.specs.Containers.{Container, guards_of}
 use Rattle.ac_meaning.specs.Answers.{Answer, answers_ok, answers_value, answers_truth, answers_place, answers_list}
 use Rattle.ac_meaning.specs.Holdings.{Held, number_of, listing_of, Written}
@@ -18,7 +18,7 @@ use Rattle.ac_objects.specs.declared.reply.Said.{Said}
 use Rattle.ac_objects.specs.declared.reply.Said.TheVariants as said
 use Rattle.ac_objects.specs.declared.reply.Placed.{Placed}
 use Rattle.ac_objects.specs.declared.reply.Reply.{Reply}
-use Rattle.ac_objects.specs.Arguments.{AllAgree}
+use Rattle.ac_objects.specs.Arguments.{AllAgree, SlotAgrees}
 use Rattle.ac_objects.specs.Standing.{counts_in_held}
 use Rattle.ac_objects.specs.World.{InMemory, in_rows, in_holder, memory_of, held_of, ObjectAgrees}
 
@@ -80,7 +80,7 @@ pub record Lasts (old new : Object) : Type 0 where
 
 -- and of its rows
 pub record RowsLast {V : Type 0} (old new : Container V) : Type 0 where
-  pub cursors : (c : Cursor) → Agrees old.object c → Agrees new.object c
+  pub cursors : (c : Cursor) → SlotAgrees old.object c → SlotAgrees new.object c
   pub counts : guards_of new ≡ guards_of old
 
 -- both are valid

@@ -5,7 +5,7 @@ use Rattle.ac_base.specs.declared.cursor.Cursor.{Cursor}
 use Rattle.ac_base.specs.declared.cursor.Cursor.TheVariants.{NoElement, At}
 use Rattle.ac_base.specs.declared.name.Name.{Name}
 use Rattle.ac_model.specs.Letters.{mark_at}
-use Rattle.ac_model.specs.Cursors.{plain_mark, Agrees}
+use Rattle.ac_model.specs.Cursors.{plain_mark}
 use Rattle.ac_model.specs.Objects as model
 use Rattle.ac_meaning.specs.Holdings.{number_of}
 use Rattle.ac_objects.specs.declared.object.Object.{Object}
@@ -14,6 +14,7 @@ use Rattle.ac_meaning.specs.Execution.{in_order}
 use Rattle.ac_meaning.specs.Walks.{first_mark}
 use Rattle.ac_objects.specs.declared.bound.Bound.{Bound}
 use Rattle.ac_objects.specs.declared.bound.Bound.TheVariants as bound
+use Rattle.ac_objects.specs.Arguments.{SlotAgrees}
 use Rattle.ac_objects.specs.World.{World, held_of, state_of, ObjectAgrees}
 
 -- the object that a name holds, if it holds one
@@ -41,7 +42,7 @@ HasNumber number (At object name) = object ≡ number
 -- of an object with rows
 pub record GivenBy {V : Type 0} (o : model.Object Name V) (c : Cursor) : Type 0 where
   pub number : HasNumber o.number c
-  pub agrees : Agrees o c
+  pub agrees : SlotAgrees o c
 
 -- of an object of any kind
 pub record IsGiven (o : Object) (c : Cursor) : Type 0 where

@@ -16,6 +16,7 @@ pub mod World
 pub mod Standing
 pub mod Counts
 pub mod Given
+pub mod RootFree
 pub mod Declarations
 pub mod Performs
 pub mod Blocks

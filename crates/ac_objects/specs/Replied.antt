@@ -1,5 +1,5 @@
 -- How the code's reply is the meaning's.
-use Rattle.std.specs.Prelude.{◌≡◌, ⊤, ℕ, false, List, Option, Some, None, Result, Ok, Err}
+use Rattle.std.specs.Prelude.{◌≡◌, ◌⊎◌, ⊤, ℕ, false, List, Option, Some, None, Result, Ok, Err}
 use Rattle.ac_base.specs.declared.cursor.Cursor.{Cursor}
 use Rattle.ac_base.specs.declared.cursor.Cursor.TheVariants.{NoElement, At}
 use Rattle.ac_base.specs.declared.fault.Fault.{Fault}
@@ -10,6 +10,7 @@ use Rattle.ac_model.specs.Letters.{Mark}
 use Rattle.ac_model.specs.Calls.{Done, IsAfter}
 use Rattle.ac_model.specs.Containers.{Container}
 use Rattle.ac_model.specs.Cursors.{IsNamed, plain_mark}
+use Rattle.ac_model.specs.Trees.{root_name}
 use Rattle.ac_meaning.specs.Answers.{Answer, answers_ok, answers_value, answers_truth, answers_place, answers_list}
 use Rattle.ac_meaning.specs.Replies as replies
 use Rattle.ac_objects.specs.declared.reply.Said.{Said}
@@ -22,10 +23,14 @@ abbrev pub told : Reply → Result Done Fault → Result Reply Fault
 told reply (Ok done) = Ok reply
 told reply (Err f) = Err f
 
--- no element, or one of the object's own
+-- a name of one of the object's elements, or its root's
+abbrev pub IsOwnName : {V : Type 0} → Object Name V → Name → Type 0
+IsOwnName o name = IsNamed o name ⊎ (name ≡ root_name)
+
+-- no element, or one of the object's own, or its root
 abbrev pub IsOwnCursor : {V : Type 0} → Object Name V → Cursor → Type 0
 IsOwnCursor o NoElement = ⊤
-IsOwnCursor o (At object name) = (object ≡ o.number) × IsNamed o name
+IsOwnCursor o (At object name) = (object ≡ o.number) × IsOwnName o name
 
 -- the cursor that is answered is the object's own, and without its slot it is the meaning's
 abbrev pub IsAnswer : {V : Type 0} → Object Name V → Cursor → Mark → Type 0

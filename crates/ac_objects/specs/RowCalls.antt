@@ -13,7 +13,8 @@ use Rattle.ac_meaning.specs.Replies as replies
 use Rattle.ac_meaning.specs.Replies.{Source, another}
 use Rattle.ac_objects.specs.declared.argument.Arguments.{Arguments}
 use Rattle.ac_objects.specs.declared.reply.Reply.{Reply}
-use Rattle.ac_objects.specs.Arguments.{marked}
+use Rattle.ac_meaning.specs.Holdings.{RowKind}
+use Rattle.ac_objects.specs.Arguments.{marked, mark_in, arguments_marked}
 use Rattle.ac_objects.specs.Replied.{IsAnswer, Replied, RepliedWith}
 
 module _ {V : Type 0} where
@@ -25,6 +26,20 @@ module _ {V : Type 0} where
       (old source new source_new : Container V) → Result Reply Fault → Type 0
   RowsRepliedWith r args old source new source_new result =
       RepliedWith (r (plain old.object) (another (plain source.object) (marked source.object args)) (marked old.object args)) old source new source_new result
+
+-- the same of an object of any kind
+module _ {V : Type 0} (kind : RowKind) where
+  abbrev pub KindReplied : (Object ℕ V → replies.Arguments → replies.Reply (Object ℕ V)) → Arguments → (old new : Container V) →
+      Result Reply Fault → Type 0
+  KindReplied r args old new result = Replied (r (plain old.object) (arguments_marked (mark_in kind old.object) args)) old new result
+
+  abbrev pub KindRepliedWith : (Object ℕ V → Source (Object ℕ V) → replies.Arguments → replies.Reply (Object ℕ V)) → Arguments →
+      (old source new source_new : Container V) → Result Reply Fault → Type 0
+  KindRepliedWith r args old source new source_new result =
+      RepliedWith
+      (r (plain old.object) (another (plain source.object) (arguments_marked (mark_in kind source.object) args))
+      (arguments_marked (mark_in kind old.object) args))
+      old source new source_new result
 
 -- the value that a look answers, which is copied, or why there is none
 abbrev pub GivesValue : Look (Option Value) → Result Value Fault → Type 0

@@ -4,7 +4,7 @@ use Rattle.ac_base.specs.declared.cursor.Cursor.{Cursor}
 use Rattle.ac_base.specs.declared.cursor.Cursor.TheVariants as cursor
 use Rattle.ac_model.specs.Containers.{Container}
 use Rattle.ac_model.specs.Objects.{plain}
-use Rattle.ac_model.specs.Cursors.{plain_mark, Agrees}
+use Rattle.ac_model.specs.Cursors.{plain_mark}
 use Rattle.ac_model.specs.Holders.{Holder}
 use Rattle.ac_syntax.specs.declared.kind.ElemKind.{ElemKind}
 use Rattle.ac_syntax.specs.declared.kind.ElemKind.TheVariants.{Integer, Str}
@@ -14,6 +14,7 @@ use Rattle.ac_meaning.specs.Environment as meant
 use Rattle.ac_meaning.specs.Numbers.{NumbersDiffer}
 use Rattle.ac_objects.specs.declared.object.Object.{Object}
 use Rattle.ac_objects.specs.declared.object.Object.TheVariants.{Integers, Texts, IntegerSet, TextSet, KeyedSet, IntegersByInteger, IntegersByText, TextsByInteger, TextsByText, IntegerHolder, TextHolder}
+use Rattle.ac_objects.specs.Arguments.{SlotAgrees}
 use Rattle.ac_objects.specs.Sequences.{rows_of, kind_of}
 use Rattle.ac_objects.specs.Sets.{items_of, set_kind_of}
 use Rattle.ac_objects.specs.KeyedSets.{keyed_items, keyed_kind}
@@ -70,7 +71,7 @@ state_of w = record { bounds = map bound_of w.bounds; next = w.next }
 
 -- the slot of the cursor is the one that the object would find
 abbrev pub AgreesIn : InMemory → Cursor → Type 0
-AgreesIn (in_rows kind l) c = Agrees l.object c
+AgreesIn (in_rows kind l) c = SlotAgrees l.object c
 AgreesIn (in_holder e h) c = ⊤
 
 abbrev pub ObjectAgrees : Object → Cursor → Type 0

@@ -21,6 +21,8 @@ pub struct Arguments {
     pub second: Argument,
     pub third: Argument,
     pub fourth: Argument,
+    /// A fifth is a count.
+    pub fifth: i64,
 }
 
 impl Arguments {
@@ -34,6 +36,7 @@ impl Arguments {
             second: Argument::Absent,
             third: Argument::Absent,
             fourth: Argument::Absent,
+            fifth: 1,
         }
     }
 }

@@ -3,13 +3,14 @@ ghost use Rattle.std.specs.Prelude.{◌≡◌};
 ghost use Rattle.ac_model.specs.Calls.{Same};
 ghost use Rattle.ac_model.specs.Common as common;
 ghost use Rattle.ac_model.specs.Containers.{Grows, slots_of};
-ghost use Rattle.ac_model.specs.Forms.{Does, DoesBoth, seen_by as mark_by};
+ghost use Rattle.ac_model.specs.Forms.{Does, DoesBoth};
 ghost use Rattle.ac_model.specs.Objects.{plain};
 ghost use Rattle.ac_meaning.specs.Replies.{itself};
 ghost use Rattle.ac_meaning.specs.SequenceReplies.{common_reply};
+ghost use Rattle.ac_objects.specs.Arguments.{mark_in};
 ghost use Rattle.ac_objects.specs.Called.{WritesIn};
 ghost use Rattle.ac_objects.specs.Replied.{told};
-ghost use Rattle.ac_objects.specs.RowCalls.{RowsReplied, RowsRepliedWith};
+ghost use Rattle.ac_objects.specs.RowCalls.{KindReplied, KindRepliedWith};
 
 mod alone;
 mod sources;
@@ -31,7 +32,8 @@ pub trait CommonRows: RowObject {
         ensures { result ≡ common.is_empty_call (plain (Self.rows self.now).object) };
 
     fn has_element(&self, c: Cursor) -> bool
-        ensures { result ≡ common.has_element_call (plain (Self.rows self.now).object) (mark_by (Self.rows self.now) c) };
+        ensures { result ≡ common.has_element_call (plain (Self.rows self.now).object)
+            (mark_in (Self.kind self.now) (Self.rows self.now).object c) };
 
     fn equal(&self, other: &Self) -> bool
         requires { Self.kind other.now ≡ Self.kind self.now }
@@ -51,7 +53,7 @@ pub trait CommonRows: RowObject {
 
     /// Replaces the element at the cursor, by a call of the library.
     fn replace_value(&mut self, alloc: Global, c: Cursor, value: Value) -> Result<(), Fault>
-        ensures replaced { WritesIn (λ o. (Self.own self.old o).replace_element (mark_by (Self.rows self.old) c) value)
+        ensures replaced { WritesIn (λ o. (Self.own self.old o).replace_element (mark_in (Self.kind self.old) (Self.rows self.old).object c) value)
             (Self.rows self.old) (Self.rows self.new) result }
         ensures kind { Self.kind self.new ≡ Self.kind self.old };
 
@@ -89,7 +91,7 @@ pub fn common_call<C: CommonRows>(
     args: &mut Arguments,
     reply: &mut Reply,
 ) -> Result<(), Fault>
-    ensures replied { RowsReplied (λ o seen. common_reply o itself seen (C.own object.old o) call) args.old
+    ensures replied { KindReplied (C.kind object.old) (λ o seen. common_reply o itself seen (C.own object.old o) call) args.old
         (C.rows object.old) (C.rows object.new) (told reply.new result) }
     ensures kind { C.kind object.new ≡ C.kind object.old }
 {
@@ -129,7 +131,7 @@ pub fn common_call_with<C: CommonRows>(
     reply: &mut Reply,
 ) -> Result<(), Fault>
     requires like { C.kind source.old ≡ C.kind object.old }
-    ensures replied { RowsRepliedWith (λ o source seen. common_reply o source seen (C.own object.old o) call) args.old
+    ensures replied { KindRepliedWith (C.kind object.old) (λ o source seen. common_reply o source seen (C.own object.old o) call) args.old
         (C.rows object.old) (C.rows source.old) (C.rows object.new) (C.rows source.new) (told reply.new result) }
     ensures kind { C.kind object.new ≡ C.kind object.old }
     ensures source_kind { C.kind source.new ≡ C.kind source.old }

@@ -1,11 +1,10 @@
 //! Calls on an object of any kind and element type.
 ghost use Rattle.std.specs.Prelude.{◌≡◌, None, Some, IfOk};
-ghost use Rattle.ac_model.specs.Forms.{seen_by as mark_by};
 ghost use Rattle.ac_model.specs.Objects.{plain};
 ghost use Rattle.ac_model.specs.Cursors.{plain_mark};
-ghost use Rattle.ac_meaning.specs.Holdings.{reply_of, number_of, element_value, write};
-ghost use Rattle.ac_meaning.specs.Replies.{itself, another, seen_by};
-ghost use Rattle.ac_objects.specs.Arguments.{AllAgree, arguments_of};
+ghost use Rattle.ac_meaning.specs.Holdings.{reply_of, number_of, element_value, write, seen_in};
+ghost use Rattle.ac_meaning.specs.Replies.{itself, another, arguments_seen};
+ghost use Rattle.ac_objects.specs.Arguments.{AllAgree, arguments_of, mark_in};
 ghost use Rattle.ac_objects.specs.Replied.{Replied, RepliedWith, told};
 ghost use Rattle.ac_objects.specs.Called.{AgreesWith, Called, CalledWith, Lasts, AreValid, WritesTo, WritesIn};
 ghost use Rattle.ac_objects.specs.World.{held_of, ObjectAgrees};
@@ -132,7 +131,7 @@ fn call_own<C: OperatedRows>(
 ) -> Result<(), Fault>
     requires agree { AllAgree (C.rows object.old).object args.old }
     ensures replied { let o = plain (C.rows object.old).object in
-        Replied (C.comes_to object.old o itself (seen_by o (arguments_of args.old)) operation)
+        Replied (C.comes_to object.old o itself (arguments_seen (seen_in (C.kind object.old) o) (arguments_of args.old)) operation)
         (C.rows object.old) (C.rows object.new) (told reply.new result) }
     ensures kind { C.kind object.new ≡ C.kind object.old }
     ensures valid { AreValid (C.rows object.old) (C.rows object.new) }
@@ -155,12 +154,13 @@ fn call_two<C: OperatedRows>(
     requires agree { AllAgree (C.rows object.old).object args.old }
     requires agree_with_source { AllAgree (C.rows source.old).object args.old }
     ensures alike { let o = plain (C.rows object.old).object in let s = plain (C.rows source.old).object in
-        C.kind source.old ≡ C.kind object.old →
-        RepliedWith (C.comes_to object.old o (another s (seen_by s (arguments_of args.old))) (seen_by o (arguments_of args.old)) operation)
+        C.kind source.old ≡ C.kind object.old → let kind = C.kind object.old in
+        RepliedWith (C.comes_to object.old o (another s (arguments_seen (seen_in kind s) (arguments_of args.old)))
+        (arguments_seen (seen_in kind o) (arguments_of args.old)) operation)
         (C.rows object.old) (C.rows source.old) (C.rows object.new) (C.rows source.new) (told reply.new result) }
     ensures unlike { let o = plain (C.rows object.old).object in
         (C.kind source.old ≡ C.kind object.old → ⊥) →
-        Replied (C.comes_to object.old o itself (seen_by o (arguments_of args.old)) operation)
+        Replied (C.comes_to object.old o itself (arguments_seen (seen_in (C.kind object.old) o) (arguments_of args.old)) operation)
         (C.rows object.old) (C.rows object.new) (told reply.new result) × (source.new ≡ source.old) }
     ensures kind { C.kind object.new ≡ C.kind object.old }
     ensures source_kind { C.kind source.new ≡ C.kind source.old }
@@ -188,7 +188,9 @@ fn call_like<C: OperatedRows>(
     requires agree { AllAgree (C.rows object.old).object args.old }
     requires agree_with_source { AllAgree (C.rows source.old).object args.old }
     ensures replied { let o = plain (C.rows object.old).object in let s = plain (C.rows source.old).object in
-        RepliedWith (C.comes_to object.old o (another s (seen_by s (arguments_of args.old))) (seen_by o (arguments_of args.old)) operation)
+        let kind = C.kind object.old in
+        RepliedWith (C.comes_to object.old o (another s (arguments_seen (seen_in kind s) (arguments_of args.old)))
+        (arguments_seen (seen_in kind o) (arguments_of args.old)) operation)
         (C.rows object.old) (C.rows source.old) (C.rows object.new) (C.rows source.new) (told reply.new result) }
     ensures kind { C.kind object.new ≡ C.kind object.old }
     ensures source_kind { C.kind source.new ≡ C.kind source.old }
@@ -258,7 +260,7 @@ fn written<C: RowObject>(
     at: Cursor,
     value: Value,
 ) -> Result<(), Fault>
-    ensures written { WritesIn (λ o. (C.own object.old o).write (mark_by (C.rows object.old) at) value)
+    ensures written { WritesIn (λ o. (C.own object.old o).write (mark_in (C.kind object.old) (C.rows object.old).object at) value)
         (C.rows object.old) (C.rows object.new) result }
     ensures kind { C.kind object.new ≡ C.kind object.old }
     ensures valid { AreValid (C.rows object.old) (C.rows object.new) }

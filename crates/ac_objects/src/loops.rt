@@ -10,6 +10,7 @@ ghost use Rattle.ac_meaning.specs.UnderGuards.{held_without};
 ghost use Rattle.ac_meaning.specs.Walks.{first_mark};
 ghost use Rattle.ac_objects.specs.Blocks.{holding, releasing, guard_if, guards_of_loop_key, HasRoom, HasRoomForTwo, IsHeldAt};
 ghost use Rattle.ac_objects.specs.Given.{StepsOn};
+ghost use Rattle.ac_objects.specs.RootFree.{NoRootAmong};
 ghost use Rattle.ac_objects.specs.Standing.{IsObject, ComingStands, counts_of};
 ghost use Rattle.ac_objects.specs.World.{bound_of, cursor_in, state_of, IsKnown, Persists};
 ghost use Rattle.ac_objects.specs.declared.bound.Bound.TheVariants as bound;
@@ -35,6 +36,7 @@ impl Objects {
             (plain_mark key.coming ≡ first_mark (number_of h) (in_order backward (names_of h)))
             × (guards_of_loop_key key ≡ guards_of_loop elements h)
             × (state_of self.new ≡ holding (guards_of_loop elements h) (state_of self.old))) }
+        ensures named { (h : Held) → object_at (state_of self.old) object ≡ Some h → IfOk result (λ _. NoRootAmong (names_of h)) }
         ensures persists { Persists self.old self.new }
         ensures fault { OnErr result (self.new ≡ self.old) }
     {
@@ -228,6 +230,7 @@ impl Objects {
     fn first_at(&self, place: usize, backward: bool) -> Cursor
         ensures first { (h : Held) → object_at (state_of self.now) place ≡ Some h →
             plain_mark result ≡ first_mark (number_of h) (in_order backward (names_of h)) }
+        ensures named { (h : Held) → object_at (state_of self.now) place ≡ Some h → NoRootAmong (names_of h) }
         ensures known { IsKnown self.now result }
     {
         let _bounds = &self.bounds;

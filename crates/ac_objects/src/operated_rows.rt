@@ -3,7 +3,8 @@ ghost use Rattle.std.specs.Prelude.{◌≡◌, ℕ};
 ghost use Rattle.ac_model.specs.Objects.{Object, plain};
 ghost use Rattle.ac_check.specs.declared.operation.Operation.{Operation as Operations};
 ghost use Rattle.ac_meaning.specs.Replies as replies;
-ghost use Rattle.ac_meaning.specs.Replies.{itself, another, seen_by};
+ghost use Rattle.ac_meaning.specs.Holdings.{seen_in};
+ghost use Rattle.ac_meaning.specs.Replies.{itself, another, arguments_seen};
 ghost use Rattle.ac_objects.specs.Arguments.{AllAgree, arguments_of};
 ghost use Rattle.ac_objects.specs.Replied.{Replied, RepliedWith, told};
 
@@ -30,7 +31,7 @@ pub trait OperatedRows: RowObject {
     ) -> Result<(), Fault>
         requires agree { AllAgree (Self.rows self.old).object args.old }
         ensures replied { let o = plain (Self.rows self.old).object in
-            Replied (Self.comes_to self.old o itself (seen_by o (arguments_of args.old)) operation)
+            Replied (Self.comes_to self.old o itself (arguments_seen (seen_in (Self.kind self.old) o) (arguments_of args.old)) operation)
             (Self.rows self.old) (Self.rows self.new) (told reply.new result) }
         ensures kind { Self.kind self.new ≡ Self.kind self.old };
 
@@ -47,8 +48,10 @@ pub trait OperatedRows: RowObject {
         requires agree { AllAgree (Self.rows self.old).object args.old }
         requires agree_with_source { AllAgree (Self.rows source.old).object args.old }
         ensures replied { let o = plain (Self.rows self.old).object in let s = plain (Self.rows source.old).object in
+            let kind = Self.kind self.old in
             RepliedWith
-            (Self.comes_to self.old o (another s (seen_by s (arguments_of args.old))) (seen_by o (arguments_of args.old)) operation)
+            (Self.comes_to self.old o (another s (arguments_seen (seen_in kind s) (arguments_of args.old)))
+            (arguments_seen (seen_in kind o) (arguments_of args.old)) operation)
             (Self.rows self.old) (Self.rows source.old) (Self.rows self.new) (Self.rows source.new) (told reply.new result) }
         ensures kind { Self.kind self.new ≡ Self.kind self.old }
         ensures source_kind { Self.kind source.new ≡ Self.kind source.old };

@@ -36,7 +36,24 @@ impl Objects {
         self.read_at(args, 0, &mut read.first)?;
         self.read_at(args, 1, &mut read.second)?;
         self.read_at(args, 2, &mut read.third)?;
-        self.read_at(args, 3, &mut read.fourth)
+        self.read_at(args, 3, &mut read.fourth)?;
+        read.fifth = self.count_at(args, 4)?;
+        Ok(())
+    }
+
+    /// The argument at the place as a count, which is 1 where it is left out.
+    #[inline(always)]
+    fn count_at(&self, args: &[ResolvedArg], place: usize) -> Result<i64, NoMemory>
+        requires stand { ElementsStand (state_of self.now) }
+        ensures { IfOk result (λ count. count ≡ (argument_at (state_of self.now) (slice_get args.now place)).count) }
+    {
+        match args.get(place) {
+            None => Ok(1),
+            Some(arg) => {
+                let read = self.read(arg)?;
+                Ok(read.count())
+            }
+        }
     }
 
     /// The place of the object among the arguments.

@@ -10,6 +10,7 @@ ghost use Rattle.ac_model.specs.Sequences as sequences;
 ghost use Rattle.ac_meaning.specs.Holdings.{RowKind};
 ghost use Rattle.ac_meaning.specs.Listings.{bracketed};
 ghost use Rattle.ac_meaning.specs.SequenceReplies.{OwnCalls};
+ghost use Rattle.ac_objects.specs.Arguments.{mark_in};
 ghost use Rattle.ac_objects.specs.Called.{WritesIn};
 
 use ac_base::{Fault, NoMemory, Reason, Value};
@@ -53,17 +54,17 @@ pub trait RowObject {
 
     /// Why the element at the cursor can't be read.
     fn refused(&self, c: Cursor) -> Option<Reason>
-        ensures { result ≡ ((own self.now (plain (rows self.now).object)).element (mark_by (rows self.now) c)).reason };
+        ensures { result ≡ ((own self.now (plain (rows self.now).object)).element (mark_in (kind self.now) (rows self.now).object c)).reason };
 
     /// A copy of the element at the cursor.
     fn element_value(&self, alloc: Global, c: Cursor) -> Result<Value, NoMemory>
-        requires { ((own self.now (plain (rows self.now).object)).element (mark_by (rows self.now) c)).reason ≡ None }
+        requires { ((own self.now (plain (rows self.now).object)).element (mark_in (kind self.now) (rows self.now).object c)).reason ≡ None }
         ensures { IfOk result (λ value.
-            ((own self.now (plain (rows self.now).object)).element (mark_by (rows self.now) c)).answer ≡ Some value) };
+            ((own self.now (plain (rows self.now).object)).element (mark_in (kind self.now) (rows self.now).object c)).answer ≡ Some value) };
 
     /// Writes a value through a name that stands for the element at the cursor.
     fn write_value(&mut self, alloc: Global, c: Cursor, value: Value) -> Result<(), Fault>
-        ensures written { WritesIn (λ o. (own self.old o).write (mark_by (rows self.old) c) value)
+        ensures written { WritesIn (λ o. (own self.old o).write (mark_in (kind self.old) (rows self.old).object c) value)
             (rows self.old) (rows self.new) result }
         ensures kind { kind self.new ≡ kind self.old };
 

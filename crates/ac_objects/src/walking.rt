@@ -1,14 +1,16 @@
 //! Where a loop stands in its object, and why an element can't be viewed.
-ghost use Rattle.std.specs.Prelude.{◌≡◌};
+ghost use Rattle.std.specs.Prelude.{◌≡◌, []};
 ghost use Rattle.ac_base.specs.Rows.{names};
 ghost use Rattle.ac_model.specs.Objects.{plain};
-ghost use Rattle.ac_model.specs.Cursors.{plain_mark, seen, Agrees};
+ghost use Rattle.ac_model.specs.Cursors.{plain_mark};
 ghost use Rattle.ac_model.specs.Calls.{Marks};
 ghost use Rattle.ac_model.specs.Forms.{Looks, seen_by};
-ghost use Rattle.ac_meaning.specs.Holdings.{names_of, number_of, element_value};
+ghost use Rattle.ac_meaning.specs.Holdings.{names_of, number_of, element_value, seen_in};
 ghost use Rattle.ac_meaning.specs.Execution.{in_order};
 ghost use Rattle.ac_meaning.specs.Walks.{step_call, first_mark};
 ghost use Rattle.ac_objects.specs.Given.{GivenBy, IsGiven, StepsOn};
+ghost use Rattle.ac_objects.specs.RootFree.{NoRootAmong};
+ghost use Rattle.ac_objects.specs.Arguments.{SlotAgrees};
 ghost use Rattle.ac_objects.specs.World.{held_of, ObjectAgrees};
 
 use crate::holder_elements::refused;
@@ -21,6 +23,7 @@ use ac_forms::Holder;
 /// The cursor at which a loop over the object begins.
 fn first_in<C: RowObject>(object: &C, backward: bool) -> Cursor
     ensures given { GivenBy (C.rows object.now).object result }
+    ensures named { NoRootAmong (names (plain (C.rows object.now).object).rows) }
     ensures first { let o = plain (C.rows object.now).object in
         plain_mark result ≡ first_mark o.number (in_order backward (names o.rows)) }
 {
@@ -35,7 +38,7 @@ fn first_in<C: RowObject>(object: &C, backward: bool) -> Cursor
 /// The cursor at which a loop goes on behind this one, and No_Element where it doesn't.
 #[inline(always)]
 fn next_in<C: RowObject>(object: &C, backward: bool, at: Cursor) -> Cursor
-    requires { Agrees (C.rows object.now).object at }
+    requires { SlotAgrees (C.rows object.now).object at }
     ensures given { GivenBy (C.rows object.now).object result }
     ensures next { let o = plain (C.rows object.now).object in StepsOn backward o.number (names o.rows) at result }
 {
@@ -87,14 +90,22 @@ fn step_in<C: RowObject>(object: &C, backward: bool, at: Cursor) -> Result<Curso
 
 /// Why the element at which the cursor stands can't be viewed.
 fn refused_in<C: RowObject>(object: &C, at: Cursor) -> Option<Reason>
-    requires { Agrees (C.rows object.now).object at }
+    requires { SlotAgrees (C.rows object.now).object at }
     ensures { let o = plain (C.rows object.now).object in
-        result ≡ ((C.own object.now o).element (seen o (plain_mark at))).reason }
+        result ≡ ((C.own object.now o).element (seen_in (C.kind object.now) o (plain_mark at))).reason }
 {
     object.refused(at)
 }
 
 /// A holder has no cursors, so that a loop over it ends where it begins.
+fn first_of_none<T: Elem>(_holder: &Holder<T>) -> Cursor
+    ensures first { result ≡ Cursor.NoElement }
+    ensures named { NoRootAmong [] }
+{
+    Cursor::NoElement
+}
+
+/// And so it goes on.
 fn next_of_none<T: Elem>(_holder: &Holder<T>) -> Cursor
     ensures { result ≡ Cursor.NoElement }
 {
@@ -106,6 +117,7 @@ impl Object {
     #[tactic(auto, unfolding(crate::specs::World::memory_of))]
     pub(crate) fn first_of(&self, backward: bool) -> Cursor
         ensures given { IsGiven self.now result }
+        ensures named { NoRootAmong (names_of (held_of self.now)) }
         ensures first { plain_mark result ≡ first_mark (number_of (held_of self.now)) (in_order backward (names_of (held_of self.now))) }
     {
         match self {
@@ -118,7 +130,8 @@ impl Object {
             Object::IntegersByText(map) => first_in(map, backward),
             Object::TextsByInteger(map) => first_in(map, backward),
             Object::TextsByText(map) => first_in(map, backward),
-            Object::IntegerHolder(_) | Object::TextHolder(_) => Cursor::NoElement,
+            Object::IntegerHolder(holder) => first_of_none(holder),
+            Object::TextHolder(holder) => first_of_none(holder),
         }
     }
 

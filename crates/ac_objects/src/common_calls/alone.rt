@@ -5,7 +5,7 @@ ghost use Rattle.ac_model.specs.Objects.{plain};
 ghost use Rattle.ac_meaning.specs.Replies.{itself, changes_ok};
 ghost use Rattle.ac_meaning.specs.SequenceReplies.{common_reply};
 ghost use Rattle.ac_objects.specs.Replied.{Replied, told};
-ghost use Rattle.ac_objects.specs.RowCalls.{RowsReplied};
+ghost use Rattle.ac_objects.specs.RowCalls.{KindReplied};
 
 use super::CommonRows;
 use crate::argument::Arguments;
@@ -50,7 +50,7 @@ pub fn has_element<C: CommonRows>(
     args: &Arguments,
     reply: &mut Reply,
 ) -> Result<(), Fault>
-    ensures { RowsReplied (λ o seen. common_reply o itself seen (C.own object.now o) CommonCall.HasElement) args.now
+    ensures { KindReplied (C.kind object.now) (λ o seen. common_reply o itself seen (C.own object.now o) CommonCall.HasElement) args.now
         (C.rows object.now) (C.rows object.now) (told reply.new result) }
 {
     let is_there = object.has_element(args.first.cursor());
@@ -64,7 +64,7 @@ pub fn element<C: CommonRows>(
     args: &Arguments,
     reply: &mut Reply,
 ) -> Result<(), Fault>
-    ensures { RowsReplied (λ o seen. common_reply o itself seen (C.own object.now o) CommonCall.Element) args.now
+    ensures { KindReplied (C.kind object.now) (λ o seen. common_reply o itself seen (C.own object.now o) CommonCall.Element) args.now
         (C.rows object.now) (C.rows object.now) (told reply.new result) }
 {
     let c = args.first.cursor();
@@ -80,7 +80,7 @@ pub fn replace_element<C: CommonRows>(
     args: &mut Arguments,
     reply: &mut Reply,
 ) -> Result<(), Fault>
-    ensures replied { RowsReplied (λ o seen. common_reply o itself seen (C.own object.old o) CommonCall.ReplaceElement) args.old
+    ensures replied { KindReplied (C.kind object.old) (λ o seen. common_reply o itself seen (C.own object.old o) CommonCall.ReplaceElement) args.old
         (C.rows object.old) (C.rows object.new) (told reply.new result) }
     ensures kind { C.kind object.new ≡ C.kind object.old }
 {

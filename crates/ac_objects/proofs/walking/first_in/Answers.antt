@@ -4,11 +4,15 @@ use Rattle.ac_model.specs.Objects.{plain}
 use Rattle.ac_model.specs.Cursors.{plain_mark}
 use Rattle.ac_meaning.specs.Execution.{in_order}
 use Rattle.ac_meaning.specs.Walks.{first_mark}
+use Rattle.ac_objects.proofs.Given.{no_root_among}
 use Rattle.ac_objects.proofs.Walked.{start_given, start_marks}
 use Rattle.ac_objects.proofs.walking.first_in.Goals as goal
 
 pub returns-then-backward-clause-given : goal.returns-then-backward-clause-given
 returns-then-backward-clause-given g c = start_given true (g.C.RowObject.rows c.args.object.now).object c.last.result c.law.ensures c.last.ensures
+
+pub returns-then-backward-clause-named : goal.returns-then-backward-clause-named
+returns-then-backward-clause-named g c = no_root_among (plain (g.C.RowObject.rows c.args.object.now).object) c.law.ensures
 
 pub returns-then-backward-clause-first : goal.returns-then-backward-clause-first
 returns-then-backward-clause-first g c =
@@ -18,6 +22,9 @@ returns-then-backward-clause-first g c =
 
 pub returns-else-backward-clause-given : goal.returns-else-backward-clause-given
 returns-else-backward-clause-given g c = start_given false (g.C.RowObject.rows c.args.object.now).object c.first.result c.law.ensures c.first.ensures
+
+pub returns-else-backward-clause-named : goal.returns-else-backward-clause-named
+returns-else-backward-clause-named g c = no_root_among (plain (g.C.RowObject.rows c.args.object.now).object) c.law.ensures
 
 pub returns-else-backward-clause-first : goal.returns-else-backward-clause-first
 returns-else-backward-clause-first g c =

@@ -459,7 +459,7 @@ run_loop-run_turns-ended-requires g t c κs within =
             turning =
                 turning_at refl key.0 key.2
                 (loop_begins old r.guards r.env r.stands c.args.object o.held o.there c.args.elements c.args.backward (plain_mark k.coming) now k.names
-                (key.1 ∙ sym (many_names old)) is.0 is.2);
+                (key.1 ∙ sym (many_names old)) is.0 (c.in_ok-key.ensures.named o.held o.there) is.2);
           },
           key.3,
         ),
@@ -522,7 +522,7 @@ run_loop-returns-clause-runs g t c guards e u =
     let begun =
     turning_at refl key.0 key.2
     (loop_begins old guards e u c.args.object o.held o.there c.args.elements c.args.backward (plain_mark k.coming) now k.names
-    (key.1 ∙ sym (many_names old)) is.0 is.2) in
+    (key.1 ∙ sym (many_names old)) is.0 (c.in_ok-key.ensures.named o.held o.there) is.2) in
     ran_as sink.held sink.faults sink.room sink.counts_failures c.args.sink.now c.run_turns-ended.new.sink c.leave_loop.new.self guards _ _ c.run_turns-ended.result
     (loop_comes c.args.body.now guards e c.args.line k.names c.args.elements c.args.backward c.args.object k.object o.held
     (ap (λ s. object_at s c.args.object) (sym u.is) ∙ o.there) key.0 (key.1 ∙ many_under old guards e u))
