@@ -14,7 +14,7 @@ ghost use Rattle.ac_objects.specs.World.{held_of, state_of};
 use crate::holder_elements::write_listing;
 use crate::object::Object;
 use crate::objects::Objects;
-use crate::row_object::RowObject;
+use crate::row_object::ListedRows;
 use ac_cursor::Cursor;
 use ac_io::{Sink, WriteFault, add};
 
@@ -26,7 +26,7 @@ fn comma(is_first: bool) -> &'static [u8]
 }
 
 /// Adds the row at the cursor, with a comma before it unless it is the first.
-fn add_item<C: RowObject, K: Sink>(
+fn add_item<C: ListedRows, K: Sink>(
     object: &C,
     c: Cursor,
     is_first: bool,
@@ -45,7 +45,7 @@ fn add_item<C: RowObject, K: Sink>(
 }
 
 /// Adds the rows of an object.
-fn add_items<C: RowObject, K: Sink>(
+fn add_items<C: ListedRows, K: Sink>(
     object: &C,
     text: &mut Vec<u8>,
     sink: &mut K,
@@ -64,7 +64,7 @@ fn add_items<C: RowObject, K: Sink>(
 }
 
 /// Adds the listing of an object with rows to a text that is written in pieces.
-fn write_rows<C: RowObject, K: Sink>(
+fn write_rows<C: ListedRows, K: Sink>(
     object: &C,
     text: &mut Vec<u8>,
     sink: &mut K,

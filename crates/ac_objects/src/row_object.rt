@@ -68,10 +68,18 @@ pub trait RowObject {
             (rows self.old) (rows self.new) result }
         ensures kind { kind self.new ≡ kind self.old };
 
+    /// Whether the other one is of the same kind.
+    fn is_like(&self, other: &Self) -> bool
+        ensures yes { result ≡ true → kind other.now ≡ kind self.now }
+        ensures no { result ≡ false → kind other.now ≡ kind self.now → ⊥ };
+}
+
+/// An object whose listing shows its rows, one behind another in brackets.
+pub trait ListedRows: RowObject {
     /// What a listing shows of a row.
     ghost row_text: { Self.Row → List ℕ };
 
-    ghost listing_is: { (object : Self) (o : Object ℕ Self.Row) → (own object o).listing ≡ bracketed row_text (contents o) };
+    ghost listing_is: { (object : Self) (o : Object ℕ Self.Row) → (Self.own object o).listing ≡ bracketed row_text (contents o) };
 
     /// Adds what a listing shows of the row at the cursor to a text that is written in pieces.
     fn add_row<K: Sink>(
@@ -80,14 +88,9 @@ pub trait RowObject {
         text: &mut Vec<u8>,
         sink: &mut K,
     ) -> Result<(), WriteFault>
-        requires { (sequences.element_call (plain (rows self.now).object) (mark_by (rows self.now) c)).reason ≡ None }
+        requires { (sequences.element_call (plain (Self.rows self.now).object) (mark_by (Self.rows self.now) c)).reason ≡ None }
         ensures adds { (row : Self.Row) →
-            (sequences.element_call (plain (rows self.now).object) (mark_by (rows self.now) c)).answer ≡ Some row →
+            (sequences.element_call (plain (Self.rows self.now).object) (mark_by (Self.rows self.now) c)).answer ≡ Some row →
             Adds K.held K.faults K.room K.counts_failures sink.old sink.new text.old.items text.new.items (row_text row) result }
         ensures short { length text.old.items ≤ MOST_WAITING → length text.new.items ≤ MOST_WAITING };
-
-    /// Whether the other one is of the same kind.
-    fn is_like(&self, other: &Self) -> bool
-        ensures yes { result ≡ true → kind other.now ≡ kind self.now }
-        ensures no { result ≡ false → kind other.now ≡ kind self.now → ⊥ };
 }

@@ -104,14 +104,14 @@ module _ {X : Type 0} where
     level_less up is = climb_less l s here (k.climbs.live here refl) up (λ b e. sym is ∙ e)
 
   -- a row of the forest, and the node under its name
-  record Met (l : Links X) (before left : List (Row Name (Node X))) (r : Row Name (Node X)) : Type 0 where
+  pub record Met (l : Links X) (before left : List (Row Name (Node X))) (r : Row Name (Node X)) : Type 0 where
     pub live : IsLive l.nodes r.name
     pub value : option_map (λ (n : TreeNode X). n.value) (value_of l.nodes r.name) ≡ Some r.value.element
     pub is : r.value ≡ node (node_depth l (Some r.name)) r.value.element
     pub index : pool.index_of r.name (outline 2 (forest_in l)) ≡ length before
     pub next_is : (next : Option Name) → Follows l None r.name next → next ≡ first_or left None
 
-  met : (l : Links X) → IsForest l → (before left : List (Row Name (Node X))) (r : Row Name (Node X)) → outline 2 (forest_in l) ≡ before ++ r ∷ left → Met l before left r
+  pub met : (l : Links X) → IsForest l → (before left : List (Row Name (Node X))) (r : Row Name (Node X)) → outline 2 (forest_in l) ≡ before ++ r ∷ left → Met l before left r
   met l s before left r is =
       let once : IsOnce (before ++ r ∷ left) = subst (λ z. IsOnce z) is (once_rows 2 (forest_in l) s.once) in
       let live = in_forest r.name (subst (λ z. HasName r.name z) (sym is) (HasName-right r.name before (r ∷ left) (inl refl))) in

@@ -10,3 +10,5 @@ pub mod Removing
 pub mod Searching
 pub mod Splicing
 pub mod Walking
+pub mod Backward
+pub mod Meeting

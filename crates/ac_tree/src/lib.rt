@@ -2,6 +2,7 @@
 #![tactic(auto)]
 
 mod adopting;
+mod backward;
 mod clearing;
 mod comparing;
 mod copying;

@@ -7,7 +7,7 @@ ghost use Rattle.ac_meaning.specs.SetReplies.{set_own};
 ghost use Rattle.ac_objects.specs.KeyedSets.{keyed_items, keyed_kind};
 
 use super::KeyedSet;
-use crate::row_object::RowObject;
+use crate::row_object::{ListedRows, RowObject};
 use ac_base::{Fault, KeyedText, NoMemory, Reason, Value};
 use ac_cursor::Cursor;
 use ac_io::{Sink, WriteFault};
@@ -21,10 +21,6 @@ impl RowObject for KeyedSet {
     ghost kind = { λ m. a_keyed_set (keyed_kind m) };
 
     ghost own = { λ m o. set_own keyed_texts (keyed_kind m) o };
-
-    ghost row_text = { λ e. literal_text (keyed_texts.to_value e) };
-
-    ghost listing_is = { λ _ _. refl };
 
     fn law(&self) {
         self.set.law();
@@ -63,6 +59,16 @@ impl RowObject for KeyedSet {
         Ok(())
     }
 
+    fn is_like(&self, other: &KeyedSet) -> bool {
+        self.set.is_like(&other.set)
+    }
+}
+
+impl ListedRows for KeyedSet {
+    ghost row_text = { λ e. literal_text (keyed_texts.to_value e) };
+
+    ghost listing_is = { λ _ _. refl };
+
     fn add_row<K: Sink>(
         &self,
         c: Cursor,
@@ -70,9 +76,5 @@ impl RowObject for KeyedSet {
         sink: &mut K,
     ) -> Result<(), WriteFault> {
         self.set.add_row(c, text, sink)
-    }
-
-    fn is_like(&self, other: &KeyedSet) -> bool {
-        self.set.is_like(&other.set)
     }
 }

@@ -9,7 +9,7 @@ ghost use Rattle.ac_objects.specs.Maps.{entries_of, map_kind_of};
 use super::Map;
 use super::listing::add_entry;
 use crate::element::ScriptElement;
-use crate::row_object::RowObject;
+use crate::row_object::{ListedRows, RowObject};
 use ac_base::{Fault, NoMemory, Reason, Value};
 use ac_cursor::Cursor;
 use ac_io::{Sink, WriteFault};
@@ -24,10 +24,6 @@ impl<K: ScriptElement, V: ScriptElement> RowObject for Map<K, V> {
     ghost kind = { λ m. a_map (map_kind_of m) K.elem V.elem };
 
     ghost own = { λ m o. map_own K.tools V.tools (map_kind_of m) o };
-
-    ghost row_text = { entry_text (λ k. literal_text (K.tools.to_value k)) (λ e. literal_text (V.tools.to_value e)) };
-
-    ghost listing_is = { λ _ _. refl };
 
     fn law(&self) {
         match self {
@@ -91,6 +87,19 @@ impl<K: ScriptElement, V: ScriptElement> RowObject for Map<K, V> {
         self.write(c, element)
     }
 
+    fn is_like(&self, other: &Map<K, V>) -> bool {
+        match self {
+            Map::Hashed(_) => other.is_hashed(),
+            Map::Ordered(_) => !other.is_hashed(),
+        }
+    }
+}
+
+impl<K: ScriptElement, V: ScriptElement> ListedRows for Map<K, V> {
+    ghost row_text = { entry_text (λ k. literal_text (K.tools.to_value k)) (λ e. literal_text (V.tools.to_value e)) };
+
+    ghost listing_is = { λ _ _. refl };
+
     fn add_row<W: Sink>(
         &self,
         c: Cursor,
@@ -106,12 +115,5 @@ impl<K: ScriptElement, V: ScriptElement> RowObject for Map<K, V> {
             Err(_) => unreachable!(),
         };
         add_entry(key, element, text, sink)
-    }
-
-    fn is_like(&self, other: &Map<K, V>) -> bool {
-        match self {
-            Map::Hashed(_) => other.is_hashed(),
-            Map::Ordered(_) => !other.is_hashed(),
-        }
     }
 }

@@ -7,7 +7,7 @@ ghost use Rattle.ac_objects.specs.Sequences.{rows_of, kind_of};
 
 use super::Sequence;
 use crate::element::ScriptElement;
-use crate::row_object::RowObject;
+use crate::row_object::{ListedRows, RowObject};
 use ac_base::{Fault, NoMemory, Reason, Value};
 use ac_cursor::Cursor;
 use ac_io::{Sink, WriteFault};
@@ -21,10 +21,6 @@ impl<T: ScriptElement> RowObject for Sequence<T> {
     ghost kind = { λ s. a_sequence (kind_of s) T.elem };
 
     ghost own = { λ _ o. sequence_own T.tools o };
-
-    ghost row_text = { λ e. literal_text (T.tools.to_value e) };
-
-    ghost listing_is = { λ _ _. refl };
 
     fn law(&self) {
         Sequence::law(self)
@@ -71,6 +67,16 @@ impl<T: ScriptElement> RowObject for Sequence<T> {
         self.write(c, element)
     }
 
+    fn is_like(&self, other: &Sequence<T>) -> bool {
+        Sequence::is_like(self, other)
+    }
+}
+
+impl<T: ScriptElement> ListedRows for Sequence<T> {
+    ghost row_text = { λ e. literal_text (T.tools.to_value e) };
+
+    ghost listing_is = { λ _ _. refl };
+
     fn add_row<K: Sink>(
         &self,
         c: Cursor,
@@ -81,9 +87,5 @@ impl<T: ScriptElement> RowObject for Sequence<T> {
             Ok(element) => element.add_literal(text, sink),
             Err(_) => unreachable!(),
         }
-    }
-
-    fn is_like(&self, other: &Sequence<T>) -> bool {
-        Sequence::is_like(self, other)
     }
 }

@@ -7,7 +7,7 @@ ghost use Rattle.ac_objects.specs.Sets.{items_of, set_kind_of};
 
 use super::Set;
 use crate::element::ScriptElement;
-use crate::row_object::RowObject;
+use crate::row_object::{ListedRows, RowObject};
 use ac_base::{Fault, NoMemory, Reason, Value};
 use ac_cursor::Cursor;
 use ac_io::{Sink, WriteFault};
@@ -21,10 +21,6 @@ impl<T: ScriptElement> RowObject for Set<T> {
     ghost kind = { λ m. a_set (set_kind_of m) T.elem };
 
     ghost own = { λ m o. set_own T.tools (set_kind_of m) o };
-
-    ghost row_text = { λ e. literal_text (T.tools.to_value e) };
-
-    ghost listing_is = { λ _ _. refl };
 
     fn law(&self) {
         match self {
@@ -88,6 +84,19 @@ impl<T: ScriptElement> RowObject for Set<T> {
         Ok(())
     }
 
+    fn is_like(&self, other: &Set<T>) -> bool {
+        match self {
+            Set::Hashed(_) => other.is_hashed(),
+            Set::Ordered(_) => !other.is_hashed(),
+        }
+    }
+}
+
+impl<T: ScriptElement> ListedRows for Set<T> {
+    ghost row_text = { λ e. literal_text (T.tools.to_value e) };
+
+    ghost listing_is = { λ _ _. refl };
+
     fn add_row<K: Sink>(
         &self,
         c: Cursor,
@@ -97,13 +106,6 @@ impl<T: ScriptElement> RowObject for Set<T> {
         match self.element(c) {
             Ok(element) => element.add_literal(text, sink),
             Err(_) => unreachable!(),
-        }
-    }
-
-    fn is_like(&self, other: &Set<T>) -> bool {
-        match self {
-            Set::Hashed(_) => other.is_hashed(),
-            Set::Ordered(_) => !other.is_hashed(),
         }
     }
 }

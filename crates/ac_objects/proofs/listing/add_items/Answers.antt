@@ -24,7 +24,7 @@ unwrap-c-requires g c =
 pub returns-in_err-add_item-clause-adds : goal.returns-in_err-add_item-clause-adds
 returns-in_err-add_item-clause-adds g c =
     let o = (g.C.RowObject.rows c.args.object.now).object in
-    let text = g.C.RowObject.row_text in
+    let text = g.C.ListedRows.row_text in
     let items = contents (plain o) in
     let place = c.loop-place.place in
     let within : place < length o.rows = omega (arith, c.loop-place-test.true, c.live_nodes-place-end.ensures) in
@@ -35,7 +35,7 @@ returns-in_err-add_item-clause-adds g c =
 pub loop-place-preserved : goal.loop-place-preserved
 loop-place-preserved g c =
     let o = (g.C.RowObject.rows c.args.object.now).object in
-    let text = g.C.RowObject.row_text in
+    let text = g.C.ListedRows.row_text in
     let items = contents (plain o) in
     let place = c.loop-place.place in
     let within : place < length o.rows = omega (arith, c.loop-place-test.true, c.live_nodes-place-end.ensures) in
@@ -49,7 +49,7 @@ loop-place-preserved g c =
 pub returns-clause-adds : goal.returns-clause-adds
 returns-clause-adds g c =
     let o = (g.C.RowObject.rows c.args.object.now).object in
-    let text = g.C.RowObject.row_text in
+    let text = g.C.ListedRows.row_text in
     let items = contents (plain o) in
     let all : c.loop-place.place ≡ length items = omega (arith, c.loop-place-test.false, c.loop-place.auto.place-end, c.live_nodes-place-end.ensures, length-map (plain o).rows (λ (r : Row ℕ g.row.C-Row.Denot). r.value), length-map o.rows (plain_row {V = g.row.C-Row.Denot})) in
     ends (still (at_end text items c.loop-place.place all) c.loop-place.invariant.adds) (adds_nothing _ _)

@@ -11,7 +11,7 @@ use Rattle.ac_objects.proofs.listing.add_items.Given as goal
 abbrev pub invariant-loop-place : goal.invariant-loop-place
 invariant-loop-place g l =
     let sink = g.K.Sink in
-    let text = g.C.RowObject.row_text in
+    let text = g.C.ListedRows.row_text in
     let o = (g.C.RowObject.rows l.object).object in
     record {
       at : Marks o l.c (mark_in (plain o) l.place);

@@ -7,7 +7,7 @@ use Rattle.ac_objects.proofs.listing.write_rows.Goals as goal
 
 pub returns-in_err-add-clause-adds : goal.returns-in_err-add-clause-adds
 returns-in_err-add-clause-adds g c =
-    let text = g.C.RowObject.row_text in
+    let text = g.C.ListedRows.row_text in
     adds_broken (err_from_is_err_and c.from_residual.result c.from_residual.ensures.1).1 (separated text (contents (plain (g.C.RowObject.rows c.args.object.now).object)) ++ 93 ∷ []) c.in_err-add.ensures.adds
 
 pub returns-in_err-add_items-clause-adds : goal.returns-in_err-add_items-clause-adds

@@ -3,7 +3,7 @@ use Rattle.ac_io.specs.Pieces.{Adds}
 use Rattle.ac_syntax.specs.Canonical.{literal_text}
 use Rattle.ac_meaning.specs.Listings.{entry_text}
 use Rattle.ac_objects.proofs.Entries.{entry_is}
-use Rattle.ac_objects.proofs.map.row_object.MapRowObject.add_row.Goals as goal
+use Rattle.ac_objects.proofs.map.row_object.MapListedRows.add_row.Goals as goal
 
 pub returns-clause-adds : goal.returns-clause-adds
 returns-clause-adds g c row is =

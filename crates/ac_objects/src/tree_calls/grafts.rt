@@ -1,0 +1,134 @@
+//! The calls of trees that copy and move whole subtrees, within a tree and from another one.
+ghost use Rattle.ac_objects.specs.Replied.{told};
+ghost use Rattle.ac_objects.specs.TreeCalls.{TreeChanged, TreeChangedWith};
+
+use super::own_cursors;
+use crate::argument::Arguments;
+use crate::element::ScriptElement;
+use crate::reply::{Reply, Said};
+use ac_base::Fault;
+use ac_check::TreeChangeCall;
+use ac_tree::Tree;
+
+#[inline(never)]
+pub fn copy_subtree_self<T: ScriptElement>(
+    tree: &mut Tree<T>,
+    args: &Arguments,
+    reply: &mut Reply,
+) -> Result<(), Fault>
+    ensures { TreeChanged T.tools TreeChangeCall.CopySubtree args.now tree.old tree.new (told reply.new result) }
+{
+    let parent = args.first.cursor();
+    let before = args.second.cursor();
+    tree.copy_subtree_self(parent, before, args.fourth.cursor())?;
+    reply.tell(Said::Done);
+    Ok(())
+}
+
+#[inline(never)]
+pub fn splice_subtree_from_self<T: ScriptElement>(
+    tree: &mut Tree<T>,
+    args: &Arguments,
+    reply: &mut Reply,
+) -> Result<(), Fault>
+    ensures { TreeChanged T.tools TreeChangeCall.SpliceSubtreeFrom args.now tree.old tree.new (told reply.new result) }
+{
+    let parent = args.first.cursor();
+    let before = args.second.cursor();
+    let moved = own_cursors::splice_subtree_from_self(tree, parent, before, args.fourth.cursor())?;
+    *reply = Reply::sets(3, moved);
+    Ok(())
+}
+
+#[inline(never)]
+pub fn splice_subtree<T: ScriptElement>(
+    tree: &mut Tree<T>,
+    args: &Arguments,
+    reply: &mut Reply,
+) -> Result<(), Fault>
+    ensures { TreeChanged T.tools TreeChangeCall.SpliceSubtree args.now tree.old tree.new (told reply.new result) }
+{
+    let parent = args.first.cursor();
+    let before = args.second.cursor();
+    tree.splice_subtree(parent, before, args.third.cursor())?;
+    reply.tell(Said::Done);
+    Ok(())
+}
+
+#[inline(never)]
+pub fn splice_children_from_self<T: ScriptElement>(
+    tree: &mut Tree<T>,
+    args: &Arguments,
+    reply: &mut Reply,
+) -> Result<(), Fault>
+    ensures { TreeChanged T.tools TreeChangeCall.SpliceChildrenFrom args.now tree.old tree.new (told reply.new result) }
+{
+    let parent = args.first.cursor();
+    let before = args.second.cursor();
+    tree.splice_children(parent, before, args.fourth.cursor())?;
+    reply.tell(Said::Done);
+    Ok(())
+}
+
+#[inline(never)]
+pub fn splice_children<T: ScriptElement>(
+    tree: &mut Tree<T>,
+    args: &Arguments,
+    reply: &mut Reply,
+) -> Result<(), Fault>
+    ensures { TreeChanged T.tools TreeChangeCall.SpliceChildren args.now tree.old tree.new (told reply.new result) }
+{
+    let parent = args.first.cursor();
+    let before = args.second.cursor();
+    tree.splice_children(parent, before, args.third.cursor())?;
+    reply.tell(Said::Done);
+    Ok(())
+}
+
+#[inline(never)]
+pub fn copy_subtree<T: ScriptElement>(
+    tree: &mut Tree<T>,
+    source: &Tree<T>,
+    args: &Arguments,
+    reply: &mut Reply,
+) -> Result<(), Fault>
+    ensures { TreeChangedWith T.tools TreeChangeCall.CopySubtree args.now tree.old source.now tree.new source.now (told reply.new result) }
+{
+    let parent = args.first.cursor();
+    let before = args.second.cursor();
+    tree.copy_subtree(parent, before, source, args.fourth.cursor())?;
+    reply.tell(Said::Done);
+    Ok(())
+}
+
+#[inline(never)]
+pub fn splice_subtree_from<T: ScriptElement>(
+    tree: &mut Tree<T>,
+    source: &mut Tree<T>,
+    args: &Arguments,
+    reply: &mut Reply,
+) -> Result<(), Fault>
+    ensures { TreeChangedWith T.tools TreeChangeCall.SpliceSubtreeFrom args.now tree.old source.old tree.new source.new (told reply.new result) }
+{
+    let parent = args.first.cursor();
+    let before = args.second.cursor();
+    let moved = own_cursors::splice_subtree_from(tree, parent, before, source, args.fourth.cursor())?;
+    *reply = Reply::sets(3, moved);
+    Ok(())
+}
+
+#[inline(never)]
+pub fn splice_children_from<T: ScriptElement>(
+    tree: &mut Tree<T>,
+    source: &mut Tree<T>,
+    args: &Arguments,
+    reply: &mut Reply,
+) -> Result<(), Fault>
+    ensures { TreeChangedWith T.tools TreeChangeCall.SpliceChildrenFrom args.now tree.old source.old tree.new source.new (told reply.new result) }
+{
+    let parent = args.first.cursor();
+    let before = args.second.cursor();
+    tree.splice_children_from(parent, before, source, args.fourth.cursor())?;
+    reply.tell(Said::Done);
+    Ok(())
+}

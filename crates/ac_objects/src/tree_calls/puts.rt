@@ -1,0 +1,82 @@
+//! The calls of trees that put new nodes into them.
+ghost use Rattle.ac_objects.specs.Replied.{told};
+ghost use Rattle.ac_objects.specs.TreeCalls.{TreeChanged};
+
+use super::own_cursors;
+use crate::argument::Arguments;
+use crate::element::ScriptElement;
+use crate::reply::{Reply, Said};
+use ac_base::Fault;
+use ac_check::TreeChangeCall;
+use ac_tree::Tree;
+use std::alloc::Global;
+
+#[inline(never)]
+pub fn insert_child<T: ScriptElement>(
+    tree: &mut Tree<T>,
+    alloc: Global,
+    args: &mut Arguments,
+    reply: &mut Reply,
+) -> Result<(), Fault>
+    ensures { TreeChanged T.tools TreeChangeCall.InsertChild args.old tree.old tree.new (told reply.new result) }
+{
+    let parent = args.first.cursor();
+    let before = args.second.cursor();
+    let count = args.fourth.count();
+    let element = T::from_value(alloc, args.third.take_value())?;
+    tree.insert_child(parent, before, element, count)?;
+    reply.tell(Said::Done);
+    Ok(())
+}
+
+#[inline(never)]
+pub fn insert_child_pos<T: ScriptElement>(
+    tree: &mut Tree<T>,
+    alloc: Global,
+    args: &mut Arguments,
+    reply: &mut Reply,
+) -> Result<(), Fault>
+    ensures { TreeChanged T.tools TreeChangeCall.InsertChildPos args.old tree.old tree.new (told reply.new result) }
+{
+    let parent = args.first.cursor();
+    let before = args.second.cursor();
+    let count = args.fifth;
+    let element = T::from_value(alloc, args.third.take_value())?;
+    let first = own_cursors::insert_child_pos(tree, parent, before, element, count)?;
+    *reply = Reply::sets(3, first);
+    Ok(())
+}
+
+#[inline(never)]
+pub fn append_child<T: ScriptElement>(
+    tree: &mut Tree<T>,
+    alloc: Global,
+    args: &mut Arguments,
+    reply: &mut Reply,
+) -> Result<(), Fault>
+    ensures { TreeChanged T.tools TreeChangeCall.AppendChild args.old tree.old tree.new (told reply.new result) }
+{
+    let parent = args.first.cursor();
+    let count = args.third.count();
+    let element = T::from_value(alloc, args.second.take_value())?;
+    tree.append_child(parent, element, count)?;
+    reply.tell(Said::Done);
+    Ok(())
+}
+
+#[inline(never)]
+pub fn prepend_child<T: ScriptElement>(
+    tree: &mut Tree<T>,
+    alloc: Global,
+    args: &mut Arguments,
+    reply: &mut Reply,
+) -> Result<(), Fault>
+    ensures { TreeChanged T.tools TreeChangeCall.PrependChild args.old tree.old tree.new (told reply.new result) }
+{
+    let parent = args.first.cursor();
+    let count = args.third.count();
+    let element = T::from_value(alloc, args.second.take_value())?;
+    tree.prepend_child(parent, element, count)?;
+    reply.tell(Said::Done);
+    Ok(())
+}
