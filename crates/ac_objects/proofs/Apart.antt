@@ -1,10 +1,10 @@
 -- An object of one type is found as no rows of another's kinds, and as no holder of another element type.
 use Rattle.std.proofs.Common.{◌≡◌, refl, Some, None}
 use Rattle.ac_syntax.specs.declared.kind.ElemKind.TheVariants.{Integer, Str}
-use Rattle.ac_meaning.specs.Holdings.{SequenceKind, a_sequence, a_map, a_set, a_keyed_set, rows_in, holder_in}
+use Rattle.ac_meaning.specs.Holdings.{SequenceKind, a_sequence, a_map, a_set, a_keyed_set, a_tree, rows_in, holder_in}
 use Rattle.ac_meaning.specs.KeyedReplies.{KeyedKind}
 use Rattle.ac_objects.specs.declared.object.Object.{Object}
-use Rattle.ac_objects.specs.declared.object.Object.TheVariants.{Integers, Texts, IntegerSet, TextSet, KeyedSet, IntegersByInteger, IntegersByText, TextsByInteger, TextsByText, IntegerHolder, TextHolder}
+use Rattle.ac_objects.specs.declared.object.Object.TheVariants.{Integers, Texts, IntegerSet, TextSet, KeyedSet, IntegersByInteger, IntegersByText, TextsByInteger, TextsByText, IntegerTree, TextTree, IntegerHolder, TextHolder}
 use Rattle.ac_objects.specs.World.{memory_of, held_of}
 
 pub no_integers : (which : SequenceKind) (s : Object) → ((x : _) → s ≡ Integers x → ⊥) → rows_in (a_sequence which Integer) (Some (held_of s)) ≡ None
@@ -18,6 +18,8 @@ no_integers which (IntegersByInteger x) none = refl
 no_integers which (IntegersByText x) none = refl
 no_integers which (TextsByInteger x) none = refl
 no_integers which (TextsByText x) none = refl
+no_integers which (IntegerTree x) none = refl
+no_integers which (TextTree x) none = refl
 no_integers which (IntegerHolder x) none = refl
 no_integers which (TextHolder x) none = refl
 
@@ -32,6 +34,8 @@ no_texts which (IntegersByInteger x) none = refl
 no_texts which (IntegersByText x) none = refl
 no_texts which (TextsByInteger x) none = refl
 no_texts which (TextsByText x) none = refl
+no_texts which (IntegerTree x) none = refl
+no_texts which (TextTree x) none = refl
 no_texts which (IntegerHolder x) none = refl
 no_texts which (TextHolder x) none = refl
 
@@ -46,6 +50,8 @@ no_integer_set which (IntegersByInteger x) none = refl
 no_integer_set which (IntegersByText x) none = refl
 no_integer_set which (TextsByInteger x) none = refl
 no_integer_set which (TextsByText x) none = refl
+no_integer_set which (IntegerTree x) none = refl
+no_integer_set which (TextTree x) none = refl
 no_integer_set which (IntegerHolder x) none = refl
 no_integer_set which (TextHolder x) none = refl
 
@@ -60,6 +66,8 @@ no_text_set which (IntegersByInteger x) none = refl
 no_text_set which (IntegersByText x) none = refl
 no_text_set which (TextsByInteger x) none = refl
 no_text_set which (TextsByText x) none = refl
+no_text_set which (IntegerTree x) none = refl
+no_text_set which (TextTree x) none = refl
 no_text_set which (IntegerHolder x) none = refl
 no_text_set which (TextHolder x) none = refl
 
@@ -74,6 +82,8 @@ no_integers_by_integer which (IntegersByInteger x) none = absurd (none x refl)
 no_integers_by_integer which (IntegersByText x) none = refl
 no_integers_by_integer which (TextsByInteger x) none = refl
 no_integers_by_integer which (TextsByText x) none = refl
+no_integers_by_integer which (IntegerTree x) none = refl
+no_integers_by_integer which (TextTree x) none = refl
 no_integers_by_integer which (IntegerHolder x) none = refl
 no_integers_by_integer which (TextHolder x) none = refl
 
@@ -88,6 +98,8 @@ no_integers_by_text which (IntegersByInteger x) none = refl
 no_integers_by_text which (IntegersByText x) none = absurd (none x refl)
 no_integers_by_text which (TextsByInteger x) none = refl
 no_integers_by_text which (TextsByText x) none = refl
+no_integers_by_text which (IntegerTree x) none = refl
+no_integers_by_text which (TextTree x) none = refl
 no_integers_by_text which (IntegerHolder x) none = refl
 no_integers_by_text which (TextHolder x) none = refl
 
@@ -102,6 +114,8 @@ no_texts_by_integer which (IntegersByInteger x) none = refl
 no_texts_by_integer which (IntegersByText x) none = refl
 no_texts_by_integer which (TextsByInteger x) none = absurd (none x refl)
 no_texts_by_integer which (TextsByText x) none = refl
+no_texts_by_integer which (IntegerTree x) none = refl
+no_texts_by_integer which (TextTree x) none = refl
 no_texts_by_integer which (IntegerHolder x) none = refl
 no_texts_by_integer which (TextHolder x) none = refl
 
@@ -116,6 +130,8 @@ no_texts_by_text which (IntegersByInteger x) none = refl
 no_texts_by_text which (IntegersByText x) none = refl
 no_texts_by_text which (TextsByInteger x) none = refl
 no_texts_by_text which (TextsByText x) none = absurd (none x refl)
+no_texts_by_text which (IntegerTree x) none = refl
+no_texts_by_text which (TextTree x) none = refl
 no_texts_by_text which (IntegerHolder x) none = refl
 no_texts_by_text which (TextHolder x) none = refl
 
@@ -130,8 +146,42 @@ no_keyed_set which (IntegersByInteger x) none = refl
 no_keyed_set which (IntegersByText x) none = refl
 no_keyed_set which (TextsByInteger x) none = refl
 no_keyed_set which (TextsByText x) none = refl
+no_keyed_set which (IntegerTree x) none = refl
+no_keyed_set which (TextTree x) none = refl
 no_keyed_set which (IntegerHolder x) none = refl
 no_keyed_set which (TextHolder x) none = refl
+
+pub no_integer_tree : (s : Object) → ((x : _) → s ≡ IntegerTree x → ⊥) → rows_in (a_tree Integer) (Some (held_of s)) ≡ None
+unfolding memory_of
+no_integer_tree (Integers x) none = refl
+no_integer_tree (Texts x) none = refl
+no_integer_tree (IntegerSet x) none = refl
+no_integer_tree (TextSet x) none = refl
+no_integer_tree (KeyedSet x) none = refl
+no_integer_tree (IntegersByInteger x) none = refl
+no_integer_tree (IntegersByText x) none = refl
+no_integer_tree (TextsByInteger x) none = refl
+no_integer_tree (TextsByText x) none = refl
+no_integer_tree (IntegerTree x) none = absurd (none x refl)
+no_integer_tree (TextTree x) none = refl
+no_integer_tree (IntegerHolder x) none = refl
+no_integer_tree (TextHolder x) none = refl
+
+pub no_text_tree : (s : Object) → ((x : _) → s ≡ TextTree x → ⊥) → rows_in (a_tree Str) (Some (held_of s)) ≡ None
+unfolding memory_of
+no_text_tree (Integers x) none = refl
+no_text_tree (Texts x) none = refl
+no_text_tree (IntegerSet x) none = refl
+no_text_tree (TextSet x) none = refl
+no_text_tree (KeyedSet x) none = refl
+no_text_tree (IntegersByInteger x) none = refl
+no_text_tree (IntegersByText x) none = refl
+no_text_tree (TextsByInteger x) none = refl
+no_text_tree (TextsByText x) none = refl
+no_text_tree (IntegerTree x) none = refl
+no_text_tree (TextTree x) none = absurd (none x refl)
+no_text_tree (IntegerHolder x) none = refl
+no_text_tree (TextHolder x) none = refl
 
 pub no_integer_holder : (s : Object) → ((x : _) → s ≡ IntegerHolder x → ⊥) → holder_in Integer (Some (held_of s)) ≡ None
 unfolding memory_of
@@ -144,6 +194,8 @@ no_integer_holder (IntegersByInteger x) none = refl
 no_integer_holder (IntegersByText x) none = refl
 no_integer_holder (TextsByInteger x) none = refl
 no_integer_holder (TextsByText x) none = refl
+no_integer_holder (IntegerTree x) none = refl
+no_integer_holder (TextTree x) none = refl
 no_integer_holder (IntegerHolder x) none = absurd (none x refl)
 no_integer_holder (TextHolder x) none = refl
 
@@ -158,5 +210,7 @@ no_text_holder (IntegersByInteger x) none = refl
 no_text_holder (IntegersByText x) none = refl
 no_text_holder (TextsByInteger x) none = refl
 no_text_holder (TextsByText x) none = refl
+no_text_holder (IntegerTree x) none = refl
+no_text_holder (TextTree x) none = refl
 no_text_holder (IntegerHolder x) none = refl
 no_text_holder (TextHolder x) none = absurd (none x refl)

@@ -1,12 +1,14 @@
--- What a list or a vector, a set and a map of one type are in memory, after a call that keeps their kind.
+-- What a list or a vector, a set, a map and a tree of one type are in memory, after a call that keeps their kind.
 use Rattle.std.proofs.Common.{◌≡◌, ℤ, refl, ap, ◌∙◌}
 use Rattle.ac_syntax.specs.declared.kind.ElemKind.{ElemKind}
 use Rattle.ac_syntax.specs.declared.kind.ElemKind.TheVariants.{Integer, Str}
+use Rattle.ac_model.specs.Containers.{Container}
+use Rattle.ac_model.specs.Rows.{Node}
 use Rattle.ac_meaning.specs.Elements.{ElementOf, Text}
 use Rattle.ac_meaning.specs.Holdings.{SequenceKind, of_list, of_vector, RowKind, a_sequence, a_map, a_set, a_keyed_set, a_tree}
 use Rattle.ac_meaning.specs.KeyedReplies.{KeyedKind, of_hashed, of_ordered}
 use Rattle.ac_objects.specs.declared.object.Object.{Object}
-use Rattle.ac_objects.specs.declared.object.Object.TheVariants.{Integers, Texts, IntegerSet, TextSet, KeyedSet, IntegersByInteger, IntegersByText, TextsByInteger, TextsByText}
+use Rattle.ac_objects.specs.declared.object.Object.TheVariants.{Integers, Texts, IntegerSet, TextSet, KeyedSet, IntegersByInteger, IntegersByText, TextsByInteger, TextsByText, IntegerTree, TextTree}
 use Rattle.ac_objects.specs.declared.keyed_set.KeyedSet.{KeyedSet as KeyedTexts}
 use Rattle.ac_objects.specs.declared.map.Map.{Map}
 use Rattle.ac_objects.specs.declared.map.Map.TheVariants as map
@@ -136,3 +138,11 @@ texts_by_integer s = refl
 pub texts_by_text : (s : Map Text Text) → memory_of (TextsByText s) ≡ in_rows (a_map (map_kind_of s) Str Str) (entries_of s)
 unfolding memory_of
 texts_by_text s = refl
+
+pub integer_tree : (t : Container (Node ℤ)) → memory_of (IntegerTree t) ≡ in_rows (a_tree Integer) t
+unfolding memory_of
+integer_tree t = refl
+
+pub text_tree : (t : Container (Node Text)) → memory_of (TextTree t) ≡ in_rows (a_tree Str) t
+unfolding memory_of
+text_tree t = refl

@@ -9,6 +9,7 @@ pub mod SetKinds
 pub mod SetOperations
 pub mod KeyedOperations
 pub mod Own
+pub mod OwnNodes
 pub mod Entries
 pub mod PutEntries
 pub mod MapOperations

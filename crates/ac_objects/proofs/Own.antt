@@ -21,7 +21,7 @@ IsOwnMark number no_mark = ⊤
 IsOwnMark number (mark_at object name) = object ≡ number
 IsOwnMark number (stale_mark object) = ⊥
 
-own_at : (number object : ℕ) (name : Name) (among same : Bool) (m : Mark) → (object == number) ≡ same → IsOwnMark number m →
+pub own_at : (number object : ℕ) (name : Name) (among same : Bool) (m : Mark) → (object == number) ≡ same → IsOwnMark number m →
     (if same && not among then stale_mark object else mark_at object name.serial) ≡ m → (m ≡ mark_at object name.serial) × (object ≡ number) × IsTrue among
 own_at number object name true true m e own is = (sym is, eqb-true object number e, refl)
 own_at number object name false true m e own is = absurd (subst (λ k. IsOwnMark number k) (sym is) own)
@@ -35,10 +35,10 @@ judged true true h = (refl, refl)
 judged true false h = absurd (cc h)
 judged false there h = absurd (cc h)
 
-judged_own : (number object : ℕ) (there : Bool) → judged_in number object there ≡ None → object ≡ number
+pub judged_own : (number object : ℕ) (there : Bool) → judged_in number object there ≡ None → object ≡ number
 judged_own number object there h = eqb-true object number (judged (object == number) there h).0
 
-stale_judged : (number object : ℕ) → judged_in number object false ≡ None → ⊥
+pub stale_judged : (number object : ℕ) → judged_in number object false ≡ None → ⊥
 stale_judged number object h = let e = (judged (object == number) false h).1 in cc
 
 either_own : (number : ℕ) (b : Bool) (m : Mark) → IsOwnMark number m → IsOwnMark number (if b then no_mark else m)

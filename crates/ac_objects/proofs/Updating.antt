@@ -37,7 +37,7 @@ use Rattle.ac_objects.specs.declared.bound.Bound.{Bound as Place}
 use Rattle.ac_objects.specs.declared.bound.Bound.TheVariants as bound
 use Rattle.ac_objects.specs.declared.keyed_set.KeyedSet.{KeyedSet as KeyedTexts}
 use Rattle.ac_objects.specs.declared.object.Object.{Object}
-use Rattle.ac_objects.specs.declared.object.Object.TheVariants.{Integers, Texts, IntegerSet, TextSet, KeyedSet, IntegersByInteger, IntegersByText, TextsByInteger, TextsByText, IntegerHolder, TextHolder}
+use Rattle.ac_objects.specs.declared.object.Object.TheVariants.{Integers, Texts, IntegerSet, TextSet, KeyedSet, IntegersByInteger, IntegersByText, TextsByInteger, TextsByText, IntegerTree, TextTree, IntegerHolder, TextHolder}
 use Rattle.ac_objects.specs.Blocks.{IsHeldAt, guards_of_update_key}
 use Rattle.ac_objects.specs.KeyedSets.{keyed_items, keyed_kind, keys_of}
 use Rattle.ac_objects.specs.KeyUpdates.{UpdateEnds, key_ended}
@@ -142,6 +142,8 @@ none_refused (IntegersByInteger x) m none = refl
 none_refused (IntegersByText x) m none = refl
 none_refused (TextsByInteger x) m none = refl
 none_refused (TextsByText x) m none = refl
+none_refused (IntegerTree x) m none = refl
+none_refused (TextTree x) m none = refl
 none_refused (IntegerHolder x) m none = refl
 none_refused (TextHolder x) m none = refl
 
@@ -159,6 +161,8 @@ none_ended (IntegersByInteger x) m copy none = refl
 none_ended (IntegersByText x) m copy none = refl
 none_ended (TextsByInteger x) m copy none = refl
 none_ended (TextsByText x) m copy none = refl
+none_ended (IntegerTree x) m copy none = refl
+none_ended (TextTree x) m copy none = refl
 none_ended (IntegerHolder x) m copy none = refl
 none_ended (TextHolder x) m copy none = refl
 

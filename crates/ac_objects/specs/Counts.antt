@@ -7,7 +7,7 @@ use Rattle.ac_forms.specs.HolderFields.{with_guards as holder_with}
 use Rattle.ac_meaning.specs.Elements.{Text}
 use Rattle.ac_meaning.specs.Holdings.{is_a_set, a_keyed_set}
 use Rattle.ac_objects.specs.declared.object.Object.{Object}
-use Rattle.ac_objects.specs.declared.object.Object.TheVariants.{Integers, Texts, IntegerSet, TextSet, KeyedSet, IntegersByInteger, IntegersByText, TextsByInteger, TextsByText, IntegerHolder, TextHolder}
+use Rattle.ac_objects.specs.declared.object.Object.TheVariants.{Integers, Texts, IntegerSet, TextSet, KeyedSet, IntegersByInteger, IntegersByText, TextsByInteger, TextsByText, IntegerTree, TextTree, IntegerHolder, TextHolder}
 use Rattle.ac_objects.specs.declared.keyed_set.KeyedSet.{KeyedSet as KeyedTexts}
 use Rattle.ac_objects.specs.declared.map.Map.{Map}
 use Rattle.ac_objects.specs.declared.map.Map.TheVariants as map
@@ -49,6 +49,8 @@ with_counts (IntegersByInteger m) counts = IntegersByInteger (map_with m counts)
 with_counts (IntegersByText m) counts = IntegersByText (map_with m counts)
 with_counts (TextsByInteger m) counts = TextsByInteger (map_with m counts)
 with_counts (TextsByText m) counts = TextsByText (map_with m counts)
+with_counts (IntegerTree t) counts = IntegerTree (with_guards t counts)
+with_counts (TextTree t) counts = TextTree (with_guards t counts)
 with_counts (IntegerHolder h) counts = IntegerHolder (holder_with h counts)
 with_counts (TextHolder h) counts = TextHolder (holder_with h counts)
 
@@ -129,6 +131,8 @@ memory_counted (TextsByInteger (map.Hashed m)) counts = refl
 memory_counted (TextsByInteger (map.Ordered m)) counts = refl
 memory_counted (TextsByText (map.Hashed m)) counts = refl
 memory_counted (TextsByText (map.Ordered m)) counts = refl
+memory_counted (IntegerTree t) counts = refl
+memory_counted (TextTree t) counts = refl
 memory_counted (IntegerHolder h) counts = refl
 memory_counted (TextHolder h) counts = refl
 
@@ -157,6 +161,8 @@ counts_own (IntegersByInteger m) = ap IntegersByInteger (map_own m)
 counts_own (IntegersByText m) = ap IntegersByText (map_own m)
 counts_own (TextsByInteger m) = ap TextsByInteger (map_own m)
 counts_own (TextsByText m) = ap TextsByText (map_own m)
+counts_own (IntegerTree t) = refl
+counts_own (TextTree t) = refl
 counts_own (IntegerHolder h) = refl
 counts_own (TextHolder h) = refl
 
@@ -170,5 +176,7 @@ rest_kept (IntegersByInteger m) counts others = ap IntegersByInteger (map_rest m
 rest_kept (IntegersByText m) counts others = ap IntegersByText (map_rest m counts others)
 rest_kept (TextsByInteger m) counts others = ap TextsByInteger (map_rest m counts others)
 rest_kept (TextsByText m) counts others = ap TextsByText (map_rest m counts others)
+rest_kept (IntegerTree t) counts others = refl
+rest_kept (TextTree t) counts others = refl
 rest_kept (IntegerHolder h) counts others = refl
 rest_kept (TextHolder h) counts others = refl

@@ -8,12 +8,12 @@ use Rattle.ac_model.specs.Cursors.{plain_mark}
 use Rattle.ac_model.specs.Holders.{Holder}
 use Rattle.ac_syntax.specs.declared.kind.ElemKind.{ElemKind}
 use Rattle.ac_syntax.specs.declared.kind.ElemKind.TheVariants.{Integer, Str}
-use Rattle.ac_meaning.specs.Holdings.{RowKind, RowOf, Held, of_rows, of_holder, a_sequence, a_map, a_set, a_keyed_set}
+use Rattle.ac_meaning.specs.Holdings.{RowKind, RowOf, Held, of_rows, of_holder, a_sequence, a_map, a_set, a_keyed_set, a_tree}
 use Rattle.ac_meaning.specs.Elements.{ElementOf}
 use Rattle.ac_meaning.specs.Environment as meant
 use Rattle.ac_meaning.specs.Numbers.{NumbersDiffer}
 use Rattle.ac_objects.specs.declared.object.Object.{Object}
-use Rattle.ac_objects.specs.declared.object.Object.TheVariants.{Integers, Texts, IntegerSet, TextSet, KeyedSet, IntegersByInteger, IntegersByText, TextsByInteger, TextsByText, IntegerHolder, TextHolder}
+use Rattle.ac_objects.specs.declared.object.Object.TheVariants.{Integers, Texts, IntegerSet, TextSet, KeyedSet, IntegersByInteger, IntegersByText, TextsByInteger, TextsByText, IntegerTree, TextTree, IntegerHolder, TextHolder}
 use Rattle.ac_objects.specs.Arguments.{SlotAgrees}
 use Rattle.ac_objects.specs.Sequences.{rows_of, kind_of}
 use Rattle.ac_objects.specs.Sets.{items_of, set_kind_of}
@@ -45,6 +45,8 @@ memory_of (IntegersByInteger m) = in_rows (a_map (map_kind_of m) Integer Integer
 memory_of (IntegersByText m) = in_rows (a_map (map_kind_of m) Str Integer) (entries_of m)
 memory_of (TextsByInteger m) = in_rows (a_map (map_kind_of m) Integer Str) (entries_of m)
 memory_of (TextsByText m) = in_rows (a_map (map_kind_of m) Str Str) (entries_of m)
+memory_of (IntegerTree t) = in_rows (a_tree Integer) t
+memory_of (TextTree t) = in_rows (a_tree Str) t
 memory_of (IntegerHolder h) = in_holder Integer h
 memory_of (TextHolder h) = in_holder Str h
 

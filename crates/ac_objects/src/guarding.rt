@@ -191,6 +191,8 @@ impl Guarded for Object {
             Object::IntegersByText(map) => map.hold(kind),
             Object::TextsByInteger(map) => map.hold(kind),
             Object::TextsByText(map) => map.hold(kind),
+            Object::IntegerTree(tree) => tree.hold(kind),
+            Object::TextTree(tree) => tree.hold(kind),
             Object::IntegerHolder(holder) => holder.hold(kind),
             Object::TextHolder(holder) => holder.hold(kind),
         }
@@ -208,6 +210,8 @@ impl Guarded for Object {
             Object::IntegersByText(map) => map.release(key),
             Object::TextsByInteger(map) => map.release(key),
             Object::TextsByText(map) => map.release(key),
+            Object::IntegerTree(tree) => tree.release(key),
+            Object::TextTree(tree) => tree.release(key),
             Object::IntegerHolder(holder) => holder.release(key),
             Object::TextHolder(holder) => holder.release(key),
         }
@@ -225,6 +229,8 @@ impl Guarded for Object {
             Object::IntegersByText(map) => map.held(kind),
             Object::TextsByInteger(map) => map.held(kind),
             Object::TextsByText(map) => map.held(kind),
+            Object::IntegerTree(tree) => tree.held(kind),
+            Object::TextTree(tree) => tree.held(kind),
             Object::IntegerHolder(holder) => holder.held(kind),
             Object::TextHolder(holder) => holder.held(kind),
         }

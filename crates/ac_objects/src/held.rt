@@ -46,6 +46,8 @@ pub fn call_object(
         Object::IntegersByText(map) => call_own(map, alloc, operation, args, reply),
         Object::TextsByInteger(map) => call_own(map, alloc, operation, args, reply),
         Object::TextsByText(map) => call_own(map, alloc, operation, args, reply),
+        Object::IntegerTree(tree) => call_own(tree, alloc, operation, args, reply),
+        Object::TextTree(tree) => call_own(tree, alloc, operation, args, reply),
         Object::IntegerHolder(holder) => operate_holder(holder, alloc, operation, args, reply),
         Object::TextHolder(holder) => operate_holder(holder, alloc, operation, args, reply),
     }
@@ -105,6 +107,14 @@ pub fn call_objects(
         Object::TextsByText(map) => match source {
             Object::TextsByText(other) => call_two(map, other, alloc, operation, args, reply),
             _ => call_own(map, alloc, operation, args, reply),
+        },
+        Object::IntegerTree(tree) => match source {
+            Object::IntegerTree(other) => call_two(tree, other, alloc, operation, args, reply),
+            _ => call_own(tree, alloc, operation, args, reply),
+        },
+        Object::TextTree(tree) => match source {
+            Object::TextTree(other) => call_two(tree, other, alloc, operation, args, reply),
+            _ => call_own(tree, alloc, operation, args, reply),
         },
         Object::IntegerHolder(holder) => match source {
             Object::IntegerHolder(other) => {
@@ -222,6 +232,8 @@ pub fn element_of(object: &Object, alloc: Global, at: Cursor) -> Result<Value, N
         Object::IntegersByText(map) => map.element_value(alloc, at),
         Object::TextsByInteger(map) => map.element_value(alloc, at),
         Object::TextsByText(map) => map.element_value(alloc, at),
+        Object::IntegerTree(tree) => tree.element_value(alloc, at),
+        Object::TextTree(tree) => tree.element_value(alloc, at),
         Object::IntegerHolder(holder) => value(holder, alloc),
         Object::TextHolder(holder) => value(holder, alloc),
     }
@@ -249,6 +261,8 @@ pub fn write_element(
         Object::IntegersByText(map) => written(map, alloc, at, value),
         Object::TextsByInteger(map) => written(map, alloc, at, value),
         Object::TextsByText(map) => written(map, alloc, at, value),
+        Object::IntegerTree(tree) => written(tree, alloc, at, value),
+        Object::TextTree(tree) => written(tree, alloc, at, value),
         Object::IntegerHolder(holder) => write(holder, alloc, value),
         Object::TextHolder(holder) => write(holder, alloc, value),
     }

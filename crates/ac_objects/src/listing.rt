@@ -15,6 +15,7 @@ use crate::holder_elements::write_listing;
 use crate::object::Object;
 use crate::objects::Objects;
 use crate::row_object::ListedRows;
+use crate::trees::write_tree;
 use ac_cursor::Cursor;
 use ac_io::{Sink, WriteFault, add};
 
@@ -99,6 +100,8 @@ fn write_object<K: Sink>(
         Object::IntegersByText(map) => write_rows(map, text, sink),
         Object::TextsByInteger(map) => write_rows(map, text, sink),
         Object::TextsByText(map) => write_rows(map, text, sink),
+        Object::IntegerTree(tree) => write_tree(tree, text, sink),
+        Object::TextTree(tree) => write_tree(tree, text, sink),
         Object::IntegerHolder(holder) => write_listing(holder, text, sink),
         Object::TextHolder(holder) => write_listing(holder, text, sink),
     }

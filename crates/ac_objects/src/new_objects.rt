@@ -24,6 +24,7 @@ use ac_hashed::{HashedMap, HashedSet};
 use ac_list::List;
 use ac_ordered::{OrderedMap, OrderedSet};
 use ac_syntax::{ElemKind, Kind, TypeDef};
+use ac_tree::Tree;
 use ac_vector::Vector;
 use std::alloc::Global;
 
@@ -42,6 +43,7 @@ pub(crate) fn new_object(
         Kind::HashedSet | Kind::OrderedSet => new_set_object(alloc, def, tag, limit),
         Kind::HashedMap | Kind::OrderedMap => new_map_object(alloc, def, tag, limit),
         Kind::Holder => new_holder_object(alloc, def, tag, limit),
+        Kind::Tree => new_tree_object(alloc, def, tag, limit),
         _ => Err(NoMemory),
     }
 }
@@ -85,6 +87,28 @@ fn new_holder_object(
         ElemKind::Str => {
             let made = new_holder(alloc, tag, limit)?;
             Ok(Object::TextHolder(made))
+        }
+    }
+}
+
+fn new_tree_object(
+    alloc: Global,
+    def: &TypeDef,
+    tag: Tag,
+    limit: Limit,
+) -> Result<Object, NoMemory>
+    requires kind { def.now.kind ≡ Kind.Tree }
+    requires limit { IsLimit limit }
+    ensures { IfOk result (λ made. held_of made ≡ new_within def.now tag limit) }
+{
+    match def.first {
+        ElemKind::Integer => {
+            let made = new_tree(alloc, tag, limit)?;
+            Ok(Object::IntegerTree(made))
+        }
+        ElemKind::Str => {
+            let made = new_tree(alloc, tag, limit)?;
+            Ok(Object::TextTree(made))
         }
     }
 }
@@ -207,6 +231,17 @@ fn new_holder<T: Elem>(alloc: Global, tag: Tag, limit: Limit) -> Result<Holder<T
 {
     match Holder::new(alloc, tag, limit) {
         Ok(holder) => Ok(holder),
+        Err(_) => Err(NoMemory),
+    }
+}
+
+/// A tree without elements.
+fn new_tree<T: Elem>(alloc: Global, tag: Tag, limit: Limit) -> Result<Tree<T>, NoMemory>
+    requires { IsLimit limit }
+    ensures { IfOk result (λ made. plain made.object ≡ empty_object false tag limit) }
+{
+    match Tree::new(alloc, tag, limit) {
+        Ok(tree) => Ok(tree),
         Err(_) => Err(NoMemory),
     }
 }

@@ -5,6 +5,7 @@ use crate::sequence::Sequence;
 use crate::set::Set;
 use ac_base::Text;
 use ac_forms::Holder;
+use ac_tree::Tree;
 
 /// An object of a script.
 #[derive(Drop)]
@@ -18,6 +19,8 @@ pub enum Object {
     IntegersByText(Map<Text, i64>),
     TextsByInteger(Map<i64, Text>),
     TextsByText(Map<Text, Text>),
+    IntegerTree(Tree<i64>),
+    TextTree(Tree<Text>),
     IntegerHolder(Holder<i64>),
     TextHolder(Holder<Text>),
 }

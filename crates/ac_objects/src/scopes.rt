@@ -35,6 +35,8 @@ impl Object {
             Object::IntegersByText(map) => map.live_nodes(),
             Object::TextsByInteger(map) => map.live_nodes(),
             Object::TextsByText(map) => map.live_nodes(),
+            Object::IntegerTree(tree) => tree.live_nodes(),
+            Object::TextTree(tree) => tree.live_nodes(),
             Object::IntegerHolder(_) | Object::TextHolder(_) => 0,
         }
     }

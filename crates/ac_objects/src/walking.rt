@@ -130,6 +130,8 @@ impl Object {
             Object::IntegersByText(map) => first_in(map, backward),
             Object::TextsByInteger(map) => first_in(map, backward),
             Object::TextsByText(map) => first_in(map, backward),
+            Object::IntegerTree(tree) => first_in(tree, backward),
+            Object::TextTree(tree) => first_in(tree, backward),
             Object::IntegerHolder(holder) => first_of_none(holder),
             Object::TextHolder(holder) => first_of_none(holder),
         }
@@ -153,6 +155,8 @@ impl Object {
             Object::IntegersByText(map) => next_in(map, backward, at),
             Object::TextsByInteger(map) => next_in(map, backward, at),
             Object::TextsByText(map) => next_in(map, backward, at),
+            Object::IntegerTree(tree) => next_in(tree, backward, at),
+            Object::TextTree(tree) => next_in(tree, backward, at),
             Object::IntegerHolder(holder) => next_of_none(holder),
             Object::TextHolder(holder) => next_of_none(holder),
         }
@@ -174,6 +178,8 @@ impl Object {
             Object::IntegersByText(map) => refused_in(map, at),
             Object::TextsByInteger(map) => refused_in(map, at),
             Object::TextsByText(map) => refused_in(map, at),
+            Object::IntegerTree(tree) => refused_in(tree, at),
+            Object::TextTree(tree) => refused_in(tree, at),
             Object::IntegerHolder(holder) => refused(holder),
             Object::TextHolder(holder) => refused(holder),
         }

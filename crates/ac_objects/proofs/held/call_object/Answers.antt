@@ -1,7 +1,7 @@
 use Rattle.std.proofs.Common.{refl, sym, ap, ◌∙◌}
 use Rattle.ac_syntax.specs.declared.kind.ElemKind.TheVariants.{Integer, Str}
-use Rattle.ac_meaning.specs.Holdings.{a_sequence, a_map, a_set, a_keyed_set}
-use Rattle.ac_objects.specs.declared.object.Object.TheVariants.{Integers, Texts, IntegerSet, TextSet, KeyedSet, IntegersByInteger, IntegersByText, TextsByInteger, TextsByText, IntegerHolder, TextHolder}
+use Rattle.ac_meaning.specs.Holdings.{a_sequence, a_map, a_set, a_keyed_set, a_tree}
+use Rattle.ac_objects.specs.declared.object.Object.TheVariants.{Integers, Texts, IntegerSet, TextSet, KeyedSet, IntegersByInteger, IntegersByText, TextsByInteger, TextsByText, IntegerTree, TextTree, IntegerHolder, TextHolder}
 use Rattle.ac_objects.specs.KeyedSets.{keyed_items, keyed_kind}
 use Rattle.ac_objects.specs.Maps.{entries_of, map_kind_of}
 use Rattle.ac_objects.specs.Sequences.{rows_of, kind_of}
@@ -9,7 +9,7 @@ use Rattle.ac_objects.specs.Sets.{items_of, set_kind_of}
 use Rattle.ac_objects.specs.Arguments.{arguments_of}
 use Rattle.ac_objects.specs.Replied.{told}
 use Rattle.ac_objects.specs.World.{memory_of}
-use Rattle.ac_objects.proofs.Families.{sequence_now, sequence_same, set_now, set_same, keyed_set_now, keyed_set_same, map_now, map_same, integers, texts, integer_set, text_set, keyed_set, integers_by_integer, integers_by_text, texts_by_integer, texts_by_text}
+use Rattle.ac_objects.proofs.Families.{sequence_now, sequence_same, set_now, set_same, keyed_set_now, keyed_set_same, map_now, map_same, integers, texts, integer_set, text_set, keyed_set, integers_by_integer, integers_by_text, texts_by_integer, texts_by_text, integer_tree, text_tree}
 use Rattle.ac_objects.proofs.CalledRows.{own_called, own_lasts}
 use Rattle.ac_objects.proofs.CalledHolders as holders
 use Rattle.ac_objects.proofs.CalledHolders.{integer_holder, text_holder}
@@ -167,6 +167,38 @@ returns-in-TextsByText-clause-lasts c =
     own_lasts (a_map (map_kind_of old) Str Str) (entries_of old) (entries_of call.new.object) c.args.object.now (TextsByText call.new.object) c.args.operation
     (arguments_of c.args.args.now) (told call.new.reply call.result) (ap memory_of c.in-TextsByText.is ∙ texts_by_text old)
     (map_now Str Str TextsByText texts_by_text old call.new.object call.ensures.kind) call.ensures.valid call.ensures.replied
+
+pub returns-in-IntegerTree-clause-called : goal.returns-in-IntegerTree-clause-called
+returns-in-IntegerTree-clause-called c =
+    let call = c.call_own-in-IntegerTree in
+    let old = c.in-IntegerTree.tree in
+    own_called (a_tree Integer) old call.new.object c.args.object.now (IntegerTree call.new.object) c.args.operation
+    (arguments_of c.args.args.now) (told call.new.reply call.result) (ap memory_of c.in-IntegerTree.is ∙ integer_tree old) (integer_tree call.new.object)
+    (λ rows. ap IntegerTree rows ∙ sym c.in-IntegerTree.is) call.ensures.valid call.ensures.replied
+
+pub returns-in-IntegerTree-clause-lasts : goal.returns-in-IntegerTree-clause-lasts
+returns-in-IntegerTree-clause-lasts c =
+    let call = c.call_own-in-IntegerTree in
+    let old = c.in-IntegerTree.tree in
+    own_lasts (a_tree Integer) old call.new.object c.args.object.now (IntegerTree call.new.object) c.args.operation
+    (arguments_of c.args.args.now) (told call.new.reply call.result) (ap memory_of c.in-IntegerTree.is ∙ integer_tree old) (integer_tree call.new.object)
+    call.ensures.valid call.ensures.replied
+
+pub returns-in-TextTree-clause-called : goal.returns-in-TextTree-clause-called
+returns-in-TextTree-clause-called c =
+    let call = c.call_own-in-TextTree in
+    let old = c.in-TextTree.tree in
+    own_called (a_tree Str) old call.new.object c.args.object.now (TextTree call.new.object) c.args.operation
+    (arguments_of c.args.args.now) (told call.new.reply call.result) (ap memory_of c.in-TextTree.is ∙ text_tree old) (text_tree call.new.object)
+    (λ rows. ap TextTree rows ∙ sym c.in-TextTree.is) call.ensures.valid call.ensures.replied
+
+pub returns-in-TextTree-clause-lasts : goal.returns-in-TextTree-clause-lasts
+returns-in-TextTree-clause-lasts c =
+    let call = c.call_own-in-TextTree in
+    let old = c.in-TextTree.tree in
+    own_lasts (a_tree Str) old call.new.object c.args.object.now (TextTree call.new.object) c.args.operation
+    (arguments_of c.args.args.now) (told call.new.reply call.result) (ap memory_of c.in-TextTree.is ∙ text_tree old) (text_tree call.new.object)
+    call.ensures.valid call.ensures.replied
 
 pub returns-in-IntegerHolder-clause-called : goal.returns-in-IntegerHolder-clause-called
 returns-in-IntegerHolder-clause-called c =

@@ -1,8 +1,8 @@
 use Rattle.std.proofs.Common.{refl, sym, ap, ◌∙◌}
 use Rattle.ac_syntax.specs.declared.kind.ElemKind.TheVariants.{Integer, Str}
 use Rattle.ac_model.specs.Objects.{plain}
-use Rattle.ac_meaning.specs.Holdings.{a_sequence, a_map, a_set, a_keyed_set}
-use Rattle.ac_objects.specs.declared.object.Object.TheVariants.{Integers, Texts, IntegerSet, TextSet, KeyedSet, IntegersByInteger, IntegersByText, TextsByInteger, TextsByText, IntegerHolder, TextHolder}
+use Rattle.ac_meaning.specs.Holdings.{a_sequence, a_map, a_set, a_keyed_set, a_tree}
+use Rattle.ac_objects.specs.declared.object.Object.TheVariants.{Integers, Texts, IntegerSet, TextSet, KeyedSet, IntegersByInteger, IntegersByText, TextsByInteger, TextsByText, IntegerTree, TextTree, IntegerHolder, TextHolder}
 use Rattle.ac_objects.specs.Arguments.{arguments_of}
 use Rattle.ac_objects.specs.KeyedSets.{keyed_items, keyed_kind}
 use Rattle.ac_objects.specs.Maps.{entries_of, map_kind_of}
@@ -10,8 +10,8 @@ use Rattle.ac_objects.specs.Replied.{told}
 use Rattle.ac_objects.specs.Sequences.{rows_of, kind_of}
 use Rattle.ac_objects.specs.Sets.{items_of, set_kind_of}
 use Rattle.ac_objects.specs.World.{memory_of, held_in, held_of}
-use Rattle.ac_objects.proofs.Families.{sequence_now, sequence_same, set_now, set_same, keyed_set_now, keyed_set_same, map_now, map_same, integers, texts, integer_set, text_set, keyed_set, integers_by_integer, integers_by_text, texts_by_integer, texts_by_text}
-use Rattle.ac_objects.proofs.Apart.{no_integers, no_texts, no_integer_set, no_text_set, no_keyed_set, no_integers_by_integer, no_integers_by_text, no_texts_by_integer, no_texts_by_text, no_integer_holder, no_text_holder}
+use Rattle.ac_objects.proofs.Families.{sequence_now, sequence_same, set_now, set_same, keyed_set_now, keyed_set_same, map_now, map_same, integers, texts, integer_set, text_set, keyed_set, integers_by_integer, integers_by_text, texts_by_integer, texts_by_text, integer_tree, text_tree}
+use Rattle.ac_objects.proofs.Apart.{no_integers, no_texts, no_integer_set, no_text_set, no_keyed_set, no_integers_by_integer, no_integers_by_text, no_texts_by_integer, no_texts_by_text, no_integer_tree, no_text_tree, no_integer_holder, no_text_holder}
 use Rattle.ac_objects.proofs.CalledRows.{own_lasts, unlike_called, two_called, two_lasts}
 use Rattle.ac_objects.proofs.CalledHolders as holders
 use Rattle.ac_objects.proofs.CalledHolders.{integer_holder, text_holder}
@@ -521,6 +521,114 @@ returns-in_default-source-8 c =
       source_lasts = record { cursors = λ at agrees. agrees; counts = refl };
     }
 
+pub returns-in-IntegerTree-source-clause-called : goal.returns-in-IntegerTree-source-clause-called
+returns-in-IntegerTree-source-clause-called c =
+    let call = c.call_two-in-IntegerTree-source in
+    let old = c.in-IntegerTree.tree in
+    let source = c.in-IntegerTree-source.other in
+    two_called (a_tree Integer) (a_tree Integer) (plain source.object) old call.new.object source call.new.source
+    c.args.object.now (IntegerTree call.new.object) c.args.source.now (IntegerTree call.new.source) c.args.operation (arguments_of c.args.args.now) (told call.new.reply call.result)
+    (ap memory_of c.in-IntegerTree.is ∙ integer_tree old) (integer_tree call.new.object) (ap held_of c.in-IntegerTree-source.is ∙ ap held_in (integer_tree source))
+    (λ like. ap memory_of c.in-IntegerTree-source.is ∙ integer_tree source)
+    (λ like. integer_tree call.new.source) call.ensures.valid call.ensures.alike
+    (λ differ. let u = call.ensures.unlike differ in (u.0, ap IntegerTree u.1 ∙ sym c.in-IntegerTree-source.is))
+    (λ rows. ap IntegerTree rows ∙ sym c.in-IntegerTree.is) (λ rows. ap IntegerTree rows ∙ sym c.in-IntegerTree-source.is) c.requires.apart
+
+pub returns-in-IntegerTree-source-clause-lasts : goal.returns-in-IntegerTree-source-clause-lasts
+returns-in-IntegerTree-source-clause-lasts c =
+    let call = c.call_two-in-IntegerTree-source in
+    let old = c.in-IntegerTree.tree in
+    let source = c.in-IntegerTree-source.other in
+    (two_lasts (a_tree Integer) (a_tree Integer) (plain source.object) old call.new.object source call.new.source
+    c.args.object.now (IntegerTree call.new.object) c.args.source.now (IntegerTree call.new.source) c.args.operation (arguments_of c.args.args.now) (told call.new.reply call.result)
+    (ap memory_of c.in-IntegerTree.is ∙ integer_tree old) (integer_tree call.new.object) (ap held_of c.in-IntegerTree-source.is ∙ ap held_in (integer_tree source))
+    (λ like. ap memory_of c.in-IntegerTree-source.is ∙ integer_tree source)
+    (λ like. integer_tree call.new.source) call.ensures.valid call.ensures.alike
+    (λ differ. let u = call.ensures.unlike differ in (u.0, ap IntegerTree u.1 ∙ sym c.in-IntegerTree-source.is))
+    call.ensures.source_valid).0
+
+pub returns-in-IntegerTree-source-clause-source_lasts : goal.returns-in-IntegerTree-source-clause-source_lasts
+returns-in-IntegerTree-source-clause-source_lasts c =
+    let call = c.call_two-in-IntegerTree-source in
+    let old = c.in-IntegerTree.tree in
+    let source = c.in-IntegerTree-source.other in
+    (two_lasts (a_tree Integer) (a_tree Integer) (plain source.object) old call.new.object source call.new.source
+    c.args.object.now (IntegerTree call.new.object) c.args.source.now (IntegerTree call.new.source) c.args.operation (arguments_of c.args.args.now) (told call.new.reply call.result)
+    (ap memory_of c.in-IntegerTree.is ∙ integer_tree old) (integer_tree call.new.object) (ap held_of c.in-IntegerTree-source.is ∙ ap held_in (integer_tree source))
+    (λ like. ap memory_of c.in-IntegerTree-source.is ∙ integer_tree source)
+    (λ like. integer_tree call.new.source) call.ensures.valid call.ensures.alike
+    (λ differ. let u = call.ensures.unlike differ in (u.0, ap IntegerTree u.1 ∙ sym c.in-IntegerTree-source.is))
+    call.ensures.source_valid).1
+
+pub returns-in_default-source-9 : goal.returns-in_default-source-9
+returns-in_default-source-9 c =
+    let call = c.call_own-in_default-source-9 in
+    let old = c.in-IntegerTree.tree in
+    let kind = a_tree Integer in
+    record {
+      called = unlike_called kind old call.new.object c.args.object.now (IntegerTree call.new.object) c.args.source.now c.args.source.now c.args.operation
+          (arguments_of c.args.args.now) (told call.new.reply call.result) (ap memory_of c.in-IntegerTree.is ∙ integer_tree old) (integer_tree call.new.object)
+          (λ rows. ap IntegerTree rows ∙ sym c.in-IntegerTree.is) refl
+          (no_integer_tree c.args.source.now c.in_default-source-9.not-IntegerTree) call.ensures.valid call.ensures.replied;
+      lasts = own_lasts kind old call.new.object c.args.object.now (IntegerTree call.new.object) c.args.operation (arguments_of c.args.args.now)
+          (told call.new.reply call.result) (ap memory_of c.in-IntegerTree.is ∙ integer_tree old) (integer_tree call.new.object) call.ensures.valid call.ensures.replied;
+      source_lasts = record { cursors = λ at agrees. agrees; counts = refl };
+    }
+
+pub returns-in-TextTree-source-clause-called : goal.returns-in-TextTree-source-clause-called
+returns-in-TextTree-source-clause-called c =
+    let call = c.call_two-in-TextTree-source in
+    let old = c.in-TextTree.tree in
+    let source = c.in-TextTree-source.other in
+    two_called (a_tree Str) (a_tree Str) (plain source.object) old call.new.object source call.new.source
+    c.args.object.now (TextTree call.new.object) c.args.source.now (TextTree call.new.source) c.args.operation (arguments_of c.args.args.now) (told call.new.reply call.result)
+    (ap memory_of c.in-TextTree.is ∙ text_tree old) (text_tree call.new.object) (ap held_of c.in-TextTree-source.is ∙ ap held_in (text_tree source))
+    (λ like. ap memory_of c.in-TextTree-source.is ∙ text_tree source)
+    (λ like. text_tree call.new.source) call.ensures.valid call.ensures.alike
+    (λ differ. let u = call.ensures.unlike differ in (u.0, ap TextTree u.1 ∙ sym c.in-TextTree-source.is))
+    (λ rows. ap TextTree rows ∙ sym c.in-TextTree.is) (λ rows. ap TextTree rows ∙ sym c.in-TextTree-source.is) c.requires.apart
+
+pub returns-in-TextTree-source-clause-lasts : goal.returns-in-TextTree-source-clause-lasts
+returns-in-TextTree-source-clause-lasts c =
+    let call = c.call_two-in-TextTree-source in
+    let old = c.in-TextTree.tree in
+    let source = c.in-TextTree-source.other in
+    (two_lasts (a_tree Str) (a_tree Str) (plain source.object) old call.new.object source call.new.source
+    c.args.object.now (TextTree call.new.object) c.args.source.now (TextTree call.new.source) c.args.operation (arguments_of c.args.args.now) (told call.new.reply call.result)
+    (ap memory_of c.in-TextTree.is ∙ text_tree old) (text_tree call.new.object) (ap held_of c.in-TextTree-source.is ∙ ap held_in (text_tree source))
+    (λ like. ap memory_of c.in-TextTree-source.is ∙ text_tree source)
+    (λ like. text_tree call.new.source) call.ensures.valid call.ensures.alike
+    (λ differ. let u = call.ensures.unlike differ in (u.0, ap TextTree u.1 ∙ sym c.in-TextTree-source.is))
+    call.ensures.source_valid).0
+
+pub returns-in-TextTree-source-clause-source_lasts : goal.returns-in-TextTree-source-clause-source_lasts
+returns-in-TextTree-source-clause-source_lasts c =
+    let call = c.call_two-in-TextTree-source in
+    let old = c.in-TextTree.tree in
+    let source = c.in-TextTree-source.other in
+    (two_lasts (a_tree Str) (a_tree Str) (plain source.object) old call.new.object source call.new.source
+    c.args.object.now (TextTree call.new.object) c.args.source.now (TextTree call.new.source) c.args.operation (arguments_of c.args.args.now) (told call.new.reply call.result)
+    (ap memory_of c.in-TextTree.is ∙ text_tree old) (text_tree call.new.object) (ap held_of c.in-TextTree-source.is ∙ ap held_in (text_tree source))
+    (λ like. ap memory_of c.in-TextTree-source.is ∙ text_tree source)
+    (λ like. text_tree call.new.source) call.ensures.valid call.ensures.alike
+    (λ differ. let u = call.ensures.unlike differ in (u.0, ap TextTree u.1 ∙ sym c.in-TextTree-source.is))
+    call.ensures.source_valid).1
+
+pub returns-in_default-source-10 : goal.returns-in_default-source-10
+returns-in_default-source-10 c =
+    let call = c.call_own-in_default-source-10 in
+    let old = c.in-TextTree.tree in
+    let kind = a_tree Str in
+    record {
+      called = unlike_called kind old call.new.object c.args.object.now (TextTree call.new.object) c.args.source.now c.args.source.now c.args.operation
+          (arguments_of c.args.args.now) (told call.new.reply call.result) (ap memory_of c.in-TextTree.is ∙ text_tree old) (text_tree call.new.object)
+          (λ rows. ap TextTree rows ∙ sym c.in-TextTree.is) refl
+          (no_text_tree c.args.source.now c.in_default-source-10.not-TextTree) call.ensures.valid call.ensures.replied;
+      lasts = own_lasts kind old call.new.object c.args.object.now (TextTree call.new.object) c.args.operation (arguments_of c.args.args.now)
+          (told call.new.reply call.result) (ap memory_of c.in-TextTree.is ∙ text_tree old) (text_tree call.new.object) call.ensures.valid call.ensures.replied;
+      source_lasts = record { cursors = λ at agrees. agrees; counts = refl };
+    }
+
 pub returns-in-IntegerHolder-source-clause-called : goal.returns-in-IntegerHolder-source-clause-called
 returns-in-IntegerHolder-source-clause-called c =
     let call = c.operate_holders in
@@ -549,15 +657,15 @@ returns-in-IntegerHolder-source-clause-source_lasts c =
     c.args.operation (arguments_of c.args.args.now) (told call.new.reply call.result)
     (ap memory_of c.in-IntegerHolder.is ∙ integer_holder old) (integer_holder call.new.holder) (ap memory_of c.in-IntegerHolder-source.is ∙ integer_holder source) (integer_holder call.new.source) call.ensures).1
 
-pub returns-in_default-source-9 : goal.returns-in_default-source-9
-returns-in_default-source-9 c =
+pub returns-in_default-source-11 : goal.returns-in_default-source-11
+returns-in_default-source-11 c =
     let call = c.operate_holder in
     let old = c.in-IntegerHolder.holder in
     let is = ap memory_of c.in-IntegerHolder.is ∙ integer_holder old in
     record {
       called = holders.unlike_called Integer old call.new.holder c.args.object.now (IntegerHolder call.new.holder) c.args.source.now c.args.operation
           (arguments_of c.args.args.now) (told call.new.reply call.result) is (integer_holder call.new.holder) (λ same. ap IntegerHolder same ∙ sym c.in-IntegerHolder.is)
-          (no_integer_holder c.args.source.now c.in_default-source-9.not-IntegerHolder) call.ensures;
+          (no_integer_holder c.args.source.now c.in_default-source-11.not-IntegerHolder) call.ensures;
       lasts = holders.own_lasts Integer old call.new.holder c.args.object.now (IntegerHolder call.new.holder) c.args.operation (arguments_of c.args.args.now)
           (told call.new.reply call.result) is (integer_holder call.new.holder) call.ensures;
       source_lasts = record { cursors = λ at agrees. agrees; counts = refl };
@@ -591,15 +699,15 @@ returns-in-TextHolder-source-clause-source_lasts c =
     c.args.operation (arguments_of c.args.args.now) (told call.new.reply call.result)
     (ap memory_of c.in-TextHolder.is ∙ text_holder old) (text_holder call.new.holder) (ap memory_of c.in-TextHolder-source.is ∙ text_holder source) (text_holder call.new.source) call.ensures).1
 
-pub returns-in_default-source-10 : goal.returns-in_default-source-10
-returns-in_default-source-10 c =
-    let call = c.operate_holder-in_default-source-10 in
+pub returns-in_default-source-12 : goal.returns-in_default-source-12
+returns-in_default-source-12 c =
+    let call = c.operate_holder-in_default-source-12 in
     let old = c.in-TextHolder.holder in
     let is = ap memory_of c.in-TextHolder.is ∙ text_holder old in
     record {
       called = holders.unlike_called Str old call.new.holder c.args.object.now (TextHolder call.new.holder) c.args.source.now c.args.operation
           (arguments_of c.args.args.now) (told call.new.reply call.result) is (text_holder call.new.holder) (λ same. ap TextHolder same ∙ sym c.in-TextHolder.is)
-          (no_text_holder c.args.source.now c.in_default-source-10.not-TextHolder) call.ensures;
+          (no_text_holder c.args.source.now c.in_default-source-12.not-TextHolder) call.ensures;
       lasts = holders.own_lasts Str old call.new.holder c.args.object.now (TextHolder call.new.holder) c.args.operation (arguments_of c.args.args.now)
           (told call.new.reply call.result) is (text_holder call.new.holder) call.ensures;
       source_lasts = record { cursors = λ at agrees. agrees; counts = refl };

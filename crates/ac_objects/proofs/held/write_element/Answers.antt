@@ -1,14 +1,15 @@
 use Rattle.std.proofs.Common.{refl, sym, ap, ◌∙◌}
 use Rattle.ac_model.specs.Forms.{seen_by}
 use Rattle.ac_syntax.specs.declared.kind.ElemKind.TheVariants.{Integer, Str}
-use Rattle.ac_meaning.specs.Holdings.{a_sequence, a_map, a_set, a_keyed_set}
-use Rattle.ac_objects.specs.declared.object.Object.TheVariants.{Integers, Texts, IntegerSet, TextSet, KeyedSet, IntegersByInteger, IntegersByText, TextsByInteger, TextsByText, IntegerHolder, TextHolder}
+use Rattle.ac_meaning.specs.Holdings.{a_sequence, a_map, a_set, a_keyed_set, a_tree}
+use Rattle.ac_objects.specs.declared.object.Object.TheVariants.{Integers, Texts, IntegerSet, TextSet, KeyedSet, IntegersByInteger, IntegersByText, TextsByInteger, TextsByText, IntegerTree, TextTree, IntegerHolder, TextHolder}
+use Rattle.ac_objects.specs.Arguments.{mark_in}
 use Rattle.ac_objects.specs.KeyedSets.{keyed_items, keyed_kind}
 use Rattle.ac_objects.specs.Maps.{entries_of, map_kind_of}
 use Rattle.ac_objects.specs.Sequences.{rows_of, kind_of}
 use Rattle.ac_objects.specs.Sets.{items_of, set_kind_of}
 use Rattle.ac_objects.specs.World.{memory_of}
-use Rattle.ac_objects.proofs.Families.{sequence_now, sequence_same, set_now, set_same, keyed_set_now, keyed_set_same, map_now, map_same, integers, texts, integer_set, text_set, keyed_set, integers_by_integer, integers_by_text, texts_by_integer, texts_by_text}
+use Rattle.ac_objects.proofs.Families.{sequence_now, sequence_same, set_now, set_same, keyed_set_now, keyed_set_same, map_now, map_same, integers, texts, integer_set, text_set, keyed_set, integers_by_integer, integers_by_text, texts_by_integer, texts_by_text, integer_tree, text_tree}
 use Rattle.ac_objects.proofs.CalledRows.{wrote_to, wrote_lasts}
 use Rattle.ac_objects.proofs.CalledHolders as holders
 use Rattle.ac_objects.proofs.CalledHolders.{integer_holder, text_holder}
@@ -148,6 +149,34 @@ returns-in-TextsByText-clause-lasts c =
     let old = c.in-TextsByText.map in
     wrote_lasts (a_map (map_kind_of old) Str Str) (entries_of old) (entries_of call.new.object) c.args.object.now (TextsByText call.new.object) (seen_by (entries_of old) c.args.at) c.args.value
     call.result (ap memory_of c.in-TextsByText.is ∙ texts_by_text old) (map_now Str Str TextsByText texts_by_text old call.new.object call.ensures.kind) call.ensures.valid call.ensures.written
+
+pub returns-in-IntegerTree-clause-written : goal.returns-in-IntegerTree-clause-written
+returns-in-IntegerTree-clause-written c =
+    let call = c.written-in-IntegerTree in
+    let old = c.in-IntegerTree.tree in
+    wrote_to (a_tree Integer) old call.new.object c.args.object.now (IntegerTree call.new.object) c.args.at c.args.value call.result
+    (ap memory_of c.in-IntegerTree.is ∙ integer_tree old) (integer_tree call.new.object) (λ rows. ap IntegerTree rows ∙ sym c.in-IntegerTree.is) c.requires.agree call.ensures.written
+
+pub returns-in-IntegerTree-clause-lasts : goal.returns-in-IntegerTree-clause-lasts
+returns-in-IntegerTree-clause-lasts c =
+    let call = c.written-in-IntegerTree in
+    let old = c.in-IntegerTree.tree in
+    wrote_lasts (a_tree Integer) old call.new.object c.args.object.now (IntegerTree call.new.object) (mark_in (a_tree Integer) old.object c.args.at) c.args.value
+    call.result (ap memory_of c.in-IntegerTree.is ∙ integer_tree old) (integer_tree call.new.object) call.ensures.valid call.ensures.written
+
+pub returns-in-TextTree-clause-written : goal.returns-in-TextTree-clause-written
+returns-in-TextTree-clause-written c =
+    let call = c.written-in-TextTree in
+    let old = c.in-TextTree.tree in
+    wrote_to (a_tree Str) old call.new.object c.args.object.now (TextTree call.new.object) c.args.at c.args.value call.result
+    (ap memory_of c.in-TextTree.is ∙ text_tree old) (text_tree call.new.object) (λ rows. ap TextTree rows ∙ sym c.in-TextTree.is) c.requires.agree call.ensures.written
+
+pub returns-in-TextTree-clause-lasts : goal.returns-in-TextTree-clause-lasts
+returns-in-TextTree-clause-lasts c =
+    let call = c.written-in-TextTree in
+    let old = c.in-TextTree.tree in
+    wrote_lasts (a_tree Str) old call.new.object c.args.object.now (TextTree call.new.object) (mark_in (a_tree Str) old.object c.args.at) c.args.value
+    call.result (ap memory_of c.in-TextTree.is ∙ text_tree old) (text_tree call.new.object) call.ensures.valid call.ensures.written
 
 pub returns-in-IntegerHolder-clause-written : goal.returns-in-IntegerHolder-clause-written
 returns-in-IntegerHolder-clause-written c =

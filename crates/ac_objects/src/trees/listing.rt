@@ -1,0 +1,122 @@
+//! The listing of a tree: nodes in preorder, with a bracket around the children of each.
+ghost use Rattle.std.specs.Prelude.{◌≡◌, ◌≤◌, ◌<◌, length, replicate};
+ghost use Rattle.ac_base.specs.declared.cursor.Cursor.TheVariants.{At};
+ghost use Rattle.ac_io.specs.declared.pieces.TheConstants.{MOST_WAITING};
+ghost use Rattle.ac_io.specs.Pieces.{Adds};
+ghost use Rattle.ac_model.specs.Objects.{contents, plain};
+ghost use Rattle.ac_syntax.specs.Canonical.{literal_text};
+ghost use Rattle.ac_meaning.specs.Listings.{between_nodes, nodes_listing, tree_listing};
+ghost use Rattle.ac_objects.specs.ListedNodes.{follows};
+ghost use Rattle.ac_tree.specs.Meeting.{IsMet};
+
+use crate::element::ScriptElement;
+use ac_cursor::Cursor;
+use ac_io::{Sink, WriteFault, add};
+use ac_tree::Tree;
+
+/// Closes as many brackets.
+fn close<K: Sink>(brackets: u64, text: &mut Vec<u8>, sink: &mut K) -> Result<(), WriteFault>
+    ensures adds { Adds K.held K.faults K.room K.counts_failures sink.old sink.new
+        text.old.items text.new.items (replicate brackets 93) result }
+    ensures short { length text.old.items ≤ MOST_WAITING → length text.new.items ≤ MOST_WAITING }
+{
+    for _bracket in 0..brackets {
+        add(text, b"]", sink)?;
+    }
+    Ok(())
+}
+
+/// What stands between a node of one depth and the next.
+fn between<K: Sink>(
+    depth: u64,
+    next: u64,
+    text: &mut Vec<u8>,
+    sink: &mut K,
+) -> Result<(), WriteFault>
+    ensures adds { Adds K.held K.faults K.room K.counts_failures sink.old sink.new
+        text.old.items text.new.items (between_nodes depth next) result }
+    ensures short { length text.old.items ≤ MOST_WAITING → length text.new.items ≤ MOST_WAITING }
+{
+    if depth < next {
+        return add(text, b" [", sink);
+    }
+    close(depth - next, text, sink)?;
+    add(text, b", ", sink)
+}
+
+/// The element at the cursor.
+fn add_element<T: ScriptElement, K: Sink>(
+    tree: &Tree<T>,
+    c: Cursor,
+    depth: u64,
+    text: &mut Vec<u8>,
+    sink: &mut K,
+) -> Result<(), WriteFault>
+    requires met { IsMet tree.now.object c depth }
+    ensures adds { (m : IsMet tree.now.object c depth) → Adds K.held K.faults K.room K.counts_failures sink.old sink.new
+        text.old.items text.new.items (literal_text (T.tools.to_value m.at.value.element)) result }
+    ensures short { length text.old.items ≤ MOST_WAITING → length text.new.items ≤ MOST_WAITING }
+{
+    match tree.element(c) {
+        Ok(element) => element.add_literal(text, sink),
+        Err(_) => unreachable!(),
+    }
+}
+
+/// What stands behind a node: the way to the next, or the brackets that close at the end.
+fn add_follows<T, K: Sink>(
+    _tree: &Tree<T>,
+    depth: u64,
+    next: Cursor,
+    level: u64,
+    text: &mut Vec<u8>,
+    sink: &mut K,
+) -> Result<(), WriteFault>
+    requires deep { 2 ≤ depth }
+    ensures adds { Adds K.held K.faults K.room K.counts_failures sink.old sink.new
+        text.old.items text.new.items (follows depth next level) result }
+    ensures short { length text.old.items ≤ MOST_WAITING → length text.new.items ≤ MOST_WAITING }
+{
+    match next {
+        Cursor::NoElement => close(depth - 2, text, sink),
+        Cursor::At { .. } => between(depth, level, text, sink),
+    }
+}
+
+/// All nodes.
+fn add_nodes<T: ScriptElement, K: Sink>(
+    tree: &Tree<T>,
+    text: &mut Vec<u8>,
+    sink: &mut K,
+) -> Result<(), WriteFault>
+    ensures adds { Adds K.held K.faults K.room K.counts_failures sink.old sink.new text.old.items text.new.items
+        (nodes_listing (λ e. literal_text (T.tools.to_value e)) (contents (plain tree.now.object))) result }
+    ensures short { length text.old.items ≤ MOST_WAITING → length text.new.items ≤ MOST_WAITING }
+{
+    tree.law();
+    let mut c = tree.first();
+    let mut depth: u64 = 2;
+    while let Cursor::At { .. } = c {
+        add_element(tree, c, depth, text, sink)?;
+        let (next, level) = tree.next_level(c, depth);
+        add_follows(tree, depth, next, level, text, sink)?;
+        c = next;
+        depth = level;
+    }
+    Ok(())
+}
+
+/// Adds the listing of a tree to a text that is written in pieces.
+pub(crate) fn write_tree<T: ScriptElement, K: Sink>(
+    tree: &Tree<T>,
+    text: &mut Vec<u8>,
+    sink: &mut K,
+) -> Result<(), WriteFault>
+    ensures adds { Adds K.held K.faults K.room K.counts_failures sink.old sink.new text.old.items text.new.items
+        (tree_listing (λ e. literal_text (T.tools.to_value e)) (contents (plain tree.now.object))) result }
+    ensures short { length text.old.items ≤ MOST_WAITING → length text.new.items ≤ MOST_WAITING }
+{
+    add(text, b"[", sink)?;
+    add_nodes(tree, text, sink)?;
+    add(text, b"]", sink)
+}

@@ -1,0 +1,55 @@
+//! Operations on trees as objects with rows: each goes to the calls that mean it.
+ghost use Rattle.std.specs.Prelude.{◌≡◌};
+ghost use Rattle.ac_meaning.specs.TreeReplies.{tree_reply};
+
+use crate::argument::Arguments;
+use crate::common_calls::{common_call, common_call_with};
+use crate::element::ScriptElement;
+use crate::operated_rows::OperatedRows;
+use crate::reply::{Reply, Said};
+use crate::tree_calls::{tree_change, tree_change_with, tree_look};
+use ac_base::Fault;
+use ac_check::Operation;
+use ac_tree::Tree;
+use std::alloc::Global;
+
+impl<T: ScriptElement> OperatedRows for Tree<T> {
+    ghost comes_to = { λ _ o source args operation. tree_reply T.tools o source args operation };
+
+    fn operate(
+        &mut self,
+        alloc: Global,
+        operation: Operation,
+        args: &mut Arguments,
+        reply: &mut Reply,
+    ) -> Result<(), Fault> {
+        match operation {
+            Operation::Common(call) => common_call(self, alloc, call, args, reply),
+            Operation::Tree(call) => tree_look(self, alloc, call, args, reply),
+            Operation::TreeChange(call) => tree_change(self, alloc, call, args, reply),
+            _ => {
+                *reply = Reply::says(Said::Done);
+                Ok(())
+            }
+        }
+    }
+
+    fn operate_with(
+        &mut self,
+        source: &mut Tree<T>,
+        alloc: Global,
+        operation: Operation,
+        args: &mut Arguments,
+        reply: &mut Reply,
+    ) -> Result<(), Fault> {
+        match operation {
+            Operation::Common(call) => common_call_with(self, source, alloc, call, args, reply),
+            Operation::Tree(call) => tree_look(self, alloc, call, args, reply),
+            Operation::TreeChange(call) => tree_change_with(self, source, alloc, call, args, reply),
+            _ => {
+                *reply = Reply::says(Said::Done);
+                Ok(())
+            }
+        }
+    }
+}
