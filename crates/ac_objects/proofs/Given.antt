@@ -62,7 +62,7 @@ none_among [] name after e zero = cc
 none_among (x ∷ before) name after e zero = cc
 
 module _ {V : Type 0} where
-  named_among : (a : Name) (rows : List (Row Name V)) → is_among (names rows) a ≡ true → is_named (map plain_row rows) a.serial ≡ true
+  pub named_among : (a : Name) (rows : List (Row Name V)) → is_among (names rows) a ≡ true → is_named (map plain_row rows) a.serial ≡ true
   named_among a [] h = h
   named_among a (r ∷ rows) h = elim (or_cases (is_same_name a r.name) (is_among (names rows) a) h) [
     | inl same ↦ or_left (r.name.serial == a.serial) (is_named (map plain_row rows) a.serial)
@@ -100,8 +100,7 @@ module _ {V : Type 0} where
   agrees_marked o cursor.NoElement m v fresh marks = tt
   agrees_marked o (cursor.At object name) m v fresh marks = λ e.
       let among = among_or_not (object == o.number) (is_among (names o.rows) name) object (mark_at object name.serial) m fresh marks (eq-eqb object o.number e) in
-      let named = named_among name o.rows among in
-      (
+      let named = named_among name o.rows among in (
         λ zero. absurd (no_root (plain o) name.serial v named zero),
         record { given = below_next (plain o) name.serial v named; slot = λ _. among },
       )

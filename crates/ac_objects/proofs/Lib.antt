@@ -1,8 +1,10 @@
 pub mod Listed
+pub mod NodesListed
 pub mod Quoted
 pub mod Walks
 pub mod Made
 pub mod Kept
+pub mod KeptNodes
 pub mod Operations
 pub mod SequenceOperations
 pub mod SetKinds
@@ -13,12 +15,14 @@ pub mod OwnNodes
 pub mod Entries
 pub mod PutEntries
 pub mod MapOperations
+pub mod TreeOperations
 pub mod Worlds
 pub mod InScope
 pub mod Counted
 pub mod Updating
 pub mod Memory
 pub mod Given
+pub mod NodeLooks
 pub mod Found
 pub mod Walked
 pub mod Sources

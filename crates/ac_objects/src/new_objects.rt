@@ -91,12 +91,7 @@ fn new_holder_object(
     }
 }
 
-fn new_tree_object(
-    alloc: Global,
-    def: &TypeDef,
-    tag: Tag,
-    limit: Limit,
-) -> Result<Object, NoMemory>
+fn new_tree_object(alloc: Global, def: &TypeDef, tag: Tag, limit: Limit) -> Result<Object, NoMemory>
     requires kind { def.now.kind ≡ Kind.Tree }
     requires limit { IsLimit limit }
     ensures { IfOk result (λ made. held_of made ≡ new_within def.now tag limit) }

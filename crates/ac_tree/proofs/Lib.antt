@@ -36,5 +36,5 @@ pub mod Subtrees
 pub mod Swapping
 pub mod Within
 pub mod Writes
-pub mod Backward
+pub mod WalkBack
 pub mod Meeting

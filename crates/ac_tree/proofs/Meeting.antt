@@ -1,5 +1,5 @@
 -- A walk that knows its depth, as the cursors of a tree tell it.
-use Rattle.std.proofs.Common.{◌≡◌, ℕ, List, [], ◌∷◌, ◌++◌, Option, Some, None, refl, sym, ap, ◌∙◌, subst, append_assoc}
+use Rattle.std.proofs.Common.{◌≡◌, ℕ, List, [], ◌∷◌, ◌++◌, ◌+◌, Option, Some, None, refl, sym, ap, ◌∙◌, subst, append_assoc}
 use Rattle.std.specs.Option.{ForSome}
 use Rattle.ac_base.specs.declared.cursor.Cursor.{Cursor}
 use Rattle.ac_base.specs.declared.cursor.Cursor.TheVariants.{NoElement, At}
@@ -12,10 +12,11 @@ use Rattle.ac_model.specs.Objects.{Object}
 use Rattle.ac_model.specs.Rows.{Node}
 use Rattle.ac_tree.specs.declared.links.Links.{Links}
 use Rattle.ac_tree.specs.Copying.{level_of}
-use Rattle.ac_tree.specs.Forests.{outline}
+use Rattle.ac_tree.specs.Forests.{Forest, bare, grove, outline}
 use Rattle.ac_tree.specs.Meeting.{StandsBefore, IsMet, MeetsNext}
-use Rattle.ac_tree.specs.TreeFields.{forest_in, IsForest}
+use Rattle.ac_tree.specs.TreeFields.{forest_in, IsForest, first_of}
 use Rattle.ac_tree.specs.Walking.{Follows}
+use Rattle.ac_tree.proofs.Following.{first_row}
 use Rattle.ac_tree.proofs.Levels.{met}
 
 module _ {X : Type 0} (l : Links X) (s : IsForest l) (o : Object Name (Node X)) (rows_is : o.rows ≡ outline 2 (forest_in l)) where
@@ -34,6 +35,15 @@ module _ {X : Type 0} (l : Links X) (s : IsForest l) (o : Object Name (Node X)) 
   pub met_level : (c : Cursor) (depth : ℕ) → IsMet o c depth → (name : Name) → name ≡ name_in c → depth ≡ level_of l name
   met_level c depth m name is =
       m.depth_is ∙ (depth_at m.before m.at m.left m.is ∙ ap (level_of l) (sym (is ∙ ap name_in m.stands)))
+
+  by_forest : (f : Forest X) (r : Cursor) → r ≡ cursor_at o.number (first_or (outline 2 f) None) → StandsBefore o.number (outline 2 f) r 2
+  by_forest bare r e = e
+  by_forest (grove x below rest) r e = (e, refl)
+
+  pub starts : (name : Option Name) (r : Cursor) → name ≡ first_of l None → r ≡ cursor_at o.number name → StandsBefore o.number o.rows r 2
+  starts name r n e =
+      subst (λ rows. StandsBefore o.number rows r 2) (sym rows_is)
+      (by_forest (forest_in l) r (e ∙ ap (cursor_at o.number) (n ∙ s.framed.0 ∙ sym (first_row 2 (forest_in l)))))
 
   module _ (name : Name) (next : Option Name) (now : ℕ) (follows : Follows l None name next) (level : ForSome next (λ b. now ≡ level_of l b)) where
     by_left : (before : List (Row Name (Node X))) (at : Row Name (Node X)) (left : List (Row Name (Node X))) → o.rows ≡ before ++ at ∷ left →

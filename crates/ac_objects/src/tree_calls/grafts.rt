@@ -112,7 +112,13 @@ pub fn splice_subtree_from<T: ScriptElement>(
 {
     let parent = args.first.cursor();
     let before = args.second.cursor();
-    let moved = own_cursors::splice_subtree_from(tree, parent, before, source, args.fourth.cursor())?;
+    let moved = own_cursors::splice_subtree_from(
+        tree,
+        parent,
+        before,
+        source,
+        args.fourth.cursor(),
+    )?;
     *reply = Reply::sets(3, moved);
     Ok(())
 }

@@ -54,14 +54,22 @@ pub fn find<T: ScriptElement>(tree: &Tree<T>, element: &T) -> Cursor
     tree.find(element)
 }
 
-pub fn find_in_subtree<T: ScriptElement>(tree: &Tree<T>, c: Cursor, element: &T) -> Result<Cursor, Fault>
+pub fn find_in_subtree<T: ScriptElement>(
+    tree: &Tree<T>,
+    c: Cursor,
+    element: &T,
+) -> Result<Cursor, Fault>
     ensures { Looks (IsAnswer tree.now.object) (λ o. trees.find_in_subtree_call T.tools.same o (seen_by tree.now c) element.now)
         tree.now result }
 {
     tree.find_in_subtree(c, element)
 }
 
-pub fn ancestor_find<T: ScriptElement>(tree: &Tree<T>, c: Cursor, element: &T) -> Result<Cursor, Fault>
+pub fn ancestor_find<T: ScriptElement>(
+    tree: &Tree<T>,
+    c: Cursor,
+    element: &T,
+) -> Result<Cursor, Fault>
     ensures { Looks (IsAnswer tree.now.object) (λ o. trees.ancestor_find_call T.tools.same o (seen_by tree.now c) element.now)
         tree.now result }
 {

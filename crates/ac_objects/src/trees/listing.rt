@@ -1,6 +1,5 @@
 //! The listing of a tree: nodes in preorder, with a bracket around the children of each.
-ghost use Rattle.std.specs.Prelude.{◌≡◌, ◌≤◌, ◌<◌, length, replicate};
-ghost use Rattle.ac_base.specs.declared.cursor.Cursor.TheVariants.{At};
+ghost use Rattle.std.specs.Prelude.{◌≡◌, ◌≤◌, ◌++◌, length, replicate};
 ghost use Rattle.ac_io.specs.declared.pieces.TheConstants.{MOST_WAITING};
 ghost use Rattle.ac_io.specs.Pieces.{Adds};
 ghost use Rattle.ac_model.specs.Objects.{contents, plain};
@@ -20,7 +19,7 @@ fn close<K: Sink>(brackets: u64, text: &mut Vec<u8>, sink: &mut K) -> Result<(),
         text.old.items text.new.items (replicate brackets 93) result }
     ensures short { length text.old.items ≤ MOST_WAITING → length text.new.items ≤ MOST_WAITING }
 {
-    for _bracket in 0..brackets {
+    for place in 0..brackets {
         add(text, b"]", sink)?;
     }
     Ok(())
@@ -64,23 +63,39 @@ fn add_element<T: ScriptElement, K: Sink>(
 }
 
 /// What stands behind a node: the way to the next, or the brackets that close at the end.
-fn add_follows<T, K: Sink>(
-    _tree: &Tree<T>,
+fn add_follows<K: Sink>(
     depth: u64,
     next: Cursor,
     level: u64,
     text: &mut Vec<u8>,
     sink: &mut K,
 ) -> Result<(), WriteFault>
-    requires deep { 2 ≤ depth }
     ensures adds { Adds K.held K.faults K.room K.counts_failures sink.old sink.new
         text.old.items text.new.items (follows depth next level) result }
     ensures short { length text.old.items ≤ MOST_WAITING → length text.new.items ≤ MOST_WAITING }
 {
     match next {
-        Cursor::NoElement => close(depth - 2, text, sink),
-        Cursor::At { .. } => between(depth, level, text, sink),
+        Cursor::NoElement => close(depth.saturating_sub(2), text, sink),
+        Cursor::At { object: _, name: _ } => between(depth, level, text, sink),
     }
+}
+
+/// The node at the cursor, and what stands behind it.
+fn add_node<T: ScriptElement, K: Sink>(
+    tree: &Tree<T>,
+    c: Cursor,
+    depth: u64,
+    next: (Cursor, u64),
+    text: &mut Vec<u8>,
+    sink: &mut K,
+) -> Result<(), WriteFault>
+    requires met { IsMet tree.now.object c depth }
+    ensures adds { (m : IsMet tree.now.object c depth) → Adds K.held K.faults K.room K.counts_failures sink.old sink.new
+        text.old.items text.new.items (literal_text (T.tools.to_value m.at.value.element) ++ follows depth next.0 next.1) result }
+    ensures short { length text.old.items ≤ MOST_WAITING → length text.new.items ≤ MOST_WAITING }
+{
+    add_element(tree, c, depth, text, sink)?;
+    add_follows(depth, next.0, next.1, text, sink)
 }
 
 /// All nodes.
@@ -93,15 +108,12 @@ fn add_nodes<T: ScriptElement, K: Sink>(
         (nodes_listing (λ e. literal_text (T.tools.to_value e)) (contents (plain tree.now.object))) result }
     ensures short { length text.old.items ≤ MOST_WAITING → length text.new.items ≤ MOST_WAITING }
 {
-    tree.law();
-    let mut c = tree.first();
-    let mut depth: u64 = 2;
-    while let Cursor::At { .. } = c {
-        add_element(tree, c, depth, text, sink)?;
-        let (next, level) = tree.next_level(c, depth);
-        add_follows(tree, depth, next, level, text, sink)?;
-        c = next;
-        depth = level;
+    let (mut c, mut depth) = tree.first_level();
+    for place in 0..tree.live_nodes() {
+        let next = tree.next_level(c, depth);
+        add_node(tree, c, depth, next, text, sink)?;
+        c = next.0;
+        depth = next.1;
     }
     Ok(())
 }

@@ -28,18 +28,22 @@ impl<T: ScriptElement> RowObject for Tree<T> {
     }
 
     fn first(&self) -> Cursor {
+        Tree::law(self);
         Tree::first(self)
     }
 
     fn last(&self) -> Cursor {
+        Tree::law(self);
         Tree::last(self)
     }
 
     fn next(&self, c: Cursor) -> Result<Cursor, Fault> {
+        Tree::law(self);
         Tree::next(self, c)
     }
 
     fn previous(&self, c: Cursor) -> Result<Cursor, Fault> {
+        Tree::law(self);
         Tree::previous(self, c)
     }
 

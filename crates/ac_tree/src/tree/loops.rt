@@ -2,7 +2,7 @@
 ghost use Rattle.ac_model.specs.Forms.{Looks};
 ghost use Rattle.ac_model.specs.Objects.{plain};
 ghost use Rattle.ac_model.specs.Sequences as sequences;
-ghost use Rattle.ac_tree.specs.Meeting.{IsMet, MeetsNext};
+ghost use Rattle.ac_tree.specs.Meeting.{IsMet, MeetsNext, StandsBefore};
 ghost use Rattle.ac_tree.specs.TreeCursors.{seen_by, NodeMarks};
 
 use super::Tree;
@@ -47,6 +47,13 @@ impl<T> Tree<T> {
             Cursor::NoElement => Ok(Cursor::NoElement),
             Cursor::At { object: _, name } => { Ok(self.named(following(&self.links, None, name))) }
         }
+    }
+
+    /// The cursor at which a listing begins, with its depth.
+    pub fn first_level(&self) -> (Cursor, u64)
+        ensures { StandsBefore self.now.object.number self.now.object.rows result.0 result.1 }
+    {
+        (self.named(self.links.first_child(None)), 2)
     }
 
     /// The cursor at which a listing goes on behind this one, and its depth, where this one's is known: so no depth is counted anew.

@@ -1,5 +1,5 @@
 use Rattle.std.proofs.Common.{sym, ◌∙◌}
-use Rattle.ac_tree.proofs.Backward.{descends_start, descends_more, descends_less, descends_end}
+use Rattle.ac_tree.proofs.WalkBack.{descends_start, descends_more, descends_less, descends_end}
 use Rattle.ac_tree.proofs.backward.end_of.Goals as goal
 
 pub loop-place-init : goal.loop-place-init

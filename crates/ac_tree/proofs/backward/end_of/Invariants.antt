@@ -1,6 +1,6 @@
 use Rattle.std.proofs.Common.{◌+◌, ◌-◌, Some}
 use Rattle.ac_pool.specs.Contents.{live_count}
-use Rattle.ac_tree.proofs.Backward.{Descends}
+use Rattle.ac_tree.proofs.WalkBack.{Descends}
 use Rattle.ac_tree.proofs.Counting.{node_depth}
 use Rattle.ac_tree.proofs.backward.end_of.Given as goal
 

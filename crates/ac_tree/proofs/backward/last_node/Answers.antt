@@ -1,5 +1,5 @@
 use Rattle.std.proofs.Common.{sym, ◌∙◌}
-use Rattle.ac_tree.proofs.Backward.{last_live, last_end, last_none}
+use Rattle.ac_tree.proofs.WalkBack.{last_live, last_end, last_none}
 use Rattle.ac_tree.proofs.backward.last_node.Goals as goal
 
 pub end_of-requires-clause-live : goal.end_of-requires-clause-live

@@ -1,5 +1,5 @@
 use Rattle.std.proofs.Common.{sym, ◌∙◌}
-use Rattle.ac_tree.proofs.Backward.{precedes_elder, precedes_parent, elder_live}
+use Rattle.ac_tree.proofs.WalkBack.{precedes_elder, precedes_parent, elder_live}
 use Rattle.ac_tree.proofs.backward.preceding.Goals as goal
 
 pub end_of-requires-clause-live : goal.end_of-requires-clause-live
