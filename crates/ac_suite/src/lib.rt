@@ -23,6 +23,8 @@ mod runs;
 #[cfg(test)]
 mod sets;
 #[cfg(test)]
+mod trees;
+#[cfg(test)]
 mod two_sets;
 #[cfg(test)]
 mod vectors;

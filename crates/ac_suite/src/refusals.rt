@@ -283,7 +283,7 @@ fn names_that_are_not_in_scope(rt: HostRuntime) -> Result<(), Fail> {
     each_row_is_met(&rt, rt.alloc(), NAMES_THAT_ARE_NOT_IN_SCOPE)
 }
 
-const RULES_OF_TYPES: &str = r#"type W is tree (integer);
+const RULES_OF_TYPES: &str = r#"type W is queue (integer);
 ==> line 1: wrong type
 ====
 type T is vector (integer);
