@@ -12,7 +12,8 @@ use Rattle.ac_model.specs.Cursors.{mark}
 use Rattle.ac_model.specs.Objects.{Object, IsValid, plain}
 use Rattle.ac_model.specs.Objects as model
 use Rattle.ac_model.specs.Rows.{is_named}
-use Rattle.ac_model.specs.Letters.{Mark, no_mark, mark_at, stale_mark, is_among, is_same_name, may, mark_for, mark_in, first_reason, is_no_mark, judged_in}
+use Rattle.ac_model.specs.Letters.{Mark, no_mark, mark_at, stale_mark, is_among, is_same_name, may, mark_for, mark_in, is_no_mark, judged_in}
+use Rattle.ac_base.specs.FirstReason.{first_reason}
 use Rattle.ac_model.specs.Calls.{Look, Looking, Marks, look}
 use Rattle.ac_model.specs.Sequences.{mark_before}
 use Rattle.ac_model.specs.Trees.{root_name, tree_mark}

@@ -1,21 +1,38 @@
 -- A cursor that a call of a tree answers is the tree's own, or at its root.
-use Rattle.std.proofs.Common.{◌≡◌, ◌==◌, ◌||◌, ◌∷◌, ℕ, Bool, true, false, refl, sym, ap, subst, Option, Some, None, inl, inr, if◌then◌else◌}
+use Rattle.std.proofs.Common.{◌≡◌, ◌==◌, ◌||◌, ◌∷◌, ℕ, zero, suc, nat_lt, List, Bool, true, false, refl, sym, ap, subst, Option, Some, None, inl, inr, if◌then◌else◌}
 use Rattle.std.specs.Prelude.{Result, Ok, Err}
 use Rattle.ac_base.specs.declared.cursor.Cursor.{Cursor}
 use Rattle.ac_base.specs.declared.cursor.Cursor.TheVariants as cursor
 use Rattle.ac_base.specs.declared.fault.Fault.{Fault}
 use Rattle.ac_base.specs.declared.fault.Fault.TheVariants as fault
 use Rattle.ac_base.specs.declared.name.Name.{Name}
+use Rattle.ac_base.specs.declared.reason.Reason.{Reason}
+use Rattle.ac_base.specs.declared.reason.Reason.TheVariants.{RootNode}
+use Rattle.ac_base.specs.FirstReason.{step_of, earlier, first_reason}
 use Rattle.ac_base.specs.Rows.{names}
 use Rattle.ac_model.specs.Objects.{Object}
-use Rattle.ac_model.specs.Letters.{Mark, no_mark, mark_at, stale_mark, is_among, is_same_name}
-use Rattle.ac_model.specs.Calls.{Call, Look, Looking, Changing, IsAfter}
+use Rattle.ac_model.specs.Letters.{Mark, no_mark, mark_at, stale_mark, is_among, is_same_name, reason_if}
+use Rattle.ac_model.specs.Calls.{Call, Look, Looking, Changing, ChangingBoth, IsAfter, AreAfter, Both, both}
 use Rattle.ac_model.specs.Outline.{Spot}
-use Rattle.ac_model.specs.Trees.{root_name, tree_mark, mark_of_spot, may_node, needs_node, unless_none}
+use Rattle.ac_model.specs.Trees.{root_name, tree_mark, mark_of_spot, is_root, may_node, needs_node, needs_element, unless_none}
+use Rattle.ac_model.specs.Sequences.{first_new}
+use Rattle.ac_model.proofs.Reasons.{none_first, none_others}
 use Rattle.ac_model.proofs.Unslotted.{same_name}
 use Rattle.ac_tree.specs.TreeCursors.{NodeMarks}
 use Rattle.ac_objects.specs.Replied.{IsOwnName, IsAnswer}
 use Rattle.ac_objects.proofs.Own.{IsOwnMark, own_at, judged_own, stale_judged}
+
+earlier_first : (a b : Option Reason) → earlier a b ≡ None → a ≡ None
+earlier_first None b h = refl
+earlier_first (Some r) b h = absurd (earlier_some r b h)
+  where
+    earlier_some : (r : Reason) (b : Option Reason) → earlier (Some r) b ≡ None → ⊥
+    earlier_some r None h = cc h
+    earlier_some r (Some other) h = either (nat_lt (step_of other) (step_of r)) h
+      where
+        either : (test : Bool) → (if test then Some other else Some r) ≡ None → ⊥
+        either true h = cc h
+        either false h = cc h
 
 module _ {V : Type 0} where
   own_name : (o : Object Name V) (name : Name) (root among : Bool) → is_same_name name root_name ≡ root → is_among (names o.rows) name ≡ among →
@@ -64,3 +81,28 @@ module _ {V : Type 0} where
   needs_node_own o no_mark h = tt
   needs_node_own o (mark_at object name) h = judged_own o.number object _ h
   needs_node_own o (stale_mark object) h = absurd (stale_judged o.number object h)
+
+  -- the first new node, or the cursor before which none was put
+  pub first_node_own : (o : Object ℕ V) (before : Mark) (count : ℕ) → may_node o before ≡ None → IsOwnMark o.number (first_new o before count)
+  first_node_own o before zero h = may_node_own o before h
+  first_node_own o before (suc count) h = refl
+
+  -- a node that is at an element
+  pub element_own : (o : Object ℕ V) (m : Mark) → needs_element o m ≡ None → IsOwnMark o.number m
+  element_own o m h = needs_node_own o m (earlier_first (needs_node o m) (reason_if (is_root m) RootNode) h)
+
+  -- a cursor variable that a call of two trees sets, to a cursor of the target
+  pub node_both : (old source new source_new : Object Name V) (c : Call (Both (Object ℕ V)) Mark) (q : Cursor) → (c.reason ≡ None → IsOwnMark c.after.target.number c.answer)
+      → (c.reason ≡ None) × AreAfter (both old source) (both new source_new) c.after × NodeMarks new q c.answer
+      → ChangingBoth (λ x m. IsAnswer new x m) c (both old source) (both new source_new) (Ok q)
+  node_both old source new source_new c q own h =
+      let number : c.after.target.number ≡ new.number = ap (λ (p : Object ℕ V). p.number) (sym h.1.target.plainly) in
+      (h.0, h.1, node_cursor new q c.answer (subst (λ n. IsOwnMark n c.answer) number (own h.0)) h.2)
+
+-- what was judged where no reason was found
+
+pub third_none : (a b c : Option Reason) (others : List (Option Reason)) → first_reason (a ∷ b ∷ c ∷ others) ≡ None → c ≡ None
+third_none a b c others h = none_first c others (none_others b (c ∷ others) (none_others a (b ∷ c ∷ others) h))
+
+pub fourth_none : (a b c d : Option Reason) (others : List (Option Reason)) → first_reason (a ∷ b ∷ c ∷ d ∷ others) ≡ None → d ≡ None
+fourth_none a b c d others h = third_none b c d others (none_others a (b ∷ c ∷ d ∷ others) h)
