@@ -23,6 +23,8 @@ pub mod Updating
 pub mod Memory
 pub mod Given
 pub mod NodeLooks
+pub mod MetNodes
+pub mod TreeLooks
 pub mod Found
 pub mod Walked
 pub mod Sources

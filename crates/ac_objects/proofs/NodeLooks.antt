@@ -17,10 +17,10 @@ use Rattle.ac_base.specs.FirstReason.{first_reason}
 use Rattle.ac_model.specs.Calls.{Look, Looking, Marks, look}
 use Rattle.ac_model.specs.Sequences.{mark_before}
 use Rattle.ac_model.specs.Trees.{root_name, tree_mark}
-use Rattle.ac_model.proofs.Unslotted.{same_name}
 use Rattle.ac_tree.specs.TreeCursors.{NodeMarks}
 use Rattle.ac_objects.proofs.Given.{named_among, no_root}
 use Rattle.ac_objects.proofs.Own.{stale_judged}
+use Rattle.ac_objects.proofs.OwnNodes.{at_root}
 
 -- the mark isn't a root's
 abbrev pub IsRowMark : Mark → Type 0
@@ -28,11 +28,11 @@ IsRowMark no_mark = ⊤
 IsRowMark (mark_at object name) = name ≡ 0 → ⊥
 IsRowMark (stale_mark object) = ⊤
 
-or_left : (a b : Bool) → a ≡ true → (a || b) ≡ true
+pub or_left : (a b : Bool) → a ≡ true → (a || b) ≡ true
 or_left true b h = refl
 or_left false b h = absurd (cc)
 
-or_right : (a b : Bool) → b ≡ true → (a || b) ≡ true
+pub or_right : (a b : Bool) → b ≡ true → (a || b) ≡ true
 or_right true b h = refl
 or_right false b h = h
 
@@ -41,7 +41,7 @@ unstale true x y = refl
 unstale false x y = refl
 
 -- names are told apart
-told_apart : (b : Bool) → (b ≡ true → ⊥) → b ≡ false
+pub told_apart : (b : Bool) → (b ≡ true → ⊥) → b ≡ false
 told_apart true h = absurd (h refl)
 told_apart false h = refl
 
@@ -76,7 +76,7 @@ module _ {V : Type 0} (o : Object Name V) (valid : IsValid (plain o)) where
   row_at object name false m is row h = h
   row_at object name true m is row h =
       let at : mark_at object name.serial ≡ m = sym (unstale (object == o.number) (stale_mark object) (mark_at object name.serial)) ∙ h in
-      absurd (subst IsRowMark (sym at) row (ap (λ (n : Name). n.serial) (same_name name root_name is)))
+      absurd (subst IsRowMark (sym at) row (ap (λ (n : Name). n.serial) (at_root name is)))
 
   pub row_marks : (c : Cursor) (m : Mark) → IsRowMark m → NodeMarks o c m → Marks o c m
   row_marks cursor.NoElement m row is = is
@@ -84,10 +84,10 @@ module _ {V : Type 0} (o : Object Name V) (valid : IsValid (plain o)) where
 
   -- and a root is refused as a cursor that is gone
   not_among : (name : Name) → name.serial ≡ 0 → is_among (names o.rows) name ≡ false
-  not_among name zero = told_apart (is_among (names o.rows) name) (λ h. no_root_named name.serial (named_among name o.rows h) zero)
+  not_among name at_zero = told_apart (is_among (names o.rows) name) (λ h. no_root_named name.serial (named_among name o.rows h) at_zero)
 
   not_named : (n : ℕ) → n ≡ 0 → is_named (plain o).rows n ≡ false
-  not_named n zero = told_apart (is_named (plain o).rows n) (λ h. no_root_named n h zero)
+  not_named n at_zero = told_apart (is_named (plain o).rows n) (λ h. no_root_named n h at_zero)
 
   gone_root : (object : ℕ) (same named among : Bool) (serial : ℕ) → (object == o.number) ≡ same → is_named (plain o).rows serial ≡ named → named ≡ false → among ≡ false →
       may (plain o) (if same && false then stale_mark object else mark_at object serial) ≡ may (plain o) (if same && not among then stale_mark object else mark_at object serial)
@@ -100,23 +100,23 @@ module _ {V : Type 0} (o : Object Name V) (valid : IsValid (plain o)) where
       ≡ may (plain o) (if (object == o.number) && not (is_among (names o.rows) name) then stale_mark object else mark_at object name.serial)
   may_at object name false is = refl
   may_at object name true is =
-      let zero : name.serial ≡ 0 = ap (λ (n : Name). n.serial) (same_name name root_name is) in
+      let at_zero : name.serial ≡ 0 = ap (λ (n : Name). n.serial) (at_root name is) in
       gone_root object (object == o.number) (is_named (plain o).rows name.serial) (is_among (names o.rows) name) name.serial refl refl
-      (not_named name.serial zero) (not_among name zero)
+      (not_named name.serial at_zero) (not_among name at_zero)
 
   may_same : (c : Cursor) → may (plain o) (tree_mark o c) ≡ may (plain o) (mark o c)
   may_same cursor.NoElement = refl
   may_same (cursor.At object name) = may_at object name (is_same_name name root_name) refl
 
   root_refused : (object : ℕ) (name : Name) → name.serial ≡ 0 → may (plain o) (mark_at object name.serial) ≡ None → ⊥
-  root_refused object name zero h = stale_judged o.number object (sym (ap (judged_in o.number object) (not_named name.serial zero)) ∙ h)
+  root_refused object name at_zero h = stale_judged o.number object (sym (ap (judged_in o.number object) (not_named name.serial at_zero)) ∙ h)
 
   seen_at : (object : ℕ) (name : Name) (root : Bool) → is_same_name name root_name ≡ root →
       may (plain o) (if (object == o.number) && not (root || is_among (names o.rows) name) then stale_mark object else mark_at object name.serial) ≡ None →
       (if (object == o.number) && not (root || is_among (names o.rows) name) then stale_mark object else mark_at object name.serial)
       ≡ (if (object == o.number) && not (is_among (names o.rows) name) then stale_mark object else mark_at object name.serial)
   seen_at object name false is h = refl
-  seen_at object name true is h = absurd (root_refused object name (ap (λ (n : Name). n.serial) (same_name name root_name is))
+  seen_at object name true is h = absurd (root_refused object name (ap (λ (n : Name). n.serial) (at_root name is))
       (ap (may (plain o)) (sym (unstale (object == o.number) (stale_mark object) (mark_at object name.serial))) ∙ h))
 
   seen_same : (c : Cursor) → may (plain o) (tree_mark o c) ≡ None → tree_mark o c ≡ mark o c

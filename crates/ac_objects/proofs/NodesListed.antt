@@ -1,5 +1,6 @@
 -- A tree's listing, node by node.
-use Rattle.std.proofs.Common.{◌≡◌, ◌+◌, ◌-◌, ◌≤◌, ◌<◌, arith, ℕ, List, [], ◌∷◌, ◌++◌, length, map, replicate, refl, sym, ap, ◌∙◌, subst, append_assoc}
+use Rattle.std.proofs.Common.{◌≡◌, ◌+◌, ◌-◌, ◌≤◌, ◌<◌, arith, ℕ, List, [], ◌∷◌, ◌++◌, length, map, replicate, suc, nat_lt, true, false, if◌then◌else◌, le-ltb, refl, sym, ap, ◌∙◌, subst, append_assoc}
+use Rattle.std.specs.Prelude.{codes}
 use Rattle.std.proofs.lemmas.List.{append-nil, length-append}
 use Rattle.ac_base.specs.declared.cursor.Cursor.{Cursor}
 use Rattle.ac_base.specs.declared.cursor.Cursor.TheVariants.{NoElement, At}
@@ -57,3 +58,13 @@ module _ {X : Type 0} (o : Object Name (Node X)) (place : ℕ) where
   pub none_left : (before left : List (Row Name (Node X))) → o.rows ≡ before ++ left → length before ≡ place → length o.rows ≤ place → left ≡ []
   none_left before [] is passed all = refl
   none_left before (q ∷ left) is passed all = absurd (omega (arith, ap length is, length-append before (q ∷ left), passed, all))
+
+-- The brackets that close, one by one
+
+pub one_bracket : (brackets place : ℕ) → place < brackets →
+    replicate {A = ℕ} (brackets - place) 93 ≡ (93 ∷ []) ++ replicate (brackets - (place + 1)) 93
+one_bracket brackets place less =
+    let more : brackets - place ≡ suc (brackets - (place + 1)) = omega (arith, less) in ap (λ n. replicate {A = ℕ} n 93) more
+
+pub closes_brackets : (depth next : ℕ) → next ≤ depth → replicate {A = ℕ} (depth - next) 93 ++ codes ", " ≡ between_nodes depth next
+closes_brackets depth next le = ap (λ b. if b then codes " [" else replicate {A = ℕ} (depth - next) 93 ++ codes ", ") (sym (le-ltb depth next le))

@@ -1,6 +1,7 @@
 -- A cursor that a call of a tree answers is the tree's own, or at its root.
-use Rattle.std.proofs.Common.{◌≡◌, ◌==◌, ◌||◌, ◌∷◌, ℕ, zero, suc, nat_lt, List, Bool, true, false, refl, sym, ap, subst, Option, Some, None, inl, inr, if◌then◌else◌}
+use Rattle.std.proofs.Common.{◌≡◌, ◌==◌, ◌||◌, ◌∷◌, ◌∙◌, ℕ, zero, suc, nat_lt, List, Bool, true, false, refl, sym, ap, subst, Option, Some, None, inl, inr, if◌then◌else◌}
 use Rattle.std.specs.Prelude.{Result, Ok, Err}
+use Rattle.std.proofs.lemmas.Bool.{eqb-true}
 use Rattle.ac_base.specs.declared.cursor.Cursor.{Cursor}
 use Rattle.ac_base.specs.declared.cursor.Cursor.TheVariants as cursor
 use Rattle.ac_base.specs.declared.fault.Fault.{Fault}
@@ -16,11 +17,19 @@ use Rattle.ac_model.specs.Calls.{Call, Look, Looking, Changing, ChangingBoth, Is
 use Rattle.ac_model.specs.Outline.{Spot}
 use Rattle.ac_model.specs.Trees.{root_name, tree_mark, mark_of_spot, is_root, may_node, needs_node, needs_element, unless_none}
 use Rattle.ac_model.specs.Sequences.{first_new}
+use Rattle.ac_model.proofs.Depths.{and_left, and_right}
 use Rattle.ac_model.proofs.Reasons.{none_first, none_others}
-use Rattle.ac_model.proofs.Unslotted.{same_name}
 use Rattle.ac_tree.specs.TreeCursors.{NodeMarks}
 use Rattle.ac_objects.specs.Replied.{IsOwnName, IsAnswer}
 use Rattle.ac_objects.proofs.Own.{IsOwnMark, own_at, judged_own, stale_judged}
+
+-- a name that is the root's
+pub at_root : (name : Name) → is_same_name name root_name ≡ true → name ≡ root_name
+at_root name h =
+    let slots = eqb-true name.slot root_name.slot (and_left (name.slot == root_name.slot) (name.serial == root_name.serial) h) in
+    let serials = eqb-true name.serial root_name.serial (and_right (name.slot == root_name.slot) (name.serial == root_name.serial) h) in
+    let made : ℕ → ℕ → Name = λ slot serial. record { slot = slot; serial = serial } in
+    ap (λ n. made n name.serial) slots ∙ ap (made root_name.slot) serials
 
 earlier_first : (a b : Option Reason) → earlier a b ≡ None → a ≡ None
 earlier_first None b h = refl
@@ -37,9 +46,9 @@ earlier_first (Some r) b h = absurd (earlier_some r b h)
 module _ {V : Type 0} where
   own_name : (o : Object Name V) (name : Name) (root among : Bool) → is_same_name name root_name ≡ root → is_among (names o.rows) name ≡ among →
       (root || among) ≡ true → IsOwnName o name
-  own_name o name true among at_root is h = inr (same_name name root_name at_root)
-  own_name o name false true at_root is h = inl is
-  own_name o name false false at_root is h = absurd (cc h)
+  own_name o name true among root_is is h = inr (at_root name root_is)
+  own_name o name false true root_is is h = inl is
+  own_name o name false false root_is is h = absurd (cc h)
 
   pub node_cursor : (o : Object Name V) (c : Cursor) (m : Mark) → IsOwnMark o.number m → NodeMarks o c m → IsAnswer o c m
   node_cursor o cursor.NoElement m own is = (sym is, tt)

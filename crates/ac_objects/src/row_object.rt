@@ -79,8 +79,6 @@ pub trait ListedRows: RowObject {
     /// What a listing shows of a row.
     ghost row_text: { Self.Row → List ℕ };
 
-    ghost listing_is: { (object : Self) (o : Object ℕ Self.Row) → (Self.own object o).listing ≡ bracketed row_text (contents o) };
-
     /// Adds what a listing shows of the row at the cursor to a text that is written in pieces.
     fn add_row<K: Sink>(
         &self,
@@ -93,4 +91,6 @@ pub trait ListedRows: RowObject {
             (sequences.element_call (plain (Self.rows self.now).object) (mark_by (Self.rows self.now) c)).answer ≡ Some row →
             Adds K.held K.faults K.room K.counts_failures sink.old sink.new text.old.items text.new.items (row_text row) result }
         ensures short { length text.old.items ≤ MOST_WAITING → length text.new.items ≤ MOST_WAITING };
+
+    ghost listing_is: { (object : Self) (o : Object ℕ Self.Row) → (Self.own object o).listing ≡ bracketed row_text (contents o) };
 }

@@ -103,6 +103,7 @@ pub fn splice_subtree_from_self<T>(
     ensures changed { Does (IsAnswer tree.new.object)
         (λ o. trees.splice_subtree_from_self_call o (seen_by tree.old parent) (seen_by tree.old before) (seen_by tree.old top))
         tree.old tree.new result }
+    ensures spare { tree.new.spare ≡ tree.old.spare }
 {
     let mut moved = top;
     tree.splice_subtree_from_self(parent, before, &mut moved)?;

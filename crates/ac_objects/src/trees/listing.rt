@@ -51,11 +51,12 @@ fn add_element<T: ScriptElement, K: Sink>(
     text: &mut Vec<u8>,
     sink: &mut K,
 ) -> Result<(), WriteFault>
-    requires met { IsMet tree.now.object c depth }
+    requires { IsMet tree.now.object c depth }
     ensures adds { (m : IsMet tree.now.object c depth) → Adds K.held K.faults K.room K.counts_failures sink.old sink.new
         text.old.items text.new.items (literal_text (T.tools.to_value m.at.value.element)) result }
     ensures short { length text.old.items ≤ MOST_WAITING → length text.new.items ≤ MOST_WAITING }
 {
+    tree.law();
     match tree.element(c) {
         Ok(element) => element.add_literal(text, sink),
         Err(_) => unreachable!(),
@@ -89,7 +90,7 @@ fn add_node<T: ScriptElement, K: Sink>(
     text: &mut Vec<u8>,
     sink: &mut K,
 ) -> Result<(), WriteFault>
-    requires met { IsMet tree.now.object c depth }
+    requires { IsMet tree.now.object c depth }
     ensures adds { (m : IsMet tree.now.object c depth) → Adds K.held K.faults K.room K.counts_failures sink.old sink.new
         text.old.items text.new.items (literal_text (T.tools.to_value m.at.value.element) ++ follows depth next.0 next.1) result }
     ensures short { length text.old.items ≤ MOST_WAITING → length text.new.items ≤ MOST_WAITING }

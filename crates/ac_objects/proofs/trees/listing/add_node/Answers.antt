@@ -5,7 +5,7 @@ use Rattle.ac_objects.proofs.trees.listing.add_node.Goals as goal
 
 pub returns-in_err-add_element-clause-adds : goal.returns-in_err-add_element-clause-adds
 returns-in_err-add_element-clause-adds g c m =
-    adds_broken (err_from_is_err_and c.from_residual.result c.from_residual.ensures.1).1 (follows c.args.depth c.args.next.field-0 c.args.next.field-1)
+    adds_broken (err_from_is_err_and c.from_residual.result c.from_residual.ensures.1).1 (follows c.args.depth c.args.next.0 c.args.next.1)
     (c.in_err-add_element.ensures.adds m)
 
 pub returns-clause-adds : goal.returns-clause-adds

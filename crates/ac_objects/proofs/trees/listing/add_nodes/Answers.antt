@@ -17,13 +17,13 @@ loop-place-init g c = record {
   left = c.args.tree.now.object.rows;
   is = refl;
   passed = refl;
-  at = c.first_level.ensures;
+  at = c.first_level-c.ensures;
   adds = begins _ _ _;
   short = λ h. h;
 }
 
-pub next_level-requires : goal.next_level-requires
-next_level-requires g c =
+pub next_level-next-requires : goal.next_level-next-requires
+next_level-next-requires g c =
     let inv = c.loop-place.invariant in
     (met_of c.args.tree.now.object c.loop-place.c c.loop-place.depth c.loop-place.place inv.before inv.left inv.is inv.passed
     (omega (arith, c.loop-place-test.true, c.live_nodes-place-end.ensures)) inv.at).met
@@ -38,10 +38,10 @@ pub returns-in_err-add_node-clause-adds : goal.returns-in_err-add_node-clause-ad
 returns-in_err-add_node-clause-adds g c =
     let inv = c.loop-place.invariant in
     let o = c.args.tree.now.object in
-    let text = λ e. literal_text (g.T.ScriptElement.tools.to_value e) in
+    let text = λ (e : g.row.T.Denot). literal_text (g.T.ScriptElement.tools.to_value e) in
     let here = met_of o c.loop-place.c c.loop-place.depth c.loop-place.place inv.before inv.left inv.is inv.passed
     (omega (arith, c.loop-place-test.true, c.live_nodes-place-end.ensures)) inv.at in
-    let after = c.next_level.ensures here.met.before here.met.at here.met.left here.met.is here.met.stands in
+    let after = c.next_level-next.ensures here.met.before here.met.at here.met.left here.met.is here.met.stands in
     breaks (err_from_is_err_and c.from_residual.result c.from_residual.ensures.1).1 (still_listed text here.met.left)
     (still (ap (still_listed text) here.cut ∙ one_node text o.number c.loop-place.depth here.met.at here.met.left _ _ here.met.depth_is after) inv.adds)
     (c.in_err-add_node.ensures.adds here.met)
@@ -50,10 +50,10 @@ pub loop-place-preserved : goal.loop-place-preserved
 loop-place-preserved g c =
     let inv = c.loop-place.invariant in
     let o = c.args.tree.now.object in
-    let text = λ e. literal_text (g.T.ScriptElement.tools.to_value e) in
+    let text = λ (e : g.row.T.Denot). literal_text (g.T.ScriptElement.tools.to_value e) in
     let here = met_of o c.loop-place.c c.loop-place.depth c.loop-place.place inv.before inv.left inv.is inv.passed
     (omega (arith, c.loop-place-test.true, c.live_nodes-place-end.ensures)) inv.at in
-    let after = c.next_level.ensures here.met.before here.met.at here.met.left here.met.is here.met.stands in
+    let after = c.next_level-next.ensures here.met.before here.met.at here.met.left here.met.is here.met.stands in
     record {
       before = here.met.before ++ here.met.at ∷ [];
       left = here.met.left;
@@ -68,7 +68,7 @@ loop-place-preserved g c =
 pub returns-clause-adds : goal.returns-clause-adds
 returns-clause-adds g c =
     let inv = c.loop-place.invariant in
-    let text = λ e. literal_text (g.T.ScriptElement.tools.to_value e) in
+    let text = λ (e : g.row.T.Denot). literal_text (g.T.ScriptElement.tools.to_value e) in
     let all = none_left c.args.tree.now.object c.loop-place.place inv.before inv.left inv.is inv.passed
     (omega (arith, c.loop-place-test.false, c.loop-place.auto.place-end, c.live_nodes-place-end.ensures)) in
     ends (still (ap (still_listed text) all) inv.adds) (adds_nothing _ _)

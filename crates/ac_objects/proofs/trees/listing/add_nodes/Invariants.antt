@@ -14,11 +14,11 @@ use Rattle.ac_objects.proofs.trees.listing.add_nodes.Given as goal
 abbrev pub invariant-loop-place : goal.invariant-loop-place
 invariant-loop-place g l =
     let sink = g.K.Sink in
-    let text = λ e. literal_text (g.T.ScriptElement.tools.to_value e) in
+    let text = λ (e : g.row.T.Denot). literal_text (g.T.ScriptElement.tools.to_value e) in
     let o = l.tree.object in
     record {
-      before : List (Row Name (Node g.T.Denot));
-      left : List (Row Name (Node g.T.Denot));
+      before : List (Row Name (Node g.row.T.Denot));
+      left : List (Row Name (Node g.row.T.Denot));
       is : o.rows ≡ before ++ left;
       passed : length before ≡ l.place;
       at : StandsBefore o.number left l.c l.depth;

@@ -8,7 +8,7 @@ use Rattle.ac_objects.proofs.trees.listing.write_tree.Goals as goal
 
 pub returns-in_err-add-clause-adds : goal.returns-in_err-add-clause-adds
 returns-in_err-add-clause-adds g c =
-    let text = λ e. literal_text (g.T.ScriptElement.tools.to_value e) in
+    let text = λ (e : g.row.T.Denot). literal_text (g.T.ScriptElement.tools.to_value e) in
     adds_broken (err_from_is_err_and c.from_residual.result c.from_residual.ensures.1).1 (nodes_listing text (contents (plain c.args.tree.now.object)) ++ 93 ∷ []) c.in_err-add.ensures.adds
 
 pub returns-in_err-add_nodes-clause-adds : goal.returns-in_err-add_nodes-clause-adds

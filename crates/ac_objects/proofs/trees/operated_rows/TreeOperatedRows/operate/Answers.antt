@@ -1,4 +1,4 @@
-use Rattle.std.proofs.Common.{rules, subst, sym, true, refl}
+use Rattle.std.proofs.Common.{rules, subst, sym, true, refl, Ok}
 use Rattle.ac_check.specs.declared.operation.Operation.TheVariants.{Common, Tree, TreeChange}
 use Rattle.ac_model.specs.Objects.{plain}
 use Rattle.ac_meaning.specs.TreeReplies.{tree_reply}
@@ -37,7 +37,7 @@ returns-in_default-clause-replied g c =
     let tools = g.T.ScriptElement.tools in
     let old = c.args.self.now in
     let none = c.in_default in
-    replied_by_root true (tree_reply tools (plain old.object)) old old c.args.args.now c.args.operation c.args.operation _ c.requires.agree refl
+    replied_by_root true (tree_reply tools (plain old.object)) old old c.args.args.now c.args.operation c.args.operation (Ok c.says.result) c.requires.agree refl
     (subst (λ r. IsMade r old old c.says.result)
     (sym (no_tree_call tools (plain old.object) itself (arguments_marked (tree_mark old.object) c.args.args.now) c.args.operation none.not-Common none.not-Tree none.not-TreeChange))
     (record {

@@ -1,4 +1,4 @@
-use Rattle.std.proofs.Common.{rules, subst, sym, true, refl}
+use Rattle.std.proofs.Common.{rules, subst, sym, true, refl, Ok}
 use Rattle.ac_check.specs.declared.operation.Operation.TheVariants.{Common, Tree, TreeChange}
 use Rattle.ac_model.specs.Objects.{plain}
 use Rattle.ac_meaning.specs.TreeReplies.{tree_reply}
@@ -46,9 +46,9 @@ returns-in_default-clause-replied g c =
     let none = c.in_default in
     let other = another (plain source.object) (arguments_marked (tree_mark source.object) c.args.args.now) in
     let seen = arguments_marked (tree_mark old.object) c.args.args.now in
-    replied_with_by_root true (tree_reply tools (plain old.object)) old source old source c.args.args.now c.args.operation c.args.operation _
+    replied_with_by_root true (tree_reply tools (plain old.object)) old source old source c.args.args.now c.args.operation c.args.operation (Ok c.says.result)
     c.requires.agree c.requires.agree_with_source refl
-    (replied_beside (tree_reply tools (plain old.object) other seen c.args.operation) old source old _
+    (replied_beside (tree_reply tools (plain old.object) other seen c.args.operation) old source old (Ok c.says.result)
     (subst (λ r. IsMade r old old c.says.result)
     (sym (no_tree_call tools (plain old.object) other seen c.args.operation none.not-Common none.not-Tree none.not-TreeChange))
     (record {
