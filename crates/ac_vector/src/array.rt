@@ -63,6 +63,7 @@ impl<T> Array<T> {
     }
 
     /// Makes at least `n` slots spare. Where it must grow, the slots become the least `8 * 2^k` that has room for `n` rows more.
+    #[inline(always)]
     pub fn reserve(&mut self, n: u64) -> Result<(), NoMemory>
         requires { length self.old.rows + n ≤ 2 ^ 30 }
         ensures ok { OnOk result (self.new ≡ reserved self.old n) }
@@ -73,6 +74,20 @@ impl<T> Array<T> {
         if n <= self.spare() {
             return Ok(());
         }
+        self.grow(n)
+    }
+
+    /// As `reserve`, out of line: where so many slots are not spare.
+    #[cold]
+    #[inline(never)]
+    fn grow(&mut self, n: u64) -> Result<(), NoMemory>
+        requires short { self.old.spare < n }
+        requires few { length self.old.rows + n ≤ 2 ^ 30 }
+        requires sound { IsSound self.old }
+        ensures ok { OnOk result (self.new ≡ reserved self.old n) }
+        ensures err { OnErr result (self.new ≡ self.old) }
+        ensures sound { IsSound self.new }
+    {
         let len = self.values.len();
         let more = least_slots(len + n as usize) - len;
         self.values.reserve_exact(more)?;
@@ -161,6 +176,7 @@ impl<T> Array<T> {
     }
 
     /// Puts a value behind the last row, under a fresh name.
+    #[inline(always)]
     pub fn append(&mut self, v: T) -> Name
         requires spare { 0 < self.old.spare }
         requires unspent { self.old.next_serial < 2 ^ 64 - 1 }

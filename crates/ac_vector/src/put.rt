@@ -129,6 +129,7 @@ fn put_before<T>(array: &mut Array<T>, name: Name, value: T) -> Name
 }
 
 /// Puts the value before the place. The answer is the new row's name.
+#[inline(always)]
 fn put_value<T>(array: &mut Array<T>, place: Option<Name>, value: T) -> Name
     requires place { ForSome place (IsLive array.old) }
     requires spare { 0 < array.old.spare }
@@ -146,6 +147,7 @@ fn put_value<T>(array: &mut Array<T>, place: Option<Name>, value: T) -> Name
 }
 
 /// As `put_value`, with all memory taken before any change.
+#[inline(always)]
 fn put_single<T: Drop>(
     array: &mut Array<T>,
     place: Option<Name>,
@@ -192,6 +194,7 @@ fn put_several<T: Elem>(
 }
 
 /// Puts so many copies of the element before the place, with all memory taken before any change. The answer is the first one's name.
+#[inline(always)]
 pub(crate) fn put_copies<T: Elem>(
     array: &mut Array<T>,
     alloc: Global,

@@ -31,6 +31,7 @@ impl<T> Sequence<T> for Vector<T> {
 }
 
 impl<T: Elem> Puts<T> for Vector<T> {
+    #[inline(always)]
     fn put(&mut self, place: Option<Name>, e: T, n: u64) -> Result<Cursor, Fault> {
         match put_copies(&mut self.rows, self.alloc, place, e, n) {
             Ok(first) => Ok(named(self, first)),

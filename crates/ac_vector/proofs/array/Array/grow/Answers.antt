@@ -1,5 +1,5 @@
 use Rattle.ac_vector.proofs.Arrays.{grown_sound}
-use Rattle.ac_vector.proofs.array.Array.reserve.Goals as goal
+use Rattle.ac_vector.proofs.array.Array.grow.Goals as goal
 
 pub returns-clause-sound : goal.returns-clause-sound
 returns-clause-sound g c =
