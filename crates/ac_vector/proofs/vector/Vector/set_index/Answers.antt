@@ -1,4 +1,4 @@
-use Rattle.std.proofs.Common.{◌≡◌, ◌+◌, ℕ, Some, ap, refl, sym, ◌∙◌, subst, to_z-of_z, w64}
+use Rattle.std.proofs.Common.{◌≡◌, ◌+◌, Some, ap, refl, sym, ◌∙◌, subst, to_z-of_z, w64}
 use Rattle.std.proofs.lemmas.List.{length-set}
 use Rattle.ac_base.specs.Rows.{row}
 use Rattle.ac_pool.specs.NamedRows.{index_of, name_at}
@@ -8,7 +8,7 @@ use Rattle.ac_model.specs.Calls.{IsAfter}
 use Rattle.ac_model.specs.Containers.{Container}
 use Rattle.ac_model.specs.Cursors.{cursor_at}
 use Rattle.ac_model.specs.Letters.{place_of_index}
-use Rattle.ac_model.specs.Objects.{Object, plain, with_rows}
+use Rattle.ac_model.specs.Objects.{plain, with_rows}
 use Rattle.ac_model.specs.Rows.{with_value}
 use Rattle.ac_chain.proofs.SequenceLooks.{live_needed}
 use Rattle.ac_chain.proofs.SequenceSwaps.{set_sequence, set_after}
