@@ -11,7 +11,7 @@ use Rattle.ac_tree.proofs.Standing.{Open, opened, shut}
 use Rattle.ac_tree.proofs.Forests.{open_of, live_of, is_forest, links_at, parent_has}
 use Rattle.ac_tree.proofs.Following.{plugged-append, parent_top, parent_within}
 use Rattle.ac_tree.proofs.Splices.{keeps_closed}
-use Rattle.ac_tree.proofs.Adoptions.{emptied-open}
+use Rattle.ac_tree.proofs.ReparentedLinks.{emptied-open}
 use Rattle.ac_tree.proofs.NewPlaces.{New_place, closed_parent, parent_kept, root_end, node_end, before_node}
 
 module _ {X : Type 0} (l : Links X) (from : List (Step X)) (below : Forest X) (s : StandsFor l (plugged from below)) where

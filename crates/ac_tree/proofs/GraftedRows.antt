@@ -35,7 +35,7 @@ use Rattle.ac_model.proofs.Reasons.{room_none, none_first, none_others}
 use Rattle.ac_tree.specs.declared.copying.Leveled.{Leveled}
 use Rattle.ac_tree.specs.declared.links.Links.{Links}
 use Rattle.ac_tree.specs.Children.{IsPlace, place_among, nodes_call}
-use Rattle.ac_tree.specs.Copying.{in_node, nodes_in, subtree_nodes, run_nodes, Hole_at, Planted}
+use Rattle.ac_tree.specs.Copying.{in_node, nodes_in, subtree_nodes, run_nodes, HoleAt, Planted}
 use Rattle.ac_tree.specs.Forests.{outline}
 use Rattle.ac_tree.specs.Inserting.{place_at}
 use Rattle.ac_tree.specs.TreeFields.{forest_in, IsForest}
@@ -157,7 +157,7 @@ module _ {X : Type 0} (g : GuardCounts) (limit : Limit) (l m : Links X) (is : Is
   abbrev pub h : Held l (tree_object g limit l) parent before
   h = held_in g limit l is parent before p
 
-  abbrev pub hole_of : (first : ℕ) → first ≡ depth_of (plain (tree_object g limit l)).rows (serial_in parent) + 1 → Hole_at l parent before first
+  abbrev pub hole_of : (first : ℕ) → first ≡ depth_of (plain (tree_object g limit l)).rows (serial_in parent) + 1 → HoleAt l parent before first
   hole_of first depth = record { hole = h.hole; deep = h.depth ∙ sym depth }
 
   pub planted_tree : (n : ℕ) → length vs ≡ n → Takes (tree_object g limit l) n → (r : Result (Option Name) NoMemory) → IfOk r (λ made. Planted l parent before h.hole vs m made) → IfErr r (λ _. m ≡ l) → IsForest m → IsTree limit m

@@ -17,7 +17,7 @@ use Rattle.ac_model.specs.Outline.{follows, depths}
 use Rattle.ac_model.proofs.Depths.{AllFrom}
 use Rattle.ac_tree.specs.declared.copying.Leveled.{Leveled}
 use Rattle.ac_tree.specs.declared.links.Links.{Links}
-use Rattle.ac_tree.specs.Copying.{in_node, nodes_in, levels_in, up_of, raised_by, IsForestOf, Hole_at, Grafted, Planted}
+use Rattle.ac_tree.specs.Copying.{in_node, nodes_in, levels_in, up_of, raised_by, IsForestOf, HoleAt, Grafted, Planted}
 use Rattle.ac_tree.specs.Forests.{Forest, bare, grove, Step, under, after, or_name, outline, first_in, plugged, parent_in, depth_in, after_in}
 use Rattle.ac_tree.specs.Inserting.{Hole, place_at, depth_at, Inserts, Reserves}
 use Rattle.ac_tree.specs.TreeFields.{StandsFor}
@@ -251,7 +251,7 @@ module _ {X : Type 0} (l k : Links X) (parent before : Option Name) (n first : �
       (omega (arith, enough, count), e.next)
 
   -- the place in which the nodes go is the same after memory was taken
-  pub hole_ready : Hole_at l parent before first → Hole_at k parent before first
+  pub hole_ready : HoleAt l parent before first → HoleAt k parent before first
   hole_ready h = let y = readied l k parent before n r h.hole in record { hole = y.hole; deep = y.depth ∙ h.deep }
 
   pub planted : (m : Links X) (made : Option Name) → ((h : Hole k parent before) → depth_at h ≡ first → Grafted k parent before h (nodes_in (reverse items)) m made) → (h : Hole l parent before) → depth_at h ≡ first

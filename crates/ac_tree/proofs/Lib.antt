@@ -1,5 +1,3 @@
-pub mod AdoptedRows
-pub mod Adoptions
 pub mod Ancestors
 pub mod Assigning
 pub mod ChildPlaces
@@ -19,12 +17,15 @@ pub mod Leaves
 pub mod Levels
 pub mod Looking
 pub mod Loops
+pub mod Meeting
 pub mod NewPlaces
 pub mod Objects
 pub mod Outlines
 pub mod Places
 pub mod Putting
 pub mod Refilling
+pub mod ReparentedLinks
+pub mod ReparentedRows
 pub mod Replacing
 pub mod Searching
 pub mod SplicedRows
@@ -34,7 +35,6 @@ pub mod Standing
 pub mod Steps
 pub mod Subtrees
 pub mod Swapping
+pub mod WalkBack
 pub mod Within
 pub mod Writes
-pub mod WalkBack
-pub mod Meeting

@@ -64,7 +64,7 @@ module _ {X : Type 0} where
     pub nodes : nodes_in (reverse items) ≡ values (outline depth forest)
 
   -- a place for children of this depth
-  pub record Hole_at (l : Links X) (parent before : Option Name) (depth : ℕ) : Type 0 where
+  pub record HoleAt (l : Links X) (parent before : Option Name) (depth : ℕ) : Type 0 where
     pub hole : Hole l parent before
     pub deep : depth_at hole ≡ depth
 

@@ -5,7 +5,7 @@ ghost use Rattle.ac_base.specs.Rows.{values};
 ghost use Rattle.ac_model.specs.Objects.{plains};
 ghost use Rattle.ac_model.specs.Outline.{moved_to_depth};
 ghost use Rattle.ac_pool.specs.Contents.{IsLive};
-ghost use Rattle.ac_tree.specs.Copying.{nodes_in, Part, subtree_nodes, run_nodes, IsForestOf, Hole_at, Grafted, Planted};
+ghost use Rattle.ac_tree.specs.Copying.{nodes_in, Part, subtree_nodes, run_nodes, IsForestOf, HoleAt, Grafted, Planted};
 ghost use Rattle.ac_tree.specs.Forests.{or_name};
 ghost use Rattle.ac_tree.specs.Inserting.{Hole, depth_at};
 ghost use Rattle.ac_tree.specs.TreeFields.{IsForest};
@@ -117,7 +117,7 @@ fn graft<T: Drop>(
     first: u64,
     mut items: Vec<Leveled<T>>,
 ) -> Option<Name>
-    requires hole { Hole_at links.old parent before first }
+    requires hole { HoleAt links.old parent before first }
     requires spare { length items.items ≤ links.old.nodes.spare }
     requires unspent { links.old.nodes.next_serial + length items.items < 2 ^ 64 }
     requires forest { IsForestOf first items.items }
@@ -145,7 +145,7 @@ pub fn put_nodes<T: Drop>(
     first: u64,
     items: Vec<Leveled<T>>,
 ) -> Result<Option<Name>, NoMemory>
-    requires hole { Hole_at links.old parent before first }
+    requires hole { HoleAt links.old parent before first }
     requires few { length (rows_of links.old).rows + length items.items ≤ GREATEST_LENGTH }
     requires unspent { links.old.nodes.next_serial + length items.items < 2 ^ 64 }
     requires forest { IsForestOf first items.items }

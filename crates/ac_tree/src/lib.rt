@@ -1,7 +1,6 @@
 //! Multiway trees (A.18.10): elements in nodes that have any number of children, each under a name that it keeps, with tampering checks.
 #![tactic(auto)]
 
-mod adopting;
 mod backward;
 mod clearing;
 mod comparing;
@@ -12,6 +11,7 @@ mod grafting;
 mod growing;
 mod links;
 mod preorder;
+mod reparenting;
 mod tree;
 
 #[doc(hidden)]

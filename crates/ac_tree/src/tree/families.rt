@@ -11,9 +11,9 @@ ghost use Rattle.ac_tree.specs.TreeCursors.{seen_by};
 
 use super::Tree;
 use super::cursors::node_in;
-use crate::adopting::move_children;
 use crate::finding::is_under;
 use crate::links::is_same;
+use crate::reparenting::move_children;
 use ac_base::{Class, Cursor, Fault, Reason, first_reason};
 use ac_model::{allowed, place_in, reason_if};
 
@@ -49,7 +49,7 @@ impl<T> Tree<T> {
     }
 
     /// Why a splice of children within the tree is refused.
-    fn refuses_adoption(
+    fn refuses_splice_children(
         &self,
         parent: Cursor,
         before: Cursor,
@@ -81,8 +81,8 @@ impl<T> Tree<T> {
             (seen_by self.old source_parent)) self.old self.new result }
         ensures spare { self.new.spare ≡ self.old.spare }
     {
-        allowed(self.refuses_adoption(parent, before, source_parent))?;
-        self.adopt(parent, before, source_parent);
+        allowed(self.refuses_splice_children(parent, before, source_parent))?;
+        self.move_below(parent, before, source_parent);
         Ok(())
     }
 
@@ -101,7 +101,7 @@ impl<T> Tree<T> {
     }
 
     /// Moves the children, unless they are the parent's own.
-    fn adopt(&mut self, parent: Cursor, before: Cursor, source_parent: Cursor)
+    fn move_below(&mut self, parent: Cursor, before: Cursor, source_parent: Cursor)
         requires { (trees.splice_children_call (plain self.old.object)
             (seen_by self.old parent) (seen_by self.old before) (seen_by self.old source_parent)).reason ≡ None }
         ensures moved { IsAfter self.old.object self.new.object (trees.splice_children_call (plain self.old.object)

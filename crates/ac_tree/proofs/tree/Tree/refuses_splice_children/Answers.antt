@@ -8,7 +8,7 @@ use Rattle.ac_model.specs.Outline.{is_in, run_of}
 use Rattle.ac_model.specs.Trees.{needs_node, may_node, child_or_none}
 use Rattle.ac_tree.specs.TreeCursors.{seen_by}
 use Rattle.ac_tree.proofs.Steps.{or_else, or_else_some, or_else_none, four_first, tampers_early, needs_early, may_early, late_splice, none_if}
-use Rattle.ac_tree.proofs.tree.Tree.refuses_adoption.Goals as goal
+use Rattle.ac_tree.proofs.tree.Tree.refuses_splice_children.Goals as goal
 
 pub returns-then-is_some : goal.returns-then-is_some
 returns-then-is_some g c =

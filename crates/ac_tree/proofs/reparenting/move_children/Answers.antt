@@ -1,7 +1,7 @@
 use Rattle.std.proofs.Common.{true≢false, is_none, sym, ap, ◌∙◌}
 use Rattle.ac_tree.proofs.Judging.{none_is}
-use Rattle.ac_tree.proofs.Adoptions.{children_moved, none_moved, none_first}
-use Rattle.ac_tree.proofs.adopting.move_children.Goals as goal
+use Rattle.ac_tree.proofs.ReparentedLinks.{children_moved, none_moved, none_first}
+use Rattle.ac_tree.proofs.reparenting.move_children.Goals as goal
 
 pub returns-then-is_none : goal.returns-then-is_none
 returns-then-is_none g c = λ steps to below t s up none same pe be.

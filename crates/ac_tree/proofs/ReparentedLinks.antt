@@ -60,7 +60,7 @@ module _ {X : Type 0} where
       )
 
   -- a loop over the children: those on the left have the parent, and those from the place on are still as they were
-  pub record Adopting (l : Links X) (p : Option Name) (below : Forest X) (m : Links X) (place : Option Name) : Type 0 where
+  pub record ReparentsOn (l : Links X) (p : Option Name) (below : Forest X) (m : Links X) (place : Option Name) : Type 0 where
     pub done : List (Step X)
     pub left : Forest X
     pub stands : StandsFor l (plugged done left)
@@ -79,8 +79,8 @@ module _ {X : Type 0} where
   top_last l (under x rest ∷ steps) below s e = (links_at l steps x below rest s).last
   top_last l (after x c ∷ steps) below s e = absurd (none-some x.name (sym e))
 
-  pub adopt_start : (l : Links X) (from p place : Option Name) → place ≡ first_of l from → (steps : List (Step X)) (below : Forest X) → StandsFor l (plugged steps below) → parent_in steps ≡ from → prev_in steps ≡ None → Adopting l p below l place
-  adopt_start l from p place is steps below s up none = record {
+  pub reparent_start : (l : Links X) (from p place : Option Name) → place ≡ first_of l from → (steps : List (Step X)) (below : Forest X) → StandsFor l (plugged steps below) → parent_in steps ≡ from → prev_in steps ≡ None → ReparentsOn l p below l place
+  reparent_start l from p place is steps below s up none = record {
     done = steps;
     left = below;
     stands = s;
@@ -102,7 +102,7 @@ module _ {X : Type 0} where
     pub same : reparented (grove at part rest) p m ≡ reparented below p l
     pub there : (a : Name) → Has a (grove at part rest) → value_of m.nodes a ≡ value_of l.nodes a
 
-  child : (l m : Links X) (p place next : Option Name) (below : Forest X) (name : Name) → Adopting l p below m place → place ≡ Some name → next ≡ next_of m name → Child l m p below name next
+  child : (l m : Links X) (p place next : Option Name) (below : Forest X) (name : Name) → ReparentsOn l p below m place → place ≡ Some name → next ≡ next_of m name → Child l m p below name next
   child l m p place next below name k at is = by_left k.done k.left k.stands (sym k.place_is ∙ at) k.same k.there
     where
       by_left : (done : List (Step X)) (left : Forest X) → StandsFor l (plugged done left) → first_in left ≡ Some name → reparented left p m ≡ reparented below p l → ((a : Name) → Has a left → value_of m.nodes a ≡ value_of l.nodes a) → Child l m p below name next
@@ -122,8 +122,8 @@ module _ {X : Type 0} where
             there = there;
           }
 
-  pub adopt_more : (l m n : Links X) (p place next : Option Name) (below : Forest X) (name : Name) → Adopting l p below m place → place ≡ Some name → next ≡ next_of m name → n ≡ with_parent m name p → Adopting l p below n next
-  adopt_more l m n p place next below name k at is now =
+  pub reparent_more : (l m n : Links X) (p place next : Option Name) (below : Forest X) (name : Name) → ReparentsOn l p below m place → place ≡ Some name → next ≡ next_of m name → n ≡ with_parent m name p → ReparentsOn l p below n next
+  reparent_more l m n p place next below name k at is now =
       let h = child l m p place next below name k at is in
       let part = parted h.done (grove h.at h.part h.rest) h.stands.once in
       let w = writes m.nodes name (parent_put p) in
@@ -168,16 +168,16 @@ module _ {X : Type 0} where
           let more = length-append (before_in done) (row x.name (node (depth_in done) x.value) ∷ outline (depth_in done + 1) c) in
           omega (arith, here, next, many, more)
 
-  pub adopt_less : (l m : Links X) (p place next : Option Name) (below : Forest X) (name : Name) → Adopting l p below m place → place ≡ Some name → next ≡ next_of m name
+  pub reparent_less : (l m : Links X) (p place next : Option Name) (below : Forest X) (name : Name) → ReparentsOn l p below m place → place ≡ Some name → next ≡ next_of m name
       → length (outline 2 (forest_in l)) - chain.place_of next (outline 2 (forest_in l)) < length (outline 2 (forest_in l)) - chain.place_of place (outline 2 (forest_in l))
-  adopt_less l m p place next below name k at is =
+  reparent_less l m p place next below name k at is =
       let h = child l m p place next below name k at is in let rows = outline 2 (forest_in l) in
       let at_place : Some h.at.name ≡ place = ap Some h.named ∙ sym at in
       subst (λ n. length rows - chain.place_of n rows < length rows - chain.place_of place rows) (sym h.next_is)
       (subst (λ n. length rows - chain.place_of (first_in h.rest) rows < length rows - chain.place_of n rows) at_place (sibling_further l h.done h.at h.part h.rest h.stands))
 
-  pub adopt_end : (l m : Links X) (p place : Option Name) (below : Forest X) → Adopting l p below m place → place ≡ None → m ≡ reparented below p l
-  adopt_end l m p place below k none = by_left k.left (sym k.place_is ∙ none) k.same
+  pub reparent_end : (l m : Links X) (p place : Option Name) (below : Forest X) → ReparentsOn l p below m place → place ≡ None → m ≡ reparented below p l
+  reparent_end l m p place below k none = by_left k.left (sym k.place_is ∙ none) k.same
     where
       by_left : (left : Forest X) → first_in left ≡ None → reparented left p m ≡ reparented below p l → m ≡ reparented below p l
       by_left bare e same = same
@@ -333,11 +333,11 @@ module _ {X : Type 0} where
     all = grove x c rest
 
     -- the children have their new parent, are cut off, and are then led to from there
-    abbrev adopted : Links X
-    adopted = reparented all (parent_in to) l
+    abbrev children_joined : Links X
+    children_joined = reparented all (parent_in to) l
 
     abbrev cut_away : Links X
-    cut_away = closed adopted (parent_in from) None None
+    cut_away = closed children_joined (parent_in from) None None
 
     abbrev joined_there : Links X
     joined_there = closed (closed cut_away (parent_in to) (prev_in to) (Some x.name)) (parent_in to) (Some (or_name x.name (last_in rest))) (first_in t)
@@ -351,8 +351,8 @@ module _ {X : Type 0} where
     cut_here : Open cut_away from bare
     cut_here =
         let ends = reparent_ends all (parent_in to) l in
-        let framed = Framed-same l adopted from (first_in all) (last_in all) (λ a m. reparent_aside all (parent_in to) l a (λ h. part.apart a (top_has a all h) m)) ends.0 ends.1 was.framed in
-        subst (λ q. Open (closed adopted (parent_in from) q None) from bare) none (emptied-open adopted from (first_in all) (last_in all) part.around framed)
+        let framed = Framed-same l children_joined from (first_in all) (last_in all) (λ a m. reparent_aside all (parent_in to) l a (λ h. part.apart a (top_has a all h) m)) ends.0 ends.1 was.framed in
+        subst (λ q. Open (closed children_joined (parent_in from) q None) from bare) none (emptied-open children_joined from (first_in all) (last_in all) part.around framed)
 
     cut_there : Open cut_away [] (plugged to t)
     cut_there = subst (λ z. Open cut_away [] z) (sym same) (shut cut_away from bare cut_here)
@@ -360,11 +360,11 @@ module _ {X : Type 0} where
     chain_there : Stands (value_of cut_away.nodes) (parent_in to) None all
     chain_there =
         let r = reparent_stands all (parent_in to) (parent_in from) None l part.once (subst (λ q. Stands (value_of l.nodes) (parent_in from) q all) none was.stands) in
-        Stands-same (value_of adopted.nodes) (value_of cut_away.nodes) (parent_in to) None all
-        (λ a h. ap (λ q. value_of (closed adopted (parent_in from) q None).nodes a) (sym none) ∙ closed-aside adopted from bare a (part.apart a h) (λ k. k)) r
+        Stands-same (value_of children_joined.nodes) (value_of cut_away.nodes) (parent_in to) None all
+        (λ a h. ap (λ q. value_of (closed children_joined (parent_in from) q None).nodes a) (sym none) ∙ closed-aside children_joined from bare a (part.apart a h) (λ k. k)) r
 
     cut_keeps : Keeps l.nodes cut_away.nodes
-    cut_keeps = keeps_then l.nodes adopted.nodes cut_away.nodes (reparent_keeps all (parent_in to) l) (keeps_closed adopted (parent_in from) None None)
+    cut_keeps = keeps_then l.nodes children_joined.nodes cut_away.nodes (reparent_keeps all (parent_in to) l) (keeps_closed children_joined (parent_in from) None None)
 
     left_once : Once (plugged to t)
     left_once = subst (λ z. Once z) (sym same) (joint from bare (record { once = tt; around = part.around; apart = λ a h m. h }))

@@ -36,7 +36,7 @@ use Rattle.ac_tree.proofs.Children.{place_here}
 use Rattle.ac_tree.proofs.Ancestors.{has_in}
 use Rattle.ac_tree.proofs.Leaves.{cut_middle}
 use Rattle.ac_tree.proofs.NewPlaces.{row_place, New_place}
-use Rattle.ac_tree.proofs.Adoptions.{outline_beside, size_beside, beside_either}
+use Rattle.ac_tree.proofs.ReparentedLinks.{outline_beside, size_beside, beside_either}
 use Rattle.ac_tree.proofs.ChildPlaces.{Remains, child_place as new_child_place, still_there}
 use Rattle.ac_tree.proofs.Subtrees.{below_moved}
 use Rattle.ac_tree.proofs.SplicedRows.{not_inside, depth_cut, three_plains, places_are, Relocated, same_nodes}
@@ -141,9 +141,9 @@ module _ {X : Type 0} (g : GuardCounts) (limit : Limit) (l : Links X) (is : IsTr
         ∙ sym (λ i. put (cuts i) (at i) (part i))
         ∙ sym (cond-false _ _ _ off)
 
-    pub adopted : (m : Links X) (p b a : Option Name) → p ≡ node_in parent → b ≡ place_in before → a ≡ node_in source → (p ≡ a → ⊥) → MovesChildren l a p b m
+    pub children_joined : (m : Links X) (p b a : Option Name) → p ≡ node_in parent → b ≡ place_in before → a ≡ node_in source → (p ≡ a → ⊥) → MovesChildren l a p b m
         → Relocated g limit l m (with_children_moved (plain o).rows (tree_mark o parent) (tree_mark o before) (tree_mark o source))
-    adopted m p b a at_p at_b at_a other moves =
+    children_joined m p b a at_p at_b at_a other moves =
         let off : node_in parent ≡ node_in source → ⊥ = λ e. other (at_p ∙ e ∙ sym at_a) in
         let np = new_child_place l u.steps u.below u.stands (node_in parent) (place_in before) (remains off) in
         let t = beside u.below np.rest in
@@ -161,8 +161,8 @@ module _ {X : Type 0} (g : GuardCounts) (limit : Limit) (l : Links X) (is : IsTr
             ]
 
     -- they are the parent's own
-    pub unadopted : (p a : Option Name) → p ≡ node_in parent → a ≡ node_in source → p ≡ a → IsAfter o o (with_rows (plain o) (with_children_moved (plain o).rows (tree_mark o parent) (tree_mark o before) (tree_mark o source)))
-    unadopted p a at_p at_a same =
+    pub children_unmoved : (p a : Option Name) → p ≡ node_in parent → a ≡ node_in source → p ≡ a → IsAfter o o (with_rows (plain o) (with_children_moved (plain o).rows (tree_mark o parent) (tree_mark o before) (tree_mark o source)))
+    children_unmoved p a at_p at_a same =
         let test = eq-eqb (name_of (tree_mark o parent)) (name_of (tree_mark o source)) (parent_is ∙ ap serial_in (sym at_p ∙ same ∙ at_a) ∙ sym source_is) in
         record {
           plainly = ap (with_rows (plain o)) (sym (cond-true _ _ _ test));
