@@ -1,19 +1,13 @@
 -- Environments in which statements can run.
-use Rattle.std.proofs.Common.{◌≡◌, ◌==◌, ◌||◌, ◌&&◌, ◌+◌, ◌<◌, ◌⊎◌, inl, inr, ℕ, zero, suc, Bool, true, false, not, List, [], ◌∷◌, ◌++◌, map, length, slice_get, reverse, refl, sym, ap, subst, ◌∙◌, arith, Some, None, if◌then◌else◌}
+use Rattle.std.proofs.Common.{◌≡◌, ◌==◌, ◌||◌, ◌&&◌, ◌+◌, ◌<◌, ◌⊎◌, inl, inr, ℕ, zero, suc, Bool, true, false, List, [], ◌∷◌, ◌++◌, map, length, slice_get, reverse, refl, sym, ap, subst, ◌∙◌, arith, Some, None, if◌then◌else◌}
 use Rattle.std.proofs.lemmas.List.{map-append}
 use Rattle.std.proofs.lemmas.List.Folds.{list_any-append}
 use Rattle.std.proofs.lemmas.Option.{none-some, same_Some}
-use Rattle.std.proofs.lemmas.Bool.Decides.{nat_tests}
-use Rattle.ac_base.specs.FirstReason.{first_reason}
 use Rattle.ac_base.specs.Guards.{HeldGuard}
 use Rattle.ac_base.specs.declared.guard.GuardKind.{GuardKind}
 use Rattle.ac_base.specs.declared.guard.GuardKind.TheVariants as guard
-use Rattle.ac_base.specs.declared.reason.Reason.TheVariants.{ForeignCursor, DeadCursor}
 use Rattle.ac_base.specs.Rows.{names}
-use Rattle.ac_model.specs.Objects.{Object}
-use Rattle.ac_model.specs.Rows.{is_named}
-use Rattle.ac_model.specs.Letters.{Mark, mark_at, stale_mark, needs, judged_in, reason_if}
-use Rattle.ac_model.specs.Cursors.{seen}
+use Rattle.ac_model.specs.Letters.{Mark, mark_at}
 use Rattle.ac_check.specs.Resolved.{ResolvedCode}
 use Rattle.ac_check.proofs.Apart.{and_parts}
 use Rattle.ac_model.proofs.Depths.{both_true}

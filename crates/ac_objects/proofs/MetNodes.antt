@@ -1,5 +1,5 @@
 -- A walk that knows its depth stands at an element, which can be read.
-use Rattle.std.proofs.Common.{◌≡◌, ◌==◌, ◌||◌, ◌<◌, ◌+◌, ℕ, zero, suc, Bool, true, false, List, [], ◌∷◌, ◌++◌, length, map, refl, sym, ap, subst, ◌∙◌, eq-eqb, arith, Option, Some, None, slice_get}
+use Rattle.std.proofs.Common.{◌≡◌, ◌==◌, ◌||◌, ◌<◌, ◌+◌, ℕ, Bool, true, false, List, [], ◌∷◌, ◌++◌, length, map, refl, sym, ap, subst, ◌∙◌, eq-eqb, arith, Option, Some, None, slice_get}
 use Rattle.std.proofs.lemmas.List.{length-append}
 use Rattle.std.proofs.lemmas.Bool.{eqb-true}
 use Rattle.std.proofs.lemmas.Option.{same_Some, none-some}
@@ -12,7 +12,7 @@ use Rattle.ac_base.specs.declared.name.Name.{Name}
 use Rattle.ac_base.specs.declared.reason.Reason.TheVariants.{RootNode}
 use Rattle.ac_base.specs.FirstReason.{first_reason, earlier}
 use Rattle.ac_base.specs.Rows.{Row, names}
-use Rattle.ac_model.specs.Objects.{Object, IsValid, plain, plain_row, contents}
+use Rattle.ac_model.specs.Objects.{Object, IsValid, plain, plain_row}
 use Rattle.ac_model.specs.Letters.{mark_at, mark_of, mark_in, mark_for, name_of, is_among, is_same_name, judged_in, reason_if}
 use Rattle.ac_model.specs.Rows.{Node, is_named, value_at}
 use Rattle.ac_model.specs.Trees.{tree_mark, element_call, element_of}

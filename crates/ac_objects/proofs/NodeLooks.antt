@@ -1,5 +1,5 @@
 -- A walk over a tree's rows, whose cursors are at elements and never at the root.
-use Rattle.std.proofs.Common.{◌≡◌, ◌==◌, ◌&&◌, ◌||◌, ◌+◌, ℕ, zero, suc, Bool, true, false, not, List, [], ◌∷◌, refl, sym, ap, subst, ◌∙◌, eq-eqb, Option, Some, None, slice_get, if◌then◌else◌}
+use Rattle.std.proofs.Common.{◌≡◌, ◌==◌, ◌&&◌, ◌||◌, ℕ, zero, suc, Bool, true, false, not, List, [], ◌∷◌, refl, sym, ap, subst, ◌∙◌, eq-eqb, Option, Some, None, slice_get, if◌then◌else◌}
 use Rattle.std.specs.Prelude.{⊤, Result, Ok, Err}
 use Rattle.ac_base.specs.declared.cursor.Cursor.{Cursor}
 use Rattle.ac_base.specs.declared.cursor.Cursor.TheVariants as cursor
@@ -12,9 +12,9 @@ use Rattle.ac_model.specs.Cursors.{mark}
 use Rattle.ac_model.specs.Objects.{Object, IsValid, plain}
 use Rattle.ac_model.specs.Objects as model
 use Rattle.ac_model.specs.Rows.{is_named}
-use Rattle.ac_model.specs.Letters.{Mark, no_mark, mark_at, stale_mark, is_among, is_same_name, may, mark_for, mark_in, is_no_mark, judged_in}
+use Rattle.ac_model.specs.Letters.{Mark, no_mark, mark_at, stale_mark, is_among, is_same_name, may, mark_for, mark_in, judged_in}
 use Rattle.ac_base.specs.FirstReason.{first_reason}
-use Rattle.ac_model.specs.Calls.{Look, Looking, Marks, look}
+use Rattle.ac_model.specs.Calls.{Looking, Marks, look}
 use Rattle.ac_model.specs.Sequences.{mark_before}
 use Rattle.ac_model.specs.Trees.{root_name, tree_mark}
 use Rattle.ac_tree.specs.TreeCursors.{NodeMarks}

@@ -15,7 +15,7 @@ use Rattle.ac_model.specs.Objects.{Object}
 use Rattle.ac_model.specs.Letters.{Mark, no_mark, mark_at, stale_mark, is_among, is_same_name, reason_if}
 use Rattle.ac_model.specs.Calls.{Call, Look, Looking, Changing, ChangingBoth, IsAfter, AreAfter, Both, both}
 use Rattle.ac_model.specs.Outline.{Spot}
-use Rattle.ac_model.specs.Trees.{root_name, tree_mark, mark_of_spot, is_root, may_node, needs_node, needs_element, unless_none}
+use Rattle.ac_model.specs.Trees.{root_name, mark_of_spot, is_root, may_node, needs_node, needs_element, unless_none}
 use Rattle.ac_model.specs.Sequences.{first_new}
 use Rattle.ac_model.proofs.Depths.{and_left, and_right}
 use Rattle.ac_model.proofs.Reasons.{none_first, none_others}

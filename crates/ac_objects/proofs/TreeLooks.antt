@@ -1,5 +1,5 @@
 -- A cursor that a look at a tree answered, as the reply tells it.
-use Rattle.std.proofs.Common.{◌≡◌, Option, None, refl, sym, ap, subst}
+use Rattle.std.proofs.Common.{◌≡◌, None, refl, sym, ap, subst}
 use Rattle.ac_base.specs.declared.cursor.Cursor.{Cursor}
 use Rattle.ac_model.specs.Calls.{Look}
 use Rattle.ac_model.specs.Containers.{Container}

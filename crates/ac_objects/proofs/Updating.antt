@@ -1,5 +1,5 @@
 -- The end of an update of an element that keeps its key.
-use Rattle.std.proofs.Common.{◌≡◌, ◌==◌, ◌&&◌, ◌+◌, ◌-◌, ◌<◌, ◌≤◌, ◌++◌, ℕ, Bool, true, false, List, [], ◌∷◌, get_or, set, slice_get, slice_set, length, refl, sym, ap, subst, ◌∙◌, arith, eq-eqb, Option, Some, None, option_map, if◌then◌else◌}
+use Rattle.std.proofs.Common.{◌≡◌, ◌==◌, ◌&&◌, ◌+◌, ◌-◌, ◌<◌, ℕ, Bool, true, false, List, [], ◌∷◌, get_or, set, slice_get, slice_set, refl, sym, ap, subst, ◌∙◌, arith, eq-eqb, Option, Some, None, option_map, if◌then◌else◌}
 use Rattle.std.specs.Prelude.{Result, Ok, Err, IfOk}
 use Rattle.std.proofs.lemmas.Option.{same_Some}
 use Rattle.ac_base.specs.declared.fault.NoMemory.{NoMemory}
@@ -14,7 +14,6 @@ use Rattle.ac_base.specs.Key.{key_of_text}
 use Rattle.ac_base.proofs.Earlier.{with_none_later}
 use Rattle.ac_model.specs.Calls.{Call, Done, IsAfter}
 use Rattle.ac_model.specs.Common.{release_call}
-use Rattle.ac_model.specs.Containers.{Container}
 use Rattle.ac_model.specs.Cursors.{Agrees, needs_cursor, mark, plain_mark, seen}
 use Rattle.ac_model.specs.KeyedSets.{end_update_key_call, update_key_reason}
 use Rattle.ac_model.specs.Letters.{Mark, needs, tampers_cursors}
@@ -25,10 +24,10 @@ use Rattle.ac_model.proofs.Unslotted.{tree_agreement_kept, seen_marks}
 use Rattle.ac_objects.proofs.Made.{slot_agrees}
 use Rattle.ac_setwork.specs.KeyCalls.{cursor_guard_of}
 use Rattle.ac_meaning.specs.Elements.{Text, text_in, texts}
-use Rattle.ac_meaning.specs.KeyedReplies.{KeyedKind, order_by}
-use Rattle.ac_meaning.specs.Holdings.{RowKind, RowOf, Held, Guards, Written, of_rows, of_holder, as_object, counted_as, a_sequence, a_map, a_set, a_keyed_set, a_tree, number_of, held_on, guarded, held_under, guard_on, with_rows_by, is_on, element_value, key_update_reason, key_updated}
+use Rattle.ac_meaning.specs.KeyedReplies.{order_by}
+use Rattle.ac_meaning.specs.Holdings.{Held, Guards, Written, of_rows, of_holder, as_object, counted_as, a_sequence, a_map, a_set, a_keyed_set, a_tree, number_of, held_on, guarded, held_under, guard_on, with_rows_by, element_value, key_update_reason, key_updated}
 use Rattle.ac_meaning.specs.Environment.{Bound, binds_type, binds_object, binds_cursor, binds_value, binds_element, State, bound_at, bound_by, object_at, objects_by, under, at_rest, value_at, value_in, value_or_zero, element_in, with_bound, leaving}
-use Rattle.ac_meaning.specs.Execution.{end_lines, key_end, key_end_on}
+use Rattle.ac_meaning.specs.Execution.{end_lines, key_end_on}
 use Rattle.ac_meaning.specs.UnderGuards.{held_without}
 use Rattle.ac_meaning.proofs.CountsStay.{guards_come_and_go, counts_are_the_guards, parts_under, cursors_of, elements_of}
 use Rattle.ac_meaning.proofs.OnePlace.{guards_are_on_one_object}
@@ -38,8 +37,8 @@ use Rattle.ac_objects.specs.declared.bound.Bound.TheVariants as bound
 use Rattle.ac_objects.specs.declared.keyed_set.KeyedSet.{KeyedSet as KeyedTexts}
 use Rattle.ac_objects.specs.declared.object.Object.{Object}
 use Rattle.ac_objects.specs.declared.object.Object.TheVariants.{Integers, Texts, IntegerSet, TextSet, KeyedSet, IntegersByInteger, IntegersByText, TextsByInteger, TextsByText, IntegerTree, TextTree, IntegerHolder, TextHolder}
-use Rattle.ac_objects.specs.Blocks.{IsHeldAt, guards_of_update_key}
-use Rattle.ac_objects.specs.KeyedSets.{keyed_items, keyed_kind, keys_of}
+use Rattle.ac_objects.specs.Blocks.{IsHeldAt}
+use Rattle.ac_objects.specs.KeyedSets.{keyed_items, keyed_kind}
 use Rattle.ac_objects.specs.KeyUpdates.{UpdateEnds, key_ended}
 use Rattle.ac_objects.specs.Standing.{StandsAt, counts_in, counts_in_held, counts_of}
 use Rattle.ac_objects.specs.Steps.{CanRead}
@@ -47,7 +46,7 @@ use Rattle.ac_objects.specs.World.{World, world, memory_of, held_in, held_of, Ag
 use Rattle.ac_objects.proofs.Counted.{is_held, is_own, is_counted, no_set, own_number, less_held, less_goes_on, with_one_less, object_read}
 use Rattle.ac_objects.proofs.Families.{keyed_set, keyed_set_now}
 use Rattle.ac_objects.proofs.InScope.{GoesOn, object_there, set_state, set_sound, set_persists, left_object}
-use Rattle.ac_objects.proofs.Places.{set_twice, map_set, map_same}
+use Rattle.ac_objects.proofs.Places.{set_twice, map_set}
 use Rattle.ac_objects.proofs.Worlds.{known_agrees, stands_in}
 
 -- Why an update is refused

@@ -1,5 +1,5 @@
 -- What a call of a tree in scripts comes to in the code, where its arguments are as the tree sees them, and as its source does: at the root too.
-use Rattle.std.specs.Prelude.{◌≡◌, ℕ, Result}
+use Rattle.std.specs.Prelude.{ℕ, Result}
 use Rattle.ac_base.specs.declared.fault.Fault.{Fault}
 use Rattle.ac_model.specs.Objects.{Object, plain}
 use Rattle.ac_model.specs.Containers.{Container}

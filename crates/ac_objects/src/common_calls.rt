@@ -53,8 +53,8 @@ pub trait CommonRows: RowObject {
 
     /// Replaces the element at the cursor, by a call of the library.
     fn replace_value(&mut self, alloc: Global, c: Cursor, value: Value) -> Result<(), Fault>
-        ensures replaced { WritesIn (λ o. (Self.own self.old o).replace_element (mark_in (Self.kind self.old) (Self.rows self.old).object c) value)
-            (Self.rows self.old) (Self.rows self.new) result }
+        ensures replaced { WritesIn (λ o. (Self.own self.old o).replace_element
+            (mark_in (Self.kind self.old) (Self.rows self.old).object c) value) (Self.rows self.old) (Self.rows self.new) result }
         ensures kind { Self.kind self.new ≡ Self.kind self.old };
 
     fn assign_self(&mut self) -> Result<(), Fault>

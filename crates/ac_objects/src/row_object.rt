@@ -54,13 +54,16 @@ pub trait RowObject {
 
     /// Why the element at the cursor can't be read.
     fn refused(&self, c: Cursor) -> Option<Reason>
-        ensures { result ≡ ((own self.now (plain (rows self.now).object)).element (mark_in (kind self.now) (rows self.now).object c)).reason };
+        ensures { result ≡ ((own self.now (plain (rows self.now).object)).element
+            (mark_in (kind self.now) (rows self.now).object c)).reason };
 
     /// A copy of the element at the cursor.
     fn element_value(&self, alloc: Global, c: Cursor) -> Result<Value, NoMemory>
-        requires { ((own self.now (plain (rows self.now).object)).element (mark_in (kind self.now) (rows self.now).object c)).reason ≡ None }
+        requires { ((own self.now (plain (rows self.now).object)).element
+            (mark_in (kind self.now) (rows self.now).object c)).reason ≡ None }
         ensures { IfOk result (λ value.
-            ((own self.now (plain (rows self.now).object)).element (mark_in (kind self.now) (rows self.now).object c)).answer ≡ Some value) };
+            ((own self.now (plain (rows self.now).object)).element
+            (mark_in (kind self.now) (rows self.now).object c)).answer ≡ Some value) };
 
     /// Writes a value through a name that stands for the element at the cursor.
     fn write_value(&mut self, alloc: Global, c: Cursor, value: Value) -> Result<(), Fault>

@@ -1,8 +1,7 @@
 -- A walk that knows its depth, as the cursors of a tree tell it.
-use Rattle.std.proofs.Common.{◌≡◌, ℕ, List, [], ◌∷◌, ◌++◌, ◌+◌, Option, Some, None, refl, sym, ap, ◌∙◌, subst, append_assoc}
+use Rattle.std.proofs.Common.{◌≡◌, ℕ, List, [], ◌∷◌, ◌++◌, ◌+◌, Option, None, refl, sym, ap, ◌∙◌, subst, append_assoc}
 use Rattle.std.specs.Option.{ForSome}
 use Rattle.ac_base.specs.declared.cursor.Cursor.{Cursor}
-use Rattle.ac_base.specs.declared.cursor.Cursor.TheVariants.{NoElement, At}
 use Rattle.ac_base.specs.declared.name.Name.{Name}
 use Rattle.ac_base.specs.Rows.{Row}
 use Rattle.ac_chain.specs.ChainFields.{first_or}

@@ -1,13 +1,12 @@
 -- A walk in preorder backwards: where the last node is, and the one before another.
-use Rattle.std.proofs.Common.{◌≡◌, ℕ, ◌+◌, ◌-◌, ◌<◌, ◌≤◌, List, [], ◌∷◌, ◌++◌, Option, Some, None, refl, sym, ap, ◌∙◌, subst, inl, inr, arith, append-nil, append_assoc}
-use Rattle.std.specs.Option.{ForSome}
+use Rattle.std.proofs.Common.{◌≡◌, ◌+◌, ◌-◌, ◌<◌, List, [], ◌∷◌, Option, Some, None, refl, sym, ap, ◌∙◌, subst, inl, arith, append-nil}
 use Rattle.std.proofs.lemmas.Option.{none-some}
 use Rattle.ac_base.specs.declared.name.Name.{Name}
 use Rattle.ac_base.specs.Rows.{Row, row}
 use Rattle.ac_pool.specs.Contents.{IsLive, live_count}
 use Rattle.ac_chain.specs.ChainFields.{last_or}
 use Rattle.ac_chain.proofs.Ends.{last_or-append}
-use Rattle.ac_model.specs.Rows.{Node, node}
+use Rattle.ac_model.specs.Rows.{node}
 use Rattle.ac_tree.specs.declared.links.Links.{Links}
 use Rattle.ac_tree.specs.Backward.{Ends, Precedes}
 use Rattle.ac_tree.specs.Forests.{Forest, bare, grove, Step, under, after, outline, last_in, or_name, plugged, parent_in, prev_in, depth_in, before_in}

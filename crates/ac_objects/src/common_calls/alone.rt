@@ -80,7 +80,8 @@ pub fn replace_element<C: CommonRows>(
     args: &mut Arguments,
     reply: &mut Reply,
 ) -> Result<(), Fault>
-    ensures replied { KindReplied (C.kind object.old) (λ o seen. common_reply o itself seen (C.own object.old o) CommonCall.ReplaceElement) args.old
+    ensures replied { KindReplied (C.kind object.old)
+        (λ o seen. common_reply o itself seen (C.own object.old o) CommonCall.ReplaceElement) args.old
         (C.rows object.old) (C.rows object.new) (told reply.new result) }
     ensures kind { C.kind object.new ≡ C.kind object.old }
 {

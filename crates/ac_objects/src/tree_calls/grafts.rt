@@ -108,7 +108,8 @@ pub fn splice_subtree_from<T: ScriptElement>(
     args: &Arguments,
     reply: &mut Reply,
 ) -> Result<(), Fault>
-    ensures { TreeChangedWith T.tools TreeChangeCall.SpliceSubtreeFrom args.now tree.old source.old tree.new source.new (told reply.new result) }
+    ensures { TreeChangedWith T.tools TreeChangeCall.SpliceSubtreeFrom args.now tree.old source.old tree.new source.new
+        (told reply.new result) }
 {
     let parent = args.first.cursor();
     let before = args.second.cursor();
@@ -130,7 +131,8 @@ pub fn splice_children_from<T: ScriptElement>(
     args: &Arguments,
     reply: &mut Reply,
 ) -> Result<(), Fault>
-    ensures { TreeChangedWith T.tools TreeChangeCall.SpliceChildrenFrom args.now tree.old source.old tree.new source.new (told reply.new result) }
+    ensures { TreeChangedWith T.tools TreeChangeCall.SpliceChildrenFrom args.now tree.old source.old tree.new source.new
+        (told reply.new result) }
 {
     let parent = args.first.cursor();
     let before = args.second.cursor();

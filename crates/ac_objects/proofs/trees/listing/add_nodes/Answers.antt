@@ -1,13 +1,8 @@
-use Rattle.std.proofs.Common.{◌≡◌, ◌<◌, ◌+◌, ◌++◌, ℕ, List, [], ◌∷◌, arith, length, refl, sym, ap, ◌∙◌, subst, append_assoc}
+use Rattle.std.proofs.Common.{◌+◌, ◌++◌, [], ◌∷◌, arith, length, refl, sym, ap, ◌∙◌, append_assoc}
 use Rattle.std.proofs.lemmas.List.{length-append}
 use Rattle.std.proofs.lemmas.Result.{err_from_is_err_and}
-use Rattle.ac_base.specs.declared.name.Name.{Name}
-use Rattle.ac_base.specs.Rows.{Row}
 use Rattle.ac_io.proofs.Telling.{begins, goes_on, ends, breaks, still, adds_nothing}
-use Rattle.ac_model.specs.Objects.{plain, contents}
-use Rattle.ac_model.specs.Rows.{Node}
 use Rattle.ac_syntax.specs.Canonical.{literal_text}
-use Rattle.ac_meaning.specs.Listings.{nodes_listing}
 use Rattle.ac_objects.proofs.NodesListed.{still_listed, one_node, met_of, none_left}
 use Rattle.ac_objects.proofs.trees.listing.add_nodes.Goals as goal
 

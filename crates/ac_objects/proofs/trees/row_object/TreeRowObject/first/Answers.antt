@@ -1,4 +1,3 @@
-use Rattle.ac_model.specs.Objects.{plain}
 use Rattle.ac_objects.proofs.NodeLooks.{in_row, row_marks}
 use Rattle.ac_objects.proofs.trees.row_object.TreeRowObject.first.Goals as goal
 

@@ -1,4 +1,4 @@
-use Rattle.std.proofs.Common.{◌+◌, if◌then◌else◌}
+use Rattle.std.proofs.Common.{if◌then◌else◌}
 use Rattle.ac_model.specs.Objects.{plain}
 use Rattle.ac_model.specs.Letters.{no_mark, is_no_mark, place_at}
 use Rattle.ac_model.specs.Sequences.{mark_before}
