@@ -133,8 +133,19 @@ def ordered_set_algebra():
     return set_algebra("ordered_set", 100_000, 10)
 
 
+def tree_build_find():
+    """A tree of 1,000 children with 100 children each, then searches for what isn't there, below the root and below each child."""
+    return ("type Driver is list (integer);\ntype T is tree (integer);\nDrive : Driver;\nTen : Driver;\nA : T;\nR : T.cursor;\nC : T.cursor;\nD : T.cursor;\nN : integer;\n"
+            "Drive.Append (0, 1000);\nTen.Append (0, 100);\nR := A.Root;\n"
+            + rounds("N := N + 1;\nA.Append_Child (R, N);\nC := A.Last_Child (R);\n" + rounds("A.Append_Child (C, 5);\n", "Ten", "J_")) + "A.Node_Count;\n"
+            + rounds("D := A.Find_In_Subtree (R, -1);\n", "Ten") + "C := A.First_Child (R);\n"
+            + rounds("A.Find_In_Subtree (C, -1);\nA.Child_Count (C);\nA.Depth (C);\nC := A.Next_Sibling (C);\n")
+            + "A.Child_Count (R);\nA.Contains (1000);\nA.Subtree_Node_Count (R);\n")
+
+
 BESIDE_A_PEER = [("list_churn", list_churn), ("list_sort_merge", list_sort_merge), ("dispatch", dispatch), ("vector_append_read", vector_append_read), ("vector_sort", vector_sort),
-                 ("hashed_map_ops", hashed_map_ops), ("ordered_map_ops", ordered_map_ops), ("ordered_set_r14", ordered_set_r14), ("ordered_set_algebra", ordered_set_algebra)]
+                 ("hashed_map_ops", hashed_map_ops), ("ordered_map_ops", ordered_map_ops), ("ordered_set_r14", ordered_set_r14), ("ordered_set_algebra", ordered_set_algebra),
+                 ("tree_build_find", tree_build_find)]
 ALGEBRA_SIZES = (1_000, 10_000, 100_000)
 GENERATED = ["--generate", "200000"]
 
@@ -156,6 +167,7 @@ def nested_loops(turns):
 LARGE = [
     ("1,000,000 elements, appended and printed", "type T is list (integer);\nA : T;\nA.Append (7, 1000000);\nA.Length;\nA.Print;\nA.Sort;\nA.Clear;\n"),
     ("the same of a vector", "type T is vector (integer);\nA : T;\nA.Append (7, 1000000);\nA.Length;\nA.Print;\nA.Sort;\nA.Clear;\n"),
+    ("a tree of 1,000,000 integers", "type T is tree (integer);\nA : T;\nR : T.cursor;\nR := A.Root;\nA.Append_Child (R, 7, 999999);\nA.Append_Child (R, 7);\nA.Node_Count;\n"),
     ("a loop over 1,000,000 elements", "type T is list (integer);\nA : T;\nX : integer;\nA.Append (7, 1000000);\nfor E of A loop\nX := E;\nend loop;\n"),
     ("sixteen nested loops, 2,000,000 lines", nested_loops(2_000_000)),
     ("10,000 strings of 1,000 bytes, printed", f'type T is list (string);\nA : T;\nA.Append ("{"x" * 1000}", 10000);\nA.Print;\nA.Sort;\nA.Print;\n'),
