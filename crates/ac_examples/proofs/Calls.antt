@@ -1,5 +1,5 @@
 -- What calls of a list come to: under a guard they are refused, and appended values stand in order.
-use Rattle.std.proofs.Common.{◌≡◌, ◌<◌, ◌∷◌, [], ℕ, ℤ, pos, Bool, true, false, Option, Some, None, Result, Ok, Err, List, nat_lt, refl, ap, ◌∙◌, arith, if◌then◌else◌}
+use Rattle.std.proofs.Common.{◌≡◌, ◌<◌, ◌∷◌, [], ℕ, ℤ, pos, true, false, Option, Some, None, Result, Ok, Err, List, nat_lt, refl, ap, ◌∙◌, arith}
 use Rattle.ac_base.specs.declared.fault.Fault.{Fault}
 use Rattle.ac_base.specs.declared.fault.Fault.TheVariants as fault
 use Rattle.ac_base.specs.declared.limit.Limit.TheVariants as limit
@@ -8,7 +8,6 @@ use Rattle.ac_base.specs.declared.reason.Reason.{Reason}
 use Rattle.ac_base.specs.declared.reason.Reason.TheVariants as reason
 use Rattle.ac_base.specs.FirstReason.{first_reason, earlier, step_of}
 use Rattle.ac_model.specs.Calls.{Call, Changing, Done, IsAfter, Same}
-use Rattle.ac_model.specs.Letters.{tampers_cursors}
 use Rattle.ac_model.specs.Objects.{Object, contents, empty_object, plain}
 use Rattle.ac_model.specs.Sequences.{append_call, room_for_copies}
 
@@ -62,3 +61,8 @@ two_values number start first second made one two = ap contents two.plainly ∙ 
   where
     with_seven : Object ℕ ℤ → List ℤ
     with_seven o = contents (append_call o (pos 7) (pos 1)).after
+
+pub no_guards : (number : ℕ) (start first second : Object Name ℤ) → start ≡ empty_object false number limit.Unbounded →
+    IsAfter start first (append_call (plain start) (pos 5) (pos 1)).after →
+    IsAfter first second (append_call (plain first) (pos 7) (pos 1)).after → second.cursor_guards ≡ 0
+no_guards number start first second made one two = ap (λ o. o.cursor_guards) two.plainly ∙ ap (λ o. o.cursor_guards) one.plainly ∙ ap (λ o. o.cursor_guards) made
