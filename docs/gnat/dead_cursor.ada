@@ -1,0 +1,11 @@
+type L is list (integer);
+A : L;
+C : L.cursor;
+D : L.cursor;
+A.Append (1);
+C := A.First;
+D := C;
+A.Delete (C);
+A.Append (2);
+A.Has_Element (D);
+A.Element (D);

@@ -1,0 +1,18 @@
+type Times is list (integer);
+type T is tree (integer);
+Sixteen : Times;
+A : T;
+B : T;
+R : T.cursor;
+Top : T.cursor;
+Last : T.cursor;
+Sixteen.Append (0, 16);
+R := A.Root;
+A.Append_Child (R, 1);
+Top := A.First_Child (R);
+A.Append_Child (Top, 9);
+Last := A.Find (9);
+for I in Sixteen loop A.Copy_Subtree (Last, no_element, A, Top); A.Replace_Element (Last, 1); Last := A.Find (9); end loop;
+A.Depth (Last);
+B.Assign (A);
+B.Node_Count;

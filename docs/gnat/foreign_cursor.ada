@@ -1,0 +1,10 @@
+type L is list (integer);
+A : L;
+B : L;
+C : L.cursor;
+A.Append (1);
+B.Append (2);
+C := B.First;
+A.Element (C);
+A.Has_Element (C);
+A.Replace_Element (C, 3);
