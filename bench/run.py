@@ -5,10 +5,16 @@ Prints the program's time for each generated script, the ratio to the baseline's
 
 With `--peer COMMAND` it prints instead the processor times of some scripts, and of the generator's longest, beside those of another interpreter of the same language, and the ratio: below 1 is faster. Then the growth of set algebra with both.
 
+With `--page` it also writes what it printed to `bench/README.md`, with the machine and the date; with `--peer COMMAND` besides, the tables beside the other interpreter too.
+
 With `--before PROGRAM`, where PROGRAM is `crates/ac_bench/out/ac_bench` of another checkout, built there by `rt run`, it prints instead the times of each workload with that program and with this checkout's, which run in turn, beside one another, and the ratio: below 1 is faster than before.
 """
 import argparse
+import contextlib
+import datetime
+import io
 import os
+import platform
 import re
 import shlex
 import shutil
@@ -420,10 +426,89 @@ def beside(before, now, runs):
         print(f"{name:<45}{was:>10.1f}{took:>10.1f}{took / was:>8.2f}", flush=True)
 
 
+SECTIONS = [
+    ("Scripts beside plain Rust", "Seconds of a script, the ratio to a plain Rust program that does the same, and the growth from half the script to the whole: 2 is linear.", lambda place, bench: scripts(place)),
+    ("Long runs", "Seconds, and the most memory that the program had.", lambda place, bench: large(place)),
+    ("The least command", "What `A.Length` costs with the write of its line, and what such a write costs alone.", lambda place, bench: a_length(place)),
+    ("Checks", "Seconds of `--check` on inputs of 1 MiB that are the worst of their sorts, and the growth from half of it: 2 is linear.", lambda place, bench: checks(place)),
+    ("Calls of two sets", "What they take for each element, in nanoseconds and in instructions, which no cache changes; n log n is a growth of 1.67.", lambda place, bench: algebra(place, [("adacont", [PROGRAM])])),
+    ("A pool", "A put and a take, and the ratio to a plain Rust program that does the same.", lambda place, bench: churn(bench, place)),
+    ("A chain", "An insertion and a removal in the middle: it stays flat where the chain grows.", lambda place, bench: middle(bench)),
+    ("Lists", "Nanoseconds for each element, and the growth from 10,000 elements to 1,000,000.", lambda place, bench: lists(bench)),
+    ("Sets", "The same.", lambda place, bench: sets(bench)),
+    ("Memory", "Bytes of a slot, and the most that 1,000,000 integers take.", lambda place, bench: memory(bench)),
+]
+
+
+def beside_peer(place, peer):
+    beside_a_peer(peer, place)
+    algebra(place, [("adacont", [PROGRAM]), ("peer", peer)])
+
+
+class Tee(io.StringIO):
+    """What is printed, kept and shown."""
+
+    def write(self, text):
+        sys.__stdout__.write(text)
+        sys.__stdout__.flush()
+        return super().write(text)
+
+
+def first_line(*command):
+    """What a command says first, or nothing where there is none."""
+    try:
+        return subprocess.run(command, cwd=TOP, capture_output=True, text=True).stdout.split("\n")[0].strip()
+    except OSError:
+        return ""
+
+
+def machine():
+    """The machine and the tools, in a line each."""
+    model, memory_size = platform.processor(), ""
+    if os.path.isfile("/proc/cpuinfo"):
+        with open("/proc/cpuinfo") as file:
+            model = next((line.split(":", 1)[1].strip() for line in file if line.startswith("model name")), model)
+    if os.path.isfile("/proc/meminfo"):
+        with open("/proc/meminfo") as file:
+            memory_size = f", {int(file.readline().split()[1]) / 1e6:.0f} GB"
+    return [
+        ("Date", datetime.date.today().isoformat()),
+        ("Machine", f"{model}, {os.cpu_count()} processors{memory_size}, {platform.system()} {platform.release()}"),
+        ("Kit", first_line("rt", "version")),
+        ("Plain Rust", first_line("rustc", "--version") + ", with -O"),
+        ("Commit", first_line("git", "rev-parse", "HEAD")),
+    ]
+
+
+PAGE_HEAD = """# Measured
+
+`bench/run.py --page` measures, and writes this page. [The calls](../docs/calls.md) says of each call what it costs.
+
+"""
+
+
+def page(tables):
+    rows = "".join(f"| {name} | {said} |\n" for name, said in machine())
+    parts = "".join(f"## {title}\n\n{says}\n\n" + "".join(f"    {line}\n" for line in told.rstrip("\n").split("\n")) + "\n" for title, says, told in tables)
+    with open(os.path.join(TOP, "bench/README.md"), "w") as file:
+        file.write(f"{PAGE_HEAD}| | |\n|---|---|\n{rows}\n{parts}".rstrip("\n") + "\n")
+
+
+def measured(sections, place, bench):
+    """Each section with what it printed."""
+    tables = []
+    for title, says, measure in sections:
+        with contextlib.redirect_stdout(Tee()) as told:
+            measure(place, bench)
+        tables.append((title, says, told.getvalue()))
+    return tables
+
+
 def wanted():
     parser = argparse.ArgumentParser(description=__doc__, formatter_class=argparse.RawDescriptionHelpFormatter)
     parser.add_argument("--before", metavar="PROGRAM", help="the ac_bench of another checkout, to time beside this one's")
     parser.add_argument("--peer", metavar="COMMAND", help="another interpreter of the same language, whose times stand beside this one's")
+    parser.add_argument("--page", action="store_true", help="write what is printed to bench/README.md, with the machine and the date")
     parser.add_argument("--runs", metavar="N", type=int, default=RUNS, help="with --before: the least of so many runs of each counts (%(default)s)")
     return parser.parse_args()
 
@@ -436,23 +521,16 @@ def main():
         beside(os.path.abspath(asked.before), os.path.join(folder, "out/ac_bench"), asked.runs)
         return 0
     subprocess.run([os.path.join(TOP, "adacont")], stdin=subprocess.DEVNULL, check=True)
-    with tempfile.TemporaryDirectory() as place:
-        if asked.peer:
-            beside_a_peer(shlex.split(asked.peer), place)
-            algebra(place, [("adacont", [PROGRAM]), ("peer", shlex.split(asked.peer))])
-            return 0
-        folder = os.path.join(TOP, "crates/ac_bench")
+    peer = shlex.split(asked.peer) if asked.peer else None
+    sections = [("Beside another interpreter", "Processor seconds of scripts, and the ratio: below 1 is faster. Then the calls of two sets with both.", lambda place, bench: beside_peer(place, peer))] if peer else []
+    folder = os.path.join(TOP, "crates/ac_bench")
+    if asked.page or not peer:
         prove_and_build(folder, "pool", "0")
-        scripts(place)
-        large(place)
-        a_length(place)
-        checks(place)
-        algebra(place, [("adacont", [PROGRAM])])
-        churn(os.path.join(folder, "out/ac_bench"), place)
-    middle(os.path.join(folder, "out/ac_bench"))
-    lists(os.path.join(folder, "out/ac_bench"))
-    sets(os.path.join(folder, "out/ac_bench"))
-    memory(os.path.join(folder, "out/ac_bench"))
+        sections = SECTIONS + sections
+    with tempfile.TemporaryDirectory() as place:
+        tables = measured(sections, place, os.path.join(folder, "out/ac_bench"))
+    if asked.page:
+        page(tables)
     return 0
 
 
