@@ -1,6 +1,5 @@
--- A list of integers (A.18.3): two elements, and what it holds.
-type Numbers is list (integer);
-A : Numbers;
-A.Append (5);
-A.Append (-7);
+type L is list (integer);
+A : L;
+A.Append (5, 2);
+for C in A loop A.Append (7); end loop;    -- refused: a loop runs over A
 A.Print;
