@@ -38,7 +38,7 @@ KINDS = {
 }
 # Several kinds at once, the longest first: what they are called together.
 TOGETHER = [
-    (GROUPS["maps"] + GROUPS["sets"], "maps and sets"),
+    (GROUPS["maps"] + GROUPS["sets"], "maps, sets"),
     (GROUPS["hashed"], "hashed maps and sets"),
     (GROUPS["ordered"], "ordered maps and sets"),
     (GROUPS["sets"], "sets"),
@@ -59,10 +59,6 @@ REASONS = {
     "count": ["length"],
     "room": ["length", "full", "names spent"],
 }
-# The order in which reasons are tried: those between `root source` and `length` are a call's own, in the order of the table.
-BEFORE = ["cursor tampering", "element tampering", "no element", "foreign cursor", "dead cursor", "root", "root source"]
-BEHIND = ["length", "full", "element too large", "names spent"]
-
 KEYS = ["word", "form", "kinds", "operation", "does", "class", "reasons", "answer", "cost", "definition", "self", "function", "self-function", "on", "script"]
 
 
@@ -95,7 +91,7 @@ class Call:
         return found
 
     def refusals(self):
-        """The reasons, in the order in which they are tried."""
+        """The reasons, in the order in which they are tried: those of one step in the order of the table."""
         said = []
         if self.tampering.startswith("cursors"):
             said += ["cursor tampering"] + ([] if all(kind.endswith("set") for kind in self.kinds) else ["element tampering"])
@@ -103,8 +99,7 @@ class Call:
             said.append("element tampering")
         for code in filter(None, self.reasons.split(", ")):
             said += [reason for reason in REASONS.get(code, [code]) if reason not in said]
-        own = [reason for reason in said if reason not in BEFORE + BEHIND]
-        return [r for r in BEFORE if r in said] + own + [r for r in BEHIND if r in said]
+        return sorted(said, key=lambda reason: reasons()[reason][1])
 
 
 class Stage:
@@ -155,6 +150,27 @@ def read_calls(stages):
     return calls
 
 
+_reasons = {}
+
+
+def reasons():
+    """Each reason's exception and step, as the specs have them, by its text, in the order of the steps."""
+    if not _reasons:
+        with open(os.path.join(TOP, "crates/ac_base/specs/Reason.antt")) as file:
+            text = file.read()
+        with open(os.path.join(TOP, "crates/ac_base/specs/FirstReason.antt")) as file:
+            steps = dict(re.findall(r"^step_of (\w+) = (\d+)$", file.read(), re.M))
+        exceptions = dict(re.findall(r'^exception_name (\w+) = codes "(\w+)"$', text, re.M))
+        rows = re.findall(r'^row_of (\w+) = row \d+ (\w+) \(codes "([a-z ]+)"\)$', text, re.M)
+        for name, exception, words in sorted(rows, key=lambda row: int(steps[row[0]])):
+            _reasons[words] = exceptions[exception], int(steps[name])
+    return _reasons
+
+
+def read_whens():
+    return {fields["reason"]: fields["when"] for fields, _, _ in records(os.path.join(TABLE, "reasons.txt"))}
+
+
 def read_stages():
     return {fields["stage"]: Stage(fields) for fields, _, _ in records(os.path.join(TABLE, "stages.txt"))}
 
@@ -163,14 +179,9 @@ def of_kinds(kinds):
     """What some kinds are called together."""
     left, said = list(kinds), []
     while left:
-        for some, words in TOGETHER:
-            if all(kind in left for kind in some):
-                said.append(words)
-                left = [kind for kind in left if kind not in some]
-                break
-        else:
-            said.append(KINDS[left.pop(0)][0])
-    said = [words for words in said if words]
+        some, words = next(((some, words) for some, words in TOGETHER if left[0] in some and all(kind in left for kind in some)), ([left[0]], KINDS[left[0]][0]))
+        said += words.split(", ") if words else []
+        left = [kind for kind in left if kind not in some]
     return said[0] if len(said) == 1 else ", ".join(said[:-1]) + " and " + said[-1]
 
 
@@ -298,12 +309,20 @@ By kind:
 
 - **Arguments.** A is the object before the dot. C is a cursor that must designate an element, B one that may be No_Element besides; W is a cursor at a tree's node, the root too, O the same or No_Element; P is a cursor variable that the call sets, Q one that is read as C and set. E is an element, K a key, N a count in 0 .. 1,000,000, I an index, S another object of the type, or A itself. What stands in brackets may be left out: a count is 1 then, a cursor No_Element.
 - **Class**, of tampering. A call of class cursors is refused while a guard is held on A, a call of class elements while an element guard is held, one of none never; [the language](language.md#blocks) says which blocks hold which guards. A set has cursor guards alone.
-- **Refused as**: the reasons, in the order in which they are tried, and the first that applies is told; [the table](language.md#lines) has how a line tells it. A refused call changes nothing, but for the end of an update whose key changed. Beside these, a call that takes memory may end with want of memory, which its definition says (`takes_some`), and which changes no row.
+- **Refused as**: [the reasons](#the-reasons), in the order in which they are tried; the first that applies is told. A refused call changes nothing, but for the end of an update whose key changed. Beside these, a call that takes memory may end with want of memory, which its definition says (`takes_some`), and which changes no row.
 - **Cost**, where n is A's length and m S's: how many steps the code makes; `constant` is a few reads and writes, whatever the length. A look-up in a hashed container walks one bucket, which no clause bounds; in an ordered one it compares at most 2h + 2 times, for an h with 2^h at most (n + 1)^2, which is a clause of Find, Contains, Floor and Ceiling. What a call that adds elements makes in slots (8, 16, 32 and so on) isn't counted. Costs but that one are read off the code, and no clause says them; [bench](../bench/README.md) measures some.
 - **Definition**: what the call means. **Function**: the call of the library, whose contract cites the definition, and which is proved against it.
 - **Script**: lines of a script, and what each writes behind its number. They start from this:
 
 {stages}
+
+## The reasons
+
+Reasons are tried in nine steps, each of them for all objects, the target before the source, or for all cursors from left to right, before the next step. Of one step the call's own order decides, which its entry has. A line tells the exception and the reason: `raised PROGRAM_ERROR (dead cursor)`.
+
+| Step | Reason | Exception | When |
+|---|---|---|---|
+{reasons}
 
 """
 
@@ -332,6 +351,7 @@ def page(calls, stages):
         index=", ".join(f"[{word}](#{names[word]})" for word in scripts),
         library=", ".join(f"[{word}](#{names[word]})" for word in library),
         kinds="\n".join(kinds),
+        reasons="\n".join(f"| {step} | {words} | {exception} | {read_whens().get(words, '')} |" for words, (exception, step) in reasons().items()),
         stages="\n".join(f"  - {KINDS[kind][0]}: {stage.says}" for kind, stage in stages.items()),
     )
     for word in scripts + library:
