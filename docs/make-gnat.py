@@ -15,15 +15,15 @@ PAGE = os.path.join(TOP, "docs/gnat.md")
 SECONDS = 120
 
 ITEMS = [
-    ("dead_cursor", "A dead cursor", "GNAT's cursor leads to whatever element has the memory now. Here it is dead, and refused by that name."),
+    ("dead_cursor", "A dead cursor", "GNAT's cursor leads to an element that came later. Here it is dead, and refused by that name."),
     ("vector_cursor", "A vector's cursor", "GNAT's stands for a place, in which another element stands after an insertion before it. Here it follows its element."),
     ("foreign_cursor", "A cursor of another container", "GNAT's functions that take a cursor alone can't tell. Here each call has its container."),
     ("element_loop", "An element's place is taken in a loop over elements", "GNAT's loop holds no guard for elements, so that the name stands for another one from then on. Here it holds one."),
-    ("no_effect", "Calls that would change nothing", "GNAT's are checked for tampering where they would change something. Here they are checked always, so that whether a call is refused doesn't depend on what the container holds."),
+    ("no_effect", "Calls that would change nothing", "Four of GNAT's that would change nothing aren't checked for tampering. Here each is, so that whether a call is refused doesn't depend on what the container holds."),
     ("copy_subtree", "Copy_Subtree in a loop over the tree", "GNAT's isn't checked, and the loop meets what it adds."),
     ("with_itself", "Symmetric_Difference of an ordered set with itself, in a loop over it", "GNAT's isn't checked."),
     ("holder_move", "Holders that share", "Two of GNAT's holders share their element after Assign: a Move between them leaves the source as it was, and a copy that was made under a reference has what is written through it later."),
-    ("deep_tree", "A deep tree", "GNAT's calls of trees recurse. Here none does."),
+    ("deep_tree", "A deep tree", "GNAT's Assign runs out of stack. Here no call of a tree recurses."),
 ]
 
 HEAD = """# What GNAT's containers do
