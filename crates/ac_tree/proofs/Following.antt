@@ -7,11 +7,13 @@ use Rattle.std.proofs.Math.Seq.{drop-append_seam}
 use Rattle.ac_base.specs.declared.name.Name.{Name}
 use Rattle.ac_base.specs.Rows.{Row, row}
 use Rattle.ac_pool.specs.Contents.{value_of, IsLive, live_count}
+use Rattle.ac_pool.specs.Link.{link_of, name_in, value_at, value_in}
 use Rattle.ac_pool.specs.NamedRows as pool
 use Rattle.ac_chain.specs.Rows as chain
 use Rattle.ac_chain.specs.ChainFields.{first_or}
 use Rattle.ac_pool.specs.NamedRows.{IsOnce, HasName}
 use Rattle.ac_pool.proofs.Cuts.{HasName-right, has_live}
+use Rattle.ac_pool.proofs.SlotNames.{linked_name}
 use Rattle.ac_chain.proofs.Puts.{place_cut}
 use Rattle.ac_model.specs.Rows.{Node, node}
 use Rattle.ac_model.specs.Objects.{plains}
@@ -19,7 +21,7 @@ use Rattle.ac_model.specs.Outline.{run_of, subtree_length}
 use Rattle.ac_tree.specs.declared.links.TreeNode.{TreeNode}
 use Rattle.ac_tree.specs.declared.links.Links.{Links}
 use Rattle.ac_tree.specs.Forests.{Forest, bare, grove, Step, under, after, outline, size, first_in, Has, plugged, parent_in, depth_in, before_in, after_in}
-use Rattle.ac_tree.specs.TreeFields.{StandsFor, forest_in, IsForest, first_of, next_of, parent_of}
+use Rattle.ac_tree.specs.TreeFields.{StandsFor, forest_in, IsForest, first_link, next_link, first_of, next_of, parent_of}
 use Rattle.ac_tree.specs.TreeCursors.{serial_in}
 use Rattle.ac_tree.specs.Walking.{Passes, Follows}
 use Rattle.ac_tree.proofs.Places.{parted, plugged_has, around_has, placed, outline_plugged, once_rows, size_is, named, has}
@@ -197,6 +199,36 @@ module _ {X : Type 0} where
   pub follows_past : (l : Links X) (top : Option Name) (a : Name) (child result : Option Name) → child ≡ first_of l (Some a) → is_some child ≡ false → Passes l top a result → Follows l top a result
   follows_past l top a child result is none p = λ outer inner x below rest s up named.
       child_none below rest (depth_in inner) (after_in inner) child result (is ∙ ap (λ n. first_of l (Some n)) (sym named) ∙ (led l outer inner x below rest s).first) none (p outer inner x below rest s up named)
+
+  -- the same told by links: the node to which one leads, and a link that leads to no node
+  pub linked_value : (l : Links X) (link : ℕ) (n : TreeNode X) → value_in l.nodes link ≡ Some n → (a : Name) → name_in l.nodes link ≡ Some a → value_of l.nodes a ≡ Some n
+  linked_value l link n is a named = ap (value_at l.nodes) (sym named) ∙ is
+
+  pub linked_live : (l : Links X) (link : ℕ) (n : TreeNode X) → value_in l.nodes link ≡ Some n → (a : Name) → name_in l.nodes link ≡ Some a → IsLive l.nodes a
+  linked_live l link n is a named = ap is_some (linked_value l link n is a named)
+
+  pub no_link : (l : Links X) → IsForest l → name_in l.nodes (link_of None) ≡ None
+  no_link l s = linked_name l.nodes s.sound None (λ a e. absurd (none-some a e))
+
+  pub follows_first : (l : Links X) (top : Option Name) (link : ℕ) (n : TreeNode X) → value_in l.nodes link ≡ Some n → is_some (name_in l.nodes n.first) ≡ true →
+      ForSome (name_in l.nodes link) (λ a. Follows l top a (name_in l.nodes n.first))
+  follows_first l top link n is found = λ a named.
+      follows_child l top a (name_in l.nodes n.first) (ap (λ v. name_in l.nodes (first_link v)) (sym (linked_value l link n is a named))) found
+
+  pub follows_behind : (l : Links X) (top : Option Name) (link : ℕ) (n : TreeNode X) (result : Option Name) → value_in l.nodes link ≡ Some n →
+      is_some (name_in l.nodes n.first) ≡ false → ForSome (name_in l.nodes link) (λ a. Passes l top a result) → ForSome (name_in l.nodes link) (λ a. Follows l top a result)
+  follows_behind l top link n result is none behind = λ a named.
+      follows_past l top a (name_in l.nodes n.first) result (ap (λ v. name_in l.nodes (first_link v)) (sym (linked_value l link n is a named))) none (behind a named)
+
+  pub passes_next : (l : Links X) (top : Option Name) (link : ℕ) (n : TreeNode X) → value_in l.nodes link ≡ Some n → is_some (name_in l.nodes n.next) ≡ true →
+      ForSome (name_in l.nodes link) (λ a. Passes l top a (name_in l.nodes n.next))
+  passes_next l top link n is found = λ a named.
+      climbs_hit l top a a (name_in l.nodes n.next) (climbs_start l top a (linked_live l link n is a named))
+      (ap (λ v. name_in l.nodes (next_link v)) (sym (linked_value l link n is a named))) found
+
+  pub passes_named : (l : Links X) (top : Option Name) (link : ℕ) (name : Name) (result : Option Name) → name_in l.nodes link ≡ Some name → Passes l top name result →
+      ForSome (name_in l.nodes link) (λ a. Passes l top a result)
+  passes_named l top link name result is p = λ a named. subst (λ b. Passes l top b result) (some_name name a (sym is ∙ named)) p
 
   -- a list is cut in one way before a name
   pub record Cut_same (xs ys us vs : List (Row Name (Node X))) (r q : Row Name (Node X)) : Type 0 where

@@ -1,5 +1,5 @@
 -- What a search among the nodes of a subtree has found so far, and what its calls answer.
-use Rattle.std.proofs.Common.{◌≡◌, ℕ, suc, ◌+◌, ◌-◌, ◌<◌, Bool, true, false, List, [], ◌∷◌, ◌++◌, length, take, drop, filter, reverse, Option, Some, None, is_some, Ok, refl, sym, ap, ◌∙◌, subst, inl, inr, arith, cond, one-add, ne_eqb}
+use Rattle.std.proofs.Common.{◌≡◌, ℕ, suc, ◌+◌, ◌-◌, ◌<◌, Bool, true, false, true≢false, List, [], ◌∷◌, ◌++◌, length, take, drop, filter, reverse, Option, Some, None, is_some, Ok, refl, sym, ap, ◌∙◌, subst, inl, inr, arith, cond, one-add, ne_eqb}
 use Rattle.std.specs.Prelude.{◌==◌, find, if◌then◌else◌}
 use Rattle.std.specs.Option.{ForSome, option_map}
 use Rattle.std.proofs.lemmas.Bool.{cond-false}
@@ -10,9 +10,11 @@ use Rattle.ac_base.specs.declared.cursor.Cursor.{Cursor}
 use Rattle.ac_base.specs.FirstReason.{first_reason}
 use Rattle.ac_base.specs.Rows.{Row, row}
 use Rattle.ac_pool.specs.Contents.{value_of, IsLive}
+use Rattle.ac_pool.specs.Link.{link_of, name_in, value_at, value_in}
 use Rattle.ac_chain.specs.Rows as chain
 use Rattle.ac_chain.specs.ChainFields.{first_or}
 use Rattle.ac_pool.specs.NamedRows.{HasName}
+use Rattle.ac_pool.proofs.SlotNames.{linked_name}
 use Rattle.ac_chain.proofs.Finds.{any_found, take_had, drop_had}
 use Rattle.ac_chain.proofs.Grows.{reverse_has}
 use Rattle.ac_chain.proofs.Searches.{some_value, first_found, first_passed}
@@ -142,6 +144,49 @@ module _ {X : Type 0} where
       by_left : (left : List (Row Name (Node X))) → None ≡ first_or left None → found_in same e left ≡ wanted → None ≡ wanted
       by_left [] p f = f
       by_left (r ∷ left) p f = absurd (none-some r.name p)
+
+  -- The same by links: one leads to the place
+
+  pub seek_link : (l : Links X) → IsForest l → (top : Option Name) (same : X → X → Bool) (e : X) (wanted place : Option Name) → Seeking l top same e wanted place
+      → Seeking l top same e wanted (name_in l.nodes (link_of place))
+  seek_link l s top same e wanted place k =
+      subst (λ o. Seeking l top same e wanted o) (sym (linked_name l.nodes s.sound place (λ a is. seek_live l top same e wanted place k a is))) k
+
+  -- the name of a node to which a link leads
+  record Linked (l : Links X) (link : ℕ) (n : TreeNode X) : Type 0 where
+    pub name : Name
+    pub named : name_in l.nodes link ≡ Some name
+    pub value : option_map (λ (m : TreeNode X). m.value) (value_of l.nodes name) ≡ Some n.value
+
+  linked_by : (l : Links X) (link : ℕ) (n : TreeNode X) (o : Option Name) → name_in l.nodes link ≡ o → value_at l.nodes o ≡ Some n → Linked l link n
+  linked_by l link n None named is = absurd (none-some n is)
+  linked_by l link n (Some a) named is = record { name = a; named = named; value = ap (option_map (λ (m : TreeNode X). m.value)) is }
+
+  module _ (l : Links X) (top : Option Name) (same : X → X → Bool) (e : X) (wanted : Option Name) (link : ℕ)
+      (k : Seeking l top same e wanted (name_in l.nodes link)) where
+    pub link_end : value_in l.nodes link ≡ None → None ≡ wanted
+    link_end none = by_name (name_in l.nodes link) refl
+      where
+        by_name : (o : Option Name) → name_in l.nodes link ≡ o → None ≡ wanted
+        by_name None named = seek_end l top same e wanted (name_in l.nodes link) k named
+        by_name (Some a) named =
+            let live = seek_live l top same e wanted (name_in l.nodes link) k a named in
+            absurd (true≢false (sym live ∙ ap (λ o. is_some (value_at l.nodes o)) (sym named) ∙ ap is_some none))
+
+    module _ (n : TreeNode X) (is : value_in l.nodes link ≡ Some n) (r : Bool) (test : r ≡ same n.value e) where
+      at : Linked l link n
+      at = linked_by l link n (name_in l.nodes link) refl is
+
+      pub link_hit : r ≡ true → name_in l.nodes link ≡ wanted
+      link_hit hit = at.named ∙ seek_hit l top same e wanted (name_in l.nodes link) k at.name at.named n.value at.value r test hit
+
+      pub link_more : r ≡ false → (next : Option Name) → ForSome (name_in l.nodes link) (λ a. Follows l top a next) → Seeking l top same e wanted next
+      link_more miss next f = seek_more l top same e wanted (name_in l.nodes link) k at.name at.named n.value at.value r test miss next (f at.name at.named)
+
+      pub link_less : IsForest l → (next : Option Name) → ForSome (name_in l.nodes link) (λ a. Follows l top a next)
+          → length (outline 2 (forest_in l)) - chain.place_of next (outline 2 (forest_in l))
+          < length (outline 2 (forest_in l)) - chain.place_of (name_in l.nodes link) (outline 2 (forest_in l))
+      link_less s next f = seek_less l top same e wanted (name_in l.nodes link) k at.name at.named s next (f at.name at.named)
 
   -- the node itself stands before all that is below it
   record Met_first (l : Links X) (a : Name) : Type 0 where

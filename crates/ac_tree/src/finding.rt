@@ -10,8 +10,9 @@ ghost use Rattle.ac_tree.specs.TreeFields.{IsForest};
 ghost use Rattle.ac_tree.specs.TreeRows.{rows_of};
 
 use crate::links::{Links, is_same};
-use crate::preorder::following;
+use crate::preorder::following_link;
 use ac_base::{Elem, Name};
+use ac_pool::link_to;
 
 /// The first node in preorder with an equal value among those below a node, or below the root at none.
 fn found_below<T: Elem>(links: &Links<T>, top: Option<Name>, e: &T) -> Option<Name>
@@ -19,12 +20,12 @@ fn found_below<T: Elem>(links: &Links<T>, top: Option<Name>, e: &T) -> Option<Na
     requires live { ForSome top (IsLive links.now.nodes) }
     ensures { result ≡ found_in T.is_same e.now (rows_below (rows_of links.now).rows (serial_in top)) }
 {
-    let mut place = links.first_child(top);
-    while let Some(name) = place {
-        if links.at(name).same(e) {
-            return place;
+    let mut place = link_to(links.first_child(top));
+    while let Some(node) = links.node_in(place) {
+        if node.value.same(e) {
+            return links.name_in(place);
         }
-        place = following(links, top, name);
+        place = following_link(links, top, place, node);
     }
     None
 }

@@ -1,11 +1,11 @@
 //! Nodes in a pool, each with links to its parent, to its first and last child, and to the siblings on both sides.
 //! A link is a slot, and leads to the live name of the slot: the serial stands in the pool alone. The root has no node.
-ghost use Rattle.std.specs.Prelude.{◌≡◌, ◌+◌, ◌-◌, ◌^◌, ◌<◌, ◌≤◌, ◌↔◌, Some, IfOk, IsOk, IsTrue, OnOk, OnErr};
+ghost use Rattle.std.specs.Prelude.{◌≡◌, ◌+◌, ◌-◌, ◌^◌, ◌<◌, ◌≤◌, ◌↔◌, Some, is_some, IfOk, IsOk, IsTrue, OnOk, OnErr, option_copied};
 ghost use Rattle.std.specs.Option.{option_map};
 ghost use Rattle.ac_pool.specs.Contents.{value_of, IsLive, live_count};
 ghost use Rattle.ac_base.specs.Limits.{IsLimit};
 ghost use Rattle.ac_model.specs.Containers.{first_spare};
-ghost use Rattle.ac_pool.specs.Link.{link_of, name_in};
+ghost use Rattle.ac_pool.specs.Link.{link_of, name_in, value_in};
 ghost use Rattle.ac_tree.specs.Inserting.{Inserts, Reserves};
 ghost use Rattle.ac_tree.specs.Removing.{Removes};
 ghost use Rattle.ac_tree.specs.Splicing.{Moves};
@@ -83,7 +83,7 @@ impl<T> Links<T> {
         }
     }
 
-    fn next_link(&self, name: Name) -> u32
+    pub(crate) fn next_link(&self, name: Name) -> u32
         ensures { result ≡ next_link (value_of self.now.nodes name) }
     {
         match self.nodes.get(name) {
@@ -93,10 +93,27 @@ impl<T> Links<T> {
     }
 
     /// The name to which a link leads.
-    fn name_in(&self, slot: u32) -> Option<Name>
+    #[inline(always)]
+    pub(crate) fn name_in(&self, slot: u32) -> Option<Name>
         ensures { result ≡ name_in self.now.nodes slot }
     {
         self.nodes.name_in(slot)
+    }
+
+    /// The node to which a link leads.
+    #[inline(always)]
+    pub(crate) fn node_in(&self, slot: u32) -> Option<&TreeNode<T>>
+        ensures { option_copied result ≡ value_in self.now.nodes slot }
+    {
+        self.nodes.value_in(slot)
+    }
+
+    /// Whether a link leads to a node.
+    #[inline(always)]
+    pub(crate) fn leads(&self, slot: u32) -> bool
+        ensures { result ≡ is_some (name_in self.now.nodes slot) }
+    {
+        self.name_in(slot).is_some()
     }
 
     /// The parent of a node, where none is the root.
