@@ -16,6 +16,7 @@ use Rattle.ac_balance.specs.Trees.{Tree, leaf, node, in_order, Balanced, Step, p
 use Rattle.ac_balance.specs.TreeFields.{alone, root, Stands, place, links}
 use Rattle.ac_balance.specs.Climbing.{Has, above_in, Climbing, Closed, Closes}
 use Rattle.ac_pool.specs.NamedRows.{HasName}
+use Rattle.ac_balance.specs.Probes.{IsProbe, probed}
 use Rattle.ac_balance.specs.Seeking.{Seeking, Seeks}
 use Rattle.ac_balance.specs.Indexed.{Each, IsAscending, Indexed, indexed, entry, with_row}
 use Rattle.ac_balance.specs.Indexed as index
@@ -25,7 +26,6 @@ use Rattle.ac_pool.proofs.Cuts.{HasName-right, insert-cut, HasName-put}
 use Rattle.ac_balance.proofs.Opening.{added_opens}
 use Rattle.ac_balance.proofs.Climbs.{plugged-order}
 use Rattle.ac_balance.proofs.Sides.{led-sides, each-weaker}
-use Rattle.ac_balance.proofs.Searches.{probes}
 use Rattle.ac_balance.proofs.Indexes.{view_of, index_from, view-is, named_live, live_in}
 
 -- rows with one more in between
@@ -85,12 +85,14 @@ module _ {K V : Type 0} (less : K → K → Bool) (weak : IsWeakOrder less) wher
     abbrev pub high : Entry K V → Bool
     high e = less k e.key
 
+    probe : IsProbe by_key low high
+    probe = probed by_key less (λ (e : Entry K V). e.key) (λ x y. refl) weak k
+
     vacant_at : (s : Spot) (steps : List (Step (Entry K V))) (u : Tree (Entry K V)) → s.part ≡ None → Seeking l.nodes closed.tree low high s steps u → Vacant d l.root rows s a k v
     vacant_at s steps (node p x q) none seek = let bad = sym none ∙ seek.part in cc
     vacant_at s steps leaf none seek =
         let c = l.nodes in let x = row a (entry k v) in let t = closed.tree in
         let front = before steps in let back = after steps in
-        let probe = probes less weak (λ (e : Entry K V). e.key) k in
         let order_old : in_order t ≡ front ++ back = ap in_order (sym seek.whole) ∙ plugged-order steps leaf in
         let were : rows ≡ front ++ back = sym closed.ordered ∙ order_old in
         let asc_t : IsAscending by_key (in_order (plugged steps leaf)) = subst (IsAscending by_key) (sym closed.ordered ∙ ap in_order (sym seek.whole)) asc in
@@ -115,7 +117,7 @@ module _ {K V : Type 0} (less : K → K → Bool) (weak : IsWeakOrder less) wher
         }
       where
         each-not : (ys : List (Row Name (Entry K V))) → Each high ys → Each (λ e. not (low e)) ys
-        each-not ys h = each-weaker high (λ e. not (low e)) ys (λ e f. ap not ((probes less weak (λ (e : Entry K V). e.key) k).apart e f)) h
+        each-not ys h = each-weaker high (λ e. not (low e)) ys (λ e f. ap not (probe.apart e f)) h
 
     pub vacant : (s : Spot) → s.part ≡ None → Seeks l.nodes closed.tree low high s → Vacant d l.root rows s a k v
     vacant s none h = vacant_at s h.steps h.rest none h.seeking

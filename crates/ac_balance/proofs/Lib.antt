@@ -10,6 +10,7 @@ pub mod Keeping
 pub mod Lowering
 pub mod Names
 pub mod Opening
+pub mod Probing
 pub mod Reading
 pub mod Rising
 pub mod Searched

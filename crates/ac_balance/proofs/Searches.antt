@@ -5,18 +5,17 @@ use Rattle.std.proofs.lemmas.Bool.{cond-true, cond-false}
 use Rattle.std.proofs.lemmas.List.{reverse-append}
 use Rattle.ac_base.specs.declared.name.Name.{Name}
 use Rattle.ac_base.specs.Rows.{Row}
-use Rattle.ac_base.specs.Order.{IsWeakOrder}
-use Rattle.ac_base.specs.WeakOrders.{asymmetric, not_less_transitive}
 use Rattle.ac_pool.specs.Contents.{Contents}
 use Rattle.ac_balance.specs.declared.links.Node.{Node}
 use Rattle.ac_balance.specs.declared.search.Spot.{Spot}
 use Rattle.ac_balance.specs.Trees.{Tree, leaf, node, in_order, height, Balanced, Step, on_left, on_right, before, after}
+use Rattle.ac_balance.specs.Probes.{IsProbe}
 use Rattle.ac_balance.specs.Seeking.{Seeking, Seeks, IsMet, below_in, after_in}
 use Rattle.ac_balance.specs.Walking.{or_else}
 use Rattle.ac_balance.specs.Indexed.{Each, IsAscending, FewSteps}
 use Rattle.ac_balance.proofs.Heights.{height_squared}
 use Rattle.ac_balance.proofs.Climbs.{plugged-order}
-use Rattle.ac_balance.proofs.Sides.{IsProbe, each-append, each-right, each-weaker, led-sides, met-sides}
+use Rattle.ac_balance.proofs.Sides.{each-append, each-right, each-weaker, led-sides, met-sides}
 
 both_false : (a b : Bool) → b ≡ true → not (not a && not b) ≡ true
 both_false true b e = refl
@@ -146,17 +145,3 @@ module _ {X : Type 0} where
     few = omega (arith, few);
     counted = more;
   }
-
-  -- the tests of a key by a weak order, where rows are ordered by that of theirs
-  pub probes : {Y : Type 0} (order : Y → Y → Bool) → IsWeakOrder order → (key : X → Y) (k : Y) → IsProbe (λ x y. order (key x) (key y)) (λ x. order (key x) k) (λ x. order k (key x))
-  probes order weak key k = record {
-    down = λ x y e h. weak.transitive (key x) (key y) k e h;
-    up = λ x y e h. weak.transitive k (key x) (key y) h e;
-    below = λ x y e h. holds (order (key x) k) (λ no. let bad : true ≡ false = sym e ∙ not_less_transitive weak (key y) k (key x) h no in cc);
-    above = λ x y e h. holds (order k (key y)) (λ no. let bad : true ≡ false = sym e ∙ not_less_transitive weak (key y) k (key x) no h in cc);
-    apart = λ x h. asymmetric weak k (key x) h;
-  }
-    where
-      holds : (b : Bool) → (b ≡ false → ⊥) → b ≡ true
-      holds true n = refl
-      holds false n = absurd (n refl)

@@ -4,6 +4,7 @@ use Rattle.ac_base.specs.declared.name.Name.{Name}
 use Rattle.ac_base.specs.Rows.{Row}
 use Rattle.ac_balance.specs.Trees.{Tree, node, in_order, Step, on_left, on_right, joined, plugged, before, after}
 use Rattle.ac_balance.specs.Indexed.{Each, IsAscending}
+use Rattle.ac_balance.specs.Probes.{IsProbe}
 use Rattle.ac_balance.specs.Seeking.{IsLed}
 
 module _ {X : Type 0} where
@@ -43,14 +44,6 @@ module _ {X : Type 0} where
   pub part-ascending : (less : X → X → Bool) (steps : List (Step X)) (t : Tree X) → IsAscending less (in_order (plugged steps t)) → IsAscending less (in_order t)
   part-ascending less [] t h = h
   part-ascending less (s ∷ steps) t h = joined-ascending less s t (part-ascending less steps (joined s t) h)
-
-  -- the tests of a search: what is less than one that is low is low, what is above one that is high is high, and beside a row that is neither all are
-  pub record IsProbe (less : X → X → Bool) (low high : X → Bool) : Type 0 where
-    pub down : (x y : X) → less x y ≡ true → low y ≡ true → low x ≡ true
-    pub up : (x y : X) → less x y ≡ true → high x ≡ true → high y ≡ true
-    pub below : (x y : X) → less x y ≡ true → high y ≡ false → low x ≡ true
-    pub above : (x y : X) → less x y ≡ true → low x ≡ false → high y ≡ true
-    pub apart : (x : X) → high x ≡ true → low x ≡ false
 
   pub led-sides : (less : X → X → Bool) (low high : X → Bool) (probe : IsProbe less low high) (steps : List (Step X)) (t : Tree X)
       → IsAscending less (in_order (plugged steps t)) → IsLed low high steps → Each low (before steps) × Each high (after steps)

@@ -18,6 +18,7 @@ use Rattle.ac_balance.specs.declared.search.Spot.{Spot}
 use Rattle.ac_balance.specs.TreeFields.{alone, links}
 use Rattle.ac_pool.specs.NamedRows.{HasName, IsOnce}
 use Rattle.ac_balance.specs.Climbing.{Closed, Closes, Keeps}
+use Rattle.ac_balance.specs.Probes.{probed}
 use Rattle.ac_balance.specs.Seeking.{Seeks, Stood}
 use Rattle.ac_balance.specs.Detaching.{Detached}
 use Rattle.ac_balance.specs.Indexed.{Each, IsAscending, indexed, entry, value_at, without, with_row, taken, row_of, first_where, without_row, with_new_row}
@@ -147,7 +148,7 @@ module _ {K V : Type 0} (less : K → K → Bool) (l : Links (Entry K V)) (i : I
     pub renewed : Vacant less weak d m.root (without (rows_in l) a) s a k v
     renewed =
         let g = gone_rows h in let rows = without (rows_in l) a in let asc = g.ascending (λ x y. less x.key y.key) i.ascending in
-        let found = (sought_rows less m rows e.closed asc (λ x. x) less (λ x y. refl) weak k s seeks).found in
+        let found = (sought_rows less m rows e.closed asc _ _ (probed less less (λ x. x) (λ x y. refl) weak k) s seeks).found in
         let n = g.length in let most = i.closed.few in
         vacant less weak m rows e.closed asc a k v d (ap (λ c. value_of c a) is ∙ value_of-with_value_same m.nodes a (alone (entry k v)))
         (λ b ne. ap (λ c. value_of c b) is ∙ value_of-with_value_other m.nodes a b (alone (entry k v)) ne) (sound_still m.nodes d renewed_keeps e.closed.sound) g.absent (omega (arith, n, most)) s (found ∙ only) seeks

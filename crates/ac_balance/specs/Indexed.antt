@@ -1,13 +1,11 @@
 -- What a contract sees of an ordered index: its rows in the ascending order of their keys, the next serial, and how many slots are spare.
-use Rattle.std.specs.Prelude.{◌≡◌, ◌≢◌, ℕ, zero, suc, ◌+◌, ◌-◌, ◌*◌, ◌<◌, ◌≤◌, ◌^◌, Bool, true, List, [], ◌∷◌, length, reverse, find, Option, Some, None, is_some, nat_le, if◌then◌else◌, refl}
+use Rattle.std.specs.Prelude.{◌≡◌, ◌≢◌, ℕ, ◌+◌, ◌-◌, ◌*◌, ◌<◌, ◌≤◌, ◌^◌, Bool, true, List, [], ◌∷◌, length, reverse, find, Option, Some, None, is_some, nat_le, if◌then◌else◌, refl}
 use Rattle.std.specs.List.{slice_get, slice_set, insert, remove, prefix_len}
 use Rattle.std.specs.Option.{option_map}
 use Rattle.std.specs.Coded.{Coded, code_by, coded×, coded_ℕ, coded_list}
-use Rattle.std.specs.Ordering.{eq_by_cmp}
 use Rattle.ac_base.specs.declared.name.Name.{Name}
 use Rattle.ac_base.specs.Growth.{pow8}
 use Rattle.ac_base.specs.Rows.{Row, row, row_code}
-use Rattle.ac_pool.specs.Names.{name_cmp}
 use Rattle.ac_pool.specs.NamedRows.{index_of, name_at, name_before}
 use Rattle.ac_balance.specs.declared.entry.Entry.{Entry}
 

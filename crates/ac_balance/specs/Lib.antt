@@ -5,6 +5,7 @@ pub mod IndexFields
 pub mod IndexLends
 pub mod Indexed
 pub mod Present
+pub mod Probes
 pub mod Seeking
 pub mod TreeFields
 pub mod Trails

@@ -1,5 +1,5 @@
 //! The ordered index. A contract sees its rows, each a name with a key and a value, in the ascending order of their keys.
-ghost use Rattle.std.specs.Prelude.{◌≡◌, ◌↔◌, not, ◌+◌, ◌-◌, ◌^◌, ◌<◌, ◌≤◌, IsTrue, IsOk, IfOk, IfErr, OnOk, OnErr, Some, None, option_copied, length};
+ghost use Rattle.std.specs.Prelude.{◌≡◌, ◌↔◌, not, ◌&&◌, ◌+◌, ◌-◌, ◌^◌, ◌<◌, ◌≤◌, IsTrue, IsOk, IfOk, IfErr, OnOk, OnErr, Some, None, option_copied, length};
 ghost use Rattle.std.specs.Option.{option_copied_mut};
 ghost use Rattle.std.specs.Borrow.{sem};
 ghost use Rattle.ac_base.specs.Order.{are_level, IsTied};
@@ -13,9 +13,9 @@ use crate::change::Change;
 use crate::detaching::detach;
 use crate::entry::Entry;
 use crate::keyed::Keyed;
-use crate::keyed_search::seek_key;
 use crate::links::{Links, Node, alone, name_in, renew};
 use crate::places::{Place, mend};
+use crate::probe::{InnerKey, Probe, WholeKey};
 use crate::search::{place_for, seek};
 use crate::walk::{leftmost, predecessor, rightmost, successor};
 use ac_base::{Name, NoMemory, Rank, Steps};
@@ -237,8 +237,7 @@ impl<K: Rank, V> OrderIndex<K, V> {
         ensures name { result ≡ first_where (λ x. are_level K.is_less x k.now) self.now }
         ensures few { FewSteps (length self.now.rows) steps.old steps.new }
     {
-        let found = seek(&self.links.nodes, self.links.root, k, steps);
-        name_in(&self.links.nodes, found.part)
+        self.find_by(WholeKey { key: k }, steps)
     }
 
     /// The name of the last row whose key isn't greater.
@@ -246,8 +245,7 @@ impl<K: Rank, V> OrderIndex<K, V> {
         ensures name { result ≡ last_where (λ x. not (K.is_less k.now x)) self.now }
         ensures few { FewSteps (length self.now.rows) steps.old steps.new }
     {
-        let place = seek(&self.links.nodes, self.links.root, k, steps);
-        either(&self.links.nodes, place.part, place.below)
+        self.floor_by(WholeKey { key: k }, steps)
     }
 
     /// The name of the first row whose key isn't less.
@@ -255,7 +253,36 @@ impl<K: Rank, V> OrderIndex<K, V> {
         ensures name { result ≡ first_where (λ x. not (K.is_less x k.now)) self.now }
         ensures few { FewSteps (length self.now.rows) steps.old steps.new }
     {
-        let spot = seek(&self.links.nodes, self.links.root, k, steps);
+        self.ceiling_by(WholeKey { key: k }, steps)
+    }
+
+    /// The name of the row that is looked for.
+    #[inline(always)]
+    fn find_by<P: Probe<K>, L: Ledger>(&self, probe: P, steps: &mut Steps<L>) -> Option<Name>
+        ensures name { result ≡ first_where (λ x. not (P.is_before probe x) && not (P.is_behind probe x)) self.now }
+        ensures few { FewSteps (length self.now.rows) steps.old steps.new }
+    {
+        let found = seek(&self.links.nodes, self.links.root, probe, steps);
+        name_in(&self.links.nodes, found.part)
+    }
+
+    /// The name of the last row that isn't behind what is looked for.
+    #[inline(always)]
+    fn floor_by<P: Probe<K>, L: Ledger>(&self, probe: P, steps: &mut Steps<L>) -> Option<Name>
+        ensures name { result ≡ last_where (λ x. not (P.is_behind probe x)) self.now }
+        ensures few { FewSteps (length self.now.rows) steps.old steps.new }
+    {
+        let place = seek(&self.links.nodes, self.links.root, probe, steps);
+        either(&self.links.nodes, place.part, place.below)
+    }
+
+    /// The name of the first row that isn't before what is looked for.
+    #[inline(always)]
+    fn ceiling_by<P: Probe<K>, L: Ledger>(&self, probe: P, steps: &mut Steps<L>) -> Option<Name>
+        ensures name { result ≡ first_where (λ x. not (P.is_before probe x)) self.now }
+        ensures few { FewSteps (length self.now.rows) steps.old steps.new }
+    {
+        let spot = seek(&self.links.nodes, self.links.root, probe, steps);
         either(&self.links.nodes, spot.part, spot.above)
     }
 }
@@ -266,8 +293,7 @@ impl<K: Keyed, V> OrderIndex<K, V> {
         ensures name { result ≡ first_where (λ x. are_level K.Key.is_less (K.key_of x) k.now) self.now }
         ensures few { FewSteps (length self.now.rows) steps.old steps.new }
     {
-        let spot = seek_key(&self.links.nodes, self.links.root, k, steps);
-        name_in(&self.links.nodes, spot.part)
+        self.find_by(InnerKey { key: k }, steps)
     }
 
     /// The name of the last row whose key's key isn't greater.
@@ -275,8 +301,7 @@ impl<K: Keyed, V> OrderIndex<K, V> {
         ensures name { result ≡ last_where (λ x. not (K.Key.is_less k.now (K.key_of x))) self.now }
         ensures few { FewSteps (length self.now.rows) steps.old steps.new }
     {
-        let spot = seek_key(&self.links.nodes, self.links.root, k, steps);
-        either(&self.links.nodes, spot.part, spot.below)
+        self.floor_by(InnerKey { key: k }, steps)
     }
 
     /// The name of the first row whose key's key isn't less.
@@ -284,8 +309,7 @@ impl<K: Keyed, V> OrderIndex<K, V> {
         ensures name { result ≡ first_where (λ x. not (K.Key.is_less (K.key_of x) k.now)) self.now }
         ensures few { FewSteps (length self.now.rows) steps.old steps.new }
     {
-        let spot = seek_key(&self.links.nodes, self.links.root, k, steps);
-        either(&self.links.nodes, spot.part, spot.above)
+        self.ceiling_by(InnerKey { key: k }, steps)
     }
 }
 

@@ -7,8 +7,10 @@ ghost use Rattle.ac_balance.specs.Trails.{spot_at, trail_from, trail_lowered};
 
 use crate::entry::Entry;
 use crate::links::{Node, name_in, node_in};
+use crate::probe::{Probe, WholeKey};
 use ac_base::{Name, Rank, Steps};
 use ac_pool::{NO_SLOT, Pool, link_to};
+use std::cmp::Ordering;
 use std::marker::Brand;
 use std::sync::ledger::{Blank, Ledger};
 
@@ -81,26 +83,24 @@ pub(crate) fn lower<T>(node: &Node<T>, trail: Trail, is_left: bool) -> Trail
     }
 }
 
-/// The place of the key, with at most two steps for each level of the tree.
-pub(crate) fn seek<K: Rank, V, L: Ledger>(
+/// The place of what is looked for, with at most two steps for each level of the tree.
+pub(crate) fn seek<K: Rank, V, P: Probe<K>, L: Ledger>(
     nodes: &Pool<Node<Entry<K, V>>>,
     root: Option<Name>,
-    k: &K,
+    probe: P,
     steps: &mut Steps<L>,
 ) -> Trail
     requires { IsTree nodes.now root }
-    ensures found { Leads nodes.now root (λ e. K.is_less e.key k.now) (λ e. K.is_less k.now e.key) (spot_at nodes.now result) }
+    ensures found { Leads nodes.now root (λ e. P.is_before probe e.key) (λ e. P.is_behind probe e.key) (spot_at nodes.now result) }
     ensures few { (t : Tree (Entry K V)) → Stood nodes.now root t → steps.new ≤ steps.old + 2 * height t }
     ensures counted { steps.old ≤ steps.new }
 {
     let mut trail = start(root);
     while let Some(node) = node_in(nodes, trail.part) {
-        if k.less(&node.value.key, steps) {
-            trail = lower(node, trail, true);
-        } else if node.value.key.less(k, steps) {
-            trail = lower(node, trail, false);
-        } else {
-            return trail;
+        match probe.standing(&node.value.key, steps) {
+            Ordering::Greater => trail = lower(node, trail, true),
+            Ordering::Less => trail = lower(node, trail, false),
+            Ordering::Equal => return trail,
         }
     }
     trail
@@ -118,10 +118,15 @@ fn sought<K: Rank, V, L: Ledger>(
     requires tree { IsTree nodes.now root }
     ensures { Leads nodes.now root (λ e. K.is_less e.key k.now) (λ e. K.is_less k.now e.key) (spot_at nodes.now result) }
 {
-    seek(nodes, root, k, &mut Steps::<L>::new(blank))
+    seek(
+        nodes,
+        root,
+        WholeKey { key: k },
+        &mut Steps::<L>::new(blank),
+    )
 }
 
-/// `seek`, for a caller that counts nothing.
+/// `seek` of a key, for a caller that counts nothing.
 pub(crate) fn place_for<K: Rank, V>(
     nodes: &Pool<Node<Entry<K, V>>>,
     root: Option<Name>,

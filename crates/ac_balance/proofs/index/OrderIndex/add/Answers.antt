@@ -4,7 +4,7 @@ use Rattle.ac_pool.specs.Contents as pool
 use Rattle.ac_balance.specs.Indexed.{first_where, added, IsFresh, entry, IsSound}
 use Rattle.ac_balance.specs.TreeFields.{alone}
 use Rattle.ac_balance.proofs.Indexes.{view_of, stood_root, sound_of}
-use Rattle.ac_balance.proofs.Searched.{sought}
+use Rattle.ac_balance.proofs.Searched.{sought_key}
 use Rattle.ac_balance.proofs.Adding.{fresh_vacant, added_index, fresh_name}
 use Rattle.ac_balance.proofs.index.OrderIndex.add.Goals as goal
 
@@ -14,7 +14,7 @@ place_for-spot-requires g c = record { tree = c.self.invariant.closed.tree; stoo
 pub returns-in-Some-clause-present : goal.returns-in-Some-clause-present
 returns-in-Some-clause-present g c =
     let s = c.self.invariant in let l = c.self.inside.links in
-    let found = (sought g.K.Rank.is_less l s (λ y. y) g.K.Rank.is_less (λ x y. refl) g.met.K.Rank.ordered c.args.k c.place_for-spot.result (c.place_for-spot.ensures s.closed.tree (stood_root g.K.Rank.is_less l s))).found in
+    let found = (sought_key g.K.Rank.is_less l s g.met.K.Rank.ordered c.args.k c.place_for-spot.result (c.place_for-spot.ensures s.closed.tree (stood_root g.K.Rank.is_less l s))).found in
     record { there = subst (λ x. first_where (λ y. are_level g.K.Rank.is_less y c.args.k) x ≡ Some c.in-Some.at) c.self.view_is (sym found ∙ c.in-Some.is); key = refl; value = refl }
 
 pub returns-in-Some-clause-sound : goal.returns-in-Some-clause-sound
@@ -47,7 +47,7 @@ returns-clause-fresh g c =
 pub returns-clause-absent : goal.returns-clause-absent
 returns-clause-absent g c =
     let s = c.self.invariant in let l = c.self.inside.links in
-    let found = (sought g.K.Rank.is_less l s (λ y. y) g.K.Rank.is_less (λ x y. refl) g.met.K.Rank.ordered c.args.k c.place_for-spot.result (c.place_for-spot.ensures s.closed.tree (stood_root g.K.Rank.is_less l s))).found in
+    let found = (sought_key g.K.Rank.is_less l s g.met.K.Rank.ordered c.args.k c.place_for-spot.result (c.place_for-spot.ensures s.closed.tree (stood_root g.K.Rank.is_less l s))).found in
     subst (λ x. first_where (λ y. are_level g.K.Rank.is_less y c.args.k) x ≡ None) c.self.view_is (sym found ∙ c.in_default.is)
 
 pub returns-clause-added : goal.returns-clause-added

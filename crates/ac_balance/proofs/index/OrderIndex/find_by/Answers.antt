@@ -1,10 +1,9 @@
-use Rattle.std.proofs.Common.{◌≡◌, length, refl, ◌∙◌, subst}
-use Rattle.ac_base.specs.Order.{are_level}
+use Rattle.std.proofs.Common.{◌≡◌, not, ◌&&◌, length, ◌∙◌, subst}
 use Rattle.ac_balance.specs.Indexed.{first_where, FewSteps}
 use Rattle.ac_balance.specs.Trails.{spot_at}
 use Rattle.ac_balance.proofs.Indexes.{stood_root}
 use Rattle.ac_balance.proofs.Searched.{sought, few_sought}
-use Rattle.ac_balance.proofs.index.OrderIndex.find.Goals as goal
+use Rattle.ac_balance.proofs.index.OrderIndex.find_by.Goals as goal
 
 pub seek-found-requires : goal.seek-found-requires
 seek-found-requires g c = record { tree = c.self.invariant.closed.tree; stood = stood_root g.K.Rank.is_less c.self.inside.links c.self.invariant }
@@ -12,8 +11,8 @@ seek-found-requires g c = record { tree = c.self.invariant.closed.tree; stood = 
 pub returns-clause-name : goal.returns-clause-name
 returns-clause-name g c =
     let s = c.self.invariant in let l = c.self.inside.links in
-    subst (λ x. c.name_in.result ≡ first_where (λ y. are_level g.K.Rank.is_less y c.args.k.now) x) c.self.view_is
-    (c.name_in.ensures ∙ (sought g.K.Rank.is_less l s (λ y. y) g.K.Rank.is_less (λ x y. refl) g.met.K.Rank.ordered c.args.k.now (spot_at l.nodes c.seek-found.result) (c.seek-found.ensures.found s.closed.tree (stood_root g.K.Rank.is_less l s))).found)
+    subst (λ x. c.name_in.result ≡ first_where (λ y. not (g.P.Probe.is_before c.args.probe y) && not (g.P.Probe.is_behind c.args.probe y)) x) c.self.view_is
+    (c.name_in.ensures ∙ (sought g.K.Rank.is_less l s _ _ (g.met.P.Probe.sided c.args.probe) (spot_at l.nodes c.seek-found.result) (c.seek-found.ensures.found s.closed.tree (stood_root g.K.Rank.is_less l s))).found)
 
 pub returns-clause-few : goal.returns-clause-few
 returns-clause-few g c =

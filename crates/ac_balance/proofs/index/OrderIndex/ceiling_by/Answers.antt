@@ -1,9 +1,9 @@
-use Rattle.std.proofs.Common.{◌≡◌, not, length, refl, ◌∙◌, subst}
+use Rattle.std.proofs.Common.{◌≡◌, not, length, ◌∙◌, subst}
 use Rattle.ac_balance.specs.Indexed.{first_where, FewSteps}
 use Rattle.ac_balance.specs.Trails.{spot_at}
 use Rattle.ac_balance.proofs.Indexes.{stood_root}
 use Rattle.ac_balance.proofs.Searched.{sought, few_sought}
-use Rattle.ac_balance.proofs.index.OrderIndex.ceiling.Goals as goal
+use Rattle.ac_balance.proofs.index.OrderIndex.ceiling_by.Goals as goal
 
 pub seek-spot-requires : goal.seek-spot-requires
 seek-spot-requires g c = record { tree = c.self.invariant.closed.tree; stood = stood_root g.K.Rank.is_less c.self.inside.links c.self.invariant }
@@ -11,8 +11,8 @@ seek-spot-requires g c = record { tree = c.self.invariant.closed.tree; stood = s
 pub returns-clause-name : goal.returns-clause-name
 returns-clause-name g c =
     let s = c.self.invariant in let l = c.self.inside.links in
-    subst (λ x. c.either.result ≡ first_where (λ y. not (g.K.Rank.is_less y c.args.k.now)) x) c.self.view_is
-    (c.either.ensures ∙ (sought g.K.Rank.is_less l s (λ y. y) g.K.Rank.is_less (λ x y. refl) g.met.K.Rank.ordered c.args.k.now (spot_at l.nodes c.seek-spot.result) (c.seek-spot.ensures.found s.closed.tree (stood_root g.K.Rank.is_less l s))).ceiling)
+    subst (λ x. c.either.result ≡ first_where (λ y. not (g.P.Probe.is_before c.args.probe y)) x) c.self.view_is
+    (c.either.ensures ∙ (sought g.K.Rank.is_less l s _ _ (g.met.P.Probe.sided c.args.probe) (spot_at l.nodes c.seek-spot.result) (c.seek-spot.ensures.found s.closed.tree (stood_root g.K.Rank.is_less l s))).ceiling)
 
 pub returns-clause-few : goal.returns-clause-few
 returns-clause-few g c =
