@@ -1,5 +1,5 @@
 -- An array whose rows were merged: the same names, with new places, and its values after values were put behind its rows.
-use Rattle.std.proofs.Common.{◌≡◌, ℕ, ◌+◌, ◌-◌, ◌≤◌, ◌<◌, Bool, List, ◌++◌, [], length, take, drop, None, sym, ap, ◌∙◌, subst, inl, inr, arith, append-nil, length-append, take-append-drop}
+use Rattle.std.proofs.Common.{◌≡◌, ℕ, ◌+◌, ◌-◌, ◌≤◌, ◌<◌, Bool, List, ◌++◌, [], length, take, drop, None, is_some, sym, ap, ◌∙◌, subst, inl, inr, arith, append-nil, length-append, take-append-drop}
 use Rattle.std.proofs.lemmas.List.{length-map}
 use Rattle.std.proofs.Math.Seq.{take-append_seam, drop-append_seam}
 use Rattle.ac_base.specs.declared.name.Name.{Name}
@@ -15,53 +15,60 @@ use Rattle.ac_chain.proofs.Merges.{reserved_merged}
 use Rattle.ac_chain.proofs.Puts.{put_length, reserved_enough}
 use Rattle.ac_model.specs.Objects.{plains}
 use Rattle.ac_model.specs.Rows.{merged}
-use Rattle.ac_vector.specs.ArrayFields.{IsArray, StandsFor, renumbered, rows_in}
+use Rattle.ac_vector.specs.ArrayFields.{IsArray, IsSlotted, StandsFor, names_in, renumbered, renumbered_in, rows_in}
 use Rattle.ac_vector.specs.declared.weaving.Line.{Line}
 use Rattle.ac_vector.specs.Stacks.{IsWoven, Weaves, stacked}
 use Rattle.ac_vector.proofs.Appends.{no_more, put_slots}
-use Rattle.ac_vector.proofs.Arrays.{view_of, Leaves, leaves, old_stands, once}
+use Rattle.ac_vector.proofs.Arrays.{view_of, Leaves, leaves, old_stands, once, place_at}
 use Rattle.ac_vector.proofs.Renumbers.{KeepsNames, renumbered-keeps}
+use Rattle.ac_vector.proofs.Slots.{AllLive, Keeps, rows_live, slotted, slot_view, written_names}
 use Rattle.ac_vector.proofs.Turns.{renumbered_stands}
 use Rattle.ac_vector.proofs.Weaves.{unstacked}
 
 module _ {X : Type 0} where
   module _ {ns : List Name} {vs : List X} {p : Contents ℕ} {m n : ℕ} {old : Chained X} (h : IsArray ns vs p m n) (is : view_of ns vs p ≡ old) where
-    woven_array : (less : X → X → Bool) (seam : ℕ) (ks : List Name) (ws : List X) (q : Contents ℕ) (k l : ℕ) (w : Weaves less (take seam old.rows) (drop seam old.rows) ks ws) → q ≡ renumbered ks 0 p → k ≡ m → l ≡ n
-        → Leaves ks ws q k l (with_rows old w.now)
-    woven_array less seam ks ws q k l w places name_room value_room =
+    woven_array : (less : X → X → Bool) (seam : ℕ) (ks : List ℕ) (ws : List X) (q : Contents ℕ) (k l : ℕ) (w : Weaves less (take seam old.rows) (drop seam old.rows) ks ws) → q ≡ renumbered_in ks 0 p → k ≡ m → l ≡ n
+        → Leaves (names w.now) ws q k l (with_rows old w.now)
+    woven_array less seam ks ws q k l w places slot_room value_room =
         let back = take seam old.rows ++ drop seam old.rows in
         let s : StandsFor ns vs p back = subst (λ zs. StandsFor ns vs p zs) (sym (take-append-drop seam old.rows)) (old_stands h is) in
         let long : length w.now ≡ length back = w.woven.long ∙ sym (length-append (take seam old.rows) (drop seam old.rows)) in
         let t = renumbered_stands [] back w.now s long w.woven.there w.woven.from (w.woven.alone (once s)) in
-        let all : q ≡ renumbered (names w.now) 0 p = places ∙ ap (λ us. renumbered us 0 p) w.named in
-        let u : StandsFor ks ws q w.now = subst (λ c. StandsFor ks ws c w.now) (sym all) (subst (λ us. StandsFor ks us (renumbered (names w.now) 0 p) w.now) (sym w.valued) (subst (λ us. StandsFor us (values w.now) (renumbered (names w.now) 0 p) w.now) (sym w.named) t)) in
+        let live : AllLive p (names w.now) = rows_live w.now p (λ a z. ap is_some (place_at s a (w.woven.from a z))) in
+        let all : q ≡ renumbered (names w.now) 0 p = places ∙ ap (λ us. renumbered_in us 0 p) w.named ∙ written_names (names w.now) 0 p s.sound live in
+        let u : StandsFor (names w.now) ws q w.now = subst (λ c. StandsFor (names w.now) ws c w.now) (sym all) (subst (λ us. StandsFor (names w.now) us (renumbered (names w.now) 0 p) w.now) (sym w.valued) t) in
         let kept : KeepsNames p q = subst (λ c. KeepsNames p c) (sym all) (renumbered-keeps w.now 0 p) in
         let next : q.next_serial ≡ old.next_serial = kept.next ∙ ap (λ (c : Chained X). c.next_serial) is in
         let spare : q.spare ≡ old.spare = kept.spare ∙ ap (λ (c : Chained X). c.spare) is in
         let slots : slot_count q ≡ slot_count p = (λ i. kept.count i + kept.spare i) in
         leaves u k l (omega (arith, h.names)) (omega (arith, h.values)) (with_rows old w.now) (λ i. chained w.now (next i) (spare i))
 
-    -- what is left after the rows went to two stacks and came back in the order of both
-    pub record Interleaved (less : X → X → Bool) (seam : ℕ) (ks : List Name) (ws : List X) (q : Contents ℕ) (k l : ℕ) : Type 0 where
-      pub invariant : IsArray ks ws q k l
-      pub woven : IsWoven less (take seam old.rows) (drop seam old.rows) (rows_in ks ws)
-      pub rest : view_of ks ws q ≡ with_rows old (rows_in ks ws)
-      pub sound : IsSound (view_of ks ws q)
+  module _ {hs : List ℕ} {vs : List X} {p : Contents ℕ} {m n : ℕ} {old : Chained X} (h : IsSlotted hs vs p m n) (is : slot_view hs vs p ≡ old) where
+    woven_slots : (less : X → X → Bool) (seam : ℕ) (ks : List ℕ) (ws : List X) (q : Contents ℕ) (k l : ℕ) (w : Weaves less (take seam old.rows) (drop seam old.rows) ks ws) → q ≡ renumbered_in ks 0 p → k ≡ m → l ≡ n
+        → Keeps ks ws q k l (with_rows old w.now)
+    woven_slots less seam ks ws q k l w places slot_room value_room = slotted (woven_array h.array is less seam ks ws q k l w places slot_room value_room) ks w.named
 
-    pub interleaved : (less : X → X → Bool) (seam behind : ℕ) → seam ≤ length old.rows → behind ≡ length old.rows - seam → (js ks0 ks : List Name) (us ws0 ws : List X) (mine mine1 theirs theirs1 : List (Line X)) → mine ≡ [] → theirs ≡ []
-        → js ++ names (stacked theirs1) ≡ ns ++ names (stacked theirs) → us ++ values (stacked theirs1) ≡ vs ++ values (stacked theirs) → length theirs1 ≡ length theirs + behind
-        → ks0 ++ names (stacked mine1) ≡ js ++ names (stacked mine) → ws0 ++ values (stacked mine1) ≡ us ++ values (stacked mine) → length mine1 ≡ length mine + seam
-        → (q : Contents ℕ) (k l : ℕ) → Weaves less (stacked mine1) (stacked theirs1) ks ws → q ≡ renumbered ks 0 p → k ≡ m → l ≡ n → Interleaved less seam ks ws q k l
-    interleaved less seam behind fits rest js ks0 ks us ws0 ws mine mine1 theirs theirs1 no_mine no_theirs names_first values_first counts names_then values_then count q k l w places name_room value_room =
-        let s = old_stands h is in
+    -- what is left after the rows went to two stacks and came back in the order of both
+    pub record Interleaved (less : X → X → Bool) (seam : ℕ) (ks : List ℕ) (ws : List X) (q : Contents ℕ) (k l : ℕ) : Type 0 where
+      pub invariant : IsSlotted ks ws q k l
+      pub woven : IsWoven less (take seam old.rows) (drop seam old.rows) (rows_in (names_in q ks) ws)
+      pub rest : slot_view ks ws q ≡ with_rows old (rows_in (names_in q ks) ws)
+      pub sound : IsSound (slot_view ks ws q)
+
+    pub interleaved : (less : X → X → Bool) (seam behind : ℕ) → seam ≤ length old.rows → behind ≡ length old.rows - seam → (js ks0 ks : List ℕ) (us ws0 ws : List X) (mine mine1 theirs theirs1 : List (Line X)) → mine ≡ [] → theirs ≡ []
+        → names_in p js ++ names (stacked theirs1) ≡ names_in p hs ++ names (stacked theirs) → us ++ values (stacked theirs1) ≡ vs ++ values (stacked theirs) → length theirs1 ≡ length theirs + behind
+        → names_in p ks0 ++ names (stacked mine1) ≡ names_in p js ++ names (stacked mine) → ws0 ++ values (stacked mine1) ≡ us ++ values (stacked mine) → length mine1 ≡ length mine + seam
+        → (q : Contents ℕ) (k l : ℕ) → Weaves less (stacked mine1) (stacked theirs1) ks ws → q ≡ renumbered_in ks 0 p → k ≡ m → l ≡ n → Interleaved less seam ks ws q k l
+    interleaved less seam behind fits rest js ks0 ks us ws0 ws mine mine1 theirs theirs1 no_mine no_theirs names_first values_first counts names_then values_then count q k l w places slot_room value_room =
+        let s = old_stands h.array is in
         let none_there : length theirs ≡ 0 = ap length no_theirs in
         let none_here : length mine ≡ 0 = ap length no_mine in
-        let u = unstacked old.rows seam behind fits rest js ks0 us ws0 mine1 theirs1 (omega arith) (omega arith)
-        (names_first ∙ ap (λ st. ns ++ names (stacked st)) no_theirs ∙ append-nil ns ∙ s.named) (values_first ∙ ap (λ st. vs ++ values (stacked st)) no_theirs ∙ append-nil vs ∙ s.valued)
-        (names_then ∙ ap (λ st. js ++ names (stacked st)) no_mine ∙ append-nil js) (values_then ∙ ap (λ st. us ++ values (stacked st)) no_mine ∙ append-nil us) in
+        let u = unstacked old.rows seam behind fits rest (names_in p js) (names_in p ks0) us ws0 mine1 theirs1 (omega arith) (omega arith)
+        (names_first ∙ ap (λ st. names_in p hs ++ names (stacked st)) no_theirs ∙ append-nil (names_in p hs) ∙ s.named) (values_first ∙ ap (λ st. vs ++ values (stacked st)) no_theirs ∙ append-nil vs ∙ s.valued)
+        (names_then ∙ ap (λ st. names_in p js ++ names (stacked st)) no_mine ∙ append-nil (names_in p js)) (values_then ∙ ap (λ st. us ++ values (stacked st)) no_mine ∙ append-nil us) in
         let weaves : Weaves less (take seam old.rows) (drop seam old.rows) ks ws = subst (λ zs. Weaves less (take seam old.rows) zs ks ws) u.behind (subst (λ zs. Weaves less zs (stacked theirs1) ks ws) u.before w) in
-        let all = woven_array less seam ks ws q k l weaves places name_room value_room in
-        let rows : rows_in ks ws ≡ weaves.now = ap (λ (c : Chained X). c.rows) all.view in
+        let all = woven_slots less seam ks ws q k l weaves places slot_room value_room in
+        let rows : rows_in (names_in q ks) ws ≡ weaves.now = ap (λ (c : Chained X). c.rows) all.view in
         record {
           invariant = all.invariant;
           woven = subst (λ zs. IsWoven less (take seam old.rows) (drop seam old.rows) zs) (sym rows) weaves.woven;

@@ -3,6 +3,7 @@ pub mod CutRows
 pub mod NamesAt
 pub mod Renumbers
 pub mod Turns
+pub mod Slots
 pub mod Rewrites
 pub mod Orderings
 pub mod Capacities

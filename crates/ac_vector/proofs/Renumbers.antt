@@ -43,7 +43,7 @@ keeps-written c a i (Some old) e =
       sound = IsSound-with_value c a i live;
     }
 
-with_place-keeps : (c : Contents ℕ) (a : Name) (i : ℕ) → KeepsNames c (with_place c a i)
+pub with_place-keeps : (c : Contents ℕ) (a : Name) (i : ℕ) → KeepsNames c (with_place c a i)
 with_place-keeps c a i = keeps-written c a i (value_of c a) refl
 
 with_place-other : (c : Contents ℕ) (a b : Name) (i : ℕ) → b ≢ a → value_of (with_place c a i) b ≡ value_of c b
@@ -56,10 +56,13 @@ with_place-other c a b i ne = step (value_of c a)
 with_place-same : (c : Contents ℕ) (a : Name) (i : ℕ) → IsLive c a → value_of (with_place c a i) a ≡ Some i
 with_place-same c a i live = let x = live_value (value_of c a) live in ap (λ o. value_of (place_written c a i o) a) x.1 ∙ value_of-with_value_same c a i
 
+pub renumbered-keeps_names : (ns : List Name) (i : ℕ) (c : Contents ℕ) → KeepsNames c (renumbered ns i c)
+renumbered-keeps_names [] i c = keeps_all c
+renumbered-keeps_names (a ∷ ns) i c = let d = with_place c a i in keeps_both c d (renumbered ns (i + 1) d) (with_place-keeps c a i) (renumbered-keeps_names ns (i + 1) d)
+
 module _ {X : Type 0} where
   pub renumbered-keeps : (rs : List (Row Name X)) (i : ℕ) (c : Contents ℕ) → KeepsNames c (renumbered (names rs) i c)
-  renumbered-keeps [] i c = keeps_all c
-  renumbered-keeps (r ∷ rs) i c = let d = with_place c r.name i in keeps_both c d (renumbered (names rs) (i + 1) d) (with_place-keeps c r.name i) (renumbered-keeps rs (i + 1) d)
+  renumbered-keeps rs i c = renumbered-keeps_names (names rs) i c
 
   pub renumbered-other : (rs : List (Row Name X)) (i : ℕ) (c : Contents ℕ) (a : Name) → (HasName a rs → ⊥) → value_of (renumbered (names rs) i c) a ≡ value_of c a
   renumbered-other [] i c a gone = refl

@@ -14,7 +14,7 @@ use Rattle.ac_vector.proofs.NamesAt.{same_number, at_left, at_either, at_index}
 use Rattle.ac_vector.proofs.Renumbers.{KeepsNames, renumbered-keeps, renumbered-other, renumbered-at}
 use Rattle.ac_vector.proofs.Arrays.{view_of, Leaves, leaves, old_stands, once, has_of, place_at}
 
-map-turned : {A B : Type 0} (f : A → B) (xs : List A) (place count : ℕ) → map f (turned xs place count) ≡ turned (map f xs) place count
+pub map-turned : {A B : Type 0} (f : A → B) (xs : List A) (place count : ℕ) → map f (turned xs place count) ≡ turned (map f xs) place count
 map-turned f xs place count =
     let long = length-map xs f in
     let front = take place xs in let last = drop (length xs - count) xs in let mid = take (length xs - count - place) (drop place xs) in

@@ -5,6 +5,8 @@ use Rattle.std.proofs.lemmas.List.{map-append, length-map, length-reverse, nil_f
 use Rattle.std.proofs.Math.Seq.{take-append_seam, drop-append_seam}
 use Rattle.ac_base.specs.declared.name.Name.{Name}
 use Rattle.ac_base.specs.Rows.{Row, names, values}
+use Rattle.ac_pool.specs.Contents.{Contents}
+use Rattle.ac_pool.specs.Link.{name_in}
 use Rattle.ac_pool.specs.NamedRows.{HasName, IsOnce}
 use Rattle.ac_pool.proofs.Cuts.{HasName-cut, HasName-put, HasName-right, once_cut, once_gone, once_put}
 use Rattle.ac_model.specs.Objects.{plain_row, plains}
@@ -14,7 +16,8 @@ use Rattle.ac_model.proofs.RowLaws.{merged_heads}
 use Rattle.ac_vector.specs.declared.weaving.Line.{Line}
 use Rattle.ac_vector.specs.Stacks.{IsNext, Weaves, is_second, line_row, stacked}
 use Rattle.ac_vector.proofs.Arrays.{rows_in-parts}
-use Rattle.ac_vector.specs.ArrayFields.{rows_in}
+use Rattle.ac_vector.proofs.Slots.{Last, last_of}
+use Rattle.ac_vector.specs.ArrayFields.{names_in, rows_in, slots_of}
 
 module _ {X : Type 0} where
   stacked-push : (lines : List (Line X)) (l : Line X) → stacked (lines ++ l ∷ []) ≡ line_row l ∷ stacked lines
@@ -24,29 +27,38 @@ module _ {X : Type 0} where
   length-stacked lines = length-map (reverse lines) line_row ∙ length-reverse lines
 
   -- so far: so many rows went from two lists to a stack
-  pub record Stacking (ns : List Name) (vs : List X) (start : List (Line X)) (i : ℕ) (ks : List Name) (ws : List X) (now : List (Line X)) : Type 0 where
-    pub named : ks ++ names (stacked now) ≡ ns ++ names (stacked start)
+  pub record Stacking (p : Contents ℕ) (js : List ℕ) (vs : List X) (start : List (Line X)) (i : ℕ) (ks : List ℕ) (ws : List X) (now : List (Line X)) : Type 0 where
+    pub live : ks ≡ slots_of (names_in p ks)
+    pub named : names_in p ks ++ names (stacked now) ≡ names_in p js ++ names (stacked start)
     pub valued : ws ++ values (stacked now) ≡ vs ++ values (stacked start)
     pub more : length now ≡ length start + i
-    pub names_left : length ks + i ≡ length ns
+    pub slots_left : length ks + i ≡ length js
     pub values_left : length ws + i ≡ length vs
 
-  pub stacking_start : (ns : List Name) (vs : List X) (start : List (Line X)) → Stacking ns vs start 0 ns vs start
-  stacking_start ns vs start = record { named = refl; valued = refl; more = omega arith; names_left = omega arith; values_left = omega arith }
+  pub stacking_start : (p : Contents ℕ) (js : List ℕ) (vs : List X) (start : List (Line X)) → js ≡ slots_of (names_in p js) → Stacking p js vs start 0 js vs start
+  stacking_start p js vs start live = record { live = live; named = refl; valued = refl; more = omega arith; slots_left = omega arith; values_left = omega arith }
 
-  pub stacking_more : (ns : List Name) (vs : List X) (start : List (Line X)) (i : ℕ) (ks ls : List Name) (ws us : List X) (now then : List (Line X)) (l : Line X) → Stacking ns vs start i ks ws now
-      → ks ≡ ls ++ l.name ∷ [] → ws ≡ us ++ l.value ∷ [] → then ≡ now ++ l ∷ [] → Stacking ns vs start (i + 1) ls us then
-  stacking_more ns vs start i ks ls ws us now then l s named valued pushed =
+  -- the last slot leads to a name
+  pub stacking_name : (p : Contents ℕ) (js : List ℕ) (vs : List X) (start : List (Line X)) (i : ℕ) (ks ls : List ℕ) (k : ℕ) (ws : List X) (now : List (Line X)) → Stacking p js vs start i ks ws now → ks ≡ ls ++ k ∷ [] → Last p ls k
+  stacking_name p js vs start i ks ls k ws now s are = last_of p ls k (subst (λ zs. zs ≡ slots_of (names_in p zs)) are s.live)
+
+  pub stacking_more : (p : Contents ℕ) (js : List ℕ) (vs : List X) (start : List (Line X)) (i : ℕ) (ks ls : List ℕ) (k : ℕ) (ws us : List X) (now then : List (Line X)) (l : Line X) → Stacking p js vs start i ks ws now
+      → ks ≡ ls ++ k ∷ [] → Some l.name ≡ name_in p k → ws ≡ us ++ l.value ∷ [] → then ≡ now ++ l ∷ [] → Stacking p js vs start (i + 1) ls us then
+  stacking_more p js vs start i ks ls k ws us now then l s slots_are name_is valued pushed =
       let top : stacked then ≡ line_row l ∷ stacked now = ap stacked pushed ∙ stacked-push now l in
-      let more = s.more in let names_left = s.names_left in let values_left = s.values_left in
+      let d = stacking_name p js vs start i ks ls k ws now s slots_are in
+      let same : d.name ≡ l.name = (let e : Some l.name ≡ Some d.name = name_is ∙ d.is in cc) in
+      let named : names_in p ks ≡ names_in p ls ++ l.name ∷ [] = ap (names_in p) slots_are ∙ d.all ∙ ap (λ a. names_in p ls ++ a ∷ []) same in
+      let more = s.more in let slots_left = s.slots_left in let values_left = s.values_left in
       let count = ap length pushed ∙ length-append now (l ∷ []) in
-      let fewer_names = ap length named ∙ length-append ls (l.name ∷ []) in
+      let fewer_slots = ap length slots_are ∙ length-append ls (k ∷ []) in
       let fewer_values = ap length valued ∙ length-append us (l.value ∷ []) in
       record {
-        named = ap (λ zs. ls ++ names zs) top ∙ sym (append_assoc ls (l.name ∷ []) (names (stacked now))) ∙ ap (λ zs. zs ++ names (stacked now)) (sym named) ∙ s.named;
+        live = d.live;
+        named = ap (λ zs. names_in p ls ++ names zs) top ∙ sym (append_assoc (names_in p ls) (l.name ∷ []) (names (stacked now))) ∙ ap (λ zs. zs ++ names (stacked now)) (sym named) ∙ s.named;
         valued = ap (λ zs. us ++ values zs) top ∙ sym (append_assoc us (l.value ∷ []) (values (stacked now))) ∙ ap (λ zs. zs ++ values (stacked now)) (sym valued) ∙ s.valued;
         more = omega arith;
-        names_left = omega arith;
+        slots_left = omega arith;
         values_left = omega arith;
       }
 
@@ -138,9 +150,9 @@ module _ {X : Type 0} where
     first_first r rows (s ∷ others) f = merged_heads less (plain_row r) (plain_row s) (plains rows) (plains others) ∙ cond-false _ _ _ f
 
     -- so far: some rows were put, and what was put and then the merge of what is left is the merge of all
-    pub record Weaving (rows others : List (Row Name X)) (ns : List Name) (vs : List X) (rows_left others_left : List (Row Name X)) : Type 0 where
+    pub record Weaving (rows others : List (Row Name X)) (ks : List ℕ) (vs : List X) (rows_left others_left : List (Row Name X)) : Type 0 where
       pub done : List (Row Name X)
-      pub named : ns ≡ names done
+      pub named : ks ≡ slots_of (names done)
       pub valued : vs ≡ values done
       pub merges : merged less (plains rows) (plains others) ≡ plains done ++ merged less (plains rows_left) (plains others_left)
       pub there : (a : Name) → HasName a (rows ++ others) → HasName a (done ++ (rows_left ++ others_left))
@@ -148,8 +160,8 @@ module _ {X : Type 0} where
       pub alone : IsOnce (rows ++ others) → IsOnce (done ++ (rows_left ++ others_left))
       pub long : length done + (length rows_left + length others_left) ≡ length rows + length others
 
-    pub weaving_start : (rows others : List (Row Name X)) (ns : List Name) (vs : List X) → ns ≡ [] → vs ≡ [] → Weaving rows others ns vs rows others
-    weaving_start rows others ns vs e f = record {
+    pub weaving_start : (rows others : List (Row Name X)) (ks : List ℕ) (vs : List X) → ks ≡ [] → vs ≡ [] → Weaving rows others ks vs rows others
+    weaving_start rows others ks vs e f = record {
       done = [];
       named = e;
       valued = f;
@@ -160,9 +172,10 @@ module _ {X : Type 0} where
       long = omega arith;
     }
 
-    module _ (rows others : List (Row Name X)) (ns ks : List Name) (vs ws : List X) (l : Line X) (more_names : ks ≡ ns ++ l.name ∷ []) (more_values : ws ≡ vs ++ l.value ∷ []) where
-      put_names : (done : List (Row Name X)) → ns ≡ names done → ks ≡ names (done ++ line_row l ∷ [])
-      put_names done e = more_names ∙ ap (λ zs. zs ++ l.name ∷ []) e ∙ sym (map-append (λ (s : Row Name X). s.name) done (line_row l ∷ []))
+    module _ (rows others : List (Row Name X)) (js ks : List ℕ) (vs ws : List X) (l : Line X) (more_slots : ks ≡ js ++ l.name.slot ∷ []) (more_values : ws ≡ vs ++ l.value ∷ []) where
+      put_names : (done : List (Row Name X)) → js ≡ slots_of (names done) → ks ≡ slots_of (names (done ++ line_row l ∷ []))
+      put_names done e =
+          more_slots ∙ ap (λ zs. zs ++ l.name.slot ∷ []) e ∙ sym (map-append (λ (a : Name). a.slot) (names done) (l.name ∷ [])) ∙ ap slots_of (sym (map-append (λ (s : Row Name X). s.name) done (line_row l ∷ [])))
 
       put_values : (done : List (Row Name X)) → vs ≡ values done → ws ≡ values (done ++ line_row l ∷ [])
       put_values done e = more_values ∙ ap (λ zs. zs ++ l.value ∷ []) e ∙ sym (map-append (λ (s : Row Name X). s.value) done (line_row l ∷ []))
@@ -171,7 +184,7 @@ module _ {X : Type 0} where
       put_merges done all rest e =
           ap (λ zs. plains done ++ zs) e ∙ sym (append_assoc (plains done) (plain_row (line_row l) ∷ []) rest) ∙ ap (λ zs. zs ++ rest) (sym (plains-append done (line_row l ∷ [])))
 
-      second : (p q : List (Row Name X)) → Weaving rows others ns vs p (line_row l ∷ q) → is_second less p (line_row l ∷ q) ≡ true → Weaving rows others ks ws p q
+      second : (p q : List (Row Name X)) → Weaving rows others js vs p (line_row l ∷ q) → is_second less p (line_row l ∷ q) ≡ true → Weaving rows others ks ws p q
       second p q w t = let r = line_row l in let shift = shift_long w.done p r q in record {
         done = w.done ++ r ∷ [];
         named = put_names w.done w.named;
@@ -183,7 +196,7 @@ module _ {X : Type 0} where
         long = shift ∙ w.long;
       }
 
-      first : (p q : List (Row Name X)) → Weaving rows others ns vs (line_row l ∷ p) q → is_second less (line_row l ∷ p) q ≡ false → Weaving rows others ks ws p q
+      first : (p q : List (Row Name X)) → Weaving rows others js vs (line_row l ∷ p) q → is_second less (line_row l ∷ p) q ≡ false → Weaving rows others ks ws p q
       first p q w f = let r = line_row l in let long = w.long in let more = length-append w.done (r ∷ []) in record {
         done = w.done ++ r ∷ [];
         named = put_names w.done w.named;
@@ -195,14 +208,14 @@ module _ {X : Type 0} where
         long = omega arith;
       }
 
-      pub weaving_more : (p q p1 q1 : List (Row Name X)) → Weaving rows others ns vs p q → IsNext less p q (Some l) p1 q1 → Weaving rows others ks ws p1 q1
+      pub weaving_more : (p q p1 q1 : List (Row Name X)) → Weaving rows others js vs p q → IsNext less p q (Some l) p1 q1 → Weaving rows others ks ws p1 q1
       weaving_more p q p1 q1 w next = elim next [
-        | inl h ↦ subst (λ zs. Weaving rows others ks ws zs q1) (sym h.2) (second p q1 (subst (λ zs. Weaving rows others ns vs p zs) h.1 w) (subst (λ zs. is_second less p zs ≡ true) h.1 h.0))
-        | inr h ↦ subst (λ zs. Weaving rows others ks ws p1 zs) (sym h.2) (first p1 q (subst (λ zs. Weaving rows others ns vs zs q) h.1 w) (subst (λ zs. is_second less zs q ≡ false) h.1 h.0))
+        | inl h ↦ subst (λ zs. Weaving rows others ks ws zs q1) (sym h.2) (second p q1 (subst (λ zs. Weaving rows others js vs p zs) h.1 w) (subst (λ zs. is_second less p zs ≡ true) h.1 h.0))
+        | inr h ↦ subst (λ zs. Weaving rows others ks ws p1 zs) (sym h.2) (first p1 q (subst (λ zs. Weaving rows others js vs zs q) h.1 w) (subst (λ zs. is_second less zs q ≡ false) h.1 h.0))
       ]
 
-    all_woven : (rows others : List (Row Name X)) (ns : List Name) (vs : List X) → Weaving rows others ns vs [] [] → Weaves less rows others ns vs
-    all_woven rows others ns vs w =
+    all_woven : (rows others : List (Row Name X)) (ks : List ℕ) (vs : List X) → Weaving rows others ks vs [] [] → Weaves less rows others ks vs
+    all_woven rows others ks vs w =
         let all : w.done ++ [] ≡ w.done = append-nil w.done in
         let long = w.long in
         record {
@@ -218,5 +231,5 @@ module _ {X : Type 0} where
           };
         }
 
-    pub weaving_end : (rows others : List (Row Name X)) (ns : List Name) (vs : List X) (p q p1 q1 : List (Row Name X)) → Weaving rows others ns vs p q → IsNext less p q None p1 q1 → Weaves less rows others ns vs
-    weaving_end rows others ns vs p q p1 q1 w none = all_woven rows others ns vs (subst (λ zs. Weaving rows others ns vs [] zs) none.1 (subst (λ zs. Weaving rows others ns vs zs q) none.0 w))
+    pub weaving_end : (rows others : List (Row Name X)) (ks : List ℕ) (vs : List X) (p q p1 q1 : List (Row Name X)) → Weaving rows others ks vs p q → IsNext less p q None p1 q1 → Weaves less rows others ks vs
+    weaving_end rows others ks vs p q p1 q1 w none = all_woven rows others ks vs (subst (λ zs. Weaving rows others ks vs [] zs) none.1 (subst (λ zs. Weaving rows others ks vs zs q) none.0 w))

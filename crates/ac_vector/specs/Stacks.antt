@@ -1,10 +1,11 @@
 -- Rows on a stack, and what is left of two stacks of which the row was taken that comes first in a merge.
-use Rattle.std.specs.Prelude.{◌≡◌, ◌+◌, ◌⊎◌, Bool, true, false, List, [], ◌∷◌, ◌++◌, length, map, reverse, Option, Some, None}
+use Rattle.std.specs.Prelude.{◌≡◌, ℕ, ◌+◌, ◌⊎◌, Bool, true, false, List, [], ◌∷◌, ◌++◌, length, map, reverse, Option, Some, None}
 use Rattle.ac_base.specs.declared.name.Name.{Name}
 use Rattle.ac_base.specs.Rows.{Row, row, names, values}
 use Rattle.ac_pool.specs.NamedRows.{HasName, IsOnce}
 use Rattle.ac_model.specs.Objects.{plains}
 use Rattle.ac_model.specs.Rows.{merged}
+use Rattle.ac_vector.specs.ArrayFields.{slots_of}
 use Rattle.ac_vector.specs.declared.weaving.Line.{Line}
 
 module _ {X : Type 0} where
@@ -36,9 +37,9 @@ module _ {X : Type 0} where
     pub alone : IsOnce (rows ++ others) → IsOnce now
     pub long : length now ≡ length rows + length others
 
-  -- the same of the two lists that keep the names and the values
-  pub record Weaves (less : X → X → Bool) (rows others : List (Row Name X)) (ns : List Name) (vs : List X) : Type 0 where
+  -- the same of the two lists that keep the names' slots and the values
+  pub record Weaves (less : X → X → Bool) (rows others : List (Row Name X)) (ks : List ℕ) (vs : List X) : Type 0 where
     pub now : List (Row Name X)
     pub woven : IsWoven less rows others now
-    pub named : ns ≡ names now
+    pub named : ks ≡ slots_of (names now)
     pub valued : vs ≡ values now

@@ -24,11 +24,12 @@ use std::alloc::Global;
 use std::cmp::Ordering;
 use std::marker::Model;
 
-/// Values in order, each under a name that follows it. The names are a pool's, which keeps each name's place.
+/// Values in order, each under a name that follows it. The names are a pool's, which keeps each name's place; the array keeps their slots.
 #[derive(Drop)]
 pub struct Array<T> {
     values: Vec<T>,
-    names: Vec<Name>,
+    // Each live name's slot: the pool has its serial.
+    slots: Vec<u32>,
     places: Pool<u32>,
 }
 
@@ -40,11 +41,11 @@ impl<T> Model for Array<T> {
 
     ghost coded = { chained_code T.code };
 
-    ghost use Rattle.ac_vector.specs.ArrayFields.{rows_in, IsArray};
+    ghost use Rattle.ac_vector.specs.ArrayFields.{names_in, rows_in, IsSlotted};
 
-    ghost view = { λ a. chained (rows_in a.names.items a.values.items) a.places.next_serial a.places.spare };
+    ghost view = { λ a. chained (rows_in (names_in a.places a.slots.items) a.values.items) a.places.next_serial a.places.spare };
 
-    ghost invariant = { λ a. IsArray a.names.items a.values.items a.places (vec_capacity a.names) (vec_capacity a.values) };
+    ghost invariant = { λ a. IsSlotted a.slots.items a.values.items a.places (vec_capacity a.slots) (vec_capacity a.values) };
 }
 
 impl<T> Array<T> {
@@ -57,7 +58,7 @@ impl<T> Array<T> {
     {
         Array {
             values: Vec::new(alloc),
-            names: Vec::new(alloc),
+            slots: Vec::new(alloc),
             places: Pool::new(alloc),
         }
     }
@@ -91,7 +92,7 @@ impl<T> Array<T> {
         let len = self.values.len();
         let more = least_slots(len + n as usize) - len;
         self.values.reserve_exact(more)?;
-        self.names.reserve_exact(more)?;
+        self.slots.reserve_exact(more)?;
         self.places.reserve(n)
     }
 
@@ -109,8 +110,8 @@ impl<T> Array<T> {
         ensures name { Some result ≡ name_at self.now.rows place }
         ensures sound { IsSound self.now }
     {
-        let _places = &self.places;
-        self.names[place as usize]
+        let slot = self.slots[place as usize];
+        self.places.name_in(slot).unwrap()
     }
 
     /// The value of the row at this place.
@@ -186,7 +187,7 @@ impl<T> Array<T> {
     {
         let place = self.len();
         let name = self.places.put_reserved(place as u32);
-        self.names.push_reserved(name);
+        self.slots.push_reserved(name.slot);
         self.values.push_reserved(v);
         name
     }
@@ -199,7 +200,7 @@ impl<T> Array<T> {
         ensures sound { IsSound self.new }
     {
         let value = self.values.pop();
-        let _name = self.names.pop();
+        let _slot = self.slots.pop();
         let _place = self.places.take(name);
         value
     }
@@ -241,8 +242,8 @@ impl<T> Array<T> {
         }
         let _places = &self.places;
         turn_vector(&mut self.values, place as usize, count as usize);
-        turn_vector(&mut self.names, place as usize, count as usize);
-        renumber(&mut self.places, self.names.as_slice(), place as usize);
+        turn_vector(&mut self.slots, place as usize, count as usize);
+        renumber(&mut self.places, self.slots.as_slice(), place as usize);
     }
 
     /// The values the other way round, and the names in place.
@@ -309,7 +310,7 @@ impl<T: Drop> Array<T> {
     {
         Ok(Array {
             values: Vec::with_capacity(alloc, n as usize)?,
-            names: Vec::with_capacity(alloc, n as usize)?,
+            slots: Vec::with_capacity(alloc, n as usize)?,
             places: Pool::with_slots(alloc, n)?,
         })
     }
@@ -330,7 +331,7 @@ impl<T: Drop> Array<T> {
         ensures sound { IsSound self.new }
     {
         self.values.clear();
-        self.names.clear();
+        self.slots.clear();
         self.places.clear();
     }
 
@@ -396,14 +397,21 @@ impl<T: Rank> Array<T> {
     {
         let behind = self.len() - seam;
         stack_last(
-            &mut self.names,
+            &self.places,
+            &mut self.slots,
             &mut self.values,
             behind as usize,
             &mut theirs,
         );
-        stack_last(&mut self.names, &mut self.values, seam as usize, &mut mine);
-        weave(&mut self.names, &mut self.values, mine, theirs);
-        renumber(&mut self.places, self.names.as_slice(), 0);
+        stack_last(
+            &self.places,
+            &mut self.slots,
+            &mut self.values,
+            seam as usize,
+            &mut mine,
+        );
+        weave(&mut self.slots, &mut self.values, mine, theirs);
+        renumber(&mut self.places, self.slots.as_slice(), 0);
     }
 }
 
