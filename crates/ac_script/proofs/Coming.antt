@@ -1,17 +1,18 @@
 -- The items that may come are those that are read.
-use Rattle.std.proofs.Common.{◌≡◌, ℕ, List, [], ◌∷◌, refl, ap, subst, inl, inr, Some, None, codes}
+use Rattle.std.proofs.Common.{◌≡◌, ℕ, List, [], ◌∷◌, refl, sym, ap, subst, inl, inr, Some, None, codes}
 use Rattle.std.proofs.lemmas.Option.{none-some}
 use Rattle.ac_syntax.specs.declared.closing.Closing.{Closing}
-use Rattle.ac_syntax.specs.declared.closing.Closing.TheVariants.{EndLoop, End}
-use Rattle.ac_syntax.specs.Code.{Simple, call_at, set_at, sum_at, Head, loop_at, view_at, stable_at, declare_at}
+use Rattle.ac_syntax.specs.declared.closing.Closing.TheVariants.{EndLoop, End, EndTasks, EndTask}
+use Rattle.ac_syntax.specs.Code.{Simple, call_at, set_at, sum_at, Head, loop_at, view_at, stable_at, declare_at, tasks_at, task_at}
 use Rattle.ac_syntax.specs.Items.{Item, declares, commands, opens, begins, closes}
-use Rattle.ac_syntax.specs.Order.{Stage, listing, heading, running, Context, entered, next_after}
+use Rattle.ac_syntax.specs.Order.{Stage, listing, heading, running, tasking, tasked, preparing, stepping, Context, entered, task_entered, left_behind, next_after}
+use Rattle.ac_syntax.proofs.Orders.{left_own, left_from}
 use Rattle.ac_syntax.specs.declared.decl.Decl.{Decl}
 use Rattle.ac_syntax.specs.declared.decl.Decl.TheVariants.{TypeDecl, Object, CursorVar, IntVar, TextVar}
 use Rattle.ac_syntax.specs.declared.view_kind.ViewKind.TheVariants as view
 use Rattle.ac_syntax.specs.declared.token.Placed.{Placed}
 use Rattle.ac_syntax.specs.declared.token.Mark.TheVariants.{Colon}
-use Rattle.ac_syntax.specs.Parts.{Part, says, marks, names, decl_parts, simple_parts, head_parts, item_parts}
+use Rattle.ac_syntax.specs.Parts.{Part, says, marks, names, decl_parts, simple_parts, head_parts, closing_parts, item_parts}
 use Rattle.ac_script.specs.declared.head.Lead.TheVariants as lead
 use Rattle.ac_script.specs.ItemReader.{item_on, innermost_of}
 use Rattle.ac_script.specs.ExactItems.{MayCome}
@@ -20,7 +21,7 @@ use Rattle.ac_script.proofs.Exact.{Exact, respelled}
 use Rattle.ac_script.proofs.DeclarationsExact.{Declared, an_integer, a_text, a_cursor, an_object, declared_decl, declared_parts}
 use Rattle.ac_script.proofs.HeadsExact.{told_head}
 use Rattle.ac_script.proofs.CommandsExact.{a_value, a_result, a_sum, Commanded, a_call, an_assignment, commanded_simple, commanded_parts}
-use Rattle.ac_script.proofs.ItemsExact.{Typed, typed_item, typed_parts, Block, block_item, block_parts, Statement, statement_item, statement_parts, statement_exact, Listed, listed_item, listed_parts, in_listing_exact, Headed, headed_item, headed_parts, in_heading_exact}
+use Rattle.ac_script.proofs.ItemsExact.{closing_rest, Typed, typed_item, typed_parts, Block, block_item, block_parts, Statement, statement_item, statement_parts, statement_exact, Listed, listed_item, listed_parts, in_listing_exact, Headed, headed_item, headed_parts, in_heading_exact, Ended, ended_item, ended_parts, ended_exact, task_parts, in_tasking_exact, Tasked, tasked_item, tasked_parts, in_tasked_exact, Prepared, prepared_item, prepared_parts, in_preparing_exact}
 
 abbrev pub decl_on : ℕ → Decl → Decl
 decl_on line (TypeDecl _ name def) = TypeDecl line name def
@@ -39,6 +40,8 @@ head_on line (loop_at _ name elements backward object) = loop_at line name eleme
 head_on line (view_at _ kind object at name) = view_at line kind object at name
 head_on line (stable_at _ object) = stable_at line object
 head_on line (declare_at _ decls) = declare_at line decls
+head_on line (tasks_at _) = tasks_at line
+head_on line (task_at _ name locals) = task_at line name locals
 
 -- the same item on this line
 abbrev pub relined : ℕ → Item → Item
@@ -64,6 +67,7 @@ may_enter blocks line (lead.UpdateKey, t) = (_, refl)
 may_enter blocks line (lead.Reference, t) = (_, refl)
 may_enter blocks line (lead.Stable, t) = (_, refl)
 may_enter blocks line (lead.Declare, t) = (_, refl)
+may_enter blocks line (lead.Tasks, t) = (_, refl)
 
 block_lined : (line : ℕ) (b : Block) → told_head line b.0 b.1 ≡ head_on line (told_head line b.0 b.1)
 block_lined line (lead.For, t) = refl
@@ -73,6 +77,7 @@ block_lined line (lead.UpdateKey, t) = refl
 block_lined line (lead.Reference, t) = refl
 block_lined line (lead.Stable, t) = refl
 block_lined line (lead.Declare, t) = refl
+block_lined line (lead.Tasks, t) = refl
 
 block_read : (line : ℕ) (b : Block) → block_parts b ≡ head_parts (told_head line b.0 b.1)
 block_read line (lead.For, t) = refl
@@ -84,6 +89,7 @@ block_read line (lead.UpdateKey, t) = refl
 block_read line (lead.Reference, t) = refl
 block_read line (lead.Stable, t) = refl
 block_read line (lead.Declare, t) = refl
+block_read line (lead.Tasks, t) = refl
 
 declared_lined : (line : ℕ) (n : List ℕ) (d : Declared) → declared_decl line n d ≡ decl_on line (declared_decl line n d)
 declared_lined line n an_integer = refl
@@ -109,6 +115,20 @@ commanded_read line n (an_assignment (a_value _)) = refl
 commanded_read line n (an_assignment (a_result _ _ _)) = refl
 commanded_read line n (an_assignment (a_sum _ _ _)) = refl
 
+closing_read : (l : Closing) → says (codes "end") ∷ closing_rest l ≡ closing_parts l
+closing_read EndLoop = refl
+closing_read End = refl
+closing_read EndTasks = refl
+closing_read EndTask = refl
+
+-- the words that may come are those of the innermost block
+ended_own : (b l : Closing) (blocks : List Closing) (next : Context) → left_behind l (b ∷ blocks) ≡ Some next → b ≡ l
+ended_own b l blocks next e = cc (left_from l (b ∷ blocks) next e).1
+
+ended_read : (b l : Closing) (blocks : List Closing) (next : Context) (front : List Placed) → left_behind l (b ∷ blocks) ≡ Some next → Spelled (closing_parts l) front → Spelled (says (codes "end") ∷ closing_rest b) front
+ended_read b l blocks next front e h =
+    subst (λ x. Spelled (says (codes "end") ∷ closing_rest x) front) (sym (ended_own b l blocks next e)) (subst (λ ps. Spelled ps front) (sym (closing_read l)) h)
+
 listed_into : (blocks : List Closing) (line : ℕ) (i : Listed (innermost_of blocks)) → Into blocks listing line (listed_item (innermost_of blocks) line i) (listed_parts (innermost_of blocks) i)
 unfolding item_parts
 listed_into blocks line (inl i) = ((typed_item line i, record { next = _; leads = refl }), refl, refl)
@@ -116,8 +136,7 @@ listed_into blocks line (inr (inl b)) =
     let may = may_enter blocks line b in
     ((block_item line b, record { next = may.0; leads = may.1 }), ap opens (block_lined line b), block_read line b)
 listed_into [] line (inr (inr (inl e))) = absurd e
-listed_into (EndLoop ∷ blocks) line (inr (inr (inl e))) = ((closes EndLoop, record { next = _; leads = refl }), refl, refl)
-listed_into (End ∷ blocks) line (inr (inr (inl e))) = ((closes End, record { next = _; leads = refl }), refl, refl)
+listed_into (l ∷ blocks) line (inr (inr (inl e))) = ((closes l, record { next = _; leads = left_own l blocks }), refl, closing_read l)
 listed_into blocks line (inr (inr (inr (n, inl d)))) =
     ((declares (declared_decl line n d), record { next = _; leads = refl }), ap declares (declared_lined line n d), declared_read line n d)
 listed_into blocks line (inr (inr (inr (n, inr c)))) =
@@ -136,8 +155,7 @@ running_into blocks line (inl b) =
     let may = may_enter blocks line b in
     ((block_item line b, record { next = may.0; leads = may.1 }), ap opens (block_lined line b), block_read line b)
 running_into [] line (inr (inl e)) = absurd e
-running_into (EndLoop ∷ blocks) line (inr (inl e)) = ((closes EndLoop, record { next = _; leads = refl }), refl, refl)
-running_into (End ∷ blocks) line (inr (inl e)) = ((closes End, record { next = _; leads = refl }), refl, refl)
+running_into (l ∷ blocks) line (inr (inl e)) = ((closes l, record { next = _; leads = left_own l blocks }), refl, closing_read l)
 running_into blocks line (inr (inr (n, c))) =
     ((commands (commanded_simple line n c), record { next = _; leads = refl }), ap commands (commanded_lined line n c), commanded_read line n c)
 
@@ -178,6 +196,8 @@ from_head val parts line (view_at _ view.Reference object at name) blocks next f
 from_head val parts line (stable_at _ object) blocks next front f e h = f (lead.Stable, object) refl h
 from_head val parts line (declare_at _ []) blocks next front f e h = f (lead.Declare, tt) refl h
 from_head val parts line (declare_at _ (_ ∷ _)) blocks next front f e h = absurd (none-some next e)
+from_head val parts line (tasks_at _) blocks next front f e h = f (lead.Tasks, tt) refl h
+from_head val parts line (task_at _ _ _) blocks next front f e h = absurd (none-some next e)
 
 listed_from : (blocks : List Closing) (line : ℕ) (item : Item) (next : Context) (front : List Placed) → next_after blocks listing item ≡ Some next → Spelled (item_parts item) front
     → From (Listed (innermost_of blocks)) (listed_item (innermost_of blocks) line) (listed_parts (innermost_of blocks)) line item front
@@ -190,10 +210,7 @@ listed_from blocks line (opens head) next front e h =
     from_head (listed_item (innermost_of blocks) line) (listed_parts (innermost_of blocks)) line head blocks next front (λ b is s. (inr (inl b), is, s)) e h
 listed_from blocks line begins next front e h = absurd (none-some next e)
 listed_from [] line (closes _) next front e h = absurd (none-some next e)
-listed_from (EndLoop ∷ blocks) line (closes EndLoop) next front e h = (inr (inr (inl tt)), refl, h)
-listed_from (EndLoop ∷ blocks) line (closes End) next front e h = absurd (none-some next e)
-listed_from (End ∷ blocks) line (closes EndLoop) next front e h = absurd (none-some next e)
-listed_from (End ∷ blocks) line (closes End) next front e h = (inr (inr (inl tt)), refl, h)
+listed_from (b ∷ blocks) line (closes l) next front e h = (inr (inr (inl tt)), ap closes (ended_own b l blocks next e), ended_read b l blocks next front e h)
 
 headed_from : (blocks : List Closing) (line : ℕ) (item : Item) (next : Context) (front : List Placed) → next_after blocks heading item ≡ Some next → Spelled (item_parts item) front
     → From Headed (headed_item line) headed_parts line item front
@@ -215,10 +232,88 @@ running_from blocks line (opens head) next front e h =
     from_head (statement_item running (innermost_of blocks) line) (statement_parts running (innermost_of blocks)) line head blocks next front (λ b is s. (inl b, is, s)) e h
 running_from blocks line begins next front e h = absurd (none-some next e)
 running_from [] line (closes _) next front e h = absurd (none-some next e)
-running_from (EndLoop ∷ blocks) line (closes EndLoop) next front e h = (inr (inl tt), refl, h)
-running_from (EndLoop ∷ blocks) line (closes End) next front e h = absurd (none-some next e)
-running_from (End ∷ blocks) line (closes EndLoop) next front e h = absurd (none-some next e)
-running_from (End ∷ blocks) line (closes End) next front e h = (inr (inl tt), refl, h)
+running_from (b ∷ blocks) line (closes l) next front e h = (inr (inl tt), ap closes (ended_own b l blocks next e), ended_read b l blocks next front e h)
+
+stepping_into : (blocks : List Closing) (line : ℕ) (i : Ended running (innermost_of blocks)) → Into blocks stepping line (ended_item running (innermost_of blocks) line i) (ended_parts running (innermost_of blocks) i)
+unfolding item_parts
+stepping_into [] line (inl e) = absurd e
+stepping_into (l ∷ blocks) line (inl e) = ((closes l, record { next = _; leads = left_own l blocks }), refl, closing_read l)
+stepping_into blocks line (inr (n, c)) =
+    ((commands (commanded_simple line n c), record { next = _; leads = refl }), ap commands (commanded_lined line n c), commanded_read line n c)
+
+stepping_from : (blocks : List Closing) (line : ℕ) (item : Item) (next : Context) (front : List Placed) → next_after blocks stepping item ≡ Some next → Spelled (item_parts item) front
+    → From (Ended running (innermost_of blocks)) (ended_item running (innermost_of blocks) line) (ended_parts running (innermost_of blocks)) line item front
+unfolding item_parts
+stepping_from blocks line (declares decl) next front e h = absurd (none-some next e)
+stepping_from blocks line (commands simple) next front e h =
+    from_simple (ended_item running (innermost_of blocks) line) (ended_parts running (innermost_of blocks)) line simple front (λ n c is s. (inr (n, c), is, s)) h
+stepping_from blocks line (opens head) next front e h = absurd (none-some next e)
+stepping_from blocks line begins next front e h = absurd (none-some next e)
+stepping_from [] line (closes _) next front e h = absurd (none-some next e)
+stepping_from (b ∷ blocks) line (closes l) next front e h = (inl tt, ap closes (ended_own b l blocks next e), ended_read b l blocks next front e h)
+
+-- a task
+
+from_task : {I : Type 0} (val : I → Item) (parts : I → List Part) (line : ℕ) (head : Head) (blocks : List Closing) (next : Context) (front : List Placed)
+    → ((n : List ℕ) → opens (task_at line n []) ≡ relined line (opens head) → Spelled (task_parts n) front → From I val parts line (opens head) front)
+    → task_entered blocks head ≡ Some next → Spelled (head_parts head) front → From I val parts line (opens head) front
+from_task val parts line (loop_at _ _ _ _ _) blocks next front f e h = absurd (none-some next e)
+from_task val parts line (view_at _ _ _ _ _) blocks next front f e h = absurd (none-some next e)
+from_task val parts line (stable_at _ _) blocks next front f e h = absurd (none-some next e)
+from_task val parts line (declare_at _ _) blocks next front f e h = absurd (none-some next e)
+from_task val parts line (tasks_at _) blocks next front f e h = absurd (none-some next e)
+from_task val parts line (task_at _ n []) blocks next front f e h = f n refl h
+from_task val parts line (task_at _ _ (_ ∷ _)) blocks next front f e h = absurd (none-some next e)
+
+tasking_into : (blocks : List Closing) (line : ℕ) (n : List ℕ) → Into blocks tasking line (opens (task_at line n [])) (task_parts n)
+unfolding item_parts
+tasking_into blocks line n = ((opens (task_at line n []), record { next = _; leads = refl }), refl, refl)
+
+tasking_from : (blocks : List Closing) (line : ℕ) (item : Item) (next : Context) (front : List Placed) → next_after blocks tasking item ≡ Some next → Spelled (item_parts item) front
+    → From (List ℕ) (λ n. opens (task_at line n [])) task_parts line item front
+unfolding item_parts
+tasking_from blocks line (declares decl) next front e h = absurd (none-some next e)
+tasking_from blocks line (commands simple) next front e h = absurd (none-some next e)
+tasking_from blocks line (opens head) next front e h = from_task (λ n. opens (task_at line n [])) task_parts line head blocks next front (λ n is s. (n, is, s)) e h
+tasking_from blocks line begins next front e h = absurd (none-some next e)
+tasking_from blocks line (closes _) next front e h = absurd (none-some next e)
+
+tasked_into : (blocks : List Closing) (line : ℕ) (i : Tasked (innermost_of blocks)) → Into blocks tasked line (tasked_item (innermost_of blocks) line i) (tasked_parts (innermost_of blocks) i)
+unfolding item_parts
+tasked_into blocks line (inl n) = ((opens (task_at line n []), record { next = _; leads = refl }), refl, refl)
+tasked_into [] line (inr e) = absurd e
+tasked_into (l ∷ blocks) line (inr e) = ((closes l, record { next = _; leads = left_own l blocks }), refl, closing_read l)
+
+tasked_from : (blocks : List Closing) (line : ℕ) (item : Item) (next : Context) (front : List Placed) → next_after blocks tasked item ≡ Some next → Spelled (item_parts item) front
+    → From (Tasked (innermost_of blocks)) (tasked_item (innermost_of blocks) line) (tasked_parts (innermost_of blocks)) line item front
+unfolding item_parts
+tasked_from blocks line (declares decl) next front e h = absurd (none-some next e)
+tasked_from blocks line (commands simple) next front e h = absurd (none-some next e)
+tasked_from blocks line (opens head) next front e h =
+    from_task (tasked_item (innermost_of blocks) line) (tasked_parts (innermost_of blocks)) line head blocks next front (λ n is s. (inl n, is, s)) e h
+tasked_from blocks line begins next front e h = absurd (none-some next e)
+tasked_from [] line (closes _) next front e h = absurd (none-some next e)
+tasked_from (b ∷ blocks) line (closes l) next front e h = (inr tt, ap closes (ended_own b l blocks next e), ended_read b l blocks next front e h)
+
+-- the front of a task
+
+preparing_into : (blocks : List Closing) (line : ℕ) (i : Prepared) → Into blocks preparing line (prepared_item line i) (prepared_parts i)
+unfolding item_parts
+preparing_into blocks line (inl _) = ((begins, record { next = _; leads = refl }), refl, refl)
+preparing_into blocks line (inr n) = ((declares (IntVar line n), record { next = _; leads = refl }), refl, refl)
+
+preparing_from : (blocks : List Closing) (line : ℕ) (item : Item) (next : Context) (front : List Placed) → next_after blocks preparing item ≡ Some next → Spelled (item_parts item) front
+    → From Prepared (prepared_item line) prepared_parts line item front
+unfolding item_parts
+preparing_from blocks line (declares (TypeDecl _ _ _)) next front e h = absurd (none-some next e)
+preparing_from blocks line (declares (Object _ _ _ _)) next front e h = absurd (none-some next e)
+preparing_from blocks line (declares (CursorVar _ _ _)) next front e h = absurd (none-some next e)
+preparing_from blocks line (declares (IntVar _ n)) next front e h = (inr n, refl, h)
+preparing_from blocks line (declares (TextVar _ _)) next front e h = absurd (none-some next e)
+preparing_from blocks line (commands simple) next front e h = absurd (none-some next e)
+preparing_from blocks line (opens head) next front e h = absurd (none-some next e)
+preparing_from blocks line begins next front e h = (inl tt, refl, h)
+preparing_from blocks line (closes _) next front e h = absurd (none-some next e)
 
 spelled_into : (blocks : List Closing) (stage : Stage) (line : ℕ) (item : Item) (parts : List Part) (front : List Placed) → Into blocks stage line item parts → Spelled parts front
     → (j : Coming blocks stage) × (item ≡ relined line j.0) × Spelled (item_parts j.0) front
@@ -235,3 +330,15 @@ item_on_exact blocks heading line =
 item_on_exact blocks running line =
     respelled (statement_exact running (innermost_of blocks) line) (λ i front h. spelled_into blocks running line _ _ front (running_into blocks line i) h)
     (λ j front h. running_from blocks line j.0 j.1.next front j.1.leads h)
+item_on_exact blocks tasking line =
+    respelled (in_tasking_exact line) (λ n front h. spelled_into blocks tasking line _ _ front (tasking_into blocks line n) h)
+    (λ j front h. tasking_from blocks line j.0 j.1.next front j.1.leads h)
+item_on_exact blocks tasked line =
+    respelled (in_tasked_exact (innermost_of blocks) line) (λ i front h. spelled_into blocks tasked line _ _ front (tasked_into blocks line i) h)
+    (λ j front h. tasked_from blocks line j.0 j.1.next front j.1.leads h)
+item_on_exact blocks preparing line =
+    respelled (in_preparing_exact line) (λ i front h. spelled_into blocks preparing line _ _ front (preparing_into blocks line i) h)
+    (λ j front h. preparing_from blocks line j.0 j.1.next front j.1.leads h)
+item_on_exact blocks stepping line =
+    respelled (ended_exact running (innermost_of blocks) line) (λ i front h. spelled_into blocks stepping line _ _ front (stepping_into blocks line i) h)
+    (λ j front h. stepping_from blocks line j.0 j.1.next front j.1.leads h)

@@ -169,7 +169,7 @@ declared_parts a_text = says (codes "string") ∷ marks Semicolon ∷ []
 declared_parts (a_cursor of) = names of ∷ marks Dot ∷ says (codes "cursor") ∷ marks Semicolon ∷ []
 declared_parts (an_object of capacity) = names of ∷ (capacity_parts capacity ++ marks Semicolon ∷ [])
 
-integer_end_exact : (line : ℕ) (n : List ℕ) → Exact (λ (_ : Unit {0}). IntVar line n) (λ _. marks Semicolon ∷ []) (integer_end line n)
+pub integer_end_exact : (line : ℕ) (n : List ℕ) → Exact (λ (_ : Unit {0}). IntVar line n) (λ _. marks Semicolon ∷ []) (integer_end line n)
 unfolding integer_end
 integer_end_exact line n = mapped (single (mark_looks Semicolon)) (λ _. IntVar line n)
 

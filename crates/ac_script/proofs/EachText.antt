@@ -1,5 +1,5 @@
 -- Each text spells a script, or has a first refusal: what reading comes to, where memory is no matter.
-use Rattle.std.proofs.Common.{◌≡◌, ◌≤◌, ℕ, zero, suc, Bool, true, false, List, [], ◌∷◌, ◌++◌, length, refl, sym, ap, subst, ◌∙◌, append_assoc, inl, inr, Option, Some, None, arith, true≢false}
+use Rattle.std.proofs.Common.{◌≡◌, ◌≤◌, ℕ, zero, suc, Bool, true, false, List, [], ◌∷◌, ◌++◌, length, refl, sym, subst, ◌∙◌, append_assoc, inl, inr, Option, Some, None, arith, true≢false}
 use Rattle.std.specs.Prelude.{◌⊎◌}
 use Rattle.std.proofs.lemmas.List.{append-nil, map-append}
 use Rattle.ac_syntax.specs.declared.closing.Closing.{Closing}
@@ -10,7 +10,7 @@ use Rattle.ac_syntax.specs.declared.refusal.RefusalKind.TheVariants.{Syntax, Lim
 use Rattle.ac_syntax.specs.Items.{Item}
 use Rattle.ac_syntax.specs.Tokens.{tokens, cut_of}
 use Rattle.ac_syntax.specs.Limits.{seen_of, is_past_limit, AreWithinLimits}
-use Rattle.ac_syntax.specs.Order.{Stage, listing, heading, running, Context, at_front, is_heading}
+use Rattle.ac_syntax.specs.Order.{Context, at_front, is_heading}
 use Rattle.ac_syntax.specs.Refusals.{Spells, IsFirstRefusal}
 use Rattle.ac_syntax.proofs.Orders.{script_found}
 use Rattle.ac_script.specs.Outcomes.{Outcome, got, stopped}
@@ -28,11 +28,10 @@ abbrev Read : List Placed → Type 0
 Read placed = ((items : List Item) × AreWhole items placed) ⊎ (EndEarly placed ⊎ ((line : ℕ) × HasBad placed line))
 
 at_end : (items : List Item) (context : Context) (placed : List Placed) → AreRead items context placed []
-    → (blocks : List Closing) (stage : Stage) → context.blocks ≡ blocks → context.stage ≡ stage → Read placed
-at_end items context placed read [] listing closed at = inl (items, is_whole items context placed read (record { closed = closed; begun = ap is_heading at }))
-at_end items context placed read [] running closed at = inl (items, is_whole items context placed read (record { closed = closed; begun = ap is_heading at }))
-at_end items context placed read [] heading closed at = inr (inl (ends_open items context placed read (λ end. absurd (true≢false (sym (ap is_heading at) ∙ end.begun)))))
-at_end items context placed read (b ∷ blocks) stage is at =
+    → (blocks : List Closing) (heads : Bool) → context.blocks ≡ blocks → is_heading context.stage ≡ heads → Read placed
+at_end items context placed read [] false closed at = inl (items, is_whole items context placed read (record { closed = closed; begun = at }))
+at_end items context placed read [] true closed at = inr (inl (ends_open items context placed read (λ end. absurd (true≢false (sym at ∙ end.begun)))))
+at_end items context placed read (b ∷ blocks) heads is at =
     inr (inl (ends_open items context placed read (λ end. let none : [] ≡ b ∷ blocks = sym end.closed ∙ is in absurd (cc none))))
 
 on_item : (items : List Item) (context : Context) (placed : List Placed) (p : Placed) (others : List Placed)
@@ -46,7 +45,7 @@ on_item items context placed p others further read (stopped []) e = inr (inl (en
 on_item items context placed p others further read (stopped (b ∷ after)) e = inr (inr (b.line, has_bad items context placed (p ∷ others) b after read e))
 
 read_on : (fuel : ℕ) (items : List Item) (context : Context) (placed rest : List Placed) → length rest ≤ fuel → AreRead items context placed rest → Read placed
-read_on fuel items context placed [] enough read = at_end items context placed read context.blocks context.stage refl refl
+read_on fuel items context placed [] enough read = at_end items context placed read context.blocks (is_heading context.stage) refl refl
 read_on zero items context placed (p ∷ others) enough read = absurd (omega (arith, enough))
 read_on (suc fuel) items context placed (p ∷ others) enough read =
     on_item items context placed p others (λ more next left shorter. read_on fuel more next placed left (omega (arith, enough, shorter)))

@@ -1,7 +1,7 @@
 -- The readers of what begins a block are exact.
 use Rattle.std.proofs.Common.{◌≡◌, ℕ, Bool, true, false, List, [], ◌∷◌, ◌++◌, refl, ap, ◌∙◌, inl, inr, Option, Some, None, codes, if◌then◌else◌}
 use Rattle.std.proofs.lemmas.Option.{none-some}
-use Rattle.ac_syntax.specs.Code.{Head, loop_at, view_at, stable_at, declare_at}
+use Rattle.ac_syntax.specs.Code.{Head, loop_at, view_at, stable_at, declare_at, tasks_at, task_at}
 use Rattle.ac_syntax.specs.declared.view_kind.ViewKind.{ViewKind}
 use Rattle.ac_syntax.specs.declared.view_kind.ViewKind.TheVariants as view
 use Rattle.ac_syntax.specs.declared.token.Token.TheVariants.{Word}
@@ -10,7 +10,7 @@ use Rattle.ac_syntax.specs.Grammar.{reserved, is_reserved}
 use Rattle.ac_script.specs.declared.head.Lead.{Lead}
 use Rattle.ac_script.specs.declared.head.Lead.TheVariants as lead
 use Rattle.ac_script.specs.Readers.{as_word, as_word_of}
-use Rattle.ac_script.specs.Heads.{other_lead, lead_of, elements_of, elements, object_loop, loop_end, loop_head, place_end, view_head, key_head, reference_head, stable_head, head}
+use Rattle.ac_script.specs.Heads.{other_lead, lead_of, elements_of, elements, object_loop, loop_end, loop_head, place_end, view_head, key_head, reference_head, stable_head, head, task_head}
 use Rattle.ac_script.proofs.Cases.{either_by, pair_by, bool_by, option_by}
 use Rattle.ac_script.proofs.Exact.{Exact, seq, give, mapped, recast}
 use Rattle.ac_script.proofs.Forks.{Looks, single, forked}
@@ -24,6 +24,7 @@ lead_word lead.UpdateKey = codes "update_key"
 lead_word lead.Reference = codes "reference"
 lead_word lead.Stable = codes "stable"
 lead_word lead.Declare = codes "declare"
+lead_word lead.Tasks = codes "tasks"
 
 other_picked : (w : List ℕ) (a : Lead) → other_lead w ≡ Some a → w ≡ lead_word a
 unfolding other_lead
@@ -31,7 +32,8 @@ other_picked w a e =
     let P = w ≡ lead_word a in
     pick_step P w (codes "reference") lead.Reference a _ e (λ same is. same ∙ ap lead_word is) (λ e.
     pick_step P w (codes "stable") lead.Stable a _ e (λ same is. same ∙ ap lead_word is) (λ e.
-    pick_step P w (codes "declare") lead.Declare a _ e (λ same is. same ∙ ap lead_word is) (λ e. absurd (none-some a e))))
+    pick_step P w (codes "declare") lead.Declare a _ e (λ same is. same ∙ ap lead_word is) (λ e.
+    pick_step P w (codes "tasks") lead.Tasks a _ e (λ same is. same ∙ ap lead_word is) (λ e. absurd (none-some a e)))))
 
 pub lead_picked : (w : List ℕ) (a : Lead) → lead_of w ≡ Some a → w ≡ lead_word a
 unfolding lead_of
@@ -51,6 +53,7 @@ lead_again lead.UpdateKey = refl
 lead_again lead.Reference = refl
 lead_again lead.Stable = refl
 lead_again lead.Declare = refl
+lead_again lead.Tasks = refl
 
 pub lead_looks : Looks (λ (l : Lead). l) (λ l. says (lead_word l)) (as_word_of lead_of)
 lead_looks = pick_looks lead_picked lead_again lead.For
@@ -105,6 +108,7 @@ Told lead.UpdateKey = List ℕ × List ℕ × List ℕ
 Told lead.Reference = List ℕ × List ℕ × Option (List ℕ)
 Told lead.Stable = List ℕ
 Told lead.Declare = Unit {0}
+Told lead.Tasks = Unit {0}
 
 abbrev pub told_head : ℕ → (l : Lead) → Told l → Head
 told_head line lead.For t = loop_at line t.0 t.1 t.2 t.3
@@ -114,6 +118,7 @@ told_head line lead.UpdateKey t = view_at line view.UpdateKey t.0 (Some t.1) t.2
 told_head line lead.Reference t = view_at line view.Reference t.1 t.2 t.0
 told_head line lead.Stable t = stable_at line t
 told_head line lead.Declare t = declare_at line []
+told_head line lead.Tasks t = tasks_at line
 
 abbrev pub told_parts : (l : Lead) → Told l → List Part
 told_parts lead.For t = names t.0 ∷ says (elements_word t.1) ∷ ((if t.2 then says (codes "reverse") ∷ [] else []) ++ names t.3 ∷ says (codes "loop") ∷ [])
@@ -123,6 +128,7 @@ told_parts lead.UpdateKey t = names t.0 ∷ says (codes "at") ∷ names t.1 ∷ 
 told_parts lead.Reference t = names t.0 ∷ says (codes "of") ∷ names t.1 ∷ (place_parts t.2 ++ says (codes "do") ∷ [])
 told_parts lead.Stable t = names t ∷ says (codes "do") ∷ []
 told_parts lead.Declare t = []
+told_parts lead.Tasks t = []
 
 loop_head_exact : (line : ℕ) → Exact (told_head line lead.For) (told_parts lead.For) (loop_head line)
 unfolding loop_head
@@ -163,3 +169,10 @@ head_exact line lead.UpdateKey = key_head_exact line
 head_exact line lead.Reference = reference_head_exact line
 head_exact line lead.Stable = stable_head_exact line
 head_exact line lead.Declare = give (declare_at line [])
+head_exact line lead.Tasks = give (tasks_at line)
+
+pub task_head_exact : (line : ℕ) → Exact (λ (n : List ℕ). task_at line n []) (λ n. names n ∷ says (codes "is") ∷ []) (task_head line)
+unfolding task_head
+task_head_exact line =
+    recast (seq (single name_looks) (λ n. mapped (single (word_looks (codes "is"))) (λ _. task_at line n [])))
+    (λ i. (i.0, refl, refl)) (λ n. ((n, tt), refl, refl))

@@ -1,10 +1,11 @@
 -- The reader of one item is exact, on each line.
 use Rattle.std.proofs.Common.{◌≡◌, ℕ, true, false, List, [], ◌∷◌, ◌++◌, refl, ◌⊎◌, inl, inr, Option, Some, None, codes}
 use Rattle.ac_syntax.specs.declared.closing.Closing.{Closing}
-use Rattle.ac_syntax.specs.declared.closing.Closing.TheVariants.{EndLoop, End}
+use Rattle.ac_syntax.specs.declared.closing.Closing.TheVariants.{EndLoop, End, EndTasks, EndTask}
 use Rattle.ac_syntax.specs.Items.{Item, declares, commands, opens, begins, closes}
-use Rattle.ac_syntax.specs.Order.{Stage, listing, heading, running}
-use Rattle.ac_syntax.specs.declared.decl.Decl.TheVariants.{TypeDecl}
+use Rattle.ac_syntax.specs.Order.{Stage, listing, heading, running, tasking, tasked, preparing, stepping}
+use Rattle.ac_syntax.specs.declared.decl.Decl.TheVariants.{TypeDecl, IntVar}
+use Rattle.ac_syntax.specs.Code.{task_at}
 use Rattle.ac_syntax.specs.declared.type_def.TypeDef.{TypeDef}
 use Rattle.ac_syntax.specs.declared.token.Token.TheVariants.{Word}
 use Rattle.ac_syntax.specs.declared.token.Placed.{Placed}
@@ -15,19 +16,21 @@ use Rattle.ac_script.specs.declared.head.Lead.{Lead}
 use Rattle.ac_script.specs.declared.head.Lead.TheVariants as lead
 use Rattle.ac_script.specs.Readers.{as_word, as_word_of, as_mark}
 use Rattle.ac_script.specs.Heads.{other_lead, lead_of}
-use Rattle.ac_script.specs.ItemReader.{closing, type_item, declared_item, command_item, head_item, behind_name, named, ended, statement, in_listing, type_or_named, in_heading}
+use Rattle.ac_script.specs.ItemReader.{closing, type_item, declared_item, command_item, head_item, behind_name, named, ended, statement, in_listing, type_or_named, in_heading, task_item, in_tasking, end_of, in_tasked, local_item, local, in_preparing}
 use Rattle.ac_script.proofs.Cases.{either_by}
 use Rattle.ac_script.proofs.Spelled.{Spelled}
 use Rattle.ac_script.proofs.Exact.{Exact, seq, give, mapped, recast}
 use Rattle.ac_script.proofs.Forks.{Starts, single, forked, either_value}
 use Rattle.ac_script.proofs.Looked.{word_looks, mark_looks, name_looks, word_apart, mark_apart, name_apart, free_apart, free_word}
-use Rattle.ac_script.proofs.DeclarationsExact.{type_declaration_exact, Declared, declared_decl, declared_parts, declared_exact}
-use Rattle.ac_script.proofs.HeadsExact.{lead_word, lead_looks, Told, told_head, told_parts, head_exact}
+use Rattle.ac_script.proofs.DeclarationsExact.{type_declaration_exact, integer_end_exact, Declared, declared_decl, declared_parts, declared_exact}
+use Rattle.ac_script.proofs.HeadsExact.{lead_word, lead_looks, Told, told_head, told_parts, head_exact, task_head_exact}
 use Rattle.ac_script.proofs.CommandsExact.{Commanded, a_call, an_assignment, commanded_simple, commanded_parts, command_exact}
 
 abbrev pub closing_rest : Closing → List Part
 closing_rest EndLoop = says (codes "loop") ∷ marks Semicolon ∷ []
 closing_rest End = marks Semicolon ∷ []
+closing_rest EndTasks = says (codes "tasks") ∷ marks Semicolon ∷ []
+closing_rest EndTask = marks Semicolon ∷ []
 
 closing_exact : (words : Closing) → Exact (λ (_ : Unit {0}). closes words) (λ _. closing_rest words) (closing words)
 unfolding closing
@@ -35,6 +38,10 @@ closing_exact EndLoop =
     recast (seq (single (word_looks (codes "loop"))) (λ _. mapped (single (mark_looks Semicolon)) (λ _. closes EndLoop)))
     (λ _. (tt, refl, refl)) (λ _. ((tt, tt), refl, refl))
 closing_exact End = mapped (single (mark_looks Semicolon)) (λ _. closes End)
+closing_exact EndTasks =
+    recast (seq (single (word_looks (codes "tasks"))) (λ _. mapped (single (mark_looks Semicolon)) (λ _. closes EndTasks)))
+    (λ _. (tt, refl, refl)) (λ _. ((tt, tt), refl, refl))
+closing_exact EndTask = mapped (single (mark_looks Semicolon)) (λ _. closes EndTask)
 
 -- a declared type
 abbrev pub Typed : Type 0
@@ -67,16 +74,28 @@ abbrev pub Named : Stage → Type 0
 Named listing = Declared ⊎ Commanded
 Named heading = Declared
 Named running = Commanded
+Named tasking = Commanded
+Named tasked = Commanded
+Named preparing = Commanded
+Named stepping = Commanded
 
 abbrev pub named_item : (stage : Stage) → ℕ → List ℕ → Named stage → Item
 named_item listing line n = either_value (λ i. declares (declared_decl line n i)) (λ i. commands (commanded_simple line n i))
 named_item heading line n = λ i. declares (declared_decl line n i)
 named_item running line n = λ i. commands (commanded_simple line n i)
+named_item tasking line n = λ i. commands (commanded_simple line n i)
+named_item tasked line n = λ i. commands (commanded_simple line n i)
+named_item preparing line n = λ i. commands (commanded_simple line n i)
+named_item stepping line n = λ i. commands (commanded_simple line n i)
 
 abbrev pub named_parts : (stage : Stage) → Named stage → List Part
 named_parts listing = either_value (λ i. marks Colon ∷ declared_parts i) commanded_parts
 named_parts heading = λ i. marks Colon ∷ declared_parts i
 named_parts running = commanded_parts
+named_parts tasking = commanded_parts
+named_parts tasked = commanded_parts
+named_parts preparing = commanded_parts
+named_parts stepping = commanded_parts
 
 not_colon : (i : Commanded) (placed : List Placed) → Spelled (commanded_parts i) placed → Starts (as_mark Colon) None placed
 not_colon (a_call op args) placed h = mark_apart (as_mark Colon) Dot _ refl placed h
@@ -90,6 +109,10 @@ behind_name_exact listing line n =
     (either_by _ (λ i. (inl (tt, i), refl, refl)) (λ i. (inr i, refl, refl)))
 behind_name_exact heading line n = recast (seq (single (mark_looks Colon)) (λ _. declared_item_exact line n)) (λ i. (i.1, refl, refl)) (λ i. ((tt, i), refl, refl))
 behind_name_exact running line n = command_item_exact line n
+behind_name_exact tasking line n = command_item_exact line n
+behind_name_exact tasked line n = command_item_exact line n
+behind_name_exact preparing line n = command_item_exact line n
+behind_name_exact stepping line n = command_item_exact line n
 
 -- an item that begins with a name
 abbrev pub WithName : Stage → Type 0
@@ -134,7 +157,7 @@ reserved_end : is_reserved (codes "end") ≡ true
 unfolding reserved is_reserved
 reserved_end = refl
 
-ended_exact : (stage : Stage) (innermost : Option Closing) (line : ℕ) → Exact (ended_item stage innermost line) (ended_parts stage innermost) (ended stage innermost line)
+pub ended_exact : (stage : Stage) (innermost : Option Closing) (line : ℕ) → Exact (ended_item stage innermost line) (ended_parts stage innermost) (ended stage innermost line)
 unfolding ended
 ended_exact stage None line = recast (named_exact stage line) (λ i. (inr i, refl, refl)) (either_by _ (λ i. absurd i) (λ i. (i, refl, refl)))
 ended_exact stage (Some words) line =
@@ -172,6 +195,7 @@ not_lead v free =
       free_apart v (codes "reference") refl free,
       free_apart v (codes "stable") refl free,
       free_apart v (codes "declare") refl free,
+      free_apart v (codes "tasks") refl free,
     ) refl
 
 end_leads : lead_of (codes "end") ≡ None
@@ -198,6 +222,7 @@ lead_type lead.UpdateKey = refl
 lead_type lead.Reference = refl
 lead_type lead.Stable = refl
 lead_type lead.Declare = refl
+lead_type lead.Tasks = refl
 
 reserved_type : is_reserved (codes "type") ≡ true
 unfolding reserved is_reserved
@@ -266,3 +291,69 @@ in_heading_exact line =
     recast (forked (word_looks (codes "begin")) (λ _. give begins) (type_or_named_exact line) declares_apart)
     (either_by _ (λ _. (inl tt, refl, refl)) (λ i. (inr i, refl, refl)))
     (either_by _ (λ _. (inl (tt, tt), refl, refl)) (λ i. (inr i, refl, refl)))
+
+-- in a block of tasks
+
+task_item_exact : (line : ℕ) → Exact (λ (n : List ℕ). opens (task_at line n [])) (λ n. names n ∷ says (codes "is") ∷ []) (task_item line)
+unfolding task_item
+task_item_exact line = mapped (task_head_exact line) (λ h. opens h)
+
+abbrev pub task_parts : List ℕ → List Part
+task_parts n = says (codes "task") ∷ names n ∷ says (codes "is") ∷ []
+
+pub in_tasking_exact : (line : ℕ) → Exact (λ (n : List ℕ). opens (task_at line n [])) task_parts (in_tasking line)
+unfolding in_tasking
+in_tasking_exact line = recast (seq (single (word_looks (codes "task"))) (λ _. task_item_exact line)) (λ i. (i.1, refl, refl)) (λ n. ((tt, n), refl, refl))
+
+end_of_exact : (words : Closing) → Exact (λ (_ : Unit {0}). closes words) (λ _. says (codes "end") ∷ closing_rest words) (end_of words)
+end_of_exact words = recast (seq (single (word_looks (codes "end"))) (λ _. closing_exact words)) (λ _. (tt, refl, refl)) (λ _. ((tt, tt), refl, refl))
+
+-- a task, or the end of the innermost block, where one is open
+abbrev pub Tasked : Option Closing → Type 0
+Tasked innermost = List ℕ ⊎ Ending innermost
+
+abbrev pub tasked_item : (innermost : Option Closing) → ℕ → Tasked innermost → Item
+tasked_item innermost line = either_value (λ n. opens (task_at line n [])) (ending_item innermost)
+
+abbrev pub tasked_parts : (innermost : Option Closing) → Tasked innermost → List Part
+tasked_parts innermost = either_value task_parts (ending_parts innermost)
+
+pub in_tasked_exact : (innermost : Option Closing) (line : ℕ) → Exact (tasked_item innermost line) (tasked_parts innermost) (in_tasked innermost line)
+unfolding in_tasked
+in_tasked_exact None line = recast (in_tasking_exact line) (λ n. (inl n, refl, refl)) (either_by _ (λ n. (n, refl, refl)) (λ i. absurd i))
+in_tasked_exact (Some words) line =
+    recast (forked (word_looks (codes "task")) (λ _. task_item_exact line) (end_of_exact words) (λ _. word_apart (as_word (codes "task")) (codes "end") _ refl))
+    (either_by _ (λ i. (inl i.1, refl, refl)) (λ _. (inr tt, refl, refl)))
+    (either_by _ (λ n. (inl (tt, n), refl, refl)) (λ _. (inr tt, refl, refl)))
+
+-- at the front of a task
+
+local_item_exact : (line : ℕ) (n : List ℕ) → Exact (λ (_ : Unit {0}). declares (IntVar line n)) (λ _. marks Semicolon ∷ []) (local_item line n)
+unfolding local_item
+local_item_exact line n = mapped (integer_end_exact line n) (λ decl. declares decl)
+
+abbrev pub local_parts : List ℕ → List Part
+local_parts n = names n ∷ marks Colon ∷ says (codes "integer") ∷ marks Semicolon ∷ []
+
+local_exact : (line : ℕ) → Exact (λ (n : List ℕ). declares (IntVar line n)) local_parts (local line)
+unfolding local
+local_exact line =
+    recast (seq (single name_looks) (λ n. seq (single (mark_looks Colon)) (λ _. seq (single (word_looks (codes "integer"))) (λ _. local_item_exact line n))))
+    (λ i. (i.0, refl, refl)) (λ n. ((n, (tt, (tt, tt))), refl, refl))
+
+-- `begin`, or a local
+abbrev pub Prepared : Type 0
+Prepared = Unit {0} ⊎ List ℕ
+
+abbrev pub prepared_item : ℕ → Prepared → Item
+prepared_item line = either_value (λ _. begins) (λ n. declares (IntVar line n))
+
+abbrev pub prepared_parts : Prepared → List Part
+prepared_parts = either_value (λ _. says (codes "begin") ∷ []) local_parts
+
+pub in_preparing_exact : (line : ℕ) → Exact (prepared_item line) prepared_parts (in_preparing line)
+unfolding in_preparing
+in_preparing_exact line =
+    recast (forked (word_looks (codes "begin")) (λ _. give begins) (local_exact line) (λ n. free_name (codes "begin") reserved_begin n _))
+    (either_by _ (λ _. (inl tt, refl, refl)) (λ n. (inr n, refl, refl)))
+    (either_by _ (λ _. (inl (tt, tt), refl, refl)) (λ n. (inr n, refl, refl)))

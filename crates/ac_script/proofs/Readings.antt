@@ -1,21 +1,20 @@
 -- What items that were read one after another say of every script of the same tokens.
 use Rattle.std.proofs.Common.{◌≡◌, ℕ, ◌<◌, true, List, [], ◌∷◌, ◌++◌, length, refl, sym, ap, subst, ◌∙◌, append_assoc, arith}
-use Rattle.std.proofs.lemmas.List.{append-nil, map-append}
-use Rattle.std.proofs.lemmas.Option.{none-some}
-use Rattle.std.specs.Prelude.{Option, Some, None, map, option_and_then}
+use Rattle.std.proofs.lemmas.List.{append-nil, map-append, reverse-append}
+use Rattle.std.specs.Prelude.{Some, None, map, reverse, option_and_then}
 use Rattle.ac_syntax.specs.declared.closing.Closing.{Closing}
-use Rattle.ac_syntax.specs.declared.closing.Closing.TheVariants.{EndLoop, End}
+use Rattle.ac_syntax.specs.declared.closing.Closing.TheVariants.{EndLoop, End, EndTasks, EndTask}
 use Rattle.ac_syntax.specs.declared.token.Placed.{Placed}
 use Rattle.ac_syntax.specs.declared.script.Script.{Script}
 use Rattle.ac_syntax.specs.Items.{Item, closes, script_items}
 use Rattle.ac_syntax.specs.Parts.{item_parts}
-use Rattle.ac_syntax.specs.Grammar.{IsItem, AreItems, Derives, BeginsScript}
+use Rattle.ac_syntax.specs.Grammar.{reserved, is_reserved, IsItem, AreItems, Derives, BeginsScript}
 use Rattle.ac_syntax.specs.Canonical.{line_reached, items_placed}
-use Rattle.ac_syntax.specs.Order.{Stage, listing, heading, running, Context, next_after, context_after, at_front, IsEnd, AreInOrder}
+use Rattle.ac_syntax.specs.Order.{Stage, listing, heading, running, tasking, tasked, preparing, stepping, Context, stage_behind, left_behind, next_after, context_after, at_front, IsEnd, AreInOrder}
 use Rattle.ac_syntax.proofs.Derivations.{are_sayable, items_derive}
 use Rattle.ac_syntax.proofs.ItemsAlone.{script_alone}
 use Rattle.ac_syntax.proofs.Withins.{not_ended}
-use Rattle.ac_syntax.proofs.Orders.{script_found, completion, completed, behind}
+use Rattle.ac_syntax.proofs.Orders.{script_found, left_from, then_some, completion, completed, behind}
 use Rattle.ac_script.specs.Outcomes.{got, stopped}
 use Rattle.ac_script.specs.ItemReader.{item, innermost_of}
 use Rattle.ac_script.specs.ExactItems.{MayCome, IsBegun}
@@ -43,12 +42,18 @@ unfolding item_parts
 ends_sayable line [] = refl
 ends_sayable line (EndLoop ∷ blocks) = ends_sayable (line_reached line None) blocks
 ends_sayable line (End ∷ blocks) = ends_sayable (line_reached line None) blocks
+ends_sayable line (EndTasks ∷ blocks) = ends_sayable (line_reached line None) blocks
+ends_sayable line (EndTask ∷ blocks) = ends_sayable (line_reached line None) blocks
 
-completion_sayable : (line : ℕ) (blocks : List Closing) (stage : Stage) → are_sayable line (completion blocks stage) ≡ true
-unfolding item_parts
-completion_sayable line blocks listing = ends_sayable line blocks
-completion_sayable line blocks heading = ends_sayable (line_reached line None) blocks
-completion_sayable line blocks running = ends_sayable line blocks
+completion_sayable : (blocks : List Closing) (stage : Stage) → are_sayable 1 (completion blocks stage) ≡ true
+unfolding reserved is_reserved item_parts
+completion_sayable blocks listing = ends_sayable 1 blocks
+completion_sayable blocks heading = ends_sayable 1 blocks
+completion_sayable blocks running = ends_sayable 1 blocks
+completion_sayable blocks tasking = ends_sayable 1 blocks
+completion_sayable blocks tasked = ends_sayable 1 blocks
+completion_sayable blocks preparing = ends_sayable 1 blocks
+completion_sayable blocks stepping = ends_sayable 1 blocks
 
 -- what derives the script with these items
 pub derives_items : (items : List Item) (placed : List Placed) (script : Script) → script_items script ≡ items → AreItems items placed → AreInOrder items → Derives placed script
@@ -60,19 +65,13 @@ begins_script items context done are leads =
     let more = completion context.blocks context.stage in
     let ordered = completed items context leads in
     let script = script_found (items ++ more) ordered in
-    let derived = items_behind items more done (items_placed 1 more) are (items_derive 1 more (completion_sayable 1 context.blocks context.stage)) in
+    let derived = items_behind items more done (items_placed 1 more) are (items_derive 1 more (completion_sayable context.blocks context.stage)) in
     (items_placed 1 more, script.0, derives_items (items ++ more) (done ++ items_placed 1 more) script.0 script.1 derived ordered)
 
 pub front_begins : (before more : List Placed) → BeginsScript (before ++ more) → BeginsScript before
 front_begins before more (rest, script, derived) = (more ++ rest, script, subst (λ all. Derives all script) (append_assoc before more rest) derived)
 
 -- ---- a script of the same tokens has the same items
-
--- what a step and those behind it lead to
-then_some : (o : Option Context) (items : List Item) (to : Context) → option_and_then (λ next. context_after next items) o ≡ Some to
-    → (next : Context) × (o ≡ Some next) × (context_after next items ≡ Some to)
-then_some None items to e = absurd (none-some to e)
-then_some (Some next) items to e = (next, refl, e)
 
 -- the first of these items may come
 first_may : (context : Context) (it : Item) (items : List Item) (to : Context) → context_after context (it ∷ items) ≡ Some to → MayCome context.blocks context.stage it
@@ -258,3 +257,14 @@ pub stops_reading : (items : List Item) (context : Context) (placed rest at : Li
     → item context.stage (innermost_of context.blocks) rest ≡ stopped at → IsReading (reading_at at) placed
 stops_reading items context placed rest [] read some e = ends_inside items context placed rest read some e
 stops_reading items context placed rest (b ∷ after) read some e = has_bad items context placed rest b after read e
+
+-- what the end of the innermost block leads to
+pub left_reaches : (old new : List Closing) (b l : Closing) (stage : Stage) (next : Context) → old ≡ new ++ b ∷ [] → stage ≡ stage_behind b → left_behind l (reverse old) ≡ Some next
+    → record { blocks = reverse new; stage = stage } ≡ next
+left_reaches old new b l stage next is at e =
+    let turned : reverse old ≡ b ∷ reverse new = ap reverse is ∙ reverse-append new (b ∷ []) in
+    let left = left_from l (reverse old) next e in
+    let both : b ∷ reverse new ≡ l ∷ left.0 = sym turned ∙ left.1 in
+    let own : b ≡ l = cc both in
+    let outer : reverse new ≡ left.0 = cc both in
+    (λ i. record { blocks = outer i; stage = (at ∙ ap stage_behind own) i }) ∙ left.2

@@ -1,10 +1,10 @@
 -- The reader of an item reads the items that may come.
 use Rattle.std.proofs.Common.{◌≡◌, ◌<◌, ◌≤◌, length-append, ℕ, List, [], ◌∷◌, ◌++◌, length, refl, sym, ap, subst, ◌∙◌, Some, None, arith}
 use Rattle.ac_syntax.specs.declared.closing.Closing.{Closing}
-use Rattle.ac_syntax.specs.declared.closing.Closing.TheVariants.{EndLoop, End}
-use Rattle.ac_syntax.specs.Code.{Simple, call_at, set_at, sum_at, Head, loop_at, view_at, stable_at, declare_at}
+use Rattle.ac_syntax.specs.declared.closing.Closing.TheVariants.{EndLoop, End, EndTasks, EndTask}
+use Rattle.ac_syntax.specs.Code.{Simple, call_at, set_at, sum_at, Head, loop_at, view_at, stable_at, declare_at, tasks_at, task_at}
 use Rattle.ac_syntax.specs.Items.{Item, declares, commands, opens, begins, closes, item_line}
-use Rattle.ac_syntax.specs.Order.{Stage, listing, heading, running, entered, next_after}
+use Rattle.ac_syntax.specs.Order.{Stage, listing, heading, running, tasking, tasked, preparing, stepping, entered, task_entered, prepared, next_after}
 use Rattle.ac_syntax.specs.declared.decl.Decl.{Decl}
 use Rattle.ac_syntax.specs.declared.decl.Decl.TheVariants.{TypeDecl, Object, CursorVar, IntVar, TextVar}
 use Rattle.ac_syntax.specs.declared.view_kind.ViewKind.TheVariants as view
@@ -41,6 +41,8 @@ head_parts_on line (loop_at _ _ _ _ _) = refl
 head_parts_on line (view_at _ _ _ _ _) = refl
 head_parts_on line (stable_at _ _) = refl
 head_parts_on line (declare_at _ _) = refl
+head_parts_on line (tasks_at _) = refl
+head_parts_on line (task_at _ _ _) = refl
 
 parts_on : (line : ℕ) (item : Item) → item_parts (relined line item) ≡ item_parts item
 parts_on line (declares decl) = decl_parts_on line decl
@@ -56,17 +58,47 @@ entered_on blocks line (view_at _ _ _ _ _) = refl
 entered_on blocks line (stable_at _ _) = refl
 entered_on blocks line (declare_at _ []) = refl
 entered_on blocks line (declare_at _ (_ ∷ _)) = refl
+entered_on blocks line (tasks_at _) = refl
+entered_on blocks line (task_at _ _ _) = refl
+
+task_entered_on : (blocks : List Closing) (line : ℕ) (head : Head) → task_entered blocks (head_on line head) ≡ task_entered blocks head
+task_entered_on blocks line (loop_at _ _ _ _ _) = refl
+task_entered_on blocks line (view_at _ _ _ _ _) = refl
+task_entered_on blocks line (stable_at _ _) = refl
+task_entered_on blocks line (declare_at _ _) = refl
+task_entered_on blocks line (tasks_at _) = refl
+task_entered_on blocks line (task_at _ _ []) = refl
+task_entered_on blocks line (task_at _ _ (_ ∷ _)) = refl
+
+prepared_on : (blocks : List Closing) (line : ℕ) (decl : Decl) → prepared blocks (decl_on line decl) ≡ prepared blocks decl
+prepared_on blocks line (TypeDecl _ _ _) = refl
+prepared_on blocks line (Object _ _ _ _) = refl
+prepared_on blocks line (CursorVar _ _ _) = refl
+prepared_on blocks line (IntVar _ _) = refl
+prepared_on blocks line (TextVar _ _) = refl
 
 next_on : (blocks : List Closing) (stage : Stage) (line : ℕ) (item : Item) → next_after blocks stage (relined line item) ≡ next_after blocks stage item
 next_on blocks listing line (declares _) = refl
 next_on blocks heading line (declares _) = refl
 next_on blocks running line (declares _) = refl
+next_on blocks tasking line (declares _) = refl
+next_on blocks tasked line (declares _) = refl
+next_on blocks preparing line (declares decl) = prepared_on blocks line decl
+next_on blocks stepping line (declares _) = refl
 next_on blocks listing line (commands _) = refl
 next_on blocks heading line (commands _) = refl
 next_on blocks running line (commands _) = refl
+next_on blocks tasking line (commands _) = refl
+next_on blocks tasked line (commands _) = refl
+next_on blocks preparing line (commands _) = refl
+next_on blocks stepping line (commands _) = refl
 next_on blocks listing line (opens head) = entered_on blocks line head
 next_on blocks heading line (opens _) = refl
 next_on blocks running line (opens head) = entered_on blocks line head
+next_on blocks tasking line (opens head) = task_entered_on blocks line head
+next_on blocks tasked line (opens head) = task_entered_on blocks line head
+next_on blocks preparing line (opens _) = refl
+next_on blocks stepping line (opens _) = refl
 next_on blocks stage line begins = refl
 next_on blocks stage line (closes _) = refl
 
@@ -87,6 +119,8 @@ begins_on first others (opens (loop_at _ _ _ _ _)) = refl
 begins_on first others (opens (view_at _ _ _ _ _)) = refl
 begins_on first others (opens (stable_at _ _)) = refl
 begins_on first others (opens (declare_at _ _)) = refl
+begins_on first others (opens (tasks_at _)) = refl
+begins_on first others (opens (task_at _ _ _)) = refl
 begins_on first others begins = tt
 begins_on first others (closes _) = tt
 
@@ -104,6 +138,8 @@ lined first others (opens (loop_at _ name elements backward object)) e = ap (λ 
 lined first others (opens (view_at _ kind object at name)) e = ap (λ line. opens (view_at line kind object at name)) e
 lined first others (opens (stable_at _ object)) e = ap (λ line. opens (stable_at line object)) e
 lined first others (opens (declare_at _ decls)) e = ap (λ line. opens (declare_at line decls)) e
+lined first others (opens (tasks_at _)) e = ap (λ line. opens (tasks_at line)) e
+lined first others (opens (task_at _ name locals)) e = ap (λ line. opens (task_at line name locals)) e
 lined first others begins e = refl
 lined first others (closes _) e = refl
 
@@ -126,9 +162,13 @@ has_part (opens (view_at _ view.UpdateKey _ _ _)) = omega arith
 has_part (opens (view_at _ view.Reference _ _ _)) = omega arith
 has_part (opens (stable_at _ _)) = omega arith
 has_part (opens (declare_at _ _)) = omega arith
+has_part (opens (tasks_at _)) = omega arith
+has_part (opens (task_at _ _ _)) = omega arith
 has_part begins = omega arith
 has_part (closes EndLoop) = omega arith
 has_part (closes End) = omega arith
+has_part (closes EndTasks) = omega arith
+has_part (closes EndTask) = omega arith
 
 -- some tokens
 record Nonempty (placed : List Placed) : Type 0 where

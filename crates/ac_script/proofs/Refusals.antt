@@ -116,7 +116,7 @@ abbrev nothing : Script
 nothing = record { decls = []; stmts = stop }
 
 some_last : (placed : List Placed) → EndEarly placed → Last placed
-some_last [] early = absurd (early.none nothing (record { are = refl; ordered = script_ordered nothing }))
+some_last [] early = absurd (early.none nothing (record { are = refl; ordered = script_ordered nothing tt }))
 some_last (p ∷ placed) early = last_of p placed
 
 pub ended : (text : List ℕ) (placed : List Placed) → IsCut text placed None → AreWithinLimits (tokens placed) → EndEarly placed → (last : Last placed)

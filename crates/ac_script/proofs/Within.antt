@@ -1,13 +1,13 @@
 -- How far tokens keep the limits, one token more at a time.
 use Rattle.std.proofs.Common.{◌≡◌, ◌+◌, ◌-◌, ◌<◌, ◌≤◌, ℕ, suc, Bool, true, false, cond, List, [], ◌∷◌, ◌++◌, take, length, refl, ap, ◌∙◌, arith, get_or, inl, inr}
-use Rattle.std.specs.Prelude.{◌⊎◌}
+use Rattle.std.specs.Prelude.{◌⊎◌, ◌&&◌, not}
 use Rattle.std.proofs.lemmas.List.{map-append}
 use Rattle.std.proofs.lemmas.List.Sums.{fold-append}
 use Rattle.std.proofs.Math.Seq.{take-suc}
 use Rattle.ac_syntax.specs.declared.token.Token.{Token}
 use Rattle.ac_syntax.specs.declared.token.Placed.{Placed}
 use Rattle.ac_syntax.specs.Tokens.{tokens}
-use Rattle.ac_syntax.specs.Limits.{none_seen, seen_after, seen_of, depth_after, is_word_of, block_words, end_words, is_past_limit, AreWithinLimits}
+use Rattle.ac_syntax.specs.Limits.{Seen, none_seen, seen_after, seen_of, is_open, begins_block, begins_command, depth_after, tasks_after, commands_after, is_word_of, end_words, tasks_words, task_words, is_past_limit, AreWithinLimits}
 use Rattle.ac_syntax.proofs.Withins.{not_ended}
 
 -- a list with one item more is cut at that item, or before it
@@ -36,14 +36,26 @@ none_within before after token e = absurd (not_ended before after token e)
 pub one_more_seen : (done : List Token) (next : Token) → seen_of (done ++ next ∷ []) ≡ seen_after (seen_of done) next
 one_more_seen done next = fold-append seen_after none_seen done (next ∷ [])
 
--- with a token more, one block more at most is open
-pub depth_rises : (depth : ℕ) (token : Token) → depth_after depth token ≤ depth + 1
-depth_rises depth token = by (is_word_of block_words token) (is_word_of end_words token)
-  where
-    by : (begins ends : Bool) → cond begins (depth + 1) (cond ends (depth - 1) depth) ≤ depth + 1
-    by true ends = omega arith
-    by false true = omega arith
-    by false false = omega arith
+-- with a token more, each count rises by one at most
+
+rises_by : (up down : Bool) (n : ℕ) → cond up (n + 1) (cond down (n - 1) n) ≤ n + 1
+rises_by true down n = omega arith
+rises_by false true n = omega arith
+rises_by false false n = omega arith
+
+begins_anew : (anew up : Bool) (n : ℕ) → cond anew 0 (cond up (n + 1) n) ≤ n + 1
+begins_anew true up n = omega arith
+begins_anew false true n = omega arith
+begins_anew false false n = omega arith
+
+pub depth_rises : (seen : Seen) (token : Token) → depth_after seen token ≤ seen.depth + 1
+depth_rises seen token = rises_by (begins_block seen token) (is_word_of end_words token && not (is_open seen.progress)) seen.depth
+
+pub tasks_rise : (seen : Seen) (token : Token) → tasks_after seen token ≤ seen.tasks + 1
+tasks_rise seen token = begins_anew (is_word_of tasks_words token) (is_word_of task_words token) seen.tasks
+
+pub commands_rise : (seen : Seen) (token : Token) → commands_after seen token ≤ seen.commands + 1
+commands_rise seen token = begins_anew (is_word_of task_words token) (begins_command seen token) seen.commands
 
 -- the tokens of the first n placed ones and the next
 pub taken : (placed : List Placed) (n : ℕ) (d : Placed) → n < length placed → tokens (take (n + 1) placed) ≡ tokens (take n placed) ++ (get_or placed n d).token ∷ []

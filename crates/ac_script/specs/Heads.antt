@@ -1,7 +1,7 @@
 -- Readers of what begins a block.
 use Rattle.std.specs.Prelude.{ℕ, codes, Bool, true, false, List, [], Option, Some, None, if◌then◌else◌}
 use Rattle.std.specs.Str.{bytes_eq}
-use Rattle.ac_syntax.specs.Code.{Head, loop_at, view_at, stable_at, declare_at}
+use Rattle.ac_syntax.specs.Code.{Head, loop_at, view_at, stable_at, declare_at, tasks_at, task_at}
 use Rattle.ac_syntax.specs.declared.view_kind.ViewKind.{ViewKind}
 use Rattle.ac_syntax.specs.declared.view_kind.ViewKind.TheVariants as view
 use Rattle.ac_script.specs.declared.head.Lead.{Lead}
@@ -14,6 +14,7 @@ other_lead found =
     if bytes_eq found (codes "reference") then Some lead.Reference
     else if bytes_eq found (codes "stable") then Some lead.Stable
     else if bytes_eq found (codes "declare") then Some lead.Declare
+    else if bytes_eq found (codes "tasks") then Some lead.Tasks
     else None
 
 unfoldable pub lead_of : List ℕ → Option Lead
@@ -102,3 +103,11 @@ head lead.UpdateKey line = key_head line
 head lead.Reference line = reference_head line
 head lead.Stable line = stable_head line
 head lead.Declare line = gives (declare_at line [])
+head lead.Tasks line = gives (tasks_at line)
+
+-- what stands behind `task`
+unfoldable pub task_head : ℕ → Reader Head
+task_head line = do
+  n ← name
+  _ ← word (codes "is")
+  gives (task_at line n [])

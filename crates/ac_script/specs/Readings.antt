@@ -1,13 +1,14 @@
 -- What it is to read tokens to their end, or up to the first bad one.
-use Rattle.std.specs.Prelude.{◌≡◌, ℕ, List, [], ◌∷◌, ◌++◌, map, reverse, Some}
+use Rattle.std.specs.Prelude.{◌≡◌, ℕ, List, [], ◌∷◌, ◌++◌, map, reverse, Option, Some}
 use Rattle.ac_syntax.specs.declared.closing.Closing.{Closing}
 use Rattle.ac_syntax.specs.declared.token.Placed.{Placed}
 use Rattle.ac_syntax.specs.declared.script.Script.{Script}
 use Rattle.ac_syntax.specs.Code.{Head}
 use Rattle.ac_syntax.specs.Items.{Item}
 use Rattle.ac_syntax.specs.Grammar.{AreItems, Derives, BeginsScript}
-use Rattle.ac_syntax.specs.Order.{Context, entered, left_behind, next_after, context_after, at_front, AreInOrder}
+use Rattle.ac_syntax.specs.Order.{Context, left_behind, next_after, context_after, at_front, AreInOrder}
 use Rattle.ac_script.specs.declared.stage.Stage.{Stage}
+use Rattle.ac_script.specs.declared.stage.Stage.TheVariants as stage
 use Rattle.ac_script.specs.declared.reading.Reading.{Reading}
 use Rattle.ac_script.specs.declared.reading.Reading.TheVariants.{Whole, Early, Bad}
 use Rattle.ac_script.specs.Views.{item_view, stage_view}
@@ -46,10 +47,30 @@ reading_at (bad ∷ _) = Bad bad.line
 abbrev pub context_of : List Closing → Stage → Context
 context_of open_blocks stage = record { blocks = reverse open_blocks; stage = stage_view stage }
 
--- from these open blocks, a block with this head leads to the others and to this stage
+-- what a command, and the word `begin`, lead to
 
-abbrev pub Enters : List Closing → List Closing → Head → Stage → Type 0
-Enters old new head reached = entered (reverse old) head ≡ Some (context_of new reached)
+abbrev pub ran : Stage → Stage
+ran stage.Listing = stage.Running
+ran stage.Heading = stage.Running
+ran stage.Running = stage.Running
+ran stage.Tasking = stage.Running
+ran stage.Tasked = stage.Running
+ran stage.Preparing = stage.Running
+ran stage.Stepping = stage.Stepping
+
+abbrev pub begun : Stage → Stage
+begun stage.Listing = stage.Running
+begun stage.Heading = stage.Running
+begun stage.Running = stage.Running
+begun stage.Tasking = stage.Running
+begun stage.Tasked = stage.Running
+begun stage.Preparing = stage.Stepping
+begun stage.Stepping = stage.Running
+
+-- from these open blocks, a block with this head leads to the others and to this stage, where `enter` lets it come
+
+abbrev pub Enters : (List Closing → Head → Option Context) → List Closing → List Closing → Head → Stage → Type 0
+Enters enter old new head reached = (next : Context) → enter (reverse old) head ≡ Some next → context_of new reached ≡ next
 
 -- and so do the words that end the innermost one, whichever may
 abbrev pub Leaves : List Closing → List Closing → Stage → Type 0

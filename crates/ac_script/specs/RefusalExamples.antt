@@ -10,8 +10,37 @@ use Rattle.ac_syntax.specs.Examples.{lines, two_lines}
 abbrev pub RefusesMarkFirst : Type 0
 RefusesMarkFirst = IsFirstRefusal (codes ") 99999999999999999999;") 1 Syntax
 
-abbrev pub RefusesTasks : Type 0
-RefusesTasks = IsFirstRefusal (lines ([] ∷ codes "tasks end tasks;" ∷ [])) 2 Syntax
+-- a block of tasks has a task
+abbrev pub RefusesNoTask : Type 0
+RefusesNoTask = IsFirstRefusal (lines ([] ∷ codes "tasks" ∷ codes "end tasks;" ∷ [])) 3 Syntax
+
+-- a task stands in a block of tasks alone
+abbrev pub RefusesBareTask : Type 0
+RefusesBareTask = IsFirstRefusal (lines ([] ∷ codes "task T" ∷ [])) 2 Syntax
+
+-- a task that has begun, with these lines behind
+abbrev pub in_task_text : List (List ℕ) → List ℕ
+in_task_text more = lines (codes "tasks" ∷ codes "task T is begin" ∷ more)
+
+-- no block stands in a task
+abbrev pub RefusesBlockInTask : Type 0
+RefusesBlockInTask = IsFirstRefusal (in_task_text (codes "stable A do end;" ∷ [])) 3 Syntax
+
+-- and no task stands in another
+abbrev pub RefusesTaskInTask : Type 0
+RefusesTaskInTask = IsFirstRefusal (in_task_text (codes "task U" ∷ [])) 3 Syntax
+
+-- behind a task no command comes
+abbrev pub RefusesCommandBehindTask : Type 0
+RefusesCommandBehindTask = IsFirstRefusal (in_task_text (codes "A.Print; end;" ∷ codes "A.Print;" ∷ [])) 4 Syntax
+
+-- a block of tasks ends with its own words
+abbrev pub RefusesBareEndOfTasks : Type 0
+RefusesBareEndOfTasks = IsFirstRefusal (in_task_text (codes "A.Print; end;" ∷ codes "end" ∷ codes ";" ∷ [])) 5 Syntax
+
+-- a task's locals are integers
+abbrev pub RefusesTextInTask : Type 0
+RefusesTextInTask = IsFirstRefusal (lines (codes "tasks" ∷ codes "task T is" ∷ codes "X : " ∷ codes "string;" ∷ [])) 4 Syntax
 
 -- a block that doesn't end, with these commands
 

@@ -4,11 +4,11 @@ use Rattle.ac_syntax.specs.Code as code
 use Rattle.ac_syntax.specs.Items as items
 use Rattle.ac_syntax.specs.Order as order
 use Rattle.ac_script.specs.declared.stage.Stage.{Stage}
-use Rattle.ac_script.specs.declared.stage.Stage.TheVariants.{Listing, Heading, Running}
+use Rattle.ac_script.specs.declared.stage.Stage.TheVariants.{Listing, Heading, Running, Tasking, Tasked, Preparing, Stepping}
 use Rattle.ac_script.specs.declared.item.Command.{Command}
 use Rattle.ac_script.specs.declared.item.Command.TheVariants.{Call, Set, Sum}
 use Rattle.ac_script.specs.declared.item.Head.{Head}
-use Rattle.ac_script.specs.declared.item.Head.TheVariants.{Loop, View, Stable, Declare}
+use Rattle.ac_script.specs.declared.item.Head.TheVariants.{Loop, View, Stable, Declare, Tasks, Task}
 use Rattle.ac_script.specs.declared.item.Item.{Item}
 use Rattle.ac_script.specs.declared.item.Item.TheVariants.{Declares, Commands, Opens, Begins, Closes}
 use Rattle.ac_script.specs.Arguments.{argument_view}
@@ -23,6 +23,8 @@ head_view (Loop line name elements backward object) = code.loop_at line name ele
 head_view (View line kind object at name) = code.view_at line kind object at name
 head_view (Stable line object) = code.stable_at line object
 head_view (Declare line) = code.declare_at line []
+head_view (Tasks line) = code.tasks_at line
+head_view (Task line name) = code.task_at line name []
 
 abbrev pub item_view : Item → items.Item
 item_view (Declares decl) = items.declares decl
@@ -35,3 +37,7 @@ abbrev pub stage_view : Stage → order.Stage
 stage_view Listing = order.listing
 stage_view Heading = order.heading
 stage_view Running = order.running
+stage_view Tasking = order.tasking
+stage_view Tasked = order.tasked
+stage_view Preparing = order.preparing
+stage_view Stepping = order.stepping

@@ -4,18 +4,17 @@ ghost use Rattle.ac_syntax.specs.Code.{Code, Simple, block};
 ghost use Rattle.ac_syntax.specs.declared.closing.Closing.{Closing};
 ghost use Rattle.ac_syntax.specs.Items.{script_items, declares, commands, opens, begins, closes};
 ghost use Rattle.ac_syntax.specs.Order.{at_front, AreInOrder};
-ghost use Rattle.ac_syntax.specs.Statements.{before};
 ghost use Rattle.ac_script.specs.Arguments.{argument_view};
 ghost use Rattle.ac_script.specs.Views.{item_view, command_view, head_view};
 ghost use Rattle.ac_script.specs.Fits.{Fits, FitsSimple, FitsArg, FitArgs, IsInteger};
 ghost use Rattle.ac_script.specs.Arguments.{integer_of};
-ghost use Rattle.ac_script.specs.Building.{items_so_far, IsBuilding, Runs, Adds, full_head};
+ghost use Rattle.ac_script.specs.Building.{items_so_far, IsBuilding, Runs, Takes, Adds, full_head, body_by, is_task, ended_before, is_ended_task};
 
 use crate::argument::{Argument, Arguments};
 use crate::item::{Command, Head, Item};
 use crate::limits::LEAST;
 use ac_base::{NoMemory, Text, Value};
-use ac_syntax::{Arg, Args, Decl, Decls, Script, Stmt, Stmts};
+use ac_syntax::{Arg, Args, Decl, Decls, Script, Stmt, Stmts, TaskText, TaskTexts};
 use std::alloc::Global;
 use std::mem;
 
@@ -26,6 +25,15 @@ struct Level {
     /// The word `begin` stands behind the declarations.
     begun: bool,
     stmts: Vec<Stmt>,
+    /// In a block of tasks.
+    tasks: Vec<TaskText>,
+}
+
+/// A statement that has ended, or a task of a block.
+#[derive(Drop)]
+enum Ended {
+    Statement(Stmt),
+    OfBlock(TaskText),
 }
 
 /// A level in which a block is open, and the block's head.
@@ -123,9 +131,10 @@ fn command(alloc: Global, command: Command) -> Result<Stmt, NoMemory>
     })
 }
 
-/// A block with its declarations and its body.
-fn block(head: Head, decls: Decls, body: Stmts) -> Stmt
-    ensures { (rest : Code) → before result rest ≡ block (full_head head decls) body rest }
+/// A block with its declarations and its body, or a task with its locals and its commands.
+fn end_block(head: Head, decls: Decls, body: Stmts, tasks: TaskTexts) -> Ended
+    ensures block { (rest : Code) → ended_before result rest ≡ block (full_head head decls) (body_by head body tasks) rest }
+    ensures task { is_ended_task result ≡ is_task head }
 {
     match head {
         Head::Loop {
@@ -134,42 +143,61 @@ fn block(head: Head, decls: Decls, body: Stmts) -> Stmt
             elements,
             backward,
             object,
-        } => Stmt::Loop {
+        } => Ended::Statement(Stmt::Loop {
             line,
             name,
             elements,
             backward,
             object,
             body,
-        },
+        }),
         Head::View {
             line,
             kind,
             object,
             at,
             name,
-        } => Stmt::View {
+        } => Ended::Statement(Stmt::View {
             line,
             kind,
             object,
             at,
             name,
             body,
-        },
-        Head::Stable { line, object } => Stmt::Stable { line, object, body },
-        Head::Declare { line } => Stmt::Declare { line, decls, body },
+        }),
+        Head::Stable { line, object } => Ended::Statement(Stmt::Stable { line, object, body }),
+        Head::Declare { line } => Ended::Statement(Stmt::Declare { line, decls, body }),
+        Head::Tasks { line } => Ended::Statement(Stmt::Tasks { line, tasks }),
+        Head::Task { line, name } => Ended::OfBlock(TaskText {
+            line,
+            name,
+            locals: decls,
+            steps: body,
+        }),
     }
 }
 
 impl Level {
     fn new(alloc: Global) -> Level
-        ensures { (result.decls.items ≡ []) × (result.begun ≡ false) × (result.stmts.items ≡ []) }
+        ensures { (result.decls.items ≡ []) × (result.begun ≡ false) × (result.stmts.items ≡ []) × (result.tasks.items ≡ []) }
     {
         Level {
             decls: Vec::new(alloc),
             begun: false,
             stmts: Vec::new(alloc),
+            tasks: Vec::new(alloc),
         }
+    }
+
+    /// Takes what has ended in it.
+    fn take(&mut self, ended: Ended) -> Result<(), NoMemory>
+        ensures { OnOk result (Takes ended self.old self.new) }
+    {
+        match ended {
+            Ended::Statement(stmt) => self.stmts.push(stmt)?,
+            Ended::OfBlock(task) => self.tasks.push(task)?,
+        }
+        Ok(())
     }
 }
 
@@ -236,10 +264,10 @@ impl Building {
             return Ok(());
         };
         let inner = mem::replace(&mut self.level, level);
+        let decls = Decls::from_vec(inner.decls);
         let body = Stmts::from_vec(inner.stmts);
-        self.level
-            .stmts
-            .push(block(head, Decls::from_vec(inner.decls), body))?;
+        let tasks = TaskTexts::from_vec(inner.tasks);
+        self.level.take(end_block(head, decls, body, tasks))?;
         Ok(())
     }
 }
@@ -250,6 +278,7 @@ fn built(alloc: Global, items: Vec<Item>) -> Result<Building, NoMemory>
     ensures items { IfOk result (λ made. items_so_far made ≡ map item_view items.items) }
     ensures ended { IfOk result (λ made. made.around.items ≡ []) }
     ensures unbegun { IfOk result (λ made. made.level.begun ≡ false) }
+    ensures taskless { IfOk result (λ made. made.level.tasks.items ≡ []) }
 {
     let mut made = Building::new(alloc);
     for item in items {

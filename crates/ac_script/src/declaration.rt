@@ -181,7 +181,7 @@ fn capacity_end(tokens: &[Placed]) -> Result<(Option<u64>, &[Placed]), Stop<'_>>
 }
 
 #[tactic(auto, unfolding(crate::specs::Declarations::integer_end))]
-fn integer_end<'a>(
+pub fn integer_end<'a>(
     alloc: Global,
     line: u64,
     name: &Ident,

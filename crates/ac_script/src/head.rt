@@ -22,6 +22,7 @@ pub enum Lead {
     Reference,
     Stable,
     Declare,
+    Tasks,
 }
 
 #[tactic(auto, unfolding(crate::specs::Heads::other_lead))]
@@ -34,6 +35,8 @@ fn other_lead(word: &[u8]) -> Option<Lead>
         Some(Lead::Stable)
     } else if is(word, b"declare") {
         Some(Lead::Declare)
+    } else if is(word, b"tasks") {
+        Some(Lead::Tasks)
     } else {
         None
     }
@@ -248,5 +251,17 @@ pub fn head(
         Lead::Reference => reference_head(alloc, line, tokens),
         Lead::Stable => stable_head(alloc, line, tokens),
         Lead::Declare => Ok((Head::Declare { line }, tokens)),
+        Lead::Tasks => Ok((Head::Tasks { line }, tokens)),
     }
+}
+
+/// What follows the word `task`.
+#[tactic(auto, unfolding(crate::specs::Heads::task_head))]
+pub fn task_head(alloc: Global, line: u64, tokens: &[Placed]) -> Result<(Head, &[Placed]), Stop<'_>>
+    ensures { Reads head_view result (heads.task_head line tokens.now) }
+{
+    let (name, rest) = name(tokens)?;
+    let rest = word(rest, b"is")?;
+    let name = name.copy(alloc)?;
+    Ok((Head::Task { line, name }, rest))
 }

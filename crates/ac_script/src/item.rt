@@ -54,6 +54,13 @@ pub enum Head {
     Declare {
         line: u64,
     },
+    Tasks {
+        line: u64,
+    },
+    Task {
+        line: u64,
+        name: Ident,
+    },
 }
 
 /// One piece of a script in the order of its text.

@@ -4,8 +4,8 @@ ghost use Rattle.ac_script.specs.Views.{item_view, stage_view};
 ghost use Rattle.ac_script.specs.ItemReader as readers;
 
 use crate::command::command;
-use crate::declaration::{declared, type_declaration};
-use crate::head::{Lead, find_lead, head};
+use crate::declaration::{declared, integer_end, type_declaration};
+use crate::head::{Lead, find_lead, head, task_head};
 use crate::item::Item;
 use crate::reader::{find_mark, find_word, mark, name, word};
 use crate::stage::Stage;
@@ -27,6 +27,15 @@ fn closing(words: Closing, tokens: &[Placed]) -> Result<(Item, &[Placed]), Stop<
         Closing::End => {
             let rest = mark(tokens, Mark::Semicolon)?;
             Ok((Item::Closes(Closing::End), rest))
+        }
+        Closing::EndTasks => {
+            let rest = word(tokens, b"tasks")?;
+            let rest = mark(rest, Mark::Semicolon)?;
+            Ok((Item::Closes(Closing::EndTasks), rest))
+        }
+        Closing::EndTask => {
+            let rest = mark(tokens, Mark::Semicolon)?;
+            Ok((Item::Closes(Closing::EndTask), rest))
         }
     }
 }
@@ -97,7 +106,7 @@ fn behind_name<'a>(
             let rest = mark(tokens, Mark::Colon)?;
             declared_item(alloc, line, name, rest)
         }
-        Stage::Running => command_item(alloc, line, name, tokens),
+        _ => command_item(alloc, line, name, tokens),
     }
 }
 
@@ -185,6 +194,82 @@ fn in_heading(alloc: Global, line: u64, tokens: &[Placed]) -> Result<(Item, &[Pl
     }
 }
 
+#[tactic(auto, unfolding(crate::specs::ItemReader::task_item))]
+fn task_item(alloc: Global, line: u64, tokens: &[Placed]) -> Result<(Item, &[Placed]), Stop<'_>>
+    ensures { Reads item_view result (readers.task_item line tokens.now) }
+{
+    let (head, rest) = task_head(alloc, line, tokens)?;
+    Ok((Item::Opens(head), rest))
+}
+
+#[tactic(auto, unfolding(crate::specs::ItemReader::in_tasking))]
+fn in_tasking(alloc: Global, line: u64, tokens: &[Placed]) -> Result<(Item, &[Placed]), Stop<'_>>
+    ensures { Reads item_view result (readers.in_tasking line tokens.now) }
+{
+    let rest = word(tokens, b"task")?;
+    task_item(alloc, line, rest)
+}
+
+/// The end of a block with these words.
+fn end_of(words: Closing, tokens: &[Placed]) -> Result<(Item, &[Placed]), Stop<'_>>
+    ensures { Reads item_view result (readers.end_of words tokens.now) }
+{
+    let rest = word(tokens, b"end")?;
+    closing(words, rest)
+}
+
+#[tactic(auto, unfolding(crate::specs::ItemReader::in_tasked))]
+fn in_tasked(
+    alloc: Global,
+    innermost: Option<Closing>,
+    line: u64,
+    tokens: &[Placed],
+) -> Result<(Item, &[Placed]), Stop<'_>>
+    ensures { Reads item_view result (readers.in_tasked innermost line tokens.now) }
+{
+    match innermost {
+        None => in_tasking(alloc, line, tokens),
+        Some(words) => match find_word(tokens, b"task") {
+            Some(rest) => task_item(alloc, line, rest),
+            None => end_of(words, tokens),
+        },
+    }
+}
+
+#[tactic(auto, unfolding(crate::specs::ItemReader::local_item))]
+fn local_item<'a>(
+    alloc: Global,
+    line: u64,
+    name: &Ident,
+    tokens: &'a [Placed],
+) -> Result<(Item, &'a [Placed]), Stop<'a>>
+    ensures { Reads item_view result (readers.local_item line name.now tokens.now) }
+{
+    let (decl, rest) = integer_end(alloc, line, name, tokens)?;
+    Ok((Item::Declares(decl), rest))
+}
+
+/// A local of a task.
+#[tactic(auto, unfolding(crate::specs::ItemReader::local))]
+fn local(alloc: Global, line: u64, tokens: &[Placed]) -> Result<(Item, &[Placed]), Stop<'_>>
+    ensures { Reads item_view result (readers.local line tokens.now) }
+{
+    let (name, rest) = name(tokens)?;
+    let rest = mark(rest, Mark::Colon)?;
+    let rest = word(rest, b"integer")?;
+    local_item(alloc, line, name, rest)
+}
+
+#[tactic(auto, unfolding(crate::specs::ItemReader::in_preparing))]
+fn in_preparing(alloc: Global, line: u64, tokens: &[Placed]) -> Result<(Item, &[Placed]), Stop<'_>>
+    ensures { Reads item_view result (readers.in_preparing line tokens.now) }
+{
+    match find_word(tokens, b"begin") {
+        Some(rest) => Ok((Item::Begins, rest)),
+        None => local(alloc, line, tokens),
+    }
+}
+
 fn item_on(
     alloc: Global,
     stage: Stage,
@@ -198,6 +283,10 @@ fn item_on(
         Stage::Listing => in_listing(alloc, innermost, line, tokens),
         Stage::Heading => in_heading(alloc, line, tokens),
         Stage::Running => statement(alloc, stage, innermost, line, tokens),
+        Stage::Tasking => in_tasking(alloc, line, tokens),
+        Stage::Tasked => in_tasked(alloc, innermost, line, tokens),
+        Stage::Preparing => in_preparing(alloc, line, tokens),
+        Stage::Stepping => ended(alloc, Stage::Running, innermost, line, tokens),
     }
 }
 

@@ -9,7 +9,8 @@ ghost use Rattle.ac_syntax.specs.Order.{Stage};
 ghost use Rattle.ac_syntax.specs.Refusals.{Spells, IsFirstRefusal};
 ghost use Rattle.ac_script.specs.ItemReader.{item, innermost_of};
 ghost use Rattle.ac_script.specs.ExactItems.{ReadsItems};
-ghost use Rattle.ac_script.specs.RefusalExamples.{RefusesMarkFirst, RefusesTasks, RefusesOpenHead, RefusesOpenBlock, RefusesBareEnd, RefusesLateDeclaration};
+ghost use Rattle.ac_script.specs.RefusalExamples.{RefusesNoTask, RefusesBareTask, RefusesBlockInTask, RefusesTaskInTask, RefusesCommandBehindTask, RefusesBareEndOfTasks, RefusesTextInTask};
+ghost use Rattle.ac_script.specs.RefusalExamples.{RefusesMarkFirst, RefusesOpenHead, RefusesOpenBlock, RefusesBareEnd, RefusesLateDeclaration};
 
 /// In each context the items that may come are read, and reading stops at the first token with which none begins.
 pub fn items_read()
@@ -30,9 +31,19 @@ pub fn each_text()
 /// Texts that no script begins with or is, worked out by hand.
 pub fn refused_texts()
     ensures mark_first { RefusesMarkFirst }
-    ensures tasks { RefusesTasks }
     ensures open_head { RefusesOpenHead }
     ensures open_block { RefusesOpenBlock }
     ensures bare_end { RefusesBareEnd }
     ensures late_declaration { RefusesLateDeclaration }
+{}
+
+/// Texts with tasks that no script begins with, worked out by hand.
+pub fn refused_tasks()
+    ensures no_task { RefusesNoTask }
+    ensures bare_task { RefusesBareTask }
+    ensures block_inside { RefusesBlockInTask }
+    ensures task_inside { RefusesTaskInTask }
+    ensures command_behind { RefusesCommandBehindTask }
+    ensures bare_end { RefusesBareEndOfTasks }
+    ensures text_inside { RefusesTextInTask }
 {}

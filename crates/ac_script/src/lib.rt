@@ -23,8 +23,8 @@ mod stop;
 
 pub use ac_syntax::{
     Arg, Args, Decl, Decls, ElemKind, Ident, Idents, Kind, RefusalKind, Script, ScriptFault, Stmt,
-    Stmts, TypeDef, ViewKind,
+    Stmts, TaskText, TaskTexts, TypeDef, ViewKind,
 };
-pub use law::{each_text, items_read, one_script, refused_texts};
+pub use law::{each_text, items_read, one_script, refused_tasks, refused_texts};
 pub use parser::parse;
 pub use printer::{append_literal, print};

@@ -1,7 +1,7 @@
 ghost use Rattle.std.specs.Prelude.{◌≡◌, IfOk, OnOk};
 ghost use Rattle.ac_syntax.specs.Code.{stop};
 ghost use Rattle.ac_syntax.specs.Items.{items, closes};
-ghost use Rattle.ac_syntax.specs.Statements.{before};
+ghost use Rattle.ac_syntax.specs.Statements.{before, task_before};
 ghost use Rattle.ac_syntax.specs.Canonical.{canonical_text};
 ghost use Rattle.ac_script.specs.Page.{put_item, put_items};
 
@@ -14,8 +14,8 @@ mod page;
 mod words;
 
 use ac_base::NoMemory;
-use ac_syntax::{Closing, Script, Stmt, Stmts};
-use block::{put_declare, put_end, put_loop, put_stable, put_view};
+use ac_syntax::{Closing, Script, Stmt, Stmts, TaskText, TaskTexts};
+use block::{put_declare, put_end, put_loop, put_stable, put_task_head, put_tasks_word, put_view};
 use command::{put_call, put_set, put_sum};
 use declaration::put_declarations;
 pub use literal::append_literal;
@@ -81,7 +81,30 @@ fn put_statement(page: &mut Page, stmt: &Stmt) -> Result<(), NoMemory>
             put_declare(page, *line, decls)?;
             put_body(page, body, Closing::End)
         }
+        Stmt::Tasks { line, tasks } => {
+            put_tasks_word(page, *line)?;
+            put_tasks(page, tasks)?;
+            put_end(page, Closing::EndTasks)
+        }
     }
+}
+
+#[cycle(statements)]
+fn put_task(page: &mut Page, task: &TaskText) -> Result<(), NoMemory>
+    ensures { OnOk result (page.new ≡ put_items page.old (items (task_before task.now stop))) }
+{
+    put_task_head(page, task.line, &task.name, &task.locals)?;
+    put_body(page, &task.steps, Closing::EndTask)
+}
+
+#[cycle(statements)]
+fn put_tasks(page: &mut Page, tasks: &TaskTexts) -> Result<(), NoMemory>
+    ensures { OnOk result (page.new ≡ put_items page.old (items tasks.now)) }
+{
+    for task in tasks.items() {
+        put_task(page, task)?;
+    }
+    Ok(())
 }
 
 #[cycle(statements)]

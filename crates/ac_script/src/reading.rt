@@ -1,9 +1,10 @@
 //! The items of a script, read one after another.
 ghost use Rattle.std.specs.Prelude.{◌≡◌, true, reverse, IfOk};
 ghost use Rattle.ac_syntax.specs.Items as items;
-ghost use Rattle.ac_syntax.specs.Order.{IsEnd};
+ghost use Rattle.ac_syntax.specs.Order.{IsEnd, entered, task_entered, stage_behind};
 ghost use Rattle.ac_script.specs.ItemReader.{innermost_of};
-ghost use Rattle.ac_script.specs.Views.{item_view, head_view};
+ghost use Rattle.ac_script.specs.Views.{item_view, head_view, stage_view};
+ghost use Rattle.ac_script.specs.Readings as readings;
 ghost use Rattle.ac_script.specs.Readings.{IsReading, Enters, Leaves, GoesOn, context_of, reading_at};
 
 use crate::item::{Head, Item};
@@ -42,17 +43,22 @@ fn ending(head: &Head) -> Closing
     match head {
         Head::Loop { .. } => Closing::EndLoop,
         Head::View { .. } | Head::Stable { .. } | Head::Declare { .. } => Closing::End,
+        Head::Tasks { .. } => Closing::EndTasks,
+        Head::Task { .. } => Closing::EndTask,
     }
 }
 
 /// Opens a block.
 fn enter(open_blocks: &mut Vec<Closing>, head: &Head) -> Result<Stage, NoMemory>
-    ensures { IfOk result (Enters open_blocks.old.items open_blocks.new.items (head_view head.now)) }
+    ensures block { IfOk result (Enters entered open_blocks.old.items open_blocks.new.items (head_view head.now)) }
+    ensures task { IfOk result (Enters task_entered open_blocks.old.items open_blocks.new.items (head_view head.now)) }
 {
     open_blocks.push(ending(head))?;
     Ok(match head {
         Head::Declare { .. } => Stage::Heading,
-        _ => Stage::Running,
+        Head::Tasks { .. } => Stage::Tasking,
+        Head::Task { .. } => Stage::Preparing,
+        Head::Loop { .. } | Head::View { .. } | Head::Stable { .. } => Stage::Running,
     })
 }
 
@@ -60,8 +66,40 @@ fn enter(open_blocks: &mut Vec<Closing>, head: &Head) -> Result<Stage, NoMemory>
 fn leave(open_blocks: &mut Vec<Closing>) -> Stage
     ensures { Leaves open_blocks.old.items open_blocks.new.items result }
 {
-    open_blocks.pop();
-    Stage::Running
+    match open_blocks.pop() {
+        Some(closing) => behind(closing),
+        None => Stage::Running,
+    }
+}
+
+/// How far the script has come behind a block that ends so.
+fn behind(closing: Closing) -> Stage
+    ensures { stage_view result ≡ stage_behind closing }
+{
+    match closing {
+        Closing::EndLoop | Closing::End | Closing::EndTasks => Stage::Running,
+        Closing::EndTask => Stage::Tasked,
+    }
+}
+
+/// How far the script has come behind a command.
+fn ran(stage: Stage) -> Stage
+    ensures { result ≡ readings.ran stage }
+{
+    match stage {
+        Stage::Stepping => Stage::Stepping,
+        _ => Stage::Running,
+    }
+}
+
+/// How far the script has come behind the word `begin`.
+fn begun(stage: Stage) -> Stage
+    ensures { result ≡ readings.begun stage }
+{
+    match stage {
+        Stage::Preparing => Stage::Stepping,
+        _ => Stage::Running,
+    }
 }
 
 /// How far the script has come behind an item that may come.
@@ -70,7 +108,8 @@ fn after(open_blocks: &mut Vec<Closing>, stage: Stage, item: &Item) -> Result<St
 {
     match item {
         Item::Declares(_) => Ok(stage),
-        Item::Commands(_) | Item::Begins => Ok(Stage::Running),
+        Item::Commands(_) => Ok(ran(stage)),
+        Item::Begins => Ok(begun(stage)),
         Item::Opens(head) => enter(open_blocks, head),
         Item::Closes(_) => Ok(leave(open_blocks)),
     }
@@ -91,7 +130,7 @@ fn may_end(open_blocks: &[Closing], stage: Stage) -> bool
     ensures ends { result ≡ true → IsEnd (context_of open_blocks.now stage) }
     ensures only { IsEnd (context_of open_blocks.now stage) → result ≡ true }
 {
-    open_blocks.is_empty() && !matches!(stage, Stage::Heading)
+    open_blocks.is_empty() && !matches!(stage, Stage::Heading | Stage::Preparing)
 }
 
 /// Reads the items that the tokens are, up to the first bad token.

@@ -12,7 +12,8 @@ use Rattle.ac_syntax.specs.Tokens.{tokens}
 use Rattle.ac_syntax.specs.Items.{Item, item_line, script_items}
 use Rattle.ac_syntax.specs.Parts.{Part, says, marks, names, counts, writes, lacks, item_parts}
 use Rattle.ac_syntax.specs.Grammar.{is_reserved, IsPart, AreParts, BeginsOn, AreItems, Derives}
-use Rattle.ac_syntax.proofs.Orders.{script_ordered}
+use Rattle.ac_syntax.specs.Order.{AreInOrder}
+use Rattle.ac_syntax.proofs.Orders.{is_ordered, ordered}
 use Rattle.ac_syntax.specs.Canonical.{part_tokens, on_line, line_reached, items_placed, canonical_placed, RisesFrom}
 
 pub false-not : (a : Bool) → not a ≡ true → a ≡ false
@@ -85,9 +86,18 @@ items_derive line (item ∷ items) p =
       items_derive (line_reached line (item_line item)) items h.1,
     )
 
-pub script_derives : (script : Script) → are_sayable 1 (script_items script) ≡ true → Derives (canonical_placed script) script
+pub derives_so : (script : Script) → are_sayable 1 (script_items script) ≡ true → AreInOrder (script_items script) → Derives (canonical_placed script) script
 unfolding canonical_placed
-script_derives script p = record { are = items_derive 1 (script_items script) p; ordered = script_ordered script }
+derives_so script p h = record { are = items_derive 1 (script_items script) p; ordered = h }
+
+-- the same by a test that computes
+abbrev pub is_derived : Script → Bool
+is_derived script = are_sayable 1 (script_items script) && is_ordered (script_items script)
+
+pub script_derives : (script : Script) → is_derived script ≡ true → Derives (canonical_placed script) script
+script_derives script p =
+    let h : (are_sayable 1 (script_items script) ≡ true) × (is_ordered (script_items script) ≡ true) = and_parts _ _ p in
+    derives_so script h.0 (ordered (script_items script) h.1)
 
 -- a test that the lines never fall from this one on
 abbrev pub rises : ℕ → List ℕ → Bool

@@ -5,17 +5,16 @@ use Rattle.ac_syntax.specs.declared.token.Placed.{Placed}
 use Rattle.ac_syntax.specs.declared.script.Script.{Script}
 use Rattle.ac_syntax.specs.declared.refusal.RefusalKind.TheVariants.{Syntax, Limit}
 use Rattle.ac_syntax.specs.Tokens.{cut_of, tokens}
-use Rattle.ac_syntax.specs.Items.{script_items}
 use Rattle.ac_syntax.specs.Grammar.{Derives}
 use Rattle.ac_syntax.specs.Limits.{none_seen, seen_of, is_past_limit}
 use Rattle.ac_syntax.specs.Canonical.{canonical_placed}
 use Rattle.ac_syntax.specs.Refusals.{past_limit, bad_token, malformed_piece, IsFirstRefusal, first_bad}
-use Rattle.ac_syntax.proofs.Derivations.{are_sayable, script_derives}
+use Rattle.ac_syntax.proofs.Derivations.{is_derived, script_derives}
 use Rattle.ac_syntax.proofs.Withins.{within_from, none_bad}
 
 -- a token past a limit, behind others with which a script of these tokens begins
 pub limit_at : (text : List ℕ) (script : Script) (before after more : List Placed) (bad : Placed)
-    → (cut_of text).placed ≡ before ++ bad ∷ after → canonical_placed script ≡ before ++ bad ∷ more → are_sayable 1 (script_items script) ≡ true
+    → (cut_of text).placed ≡ before ++ bad ∷ after → canonical_placed script ≡ before ++ bad ∷ more → is_derived script ≡ true
     → within_from none_seen (tokens before) ≡ true → is_past_limit (seen_of (tokens before)) bad.token ≡ true → IsFirstRefusal text bad.line Limit
 limit_at text script before after more bad cut written sayable kept past =
     first_bad bad.line Limit (bad_token before after bad Limit cut (none_bad before (bad ∷ more) script derived kept)
@@ -25,7 +24,7 @@ limit_at text script before after more bad cut written sayable kept past =
 
 -- a malformed piece behind tokens with which a script of these tokens begins
 pub malformed_at : (text : List ℕ) (script : Script) (more : List Placed) (line : ℕ)
-    → (cut_of text).malformed ≡ Some line → canonical_placed script ≡ (cut_of text).placed ++ more → are_sayable 1 (script_items script) ≡ true
+    → (cut_of text).malformed ≡ Some line → canonical_placed script ≡ (cut_of text).placed ++ more → is_derived script ≡ true
     → within_from none_seen (tokens (cut_of text).placed) ≡ true → IsFirstRefusal text line Syntax
 malformed_at text script more line cut written sayable kept =
     first_bad line Syntax (malformed_piece line

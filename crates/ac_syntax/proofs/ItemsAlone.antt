@@ -1,7 +1,7 @@
 -- The items of a script determine it.
-use Rattle.std.proofs.Common.{◌≡◌, List, [], ◌∷◌, ◌++◌, map, refl, sym, ap, subst, ◌∙◌, append_assoc}
+use Rattle.std.proofs.Common.{◌≡◌, ℕ, List, [], ◌∷◌, ◌++◌, map, refl, sym, ap, subst, ◌∙◌, append_assoc}
 use Rattle.std.proofs.lemmas.List.{append-nil}
-use Rattle.ac_syntax.specs.Code.{Head, loop_at, view_at, stable_at, declare_at, Code, stop, one, block}
+use Rattle.ac_syntax.specs.Code.{Head, loop_at, view_at, stable_at, declare_at, tasks_at, task_at, Code, stop, one, block}
 use Rattle.ac_syntax.specs.declared.decl.Decl.{Decl}
 use Rattle.ac_syntax.specs.declared.script.Script.{Script}
 use Rattle.ac_syntax.specs.Items.{Item, bare, ending, head_line, declares, commands, opens, begins, closes, declared, opening, closing, items, script_items}
@@ -56,27 +56,93 @@ DeclaresHere (loop_at _ _ _ _ _) = ⊥
 DeclaresHere (view_at _ _ _ _ _) = ⊥
 DeclaresHere (stable_at _ _) = ⊥
 DeclaresHere (declare_at _ _) = Unit {0}
+DeclaresHere (tasks_at _) = ⊥
+DeclaresHere (task_at _ _ _) = Unit {0}
 
-head_alone : (head other : Head) (xs ys : List Item) → bare head ≡ bare other → declared head ++ xs ≡ declared other ++ ys → (head ≡ other) × (xs ≡ ys)
-head_alone (loop_at a b c d e) (loop_at v w x y z) xs ys p q = (p, q)
-head_alone (loop_at a b c d e) (view_at v w x y z) xs ys p q = (p, q)
-head_alone (loop_at a b c d e) (stable_at v w) xs ys p q = (p, q)
-head_alone (loop_at a b c d e) (declare_at v w) xs ys p q = absurd (subst DeclaresHere (sym p) tt)
-head_alone (view_at a b c d e) (loop_at v w x y z) xs ys p q = (p, q)
-head_alone (view_at a b c d e) (view_at v w x y z) xs ys p q = (p, q)
-head_alone (view_at a b c d e) (stable_at v w) xs ys p q = (p, q)
-head_alone (view_at a b c d e) (declare_at v w) xs ys p q = absurd (subst DeclaresHere (sym p) tt)
-head_alone (stable_at a b) (loop_at v w x y z) xs ys p q = (p, q)
-head_alone (stable_at a b) (view_at v w x y z) xs ys p q = (p, q)
-head_alone (stable_at a b) (stable_at v w) xs ys p q = (p, q)
-head_alone (stable_at a b) (declare_at v w) xs ys p q = absurd (subst DeclaresHere (sym p) tt)
-head_alone (declare_at a b) (loop_at v w x y z) xs ys p q = absurd (subst DeclaresHere p tt)
-head_alone (declare_at a b) (view_at v w x y z) xs ys p q = absurd (subst DeclaresHere p tt)
-head_alone (declare_at a b) (stable_at v w) xs ys p q = absurd (subst DeclaresHere p tt)
-head_alone (declare_at line decls) (declare_at place others) xs ys p q =
+abbrev IsTask : Head → Type 0
+IsTask (loop_at _ _ _ _ _) = ⊥
+IsTask (view_at _ _ _ _ _) = ⊥
+IsTask (stable_at _ _) = ⊥
+IsTask (declare_at _ _) = ⊥
+IsTask (tasks_at _) = ⊥
+IsTask (task_at _ _ _) = Unit {0}
+
+abbrev task_name : Head → List ℕ
+task_name (loop_at _ _ _ _ _) = []
+task_name (view_at _ _ _ _ _) = []
+task_name (stable_at _ _) = []
+task_name (declare_at _ _) = []
+task_name (tasks_at _) = []
+task_name (task_at _ name _) = name
+
+-- without its declarations a head declares where it did
+bared : (h : Head) → DeclaresHere h → DeclaresHere (bare h)
+bared (loop_at _ _ _ _ _) d = d
+bared (view_at _ _ _ _ _) d = d
+bared (stable_at _ _) d = d
+bared (declare_at _ _) d = d
+bared (tasks_at _) d = d
+bared (task_at _ _ _) d = d
+
+declared_so : (h : Head) → DeclaresHere (bare h) → DeclaresHere h
+declared_so (loop_at _ _ _ _ _) d = d
+declared_so (view_at _ _ _ _ _) d = d
+declared_so (stable_at _ _) d = d
+declared_so (declare_at _ _) d = d
+declared_so (tasks_at _) d = d
+declared_so (task_at _ _ _) d = d
+
+-- a head that declares nothing is all of its items
+plain_head : (h : Head) → (DeclaresHere h → ⊥) → (bare h ≡ h) × (declared h ≡ [])
+plain_head (loop_at _ _ _ _ _) n = (refl, refl)
+plain_head (view_at _ _ _ _ _) n = (refl, refl)
+plain_head (stable_at _ _) n = (refl, refl)
+plain_head (declare_at _ _) n = absurd (n tt)
+plain_head (tasks_at _) n = (refl, refl)
+plain_head (task_at _ _ _) n = absurd (n tt)
+
+plain_alone : (head other : Head) (xs ys : List Item) → (DeclaresHere head → ⊥) → bare head ≡ bare other → declared head ++ xs ≡ declared other ++ ys → (head ≡ other) × (xs ≡ ys)
+plain_alone head other xs ys n p q =
+    let first = plain_head head n in
+    let second = plain_head other (λ d. n (declared_so head (subst DeclaresHere (sym p) (bared other d)))) in
+    (sym first.0 ∙ p ∙ second.0, ap (λ is. is ++ xs) (sym first.1) ∙ q ∙ ap (λ is. is ++ ys) second.1)
+
+-- only a head that declares has the words of one that does
+only_declares : (head other : Head) → DeclaresHere head → bare head ≡ bare other → DeclaresHere other
+only_declares head other d p = declared_so other (subst DeclaresHere p (bared head d))
+
+declare_alone : (line : ℕ) (decls : List Decl) (other : Head) (xs ys : List Item)
+    → declare_at line [] ≡ bare other → declared (declare_at line decls) ++ xs ≡ declared other ++ ys → (declare_at line decls ≡ other) × (xs ≡ ys)
+declare_alone line decls (loop_at a b c d e) xs ys p q = absurd (only_declares (declare_at line decls) (loop_at a b c d e) tt p)
+declare_alone line decls (view_at a b c d e) xs ys p q = absurd (only_declares (declare_at line decls) (view_at a b c d e) tt p)
+declare_alone line decls (stable_at a b) xs ys p q = absurd (only_declares (declare_at line decls) (stable_at a b) tt p)
+declare_alone line decls (tasks_at a) xs ys p q = absurd (only_declares (declare_at line decls) (tasks_at a) tt p)
+declare_alone line decls (task_at _ _ _) xs ys p q = absurd (subst IsTask (sym p) tt)
+declare_alone line decls (declare_at place others) xs ys p q =
     let same : line ≡ place = ap head_line p in
     let found : (decls ≡ others) × (xs ≡ ys) = decls_alone decls others xs ys q in
     (λ i. declare_at (same i) (found.0 i), found.1)
+
+task_alone : (line : ℕ) (name : List ℕ) (locals : List Decl) (other : Head) (xs ys : List Item)
+    → task_at line name [] ≡ bare other → declared (task_at line name locals) ++ xs ≡ declared other ++ ys → (task_at line name locals ≡ other) × (xs ≡ ys)
+task_alone line name locals (loop_at a b c d e) xs ys p q = absurd (only_declares (task_at line name locals) (loop_at a b c d e) tt p)
+task_alone line name locals (view_at a b c d e) xs ys p q = absurd (only_declares (task_at line name locals) (view_at a b c d e) tt p)
+task_alone line name locals (stable_at a b) xs ys p q = absurd (only_declares (task_at line name locals) (stable_at a b) tt p)
+task_alone line name locals (tasks_at a) xs ys p q = absurd (only_declares (task_at line name locals) (tasks_at a) tt p)
+task_alone line name locals (declare_at _ _) xs ys p q = absurd (subst IsTask p tt)
+task_alone line name locals (task_at place other others) xs ys p q =
+    let same : line ≡ place = ap head_line p in
+    let named : name ≡ other = ap task_name p in
+    let found : (locals ≡ others) × (xs ≡ ys) = decls_alone locals others xs ys q in
+    (λ i. task_at (same i) (named i) (found.0 i), found.1)
+
+head_alone : (head other : Head) (xs ys : List Item) → bare head ≡ bare other → declared head ++ xs ≡ declared other ++ ys → (head ≡ other) × (xs ≡ ys)
+head_alone (loop_at a b c d e) other xs ys p q = plain_alone (loop_at a b c d e) other xs ys (λ n. n) p q
+head_alone (view_at a b c d e) other xs ys p q = plain_alone (view_at a b c d e) other xs ys (λ n. n) p q
+head_alone (stable_at a b) other xs ys p q = plain_alone (stable_at a b) other xs ys (λ n. n) p q
+head_alone (tasks_at a) other xs ys p q = plain_alone (tasks_at a) other xs ys (λ n. n) p q
+head_alone (declare_at line decls) other xs ys p q = declare_alone line decls other xs ys p q
+head_alone (task_at line name locals) other xs ys p q = task_alone line name locals other xs ys p q
 
 pub code_alone : (a b : Code) (x y : List Item) → EndsHere x → EndsHere y → items a ++ x ≡ items b ++ y → (a ≡ b) × (x ≡ y)
 code_alone stop stop x y ex ey e = (refl, e)

@@ -1,5 +1,5 @@
 -- Tokens without the minus before some zeros keep the limits that the tokens with it kept.
-use Rattle.std.proofs.Common.{◌≡◌, ◌-◌, ◌^◌, ℕ, zero, suc, pos, neg_ℤ, ℤ, Bool, true, false, not, cond, List, [], ◌∷◌, ◌++◌, map, flat_map, refl, sym, ap, subst, ◌∙◌, append_assoc, inl, inr, nat_lt}
+use Rattle.std.proofs.Common.{◌≡◌, ◌+◌, ◌-◌, ◌^◌, ◌&&◌, ℕ, zero, suc, pos, neg_ℤ, ℤ, Bool, true, false, not, cond, List, [], ◌∷◌, ◌++◌, map, flat_map, refl, sym, ap, subst, ◌∙◌, append_assoc, inl, inr, nat_lt}
 use Rattle.std.specs.List.{fold}
 use Rattle.std.proofs.lemmas.Bool.{and_parts, and_from}
 use Rattle.std.proofs.lemmas.List.{map-append}
@@ -12,7 +12,7 @@ use Rattle.ac_syntax.specs.Items.{Item, item_line}
 use Rattle.ac_syntax.specs.Parts.{Part, says, marks, names, counts, writes, lacks, item_parts}
 use Rattle.ac_syntax.specs.Grammar.{IsPart, AreParts, AreItems}
 use Rattle.ac_syntax.specs.Tokens.{tokens}
-use Rattle.ac_syntax.specs.Limits.{Seen, none_seen, seen_after, is_past_limit, AreWithinLimits}
+use Rattle.ac_syntax.specs.Limits.{Progress, no_task, task_opened, command_due, in_command, is_due, goes_on, Seen, none_seen, seen_after, is_past_limit, AreWithinLimits}
 use Rattle.ac_syntax.specs.Canonical.{line_reached, part_tokens, on_line, items_placed}
 use Rattle.ac_syntax.proofs.Derivations.{tokens-on_line}
 use Rattle.ac_syntax.proofs.Withins.{within_from, within}
@@ -28,6 +28,33 @@ zero_within_by true = refl
 zero_within_by false = refl
 
 -- behind the zero, what was seen is the same
+
+zero_progress : (p : Progress) → goes_on (goes_on p (token.Mark Minus)) (token.Number 0) ≡ goes_on p (token.Number 0)
+zero_progress no_task = refl
+zero_progress task_opened = refl
+zero_progress command_due = refl
+zero_progress in_command = refl
+
+abbrev counted : Progress → ℕ → ℕ
+counted p n = cond (is_due p && true) (n + 1) n
+
+zero_counted : (p : Progress) (n : ℕ) → counted (goes_on p (token.Mark Minus)) (counted p n) ≡ counted p n
+zero_counted no_task n = refl
+zero_counted task_opened n = refl
+zero_counted command_due n = refl
+zero_counted in_command n = refl
+
+signed_zero : (seen : Seen) → seen_after (seen_after seen (token.Mark Minus)) (token.Number 0) ≡ seen_after seen (token.Number 0)
+signed_zero seen = λ j. record {
+  depth = seen.depth;
+  opened = false;
+  minus = false;
+  ended = false;
+  tasks = seen.tasks;
+  progress = zero_progress seen.progress j;
+  commands = zero_counted seen.progress seen.commands j;
+}
+
 tidied_from : (seen : Seen) (xs ys : List Token) → Tidied xs ys → within_from seen xs ≡ true → within_from seen ys ≡ true
 tidied_from seen xs ys done w = refl
 tidied_from seen xs ys (kept t more others d) w =
@@ -37,7 +64,8 @@ tidied_from seen xs ys (dropped more others d) w =
     let signed = seen_after seen (token.Mark Minus) in
     let parts : (not (is_past_limit signed (token.Number 0)) ≡ true) × (within_from (seen_after signed (token.Number 0)) more ≡ true) =
     and_parts _ _ (and_parts (not (is_past_limit seen (token.Mark Minus))) _ w).1 in
-    and_from _ _ (zero_within_by seen.minus) (tidied_from (seen_after signed (token.Number 0)) more others d parts.1)
+    let same : within_from (seen_after seen (token.Number 0)) others ≡ true = subst (λ s. within_from s others ≡ true) (signed_zero seen) (tidied_from (seen_after signed (token.Number 0)) more others d parts.1) in
+    and_from _ _ (zero_within_by seen.minus) same
 
 -- the test that these tokens keep the limits succeeds where they do
 within_of : (seen : Seen) (all : List Token) → ((before after : List Token) (t : Token) → all ≡ before ++ t ∷ after → is_past_limit (fold seen_after seen before) t ≡ false) → within_from seen all ≡ true

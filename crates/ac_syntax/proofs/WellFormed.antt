@@ -19,7 +19,7 @@ use Rattle.ac_syntax.specs.Refusals.{Spells}
 use Rattle.ac_syntax.proofs.CutTokens.{cut_tidy}
 use Rattle.ac_syntax.proofs.Rising.{lines_of, rises_behind}
 use Rattle.ac_syntax.proofs.Tidied.{items_within}
-use Rattle.ac_syntax.proofs.Derivations.{is_sayable, begins_on, are_sayable, script_derives, tokens-on_line}
+use Rattle.ac_syntax.proofs.Derivations.{is_sayable, begins_on, are_sayable, derives_so, tokens-on_line}
 
 -- parts
 
@@ -139,7 +139,7 @@ spelled_well script text h =
     let tidy = cut_tidy 0 1 text in
     let told = items_told 1 (script_items script) placed h.derives.are tidy.rising in
     record {
-      derives = script_derives script told.sayable;
+      derives = derives_so script told.sayable h.derives.ordered;
       within = items_within 1 (script_items script) placed h.derives.are h.within;
       written = items_written 1 (script_items script) placed h.derives.are tidy.written;
       lines = told.rising;

@@ -16,6 +16,10 @@ pub data Head : Type 0 where
   view_at : (line : ℕ) (kind : ViewKind) (object : List ℕ) (at : Option (List ℕ)) (name : List ℕ) → Head
   stable_at : (line : ℕ) (object : List ℕ) → Head
   declare_at : (line : ℕ) (decls : List Decl) → Head
+  -- a block of tasks: its body is these, one after another
+  tasks_at : (line : ℕ) → Head
+  -- one of them: its body is its commands
+  task_at : (line : ℕ) (name : List ℕ) (locals : List Decl) → Head
 
 -- statements in order: none, or a command and what follows it, or a block with its body and what follows it
 pub data Code : Type 0 where

@@ -1,8 +1,8 @@
 -- A script as its items in the order of the text: declarations, commands, what begins a block and what closes it.
 use Rattle.std.specs.Prelude.{ℕ, List, [], ◌∷◌, ◌++◌, map, Option, Some, None}
-use Rattle.ac_syntax.specs.Code.{Simple, call_at, set_at, sum_at, Head, loop_at, view_at, stable_at, declare_at, Code, stop, one, block}
+use Rattle.ac_syntax.specs.Code.{Simple, call_at, set_at, sum_at, Head, loop_at, view_at, stable_at, declare_at, tasks_at, task_at, Code, stop, one, block}
 use Rattle.ac_syntax.specs.declared.closing.Closing.{Closing}
-use Rattle.ac_syntax.specs.declared.closing.Closing.TheVariants.{EndLoop, End}
+use Rattle.ac_syntax.specs.declared.closing.Closing.TheVariants.{EndLoop, End, EndTasks, EndTask}
 use Rattle.ac_syntax.specs.declared.decl.Decl.{Decl}
 use Rattle.ac_syntax.specs.declared.decl.Decl.TheVariants.{TypeDecl, Object, CursorVar, IntVar, TextVar}
 use Rattle.ac_syntax.specs.declared.script.Script.{Script}
@@ -23,6 +23,8 @@ bare (loop_at line name elements backward object) = loop_at line name elements b
 bare (view_at line kind object at name) = view_at line kind object at name
 bare (stable_at line object) = stable_at line object
 bare (declare_at line _) = declare_at line []
+bare (tasks_at line) = tasks_at line
+bare (task_at line name _) = task_at line name []
 
 -- the words that end a block with this head
 abbrev pub ending : Head → Closing
@@ -30,6 +32,8 @@ ending (loop_at _ _ _ _ _) = EndLoop
 ending (view_at _ _ _ _ _) = End
 ending (stable_at _ _) = End
 ending (declare_at _ _) = End
+ending (tasks_at _) = EndTasks
+ending (task_at _ _ _) = EndTask
 
 -- what stands between the head of a block and its body
 abbrev pub declared : Head → List Item
@@ -37,6 +41,8 @@ declared (loop_at _ _ _ _ _) = []
 declared (view_at _ _ _ _ _) = []
 declared (stable_at _ _) = []
 declared (declare_at _ decls) = map declares decls ++ begins ∷ []
+declared (tasks_at _) = []
+declared (task_at _ _ locals) = map declares locals ++ begins ∷ []
 
 -- what begins a block, up to its body
 abbrev pub opening : Head → List Item
@@ -71,6 +77,8 @@ head_line (loop_at line _ _ _ _) = line
 head_line (view_at line _ _ _ _) = line
 head_line (stable_at line _) = line
 head_line (declare_at line _) = line
+head_line (tasks_at line) = line
+head_line (task_at line _ _) = line
 
 -- the line of an item, of those that keep one
 abbrev pub item_line : Item → Option ℕ

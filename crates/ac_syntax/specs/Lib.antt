@@ -14,4 +14,6 @@ pub mod Examples
 pub mod RefusalExamples
 pub mod FormExamples
 pub mod WordExamples
+pub mod TaskExamples
 pub mod Order
+pub mod Nesting

@@ -1,12 +1,12 @@
 -- The parts of each item, in order. A part is one token, or a literal, which may have two.
 use Rattle.std.specs.Prelude.{ℕ, codes, List, [], ◌∷◌, ◌++◌, Option, Some, None, if◌then◌else◌}
-use Rattle.ac_syntax.specs.Code.{Simple, call_at, set_at, sum_at, Head, loop_at, view_at, stable_at, declare_at}
+use Rattle.ac_syntax.specs.Code.{Simple, call_at, set_at, sum_at, Head, loop_at, view_at, stable_at, declare_at, tasks_at, task_at}
 use Rattle.ac_syntax.specs.Items.{Item, declares, commands, opens, begins, closes}
 use Rattle.ac_base.specs.declared.value.Value.{Value}
 use Rattle.ac_syntax.specs.declared.arg.Arg.{Arg}
 use Rattle.ac_syntax.specs.declared.arg.Arg.TheVariants.{Lit, NoElement, Var}
 use Rattle.ac_syntax.specs.declared.closing.Closing.{Closing}
-use Rattle.ac_syntax.specs.declared.closing.Closing.TheVariants.{EndLoop, End}
+use Rattle.ac_syntax.specs.declared.closing.Closing.TheVariants.{EndLoop, End, EndTasks, EndTask}
 use Rattle.ac_syntax.specs.declared.decl.Decl.{Decl}
 use Rattle.ac_syntax.specs.declared.decl.Decl.TheVariants.{TypeDecl, Object, CursorVar, IntVar, TextVar}
 use Rattle.ac_syntax.specs.declared.kind.Kind.{Kind}
@@ -134,10 +134,14 @@ head_parts (loop_at line name elements backward object) =
 head_parts (view_at line kind object at name) = view_parts kind object at name ++ says (codes "do") ∷ []
 head_parts (stable_at line object) = says (codes "stable") ∷ names object ∷ says (codes "do") ∷ []
 head_parts (declare_at line decls) = says (codes "declare") ∷ []
+head_parts (tasks_at line) = says (codes "tasks") ∷ []
+head_parts (task_at line name locals) = says (codes "task") ∷ names name ∷ says (codes "is") ∷ []
 
 abbrev pub closing_parts : Closing → List Part
 closing_parts EndLoop = says (codes "end") ∷ says (codes "loop") ∷ marks Semicolon ∷ []
 closing_parts End = says (codes "end") ∷ marks Semicolon ∷ []
+closing_parts EndTasks = says (codes "end") ∷ says (codes "tasks") ∷ marks Semicolon ∷ []
+closing_parts EndTask = says (codes "end") ∷ marks Semicolon ∷ []
 
 unfoldable pub item_parts : Item → List Part
 item_parts (declares decl) = decl_parts decl

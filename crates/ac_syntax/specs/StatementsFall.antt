@@ -3,10 +3,11 @@ use Rattle.std.specs.Prelude.{◌≤◌, max, List, [], ◌∷◌}
 use Rattle.std.proofs.Common.{arith}
 use denote.Param.Weighed.{most}
 use Rattle.ac_syntax.specs.Code.{code_size}
-use Rattle.ac_syntax.specs.Statements.{code_of}
+use Rattle.ac_syntax.specs.Statements.{code_of, tasks_of}
 use Rattle.ac_syntax.specs.declared.stmt.Stmt.{Stmt}
-use Rattle.ac_syntax.specs.declared.stmt.Stmt.TheVariants.{Call, Set, Sum, Loop, View, Stable, Declare}
-use Rattle.ac_syntax.specs.declared.stmt.Stmts.TheDeep.{deep-Stmt}
+use Rattle.ac_syntax.specs.declared.stmt.Stmt.TheVariants.{Call, Set, Sum, Loop, View, Stable, Declare, Tasks}
+use Rattle.ac_syntax.specs.declared.stmt.TaskText.{TaskText}
+use Rattle.ac_syntax.specs.declared.stmt.Stmts.TheDeep.{deep-Stmt, deep-TaskText}
 
 -- no body has more statements than all around it together
 pub bodies_fall : (stmts : List Stmt) → max (most deep-Stmt stmts) 0 ≤ code_size (code_of stmts)
@@ -18,3 +19,9 @@ bodies_fall (Loop _ _ _ _ _ body ∷ stmts) = omega (arith, bodies_fall stmts)
 bodies_fall (View _ _ _ _ _ body ∷ stmts) = omega (arith, bodies_fall stmts)
 bodies_fall (Stable _ _ body ∷ stmts) = omega (arith, bodies_fall stmts)
 bodies_fall (Declare _ _ body ∷ stmts) = omega (arith, bodies_fall stmts)
+bodies_fall (Tasks _ tasks ∷ stmts) = omega (arith, bodies_fall stmts)
+
+-- and no task's commands
+pub tasks_fall : (tasks : List TaskText) → max (most deep-TaskText tasks) 0 ≤ code_size (tasks_of tasks)
+tasks_fall [] = omega arith
+tasks_fall (task ∷ tasks) = omega (arith, tasks_fall tasks)

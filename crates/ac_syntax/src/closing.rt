@@ -5,4 +5,8 @@ pub enum Closing {
     EndLoop,
     /// `end;`
     End,
+    /// `end tasks;`
+    EndTasks,
+    /// `end;` of a task.
+    EndTask,
 }

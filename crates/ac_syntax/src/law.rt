@@ -5,11 +5,14 @@ ghost use Rattle.ac_syntax.specs.declared.script.Script.{Script};
 ghost use Rattle.ac_syntax.specs.Items.{Item, script_items};
 ghost use Rattle.ac_syntax.specs.Tokens.{cut_of};
 ghost use Rattle.ac_syntax.specs.Canonical.{canonical_text, canonical_placed, canonical_tokens, is_written, IsWellFormed};
+ghost use Rattle.ac_syntax.specs.Nesting.{AreStatements};
 ghost use Rattle.ac_syntax.specs.Order.{Context, context_after, at_front, AreInOrder};
 ghost use Rattle.ac_syntax.specs.Refusals.{Spells, IsFirstRefusal};
 ghost use Rattle.ac_syntax.specs.declared.refusal.RefusalKind.{RefusalKind};
 ghost use Rattle.ac_syntax.specs.Examples.{SpellsLoosely, WritesStrictly, SpellsNested, WritesNested, ReadsDoubledQuote, RefusesOpenString, EndsComment, RefusesLetterAfterNumber, WritesNothing, TakesDepth16, RefusesDepth17, Takes17InARow};
 ghost use Rattle.ac_syntax.specs.Examples.{TakesTab, TakesReturnBeforeLineFeed, RefusesLoneReturn, RefusesReturnTwice, RefusesLastReturn, TakesReturnInComment, RefusesTabInString};
+ghost use Rattle.ac_syntax.specs.TaskExamples.{SpellsSharing, WritesSharing, IsSharingWell, NeedsTask, NeedsBlock, NeedsCommands, Takes8Tasks, RefusesTask9};
+ghost use Rattle.ac_syntax.specs.TaskExamples.{TakesTasksAtDepth16, RefusesTasksAtDepth17, RefusesDepth17BehindTasks, CountsCommands, TakesCommand1000, RefusesCommand1001, TakesEndBehind1000};
 ghost use Rattle.ac_syntax.specs.WordExamples.{ReservesWords, LeavesWords};
 ghost use Rattle.ac_syntax.specs.FormExamples.{SpellsEveryForm, WritesEveryForm, IsEveryFormWell, SpellsMinusZero, WritesZero, NeedsCursor, NeedsRisingLines};
 ghost use Rattle.ac_syntax.specs.RefusalExamples.{TakesName64, RefusesName65, TakesString1000, RefusesString1001, TakesLeast, TakesCounting, RefusesPastGreatest, RefusesLessTooMuch, RefusesTooRoomy, RefusesMalformed};
@@ -22,9 +25,10 @@ pub fn one_refusal()
         Spells script text → IsFirstRefusal text line kind → ⊥ }
 {}
 
-/// The items of a script may come in their order, others may not, and each front that may come is a script's.
+/// The items of a script whose tasks stand in blocks of tasks alone may come in their order, each list of items that may come is a
+/// script's, and each front that may come is the front of one.
 pub fn items_order()
-    ensures script { (script : Script) → AreInOrder (script_items script) }
+    ensures script { (script : Script) → AreStatements script.stmts → AreInOrder (script_items script) }
     ensures only { (items : List Item) → AreInOrder items → (script : Script) × (script_items script ≡ items) }
     ensures front { (items : List Item) (context : Context) → context_after at_front items ≡ Some context →
         (more : List Item) × (script : Script) × (script_items script ≡ items ++ more) }
@@ -105,4 +109,27 @@ pub fn refusals()
     ensures less_too_much { RefusesLessTooMuch }
     ensures too_roomy { RefusesTooRoomy }
     ensures malformed { RefusesMalformed }
+{}
+
+/// Blocks of tasks, worked out by hand.
+pub fn tasks()
+    ensures spelled { SpellsSharing }
+    ensures written { WritesSharing }
+    ensures well { IsSharingWell }
+    ensures some_task { NeedsTask }
+    ensures in_block { NeedsBlock }
+    ensures commands_alone { NeedsCommands }
+{}
+
+/// The limits of blocks of tasks, worked out by hand.
+pub fn task_limits()
+    ensures tasks_8 { Takes8Tasks }
+    ensures task_9 { RefusesTask9 }
+    ensures depth_16 { TakesTasksAtDepth16 }
+    ensures depth_17 { RefusesTasksAtDepth17 }
+    ensures behind { RefusesDepth17BehindTasks }
+    ensures counted { CountsCommands }
+    ensures command_1000 { TakesCommand1000 }
+    ensures command_1001 { RefusesCommand1001 }
+    ensures end_behind { TakesEndBehind1000 }
 {}

@@ -25,12 +25,12 @@ pub use ident::{Ident, Idents};
 pub use kind::{ElemKind, Kind};
 pub use law::{
     blanks, examples, forms, items_alone, items_order, one_refusal, refusals, round_trip,
-    well_formed, words,
+    task_limits, tasks, well_formed, words,
 };
 pub use piece::Piece;
 pub use refusal::RefusalKind;
 pub use script::Script;
-pub use stmt::{Stmt, Stmts};
+pub use stmt::{Stmt, Stmts, TaskText, TaskTexts};
 pub use string_bytes::StringBytes;
 pub use token::{Mark, Placed, Token};
 pub use type_def::TypeDef;

@@ -1,5 +1,5 @@
 ghost use Rattle.std.specs.Prelude.{◌≡◌};
-ghost use Rattle.ac_syntax.specs.Statements.{code_of};
+ghost use Rattle.ac_syntax.specs.Statements.{code_of, tasks_of};
 
 use crate::arg::{Arg, Args};
 use crate::decl::Decls;
@@ -59,6 +59,11 @@ pub enum Stmt {
         decls: Decls,
         body: Stmts,
     },
+    /// Tasks that run beside each other.
+    Tasks {
+        line: u64,
+        tasks: TaskTexts,
+    },
 }
 
 /// Statements in order.
@@ -96,6 +101,56 @@ impl Stmts {
 
     pub fn items(&self) -> &[Stmt]
         ensures { code_of result.now ≡ self.now }
+    {
+        &self.items
+    }
+}
+
+/// A task, with the line of its first token: its locals, and its commands.
+#[derive(Debug, Drop)]
+#[cycle(statements)]
+pub struct TaskText {
+    pub line: u64,
+    pub name: Ident,
+    pub locals: Decls,
+    pub steps: Stmts,
+}
+
+/// Tasks in order.
+#[derive(Debug, Drop)]
+#[cycle(statements)]
+pub struct TaskTexts {
+    items: Vec<TaskText>,
+}
+
+impl Model for TaskTexts {
+    ghost use Rattle.ac_syntax.specs.Code.{Code, code_size};
+    ghost use Rattle.ac_syntax.specs.Coded.{coded_code};
+
+    ghost Value = { Code };
+
+    ghost coded = { coded_code };
+
+    ghost use Rattle.ac_syntax.specs.Statements.{tasks_of};
+
+    ghost view = { λ tasks. tasks_of tasks.items.items };
+
+    ghost size = { code_size };
+
+    ghost use Rattle.ac_syntax.specs.StatementsFall.{tasks_fall};
+
+    ghost size_decreases = { λ a h. tasks_fall a.items.items };
+}
+
+impl TaskTexts {
+    pub fn from_vec(items: Vec<TaskText>) -> TaskTexts
+        ensures { result ≡ tasks_of items.items }
+    {
+        TaskTexts { items }
+    }
+
+    pub fn items(&self) -> &[TaskText]
+        ensures { tasks_of result.now ≡ self.now }
     {
         &self.items
     }

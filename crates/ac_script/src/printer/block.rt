@@ -1,5 +1,5 @@
 ghost use Rattle.std.specs.Prelude.{◌≡◌, ◌∷◌, [], OnOk};
-ghost use Rattle.ac_syntax.specs.Code.{loop_at, view_at, stable_at, declare_at};
+ghost use Rattle.ac_syntax.specs.Code.{loop_at, view_at, stable_at, declare_at, tasks_at, task_at};
 ghost use Rattle.ac_syntax.specs.Items.{opens, begins, closes, declared};
 ghost use Rattle.ac_syntax.specs.Parts.{says, names, place_parts, needed_place, query_parts, keyed_parts, view_parts};
 ghost use Rattle.ac_syntax.specs.declared.view_kind.ViewKind.TheVariants.{Reference};
@@ -169,6 +169,38 @@ pub fn put_declare(page: &mut Page, line: u64, decls: &Decls) -> Result<(), NoMe
     put_begin_word(page)
 }
 
+#[tactic(auto, unfolding(ac_syntax::specs::Parts::item_parts))]
+pub fn put_tasks_word(page: &mut Page, line: u64) -> Result<(), NoMemory>
+    ensures { OnOk result (page.new ≡ put_item page.old (opens (tasks_at line))) }
+{
+    page.begin_on(line)?;
+    page.word("tasks")
+}
+
+#[tactic(auto, unfolding(ac_syntax::specs::Parts::item_parts))]
+fn put_task_words(page: &mut Page, line: u64, name: &Ident) -> Result<(), NoMemory>
+    ensures { OnOk result (page.new ≡ put_item page.old (opens (task_at line name.now []))) }
+{
+    page.begin_on(line)?;
+    put_named(page, "task", name)?;
+    page.word("is")
+}
+
+/// Writes a task's head with its locals.
+#[tactic(auto, using(crate::proofs::Pages::put_more_items))]
+pub fn put_task_head(
+    page: &mut Page,
+    line: u64,
+    name: &Ident,
+    locals: &Decls,
+) -> Result<(), NoMemory>
+    ensures { OnOk result (page.new ≡ put_items page.old (opens (task_at line name.now []) ∷ declared (task_at line name.now locals.now))) }
+{
+    put_task_words(page, line, name)?;
+    put_declarations(page, locals)?;
+    put_begin_word(page)
+}
+
 /// Writes what ends a block.
 #[tactic(auto, unfolding(ac_syntax::specs::Parts::item_parts))]
 pub fn put_end(page: &mut Page, closing: Closing) -> Result<(), NoMemory>
@@ -176,8 +208,10 @@ pub fn put_end(page: &mut Page, closing: Closing) -> Result<(), NoMemory>
 {
     page.begin_here()?;
     page.word("end")?;
-    if matches!(closing, Closing::EndLoop) {
-        page.word("loop")?;
+    match closing {
+        Closing::EndLoop => page.word("loop")?,
+        Closing::EndTasks => page.word("tasks")?,
+        Closing::End | Closing::EndTask => (),
     }
     page.mark(Mark::Semicolon)
 }

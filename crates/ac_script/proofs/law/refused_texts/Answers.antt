@@ -11,7 +11,6 @@ use Rattle.ac_syntax.specs.Items.{Item, script_items}
 use Rattle.ac_syntax.specs.Parts.{item_parts}
 use Rattle.ac_syntax.specs.Grammar.{reserved, is_reserved}
 use Rattle.ac_syntax.specs.Canonical.{on_line}
-use Rattle.ac_syntax.specs.Examples.{lines}
 use Rattle.ac_syntax.specs.Order.{running, at_front, Context}
 use Rattle.ac_syntax.specs.Tokens.{cut_of}
 use Rattle.ac_syntax.proofs.Orders.{at}
@@ -43,12 +42,6 @@ returns-clause-mark_first c =
       is_past = refl;
     })
     (has_bad [] at_front front front mark (number ∷ []) (none_read front) refl)
-
-pub returns-clause-tasks : goal.returns-clause-tasks
-unfolding reserved is_reserved in_listing statement lead_of other_lead ended named
-returns-clause-tasks c =
-    let text = lines ([] ∷ codes "tasks end tasks;" ∷ []) in
-    stops_at text [] at_front (cut_of text).placed (drop 1 (cut_of text).placed) (on_line 2 (token.Word (codes "tasks"))) refl refl refl refl refl
 
 -- the items of a loop and of what stands in it so far
 abbrev loop_items : Script → List Item

@@ -8,5 +8,7 @@ abbrev pub invariant-loop-count : goal.invariant-loop-count
 invariant-loop-count l = record {
   seen : seen_view l.behind ≡ seen_of (tokens (take l.count l.placed));
   shallow : l.behind.depth ≤ l.count;
+  few_tasks : l.behind.tasks ≤ l.count;
+  few_commands : l.behind.commands ≤ l.count;
   within : AreWithinLimits (tokens (take l.count l.placed));
 }

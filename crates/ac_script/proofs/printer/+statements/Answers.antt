@@ -1,8 +1,9 @@
 use Rattle.std.proofs.Common.{◌≡◌, arith, ap, get_or}
 use Rattle.ac_syntax.specs.Code.{stop, code_size}
-use Rattle.ac_syntax.specs.Statements.{before}
+use Rattle.ac_syntax.specs.Statements.{before, task_before}
 use Rattle.ac_syntax.specs.declared.stmt.Stmt.{Stmt}
-use Rattle.ac_syntax.proofs.StatementSizes.{size_among}
+use Rattle.ac_syntax.specs.declared.stmt.TaskText.{TaskText}
+use Rattle.ac_syntax.proofs.StatementSizes.{size_among, task_among}
 use Rattle.ac_script.proofs.printer.+statements.Goals as goal
 
 pub put_statements-put_statement-requires : goal.put_statements-put_statement-requires
@@ -11,3 +12,10 @@ put_statements-put_statement-requires t c =
     let stmt = c.stmt-item.result in
     let same : code_size (before stmt stop) ≡ code_size (before (get_or stmts c.loop-stmt.stmt-index stmt) stop) = ap (λ (s : Stmt). code_size (before s stop)) c.stmt-item.is in
     (omega (arith, same, size_among stmts c.loop-stmt.stmt-index stmt c.loop-stmt-test.true, ap code_size c.items-stmt-items.ensures), tt)
+
+pub put_tasks-put_task-requires : goal.put_tasks-put_task-requires
+put_tasks-put_task-requires t c =
+    let tasks = c.items-task-items.result.now in
+    let task = c.task-item.result in
+    let same : code_size (task_before task stop) ≡ code_size (task_before (get_or tasks c.loop-task.task-index task) stop) = ap (λ (s : TaskText). code_size (task_before s stop)) c.task-item.is in
+    (omega (arith, same, task_among tasks c.loop-task.task-index task c.loop-task-test.true, ap code_size c.items-task-items.ensures), tt)

@@ -1,7 +1,7 @@
 use Rattle.std.proofs.Common.{◌≡◌, ◌+◌, ◌*◌, drop}
 use Rattle.ac_syntax.specs.Code.{code_size, stop}
 use Rattle.ac_syntax.specs.Items.{items}
-use Rattle.ac_syntax.specs.Statements.{before, code_of}
+use Rattle.ac_syntax.specs.Statements.{before, code_of, task_before, tasks_of}
 use Rattle.ac_script.specs.Page.{put_items}
 use Rattle.ac_script.proofs.printer.+statements.Given as goal
 
@@ -13,6 +13,15 @@ decreases-put_statement l = 3 * code_size (before l.stmt.now stop)
 
 abbrev pub decreases-put_statements : goal.decreases-put_statements
 decreases-put_statements l = 3 * code_size l.stmts.now + 1
+
+abbrev pub decreases-put_task : goal.decreases-put_task
+decreases-put_task l = 3 * code_size (task_before l.task.now stop)
+
+abbrev pub decreases-put_tasks : goal.decreases-put_tasks
+decreases-put_tasks l = 3 * code_size l.tasks.now + 1
+
+abbrev pub invariant-put_tasks-loop-task : goal.invariant-put_tasks-loop-task
+invariant-put_tasks-loop-task l = put_items l.page (items (tasks_of (drop l.task-index l.task-items))) ≡ put_items l.initial.page (items l.tasks)
 
 abbrev pub invariant-put_statements-loop-stmt : goal.invariant-put_statements-loop-stmt
 invariant-put_statements-loop-stmt l = put_items l.page (items (code_of (drop l.stmt-index l.stmt-items))) ≡ put_items l.initial.page (items l.stmts)

@@ -60,7 +60,7 @@ returns-clause-minus_zero c =
           },
           refl,
         );
-        ordered = script_ordered zero_set;
+        ordered = script_ordered zero_set tt;
       };
       within = within (tokens (cut_of (codes "X := -0;")).placed) refl;
     }
