@@ -12,8 +12,9 @@ use Rattle.ac_history.specs.declared.code.TaskStep.{TaskStep}
 use Rattle.ac_history.specs.declared.code.TaskCode.{TaskCode}
 use Rattle.ac_history.specs.declared.entry.Entry.{Entry}
 use Rattle.ac_history.specs.Blocks.{commands_in, new_block}
-use Rattle.ac_history.specs.States.{TaskQueue, TaskState, begun}
-use Rattle.ac_book.specs.Books.{IsBook, block_of, CodeFits, TaskFits, left, one_each}
+use Rattle.ac_history.specs.States.{TaskQueue, TaskState, begun, left, one_each}
+use Rattle.ac_history.proofs.Left.{left_begun, all_ones}
+use Rattle.ac_book.specs.Books.{IsBook, block_of, CodeFits, TaskFits}
 use Rattle.ac_book.specs.Running.{Fits, HaveSpare, added_by}
 use Rattle.ac_book.specs.Shared.{shared}
 use Rattle.ac_book.specs.Tasks.{code_of}
@@ -48,25 +49,6 @@ back t = λ j. record { locals = (length-replicate t.locals (pos 0)) j; steps = 
 pub code_back : (code : List TaskCode) → map code_of (map begun code) ≡ code
 code_back [] = refl
 code_back (t ∷ ts) = λ j. (back t) j ∷ (code_back ts) j
-
-left_begun : (weight : TaskStep → ℕ) (code : List TaskCode) → left weight (map begun code) ≡ sum_by (λ (t : TaskCode). sum_by weight t.steps) code
-left_begun weight [] = refl
-left_begun weight (t ∷ ts) =
-    sum_by-cons (λ (u : TaskState). sum_by weight (drop u.place u.steps)) (begun t) (map begun ts)
-    ∙ ap (λ n. sum_by weight t.steps + n) (left_begun weight ts)
-    ∙ sym (sum_by-cons (λ (u : TaskCode). sum_by weight u.steps) t ts)
-
-ones : (steps : List TaskStep) → sum_by one_each steps ≡ length steps
-ones [] = refl
-ones (x ∷ xs) = let e = ones xs in omega (arith, sum_by-cons one_each x xs, e)
-
-all_ones : (code : List TaskCode) → sum_by (λ (t : TaskCode). sum_by one_each t.steps) code ≡ commands_in code
-all_ones [] = refl
-all_ones (t ∷ ts) =
-    sum_by-cons (λ (u : TaskCode). sum_by one_each u.steps) t ts
-    ∙ ap (λ n. n + sum_by (λ (u : TaskCode). sum_by one_each u.steps) ts) (ones t.steps)
-    ∙ ap (λ n. length t.steps + n) (all_ones ts)
-    ∙ sym (sum_by-cons (λ (u : TaskCode). length u.steps) t ts)
 
 begun_fits : (qs : List TaskQueue) (code : List TaskCode) → All (CodeFits qs) code → All (TaskFits qs) (map begun code)
 begun_fits qs code h = All-map (TaskFits qs) begun code (λ k d within. subst (λ n. All (Fits qs n) (get_or code k d).steps) (sym (length-replicate (get_or code k d).locals (pos 0))) (h k d within))

@@ -3,6 +3,5 @@ pub mod Alike
 pub mod Beginning
 pub mod Ending
 pub mod KindsKept
-pub mod Left
 pub mod Shared
 pub mod Turning

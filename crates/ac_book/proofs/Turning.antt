@@ -13,15 +13,15 @@ use Rattle.ac_history.specs.declared.entry.Turn.{Turn}
 use Rattle.ac_history.specs.declared.entry.Turn.TheVariants as turn
 use Rattle.ac_history.specs.Blocks.{Block, commands_in, present, with_entries}
 use Rattle.ac_history.specs.Histories.{over, held_up, done, outcome, outcome_of, entry, entries_of, state_after, turn_told, Explains}
-use Rattle.ac_history.specs.States.{State, TaskQueue, TaskState, opening_state}
+use Rattle.ac_history.specs.States.{State, TaskQueue, TaskState, opening_state, left, one_each}
 use Rattle.ac_history.specs.Steps.{step_call, advanced, kept, target_of}
 use Rattle.ac_history.proofs.LegalHistories.{turn_more}
-use Rattle.ac_book.specs.Books.{IsBook, block_of, TaskFits, left, one_each, state_now, entries_in, told_in}
+use Rattle.ac_book.specs.Books.{IsBook, block_of, TaskFits, state_now, entries_in, told_in}
 use Rattle.ac_book.specs.Running.{Fits, HaveSpare, added_by, added_next}
 use Rattle.ac_book.specs.Shared.{shared}
 use Rattle.ac_book.specs.Tasks.{code_of, next_of, GoesBy, TakesTurn, Stays, Goes}
 use Rattle.ac_book.proofs.KindsKept.{kind, step_keeps, fits_kept}
-use Rattle.ac_book.proofs.Left.{found_within, found_at, left_falls}
+use Rattle.ac_history.proofs.Left.{found_within, found_at, left_falls}
 
 kept_length : (target : Option ℕ) (answer : Reply) (locals : List ℤ) → length (kept target answer locals) ≡ length locals
 kept_length None answer locals = refl

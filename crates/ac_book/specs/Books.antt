@@ -1,15 +1,14 @@
 -- What a book in memory keeps: its history explains the queues and the tasks, and there is room for all that is left to do.
-use Rattle.std.specs.Prelude.{◌≡◌, ◌+◌, ◌≤◌, ◌<◌, ◌^◌, ℕ, List, [], ◌∷◌, map, length, drop, Result, Ok, Err}
-use Rattle.std.specs.List.{All, sum_by}
+use Rattle.std.specs.Prelude.{◌≡◌, ◌+◌, ◌≤◌, ◌<◌, ◌^◌, ℕ, List, [], ◌∷◌, map, length, Result, Ok, Err}
+use Rattle.std.specs.List.{All}
 use Rattle.ac_queue.specs.declared.any_queue.AnyQueue.{AnyQueue}
-use Rattle.ac_history.specs.declared.code.TaskStep.{TaskStep}
 use Rattle.ac_history.specs.declared.code.TaskCode.{TaskCode}
 use Rattle.ac_history.specs.declared.entry.Entry.{Entry}
 use Rattle.ac_history.specs.declared.entry.Turn.{Turn}
 use Rattle.ac_history.specs.declared.entry.Turn.TheVariants as turn
 use Rattle.ac_history.specs.Blocks.{Block, commands_in}
 use Rattle.ac_history.specs.Histories.{Explains}
-use Rattle.ac_history.specs.States.{State, TaskQueue, TaskState, opening_state}
+use Rattle.ac_history.specs.States.{State, TaskQueue, TaskState, opening_state, left, one_each}
 use Rattle.ac_book.specs.Running.{Fits, HaveSpare, added_by}
 use Rattle.ac_book.specs.Shared.{shared}
 use Rattle.ac_book.specs.Tasks.{code_of}
@@ -26,13 +25,6 @@ TaskFits queues t = All (Fits queues (length t.locals)) t.steps
 
 abbrev pub CodeFits : List TaskQueue → TaskCode → Type 0
 CodeFits queues t = All (Fits queues t.locals) t.steps
-
--- the steps that are left, each with its weight
-abbrev pub left : (TaskStep → ℕ) → List TaskState → ℕ
-left weight tasks = sum_by (λ t. sum_by weight (drop t.place t.steps)) tasks
-
-abbrev pub one_each : TaskStep → ℕ
-one_each step = 1
 
 pub record IsBook (opened : List TaskQueue) (queues : List AnyQueue) (tasks : List TaskState) (history : List Entry) (slots : ℕ) : Type 0 where
   pub explains : Explains (opening_state opened (map code_of tasks)) history (state_now queues tasks)

@@ -5,6 +5,7 @@ use Rattle.ac_history.specs.declared.code.TaskStep.{TaskStep}
 use Rattle.ac_history.specs.declared.entry.Entry.{Entry}
 use Rattle.ac_history.specs.States.{State, TaskState}
 use Rattle.ac_history.specs.Steps.{step_call}
+use Rattle.ac_history.specs.Blocks.{Block, opening, present, with_entries}
 use Rattle.ac_history.specs.Histories.{Outcome, over, held_up, done, outcome, outcome_of, entries_of, state_after, replay, IsLegal, Explains, Turned, begun_at, turned}
 
 task_if : (b : Bool) (e given : Entry) (after left : State) (task : ℕ) → given.task ≡ task → (if b then held_up else done given left) ≡ done e after → e.task ≡ task
@@ -57,3 +58,7 @@ turns_explained (task ∷ tasks) s t h =
 
 pub from_the_start : (start : State) (tasks : List ℕ) → Explains start (turned (begun_at start) tasks).history (turned (begun_at start) tasks).state
 from_the_start start tasks = turns_explained tasks start (begun_at start) (record { legal = tt; leaves = refl })
+
+-- a block behind a turn
+pub present_after : (b : Block) (task : ℕ) → present (with_entries b (entries_of (outcome (present b) task))) ≡ state_after (present b) (outcome (present b) task)
+present_after b task = replay_append b.history (entries_of (outcome (present b) task)) (opening b) ∙ (one_turn (present b) task).leaves

@@ -2,5 +2,6 @@
 pub mod Blocks
 pub mod Examples
 pub mod Histories
+pub mod Orders
 pub mod States
 pub mod Steps

@@ -1,5 +1,6 @@
 -- What the tasks of a block share and have: the queues, and of each task its steps, its place and its locals.
-use Rattle.std.specs.Prelude.{ℕ, ℤ, pos, List, map, replicate}
+use Rattle.std.specs.Prelude.{ℕ, ℤ, pos, List, map, drop, replicate}
+use Rattle.std.specs.List.{sum_by}
 use Rattle.ac_model.specs.Queues.{Queue, Discipline}
 use Rattle.ac_history.specs.declared.code.TaskStep.{TaskStep}
 use Rattle.ac_history.specs.declared.code.TaskCode.{TaskCode}
@@ -25,3 +26,10 @@ begun task = record { steps = task.steps; place = 0; locals = replicate task.loc
 
 abbrev pub opening_state : List TaskQueue → List TaskCode → State
 opening_state queues code = record { queues = queues; tasks = map begun code }
+
+-- the steps that are left, each with its weight
+abbrev pub left : (TaskStep → ℕ) → List TaskState → ℕ
+left weight tasks = sum_by (λ t. sum_by weight (drop t.place t.steps)) tasks
+
+abbrev pub one_each : TaskStep → ℕ
+one_each step = 1

@@ -3,6 +3,7 @@ ghost use Rattle.std.specs.Prelude.{◌≡◌, ◌++◌, [], List, ℕ};
 ghost use Rattle.ac_history.specs.declared.entry.Entry.{Entry};
 ghost use Rattle.ac_history.specs.Blocks.{Block, SameStart, after_turns, with_entries};
 ghost use Rattle.ac_history.specs.Histories.{IsLegal, Turned, begun_at, turned, replay};
+ghost use Rattle.ac_history.specs.Orders.{OrdersRun, HistoriesHaveOrders};
 ghost use Rattle.ac_history.specs.States.{State};
 
 /// Turns of tasks, as they come, make a legal history, and leave what its replay leaves.
@@ -31,4 +32,11 @@ pub fn begun_alike()
 pub fn start_stays()
     ensures any_entries { (b : Block) (more : List Entry) → SameStart (with_entries b more) b }
     ensures any_turns { (b : Block) (tasks : List ℕ) → SameStart (after_turns b tasks) b }
+{}
+
+/// Each order runs a block to its end by a legal history, and each legal history that ends there is that of an order: so to say
+/// that a run goes by some order is to say that its history is legal and nothing more can be done behind it.
+pub fn orders_and_histories()
+    ensures runs { OrdersRun }
+    ensures all { HistoriesHaveOrders }
 {}

@@ -9,4 +9,4 @@ mod law;
 
 pub use code::{Steplist, TaskArg, TaskCode, TaskStep};
 pub use entry::{Entry, Reply, Turn};
-pub use law::{begun_alike, every_list_of_turns, in_parts, start_stays};
+pub use law::{begun_alike, every_list_of_turns, in_parts, orders_and_histories, start_stays};

@@ -1,7 +1,7 @@
 use Rattle.std.proofs.Common.{◌≡◌, List}
 use Rattle.ac_history.specs.declared.entry.Entry.{Entry}
 use Rattle.ac_history.specs.Blocks.{present, with_entries}
-use Rattle.ac_book.specs.Books.{left, one_each}
+use Rattle.ac_history.specs.States.{left, one_each}
 use Rattle.ac_book.proofs.book.Book.finish.Given as goal
 
 abbrev pub invariant-loop-task : goal.invariant-loop-task
