@@ -10,7 +10,7 @@ use Rattle.ac_syntax.specs.declared.kind.ElemKind.TheVariants.{Integer}
 use Rattle.ac_check.specs.declared.rows.Letter.{Letter}
 use Rattle.ac_check.specs.declared.rows.Letter.TheVariants as letter
 use Rattle.ac_check.specs.Table.{Row}
-use Rattle.ac_check.specs.Scopes.{Meaning, a_type, an_object, a_cursor, a_value, Scope, meaning_in, object_in, Typed, element_of}
+use Rattle.ac_check.specs.Scopes.{Meaning, a_type, an_object, a_cursor, a_value, a_task, Scope, meaning_in, object_in, Typed, element_of}
 use Rattle.ac_check.specs.Rules.{Given, gives_value, gives_cursor, gives_no_element, gives_nothing, given_in, given, is_value, is_cursor, is_variable_of, is_typed, fits, fits_optional, all_fit, answered, takes_answer, is_row}
 
 pub neither : {X : Type 0} → false ≡ true → X
@@ -58,6 +58,7 @@ variable_sort type (Some (a_type _)) h = neither h
 variable_sort type (Some (an_object _ _)) h = neither h
 variable_sort type (Some (a_cursor _ _)) h = refl
 variable_sort type (Some (a_value _ _)) h = neither h
+variable_sort type (Some a_task) h = neither h
 
 object_sort : (type : List ℕ) (m : Option Meaning) → is_typed type (option_and_then object_in m) ≡ true → sort_given (given_in m) ≡ objects
 object_sort type None h = neither h
@@ -65,6 +66,7 @@ object_sort type (Some (a_type _)) h = neither h
 object_sort type (Some (an_object _ _)) h = refl
 object_sort type (Some (a_cursor _ _)) h = neither h
 object_sort type (Some (a_value _ _)) h = neither h
+object_sort type (Some a_task) h = neither h
 
 abbrev same_sort : Sort → Sort → Bool
 same_sort cursors cursors = true

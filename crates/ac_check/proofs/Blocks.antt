@@ -1,25 +1,26 @@
 -- The items of statements among others, and of a block.
-use Rattle.std.proofs.Common.{◌≡◌, ◌+◌, ◌<◌, ℕ, List, [], ◌∷◌, ◌++◌, length, take, drop, get_or, Option, Some, None, refl, sym, ap, ◌∙◌}
-use Rattle.std.proofs.lemmas.List.{append_assoc, append-nil}
-use Rattle.ac_syntax.specs.Code.{Code, Head, loop_at, view_at, stable_at, declare_at, stop, block}
+use Rattle.std.proofs.Common.{◌≡◌, ◌+◌, ◌<◌, ◌≤◌, ℕ, List, [], ◌∷◌, ◌++◌, length, take, drop, get_or, Option, Some, None, refl, sym, ap, ◌∙◌}
+use Rattle.std.proofs.lemmas.List.{append_assoc, append-nil, at_drop_all}
+use Rattle.ac_syntax.specs.Code.{Code, Head, loop_at, view_at, stable_at, declare_at, tasks_at, task_at, stop, one, block}
 use Rattle.ac_syntax.specs.Items.{opens, bare}
-use Rattle.ac_syntax.specs.Statements.{before, code_of}
+use Rattle.ac_syntax.specs.Statements.{before, code_of, task_before, tasks_of}
 use Rattle.ac_syntax.specs.declared.decl.Decl.{Decl}
 use Rattle.ac_syntax.specs.declared.refusal.RefusalKind.{RefusalKind}
 use Rattle.ac_syntax.specs.declared.stmt.Stmt.{Stmt}
-use Rattle.ac_syntax.specs.declared.stmt.Stmt.TheVariants.{Call, Set, Sum, Loop, View, Stable, Declare}
-use Rattle.ac_check.specs.Scopes.{Scope, Entry, Standing, standing, with_entry, with_decls, decl_entry, decls_in, behind_words, inside, standing_decls, standings_from}
+use Rattle.ac_syntax.specs.declared.stmt.Stmt.TheVariants.{Call, Set, Sum, Loop, View, Stable, Declare, Tasks}
+use Rattle.ac_syntax.specs.declared.stmt.TaskText.{TaskText}
+use Rattle.ac_check.specs.Scopes.{Scope, Entry, entry, a_task, Standing, standing, with_entry, with_decls, decl_entry, decls_in, behind_words, inside, behind_block, behind_code, standing_decls, standings_from}
 use Rattle.ac_check.specs.Walks.{goes_on, refused, outcome, fault_with, stmt_item}
 use Rattle.ac_check.proofs.Outcomes.{gone_on, stopped, head_on, next_item}
 
 -- a block's items, with none behind it
 block_end : (scope : Scope) (head : Head) (body rest : Code)
-    → standings_from scope (block head body rest) ≡ standings_from scope (block head body stop) ++ standings_from scope rest
+    → standings_from scope (block head body rest) ≡ standings_from scope (block head body stop) ++ standings_from (behind_block scope head) rest
 block_end scope head body rest =
     let first = standing (opens (bare head)) scope in
     let decls = standing_decls (behind_words scope head) (decls_in head) in
     let within = standings_from (inside scope head) body in
-    let later = standings_from scope rest in
+    let later = standings_from (behind_block scope head) rest in
     ap (λ (l : List Standing). first ∷ (decls ++ (l ++ later))) (sym (append-nil within))
     ∙ ap (λ (l : List Standing). first ∷ l) (sym (append_assoc decls (within ++ []) later))
 
@@ -33,6 +34,7 @@ standings_before scope (Loop line name elements backward object body) rest = blo
 standings_before scope (View line kind object at name body) rest = block_end scope (view_at line kind object at name) body rest
 standings_before scope (Stable line object body) rest = block_end scope (stable_at line object) body rest
 standings_before scope (Declare line decls body) rest = block_end scope (declare_at line decls) body rest
+standings_before scope (Tasks line tasks) rest = block_end scope (tasks_at line) tasks rest
 
 -- a statement's first item
 pub begins_with : (scope : Scope) (stmt : Stmt) → (later : List Standing) × (standings_from scope (before stmt stop) ≡ standing (stmt_item stmt) scope ∷ later)
@@ -43,6 +45,7 @@ begins_with scope (Loop _ _ _ _ _ _) = (_, refl)
 begins_with scope (View _ _ _ _ _ _) = (_, refl)
 begins_with scope (Stable _ _ _) = (_, refl)
 begins_with scope (Declare _ _ _) = (_, refl)
+begins_with scope (Tasks _ _) = (_, refl)
 
 module _ (room : ℕ) (scope : Scope) (stmt : Stmt) (line : ℕ) (decls : List Decl) (body : Code) (is : stmt ≡ Declare line decls body)
     (judged : fault_with room (standing (stmt_item stmt) scope) ≡ None) where
@@ -107,3 +110,92 @@ module _ (room : ℕ) (scope : Scope) (stmts : List Stmt) (i : ℕ) (stmt : Stmt
   pub statement_stopped : (at : Option ℕ) (kind : RefusalKind) → outcome room (standings_from scope (before stmt stop)) ≡ refused at kind
       → outcome room (standings_from scope (code_of (drop i stmts))) ≡ refused at kind
   statement_stopped at kind bad = front ∙ stopped room at kind (standings_from scope (before stmt stop)) (standings_from scope (code_of (drop (i + 1) stmts))) bad
+
+-- ---- tasks
+
+abbrev pub named : Scope → List ℕ → Scope
+named scope name = scope ++ entry name a_task ∷ []
+
+-- the tasks of a block leave the names before them in scope
+code_longer : (scope : Scope) (code : Code) → (more : List Entry) × (behind_code scope code ≡ scope ++ more)
+code_longer scope stop = ([], sym (append-nil scope))
+code_longer scope (one _ rest) = code_longer scope rest
+code_longer scope (block (loop_at _ _ _ _ _) _ rest) = code_longer scope rest
+code_longer scope (block (view_at _ _ _ _ _) _ rest) = code_longer scope rest
+code_longer scope (block (stable_at _ _) _ rest) = code_longer scope rest
+code_longer scope (block (declare_at _ _) _ rest) = code_longer scope rest
+code_longer scope (block (tasks_at _) _ rest) = code_longer scope rest
+code_longer scope (block (task_at _ name _) _ rest) =
+    let all = code_longer (named scope name) rest in
+    (entry name a_task ∷ all.0, all.1 ∙ append_assoc scope (entry name a_task ∷ []) all.0)
+
+pub outside_tasks : (scope : Scope) (tasks : Code) → take (length scope) (behind_code scope tasks) ≡ scope
+outside_tasks scope tasks =
+    let p = code_longer scope tasks in
+    ap (λ (l : Scope). take (length scope) l) p.1 ∙ take_front scope p.0
+
+-- a block of tasks, behind its first word
+pub tasks_on : (room : ℕ) (scope : Scope) (line : ℕ) (tasks : Code) → fault_with room (standing (opens (tasks_at line)) scope) ≡ None
+    → outcome room (standings_from scope (block (tasks_at line) tasks stop)) ≡ outcome room (standings_from scope tasks)
+tasks_on room scope line tasks judged =
+    head_on room (tasks_at line) scope (standings_from scope tasks ++ []) judged ∙ ap (outcome room) (append-nil (standings_from scope tasks))
+
+-- a task's locals as the walk has them
+pub same_decls : (room : ℕ) (scope now : Scope) (decls locals : List Decl) → scope ≡ now → decls ≡ locals → outcome room (standing_decls now locals) ≡ outcome room (standing_decls scope decls)
+same_decls room scope now decls locals moved same =
+    ap (λ s. outcome room (standing_decls s locals)) (sym moved) ∙ ap (λ (l : List Decl). outcome room (standing_decls scope l)) (sym same)
+
+pub same_scope : (scope now : Scope) (decls locals : List Decl) → scope ≡ now → decls ≡ locals → with_decls scope decls ≡ with_decls now locals
+same_scope scope now decls locals moved same = ap (λ (l : List Decl). with_decls scope l) same ∙ ap (λ (s : Scope). with_decls s locals) moved
+
+module _ (room : ℕ) (scope : Scope) (task : TaskText) (judged : fault_with room (standing (opens (task_at task.line task.name [])) scope) ≡ None) where
+  task_whole : outcome room (standings_from scope (task_before task stop))
+      ≡ outcome room (standing_decls (named scope task.name) task.locals ++ (standings_from (with_decls (named scope task.name) task.locals) task.steps ++ []))
+  task_whole = head_on room (task_at task.line task.name []) scope (standing_decls (named scope task.name) task.locals ++ (standings_from (with_decls (named scope task.name) task.locals) task.steps ++ [])) judged
+
+  -- behind its locals
+  pub task_on : (after : ℕ) (within : Scope) → outcome room (standing_decls (named scope task.name) task.locals) ≡ goes_on after → within ≡ with_decls (named scope task.name) task.locals
+      → outcome room (standings_from scope (task_before task stop)) ≡ outcome after (standings_from within task.steps)
+  task_on after within known now =
+      task_whole
+      ∙ gone_on room after (standing_decls (named scope task.name) task.locals) (standings_from (with_decls (named scope task.name) task.locals) task.steps ++ []) known
+      ∙ ap (outcome after) (append-nil (standings_from (with_decls (named scope task.name) task.locals) task.steps))
+      ∙ ap (λ s. outcome after (standings_from s task.steps)) (sym now)
+
+  -- one of them is refused
+  pub task_stopped : (at : Option ℕ) (kind : RefusalKind) → outcome room (standing_decls (named scope task.name) task.locals) ≡ refused at kind
+      → outcome room (standings_from scope (task_before task stop)) ≡ refused at kind
+  task_stopped at kind bad =
+      task_whole ∙ stopped room at kind (standing_decls (named scope task.name) task.locals) (standings_from (with_decls (named scope task.name) task.locals) task.steps ++ []) bad
+
+module _ (room : ℕ) (scope : Scope) (tasks : List TaskText) (i : ℕ) (task : TaskText) (within : i < length tasks) (is : task ≡ get_or tasks i task) where
+  front_tasks : outcome room (standings_from scope (tasks_of (drop i tasks)))
+      ≡ outcome room (standings_from scope (task_before task stop) ++ standings_from (named scope task.name) (tasks_of (drop (i + 1) tasks)))
+  front_tasks =
+      ap (λ (l : List TaskText). outcome room (standings_from scope (tasks_of l))) (next_item tasks i task within is)
+      ∙ ap (outcome room) (block_end scope (task_at task.line task.name task.locals) task.steps (tasks_of (drop (i + 1) tasks)))
+
+  -- behind the next of some tasks
+  pub next_task_on : (after : ℕ) (now : Scope) → outcome room (standings_from scope (task_before task stop)) ≡ goes_on after → now ≡ named scope task.name
+      → outcome after (standings_from now (tasks_of (drop (i + 1) tasks))) ≡ outcome room (standings_from scope (tasks_of (drop i tasks)))
+  next_task_on after now known same =
+      ap (λ s. outcome after (standings_from s (tasks_of (drop (i + 1) tasks)))) same
+      ∙ sym (front_tasks ∙ gone_on room after (standings_from scope (task_before task stop)) (standings_from (named scope task.name) (tasks_of (drop (i + 1) tasks))) known)
+
+  -- it is refused
+  pub next_task_stopped : (at : Option ℕ) (kind : RefusalKind) → outcome room (standings_from scope (task_before task stop)) ≡ refused at kind
+      → outcome room (standings_from scope (tasks_of (drop i tasks))) ≡ refused at kind
+  next_task_stopped at kind bad =
+      front_tasks ∙ stopped room at kind (standings_from scope (task_before task stop)) (standings_from (named scope task.name) (tasks_of (drop (i + 1) tasks))) bad
+
+  -- and the scope behind all of them
+  pub next_task_scope : (now : Scope) → now ≡ named scope task.name → behind_code now (tasks_of (drop (i + 1) tasks)) ≡ behind_code scope (tasks_of (drop i tasks))
+  next_task_scope now same =
+      ap (λ s. behind_code s (tasks_of (drop (i + 1) tasks))) same
+      ∙ sym (ap (λ (l : List TaskText). behind_code scope (tasks_of l)) (next_item tasks i task within is))
+
+-- what is left of the scope behind the last
+pub tasks_left : (scope now : Scope) (tasks : List TaskText) (i : ℕ) (code : Code) → length tasks ≤ i → behind_code now (tasks_of (drop i tasks)) ≡ behind_code scope code → take (length scope) now ≡ scope
+tasks_left scope now tasks i code end h =
+    ap (λ (s : Scope). take (length scope) s) (sym (at_drop_all (λ (l : List TaskText). behind_code now (tasks_of l)) tasks i end) ∙ h)
+    ∙ outside_tasks scope code

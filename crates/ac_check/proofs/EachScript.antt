@@ -1,13 +1,13 @@
 -- Each script can run, or has a first fault.
 use Rattle.std.proofs.Common.{◌≡◌, ℕ, ◌+◌, List, [], ◌∷◌, ◌++◌, Option, Some, None, refl, ap, inl, inr}
 use Rattle.std.specs.Prelude.{◌⊎◌}
-use Rattle.ac_syntax.specs.Code.{Code, stop, one, block, Simple, call_at, set_at, sum_at, Head, loop_at, view_at, stable_at, declare_at}
+use Rattle.ac_syntax.specs.Code.{Code, stop, one, block, Simple, call_at, set_at, sum_at, Head, loop_at, view_at, stable_at, declare_at, tasks_at, task_at}
 use Rattle.ac_syntax.specs.Items.{item_line, commands, opens, bare}
 use Rattle.ac_syntax.specs.declared.decl.Decl.{Decl}
 use Rattle.ac_syntax.specs.declared.decl.Decl.TheVariants.{TypeDecl, Object, CursorVar, IntVar, TextVar}
 use Rattle.ac_syntax.specs.declared.refusal.RefusalKind.{RefusalKind}
 use Rattle.ac_syntax.specs.declared.script.Script.{Script}
-use Rattle.ac_check.specs.Scopes.{Scope, Standing, with_entry, decl_entry, with_decls, decls_in, behind_words, inside, standing_decls, standings_from, standings}
+use Rattle.ac_check.specs.Scopes.{Scope, Standing, with_entry, decl_entry, with_decls, decls_in, behind_words, inside, behind_block, standing_decls, standings_from, standings}
 use Rattle.ac_check.specs.Faults.{capacity, IsFirstFault, IsChecked}
 use Rattle.ac_check.specs.Walks.{Outcome, goes_on, refused, step, outcome, fault_with}
 use Rattle.ac_check.proofs.FirstFaults.{faultless, first_fault}
@@ -39,16 +39,19 @@ head_lined (loop_at line name elements backward object) = (line, refl)
 head_lined (view_at line view object at name) = (line, refl)
 head_lined (stable_at line object) = (line, refl)
 head_lined (declare_at line decls) = (line, refl)
+head_lined (tasks_at line) = (line, refl)
+head_lined (task_at line name locals) = (line, refl)
 
 code_lined : (scope : Scope) (code : Code) → AreLined (standings_from scope code)
 code_lined scope stop = tt
 code_lined scope (one simple rest) = let h = command_lined simple in (h.0, h.1, code_lined scope rest)
 code_lined scope (block head body rest) =
     let h = head_lined head in
-    let within = lined-append (standings_from (inside scope head) body) (standings_from scope rest) (code_lined (inside scope head) body) (code_lined scope rest) in (
+    let later = standings_from (behind_block scope head) rest in
+    let within = lined-append (standings_from (inside scope head) body) later (code_lined (inside scope head) body) (code_lined (behind_block scope head) rest) in (
       h.0,
       h.1,
-      lined-append (standing_decls (behind_words scope head) (decls_in head)) (standings_from (inside scope head) body ++ standings_from scope rest)
+      lined-append (standing_decls (behind_words scope head) (decls_in head)) (standings_from (inside scope head) body ++ later)
           (decls_lined (behind_words scope head) (decls_in head)) within,
     )
 

@@ -2,15 +2,16 @@
 use Rattle.std.proofs.Common.{◌≡◌, ◌||◌, ℕ, Bool, true, false, not, List, [], ◌∷◌, ◌++◌, Some, None, is_some, refl, ap, true≢false}
 use Rattle.std.specs.Prelude.{if◌then◌else◌, IsTrue}
 use Rattle.std.specs.List.{list_any}
+use Rattle.std.proofs.lemmas.Bool.{and_parts}
 use Rattle.std.proofs.lemmas.List.Elements.{All-nil, All-cons}
-use Rattle.ac_syntax.specs.Code.{Code, stop, one, block, Head, loop_at, view_at, stable_at, declare_at}
+use Rattle.ac_syntax.specs.Code.{Code, stop, one, block, Head, loop_at, view_at, stable_at, declare_at, tasks_at, task_at}
 use Rattle.ac_syntax.specs.Items.{declares, opens, bare}
 use Rattle.ac_syntax.specs.declared.decl.Decl.{Decl}
 use Rattle.ac_syntax.specs.declared.refusal.RefusalKind.{RefusalKind}
 use Rattle.ac_syntax.specs.declared.refusal.RefusalKind.TheVariants.{Limit, UnknownName, WrongType, Twice}
 use Rattle.ac_syntax.specs.declared.script.Script.{Script}
-use Rattle.ac_check.specs.Scopes.{Scope, Standing, standing, with_entry, with_decls, decl_entry, decls_in, behind_words, inside, standing_decls, standings_from, standings}
-use Rattle.ac_check.specs.Rules.{is_well_typed}
+use Rattle.ac_check.specs.Scopes.{Scope, Standing, standing, with_entry, with_decls, decl_entry, decls_in, behind_words, inside, behind_block, standing_decls, standings_from, standings}
+use Rattle.ac_check.specs.Rules.{is_well_typed, is_decl, is_simple, is_head, suits_decl, suits_simple, suits_head}
 use Rattle.ac_check.specs.Faults.{used, declared, decl_name, is_in_scope, is_twice, fault, IsChecked}
 use Rattle.ac_check.specs.Walks.{has_unknown, fault_with}
 use Rattle.ac_check.specs.Kept.{AreKnown, HeadKept, DeclsKept, KeepsRules, ScriptKept}
@@ -26,6 +27,12 @@ faultless_by true typed twice limit h = none_known UnknownName h
 faultless_by false false twice limit h = none_known WrongType h
 faultless_by false true true limit h = none_known Twice h
 faultless_by false true false limit h = (refl, refl, refl)
+
+-- a task's name is new where its head isn't faulty
+pub unnamed : (room : ℕ) (scope : Scope) (line : ℕ) (name : List ℕ) → fault_with room (standing (opens (task_at line name [])) scope) ≡ None → is_in_scope scope name ≡ false
+unnamed room scope line name h =
+    let s = standing (opens (task_at line name [])) scope in
+    (faultless_by (has_unknown s.scope (used s.item)) (is_well_typed s) (is_twice s.scope (declared s.item)) _ h).2
 
 -- the name of a declaration that isn't faulty is new
 pub undeclared : (room : ℕ) (scope : Scope) (d : Decl) → fault_with room (standing (declares d) scope) ≡ None → is_in_scope scope (decl_name d) ≡ false
@@ -68,29 +75,41 @@ kept-append (s ∷ part) rest (here, kept) = let more = kept-append part rest ke
 
 decls_kept : (scope : Scope) (decls : List Decl) → AreKept (standing_decls scope decls) → DeclsKept scope decls
 decls_kept scope [] kept = tt
-decls_kept scope (decl ∷ decls) (here, kept) = record {
-  first = record { known = here.known; typed = here.typed; new = here.new };
-  rest = decls_kept (with_entry scope (decl_entry scope decl)) decls kept;
-}
+decls_kept scope (decl ∷ decls) (here, kept) =
+    let typed : (is_decl scope decl ≡ true) × (suits_decl scope decl ≡ true) = and_parts _ _ here.typed in
+    record {
+      first = record { known = here.known; typed = typed.0; suited = typed.1; new = here.new };
+      rest = decls_kept (with_entry scope (decl_entry scope decl)) decls kept;
+    }
 
 head_kept : (scope : Scope) (head : Head) → ItemKept (standing (opens (bare head)) scope) → HeadKept scope head
-head_kept scope (loop_at line name elements backward object) kept = record { known = kept.known; typed = kept.typed; new = kept.new }
-head_kept scope (view_at line view object at name) kept = record { known = kept.known; typed = kept.typed; new = kept.new }
-head_kept scope (stable_at line object) kept = record { known = kept.known; typed = kept.typed; new = kept.new }
-head_kept scope (declare_at line decls) kept = record { known = kept.known; typed = kept.typed; new = kept.new }
+head_kept scope (loop_at line name elements backward object) kept =
+    let typed : (is_head scope (loop_at line name elements backward object) ≡ true) × (suits_head scope (loop_at line name elements backward object) ≡ true) = and_parts _ _ kept.typed in
+    record { known = kept.known; typed = typed.0; suited = typed.1; new = kept.new }
+head_kept scope (view_at line view object at name) kept =
+    let typed : (is_head scope (view_at line view object at name) ≡ true) × (suits_head scope (view_at line view object at name) ≡ true) = and_parts _ _ kept.typed in
+    record { known = kept.known; typed = typed.0; suited = typed.1; new = kept.new }
+head_kept scope (stable_at line object) kept =
+    let typed : (is_head scope (stable_at line object) ≡ true) × (suits_head scope (stable_at line object) ≡ true) = and_parts _ _ kept.typed in
+    record { known = kept.known; typed = typed.0; suited = typed.1; new = kept.new }
+head_kept scope (declare_at line decls) kept = record { known = kept.known; typed = refl; suited = kept.typed; new = kept.new }
+head_kept scope (tasks_at line) kept = record { known = kept.known; typed = refl; suited = kept.typed; new = kept.new }
+head_kept scope (task_at line name locals) kept = record { known = kept.known; typed = refl; suited = kept.typed; new = kept.new }
 
 code_kept : (scope : Scope) (code : Code) → AreKept (standings_from scope code) → KeepsRules scope code
 code_kept scope stop kept = tt
 code_kept scope (one simple rest) (here, kept) =
-    record { first = record { known = here.known; typed = here.typed }; rest = code_kept scope rest kept }
+    let typed : (is_simple scope simple ≡ true) × (suits_simple scope simple ≡ true) = and_parts _ _ here.typed in
+    record { first = record { known = here.known; typed = typed.0; suited = typed.1 }; rest = code_kept scope rest kept }
 code_kept scope (block head body rest) (here, kept) =
-    let decls = kept-append (standing_decls (behind_words scope head) (decls_in head)) (standings_from (inside scope head) body ++ standings_from scope rest) kept in
-    let code = kept-append (standings_from (inside scope head) body) (standings_from scope rest) decls.1 in
+    let later = standings_from (behind_block scope head) rest in
+    let decls = kept-append (standing_decls (behind_words scope head) (decls_in head)) (standings_from (inside scope head) body ++ later) kept in
+    let code = kept-append (standings_from (inside scope head) body) later decls.1 in
     record {
       head = head_kept scope head here;
       decls = decls_kept (behind_words scope head) (decls_in head) decls.0;
       body = code_kept (inside scope head) body code.0;
-      rest = code_kept scope rest code.1;
+      rest = code_kept (behind_block scope head) rest code.1;
     }
 
 pub rules_kept : (script : Script) → IsChecked script → ScriptKept script

@@ -4,6 +4,7 @@ pub mod Outcomes
 pub mod Blocks
 pub mod Resolving
 pub mod NamePlaces
+pub mod TaskScopes
 pub mod FirstFaults
 pub mod EachScript
 pub mod Verdicts
@@ -11,3 +12,4 @@ pub mod Kept
 pub mod Apart
 pub mod Found
 pub mod RowsOf
+pub mod SizesAmong

@@ -3,17 +3,19 @@ use Rattle.std.proofs.Common.{◌≡◌, ◌+◌, ◌<◌, ◌≤◌, ℕ, List,
 use Rattle.std.proofs.lemmas.List.{append_assoc, at_drop_all}
 use Rattle.ac_syntax.specs.Code.{Code, stop}
 use Rattle.ac_syntax.specs.Items.{declares}
-use Rattle.ac_syntax.specs.Statements.{before, code_of}
+use Rattle.ac_syntax.specs.Statements.{before, code_of, task_before, tasks_of}
 use Rattle.ac_syntax.specs.declared.decl.Decl.{Decl}
 use Rattle.ac_syntax.specs.declared.stmt.Stmt.{Stmt}
-use Rattle.ac_syntax.specs.declared.stmt.Stmt.TheVariants.{Call, Set, Sum, Loop, View, Stable, Declare}
+use Rattle.ac_syntax.specs.declared.stmt.Stmt.TheVariants.{Call, Set, Sum, Loop, View, Stable, Declare, Tasks}
+use Rattle.ac_syntax.specs.declared.stmt.TaskText.{TaskText}
 use Rattle.ac_check.specs.declared.resolved.ResolvedDecl.{ResolvedDecl}
 use Rattle.ac_check.specs.declared.resolved.ResolvedStmt.{ResolvedStmt}
 use Rattle.ac_check.specs.declared.resolved.ResolvedStmt.TheVariants as made
-use Rattle.ac_check.specs.Scopes.{Scope, standing, with_entry, with_decls, decl_entry, standing_decls}
+use Rattle.ac_check.specs.Scopes.{Scope, entry, a_task, standing, with_entry, with_decls, decl_entry, standing_decls}
 use Rattle.ac_check.specs.Walks.{goes_on, outcome}
 use Rattle.ac_check.specs.Resolved.{ResolvedCode, no_statement, a_command, a_block, resolve_decl, resolve_decls, resolve}
-use Rattle.ac_check.specs.ResolvedStatements.{resolved_before, resolved_of}
+use Rattle.ac_check.specs.ResolvedStatements.{resolved_before, resolved_of, resolved_task_before, resolved_tasks_of}
+use Rattle.ac_check.specs.declared.resolved.ResolvedTask.{ResolvedTask}
 use Rattle.ac_check.proofs.Outcomes.{gone_on, next_item}
 
 -- behind the next of some declarations
@@ -55,6 +57,7 @@ resolve_before scope (Loop _ _ _ _ _ _) rest = refl
 resolve_before scope (View _ _ _ _ _ _) rest = refl
 resolve_before scope (Stable _ _ _) rest = refl
 resolve_before scope (Declare _ _ _) rest = refl
+resolve_before scope (Tasks _ _) rest = refl
 
 before_followed : (stmt : ResolvedStmt) (rest : ResolvedCode) → resolved_before stmt rest ≡ followed (resolved_before stmt no_statement) rest
 before_followed (made.Call _ _ _ _ _) rest = refl
@@ -64,6 +67,7 @@ before_followed (made.Loop _ _ _ _ _) rest = refl
 before_followed (made.View _ _ _ _ _) rest = refl
 before_followed (made.Stable _ _ _) rest = refl
 before_followed (made.Declare _ _ _) rest = refl
+before_followed (made.Tasks _ _) rest = refl
 
 -- statements in a list before others
 abbrev pub listed_before : List ResolvedStmt → ResolvedCode → ResolvedCode
@@ -100,4 +104,41 @@ pub statements_done : (scope : Scope) (stmts : List Stmt) (i : ℕ) (all : Resol
 statements_done scope stmts i all end kept h =
     sym (listed_all kept)
     ∙ sym (at_drop_all (λ (l : List Stmt). listed_before kept (resolve scope (code_of l))) stmts i end)
+    ∙ h
+
+-- ---- tasks
+
+-- in a list before others
+abbrev pub tasks_before : List ResolvedTask → ResolvedCode → ResolvedCode
+tasks_before [] rest = rest
+tasks_before (task ∷ tasks) rest = resolved_task_before task (tasks_before tasks rest)
+
+tasks_all : (tasks : List ResolvedTask) → tasks_before tasks no_statement ≡ resolved_tasks_of tasks
+tasks_all [] = refl
+tasks_all (task ∷ tasks) = ap (resolved_task_before task) (tasks_all tasks)
+
+tasks_push : (tasks : List ResolvedTask) (task : ResolvedTask) (rest : ResolvedCode) → tasks_before (tasks ++ task ∷ []) rest ≡ tasks_before tasks (resolved_task_before task rest)
+tasks_push [] task rest = refl
+tasks_push (first ∷ tasks) task rest = ap (resolved_task_before first) (tasks_push tasks task rest)
+
+-- behind the next of some tasks
+pub tasks_resolved_on : (scope now : Scope) (tasks : List TaskText) (i : ℕ) (task : TaskText) (within : i < length tasks) (is : task ≡ get_or tasks i task) → now ≡ scope ++ entry task.name a_task ∷ []
+    → (kept more : List ResolvedTask) (made : ResolvedTask) → more ≡ kept ++ made ∷ [] → resolved_task_before made no_statement ≡ resolve scope (task_before task stop)
+    → tasks_before more (resolve now (tasks_of (drop (i + 1) tasks))) ≡ tasks_before kept (resolve scope (tasks_of (drop i tasks)))
+tasks_resolved_on scope now tasks i task within is same kept more made grown one =
+    let rest = tasks_of (drop (i + 1) tasks) in
+    let behind = scope ++ entry task.name a_task ∷ [] in
+    ap (λ (s : Scope). tasks_before more (resolve s rest)) same
+    ∙ ap (λ (l : List ResolvedTask). tasks_before l (resolve behind rest)) grown
+    ∙ tasks_push kept made (resolve behind rest)
+    ∙ ap (tasks_before kept) (
+    ap (λ c. followed c (resolve behind rest)) one
+    ∙ sym (ap (λ (l : List TaskText). resolve scope (tasks_of l)) (next_item tasks i task within is)))
+
+-- behind all of them
+pub tasks_done : (scope : Scope) (tasks : List TaskText) (i : ℕ) (all : ResolvedCode) → length tasks ≤ i → (kept : List ResolvedTask)
+    → tasks_before kept (resolve scope (tasks_of (drop i tasks))) ≡ all → resolved_tasks_of kept ≡ all
+tasks_done scope tasks i all end kept h =
+    sym (tasks_all kept)
+    ∙ sym (at_drop_all (λ (l : List TaskText). tasks_before kept (resolve scope (tasks_of l))) tasks i end)
     ∙ h

@@ -42,10 +42,10 @@ TellsDecls scope kept broken = IsTrue (list_all (is_decl scope) kept && not (lis
 
 -- statements on line 1
 
-abbrev call : (target : Option (List ℕ)) → (object word : List ℕ) → List Arg → Stmt
+abbrev pub call : (target : Option (List ℕ)) → (object word : List ℕ) → List Arg → Stmt
 call target object word args = Call 1 target object word args
 
-abbrev done : (object word : List ℕ) → List Arg → Stmt
+abbrev pub done : (object word : List ℕ) → List Arg → Stmt
 done object word args = call None object word args
 
 abbrev pub number : ℕ → Arg
@@ -251,20 +251,21 @@ singles = kind.Vector ∷ kind.List ∷ kind.HashedSet ∷ kind.OrderedSet ∷ k
 abbrev sets : List Kind
 sets = kind.HashedSet ∷ kind.OrderedSet ∷ []
 
-abbrev refused : List Kind
-refused = kind.Queue ∷ kind.PriorityQueue ∷ []
+abbrev queues : List Kind
+queues = kind.Queue ∷ kind.PriorityQueue ∷ []
 
--- vectors, lists, sets, trees and holders of one sort of element and maps of two are made yet, and sets of strings alone have keys
+-- vectors, lists, sets, trees and holders of one sort of element, maps of two and queues of integers are made yet, and sets of strings alone have keys
 abbrev pub MakesRows : Type 0
 MakesRows = TellsDecls []
     (map (λ k. declares (def false k Integer None false)) singles ++ map (λ k. declares (def true k Str None false)) singles
     ++ map (λ k. declares (def false k Integer (Some Str) false)) pairs ++ map (λ k. declares (def true k Str (Some Str) false)) pairs
-    ++ map (λ k. declares (def false k Str None true)) sets ++ map (λ k. declares (def true k Str None true)) sets)
+    ++ map (λ k. declares (def false k Str None true)) sets ++ map (λ k. declares (def true k Str None true)) sets
+    ++ map (λ k. declares (def false k Integer None false)) queues ++ map (λ k. declares (def true k Integer None false)) queues)
     (map (λ k. declares (def false k Integer (Some Integer) false)) singles ++ map (λ k. declares (def false k Integer None true)) singles
     ++ map (λ k. declares (def false k Str None true)) (kind.Vector ∷ kind.List ∷ kind.Tree ∷ kind.Holder ∷ [])
     ++ map (λ k. declares (def false k Str (Some Str) true)) sets
     ++ map (λ k. declares (def false k Integer None false)) pairs ++ map (λ k. declares (def false k Str (Some Str) true)) pairs
-    ++ map (λ k. declares (def false k Integer None false)) refused ++ map (λ k. declares (def false k Str (Some Integer) false)) refused)
+    ++ map (λ k. declares (def false k Str None false)) queues ++ map (λ k. declares (def false k Integer (Some Integer) false)) queues)
 
 abbrev named : ℕ → Scope
 named zero = []

@@ -1,10 +1,8 @@
 -- What is faulty in a script, and where the first fault is.
 use Rattle.std.specs.Prelude.{◌≡◌, ℕ, ◌+◌, ◌||◌, nat_lt, nat_le, Bool, false, not, List, [], ◌∷◌, ◌++◌, length, is_some, unwrap_or, Option, Some, None, if◌then◌else◌}
 use Rattle.std.specs.List.{list_any, sum_by}
-use Rattle.ac_syntax.specs.Code.{Simple, call_at, set_at, sum_at, Head, loop_at, view_at, stable_at, declare_at}
+use Rattle.ac_syntax.specs.Code.{Head, loop_at, view_at, stable_at, declare_at, tasks_at, task_at}
 use Rattle.ac_syntax.specs.Items.{Item, declares, commands, opens, begins, closes, item_line}
-use Rattle.ac_syntax.specs.declared.arg.Arg.{Arg}
-use Rattle.ac_syntax.specs.declared.arg.Arg.TheVariants.{Lit, NoElement, Var}
 use Rattle.ac_syntax.specs.declared.decl.Decl.{Decl}
 use Rattle.ac_syntax.specs.declared.decl.Decl.TheVariants.{TypeDecl, Object, CursorVar, IntVar, TextVar}
 use Rattle.ac_syntax.specs.declared.refusal.RefusalKind.{RefusalKind}
@@ -12,20 +10,8 @@ use Rattle.ac_syntax.specs.declared.refusal.RefusalKind.TheVariants.{Limit, Unkn
 use Rattle.ac_syntax.specs.declared.script.Script.{Script}
 use Rattle.ac_check.specs.declared.faults.TheConstants.{MOST_NAMES, MOST_ROOM}
 use Rattle.ac_check.specs.Scopes.{Scope, meaning_in, Standing, standings}
+use Rattle.ac_check.specs.UsedNames.{optional_name, simple_names}
 use Rattle.ac_check.specs.Rules.{is_well_typed}
-
-abbrev pub optional_name : Option (List ℕ) → List (List ℕ)
-optional_name None = []
-optional_name (Some name) = name ∷ []
-
-abbrev pub arg_names : Arg → List (List ℕ)
-arg_names (Lit _) = []
-arg_names NoElement = []
-arg_names (Var name) = name ∷ []
-
-abbrev pub args_names : List Arg → List (List ℕ)
-args_names [] = []
-args_names (arg ∷ args) = arg_names arg ++ args_names args
 
 abbrev pub decl_names : Decl → List (List ℕ)
 decl_names (TypeDecl line name def) = []
@@ -34,16 +20,13 @@ decl_names (CursorVar line name of) = of ∷ []
 decl_names (IntVar line name) = []
 decl_names (TextVar line name) = []
 
-abbrev pub simple_names : Simple → List (List ℕ)
-simple_names (call_at line target object word args) = optional_name target ++ object ∷ args_names args
-simple_names (set_at line target from) = target ∷ arg_names from
-simple_names (sum_at line target from minus number) = target ∷ from ∷ []
-
 abbrev pub head_names : Head → List (List ℕ)
 head_names (loop_at line name elements backward object) = object ∷ []
 head_names (view_at line view object at name) = object ∷ optional_name at
 head_names (stable_at line object) = object ∷ []
 head_names (declare_at line decls) = []
+head_names (tasks_at line) = []
+head_names (task_at line name locals) = []
 
 -- the names that an item uses, but for a call's word
 abbrev pub used : Item → List (List ℕ)
@@ -65,6 +48,8 @@ head_name (loop_at line name elements backward object) = Some name
 head_name (view_at line view object at name) = Some name
 head_name (stable_at line object) = None
 head_name (declare_at line decls) = None
+head_name (tasks_at line) = None
+head_name (task_at line name locals) = Some name
 
 -- the name that an item declares
 abbrev pub declared : Item → Option (List ℕ)

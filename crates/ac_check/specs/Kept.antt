@@ -3,29 +3,33 @@ use Rattle.std.specs.Prelude.{◌≡◌, ℕ, false, List, [], ◌∷◌, All, I
 use Rattle.ac_syntax.specs.Code.{Simple, Head, Code, stop, one, block}
 use Rattle.ac_syntax.specs.declared.decl.Decl.{Decl}
 use Rattle.ac_syntax.specs.declared.script.Script.{Script}
-use Rattle.ac_check.specs.Scopes.{Scope, with_entry, with_decls, decl_entry, decls_in, behind_words, inside}
-use Rattle.ac_check.specs.Rules.{is_decl, is_simple, is_head}
-use Rattle.ac_check.specs.Faults.{decl_names, simple_names, head_names, decl_name, head_name, is_in_scope, is_twice}
+use Rattle.ac_check.specs.Scopes.{Scope, with_entry, with_decls, decl_entry, decls_in, behind_words, inside, behind_block}
+use Rattle.ac_check.specs.Rules.{is_decl, is_simple, is_head, suits_decl, suits_simple, suits_head}
+use Rattle.ac_check.specs.Faults.{decl_names, head_names, decl_name, head_name, is_in_scope, is_twice}
+use Rattle.ac_check.specs.UsedNames.{simple_names}
 
 -- each of these names is in scope
 abbrev pub AreKnown : Scope → List (List ℕ) → Type 0
 AreKnown scope names = All (λ name. IsTrue (is_in_scope scope name)) names
 
--- what a declaration names is in scope and of the right type, and its own name is new there
+-- what a declaration names is in scope and of the right type, its own name is new there, and it may stand there, in a task or outside
 pub record DeclKept (scope : Scope) (decl : Decl) : Type 0 where
   pub known : AreKnown scope (decl_names decl)
   pub typed : IsTrue (is_decl scope decl)
+  pub suited : IsTrue (suits_decl scope decl)
   pub new : is_in_scope scope (decl_name decl) ≡ false
 
 -- the same of a command, which declares nothing
 pub record CommandKept (scope : Scope) (simple : Simple) : Type 0 where
   pub known : AreKnown scope (simple_names simple)
   pub typed : IsTrue (is_simple scope simple)
+  pub suited : IsTrue (suits_simple scope simple)
 
 -- and of the words of a block's head, without its declarations
 pub record HeadKept (scope : Scope) (head : Head) : Type 0 where
   pub known : AreKnown scope (head_names head)
   pub typed : IsTrue (is_head scope head)
+  pub suited : IsTrue (suits_head scope head)
   pub new : is_twice scope (head_name head) ≡ false
 
 -- one after another
@@ -50,7 +54,7 @@ abbrev pub KeepsRules : Scope → Code → Type 0
 KeepsRules scope stop = Unit {0}
 KeepsRules scope (one simple rest) = InTurn (CommandKept scope simple) (KeepsRules scope rest)
 KeepsRules scope (block head body rest) =
-    BlockKept (HeadKept scope head) (DeclsKept (behind_words scope head) (decls_in head)) (KeepsRules (inside scope head) body) (KeepsRules scope rest)
+    BlockKept (HeadKept scope head) (DeclsKept (behind_words scope head) (decls_in head)) (KeepsRules (inside scope head) body) (KeepsRules (behind_block scope head) rest)
 
 pub record ScriptKept (script : Script) : Type 0 where
   pub decls : DeclsKept [] script.decls

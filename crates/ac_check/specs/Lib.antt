@@ -4,6 +4,7 @@ pub mod Scopes
 pub mod Meanings
 pub mod Rows
 pub mod Rules
+pub mod UsedNames
 pub mod Views
 pub mod Examples
 pub mod Faults
@@ -15,4 +16,6 @@ pub mod ResolvedCoded
 pub mod ResolvedStatements
 pub mod ResolvedFall
 pub mod ResolvedExamples
+pub mod TaskExamples
 pub mod BlockHeads
+pub mod HasTasks

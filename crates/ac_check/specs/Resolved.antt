@@ -1,8 +1,8 @@
 -- Statements with nothing left to look up: each name is its place in the scope where the item stands, and each call its operation.
-use Rattle.std.specs.Prelude.{◌≡◌, ℕ, ◌+◌, Bool, false, List, [], ◌∷◌, map, unwrap_or, Option, None, option_map}
+use Rattle.std.specs.Prelude.{◌≡◌, ℕ, ◌+◌, Bool, false, List, [], ◌∷◌, map, length, unwrap_or, Option, None, option_map}
 use Rattle.std.specs.List.{position_or_len}
 use Rattle.std.specs.Str.{bytes_eq}
-use Rattle.ac_syntax.specs.Code.{Simple, call_at, set_at, sum_at, Head, loop_at, view_at, stable_at, declare_at, Code, stop, one, block}
+use Rattle.ac_syntax.specs.Code.{Simple, call_at, set_at, sum_at, Head, loop_at, view_at, stable_at, declare_at, tasks_at, task_at, Code, stop, one, block}
 use Rattle.ac_syntax.specs.declared.arg.Arg.{Arg}
 use Rattle.ac_syntax.specs.declared.arg.Arg.TheVariants as arg
 use Rattle.ac_syntax.specs.declared.decl.Decl.{Decl}
@@ -20,7 +20,7 @@ use Rattle.ac_check.specs.declared.resolved.ResolvedArg.TheVariants as resolved_
 use Rattle.ac_check.specs.declared.resolved.ResolvedDecl.{ResolvedDecl}
 use Rattle.ac_check.specs.declared.resolved.ResolvedDecl.TheVariants as resolved_decl
 use Rattle.ac_check.specs.Operations.{operation_of}
-use Rattle.ac_check.specs.Scopes.{Scope, Entry, Typed, type_of, object_of, with_entry, with_decls, decl_entry, inside}
+use Rattle.ac_check.specs.Scopes.{Scope, Entry, Typed, type_of, object_of, with_entry, with_decls, decl_entry, inside, behind_block}
 
 -- a command, with the line of its first token
 pub data ResolvedSimple : Type 0 where
@@ -34,6 +34,10 @@ pub data ResolvedHead : Type 0 where
   views_at : (line : ℕ) (kind : ViewKind) (object : ℕ) (at : Option ℕ) → ResolvedHead
   stables_at : (line object : ℕ) → ResolvedHead
   declares_at : (line : ℕ) (decls : List ResolvedDecl) → ResolvedHead
+  -- a block of tasks: its body is these
+  gathers_at : (line : ℕ) → ResolvedHead
+  -- one of them, with as many locals: its body is its commands
+  works_at : (line : ℕ) (name : List ℕ) (locals : ℕ) → ResolvedHead
 
 -- statements in order: none, or a command and what follows it, or a block with its body and what follows it
 pub data ResolvedCode : Type 0 where
@@ -91,12 +95,14 @@ resolve_head scope (loop_at line name elements backward object) = loops_at line 
 resolve_head scope (view_at line view object at name) = views_at line view (place_of scope object) (option_map (place_of scope) at)
 resolve_head scope (stable_at line object) = stables_at line (place_of scope object)
 resolve_head scope (declare_at line decls) = declares_at line (resolve_decls scope decls)
+resolve_head scope (tasks_at line) = gathers_at line
+resolve_head scope (task_at line name locals) = works_at line name (length locals)
 
 -- a block's body in the scope inside it
 abbrev pub resolve : Scope → Code → ResolvedCode
 resolve scope stop = no_statement
 resolve scope (one simple rest) = a_command (resolve_simple scope simple) (resolve scope rest)
-resolve scope (block head body rest) = a_block (resolve_head scope head) (resolve (inside scope head) body) (resolve scope rest)
+resolve scope (block head body rest) = a_block (resolve_head scope head) (resolve (inside scope head) body) (resolve (behind_block scope head) rest)
 
 pub record ResolvedScript : Type 0 where
   pub decls : List ResolvedDecl

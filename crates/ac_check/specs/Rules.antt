@@ -1,12 +1,12 @@
 -- The rules of types.
-use Rattle.std.specs.Prelude.{ℕ, ◌&&◌, ◌||◌, Bool, true, false, not, List, [], ◌∷◌, is_some, Option, Some, None}
-use Rattle.std.specs.List.{list_any}
+use Rattle.std.specs.Prelude.{ℕ, ◌&&◌, ◌||◌, nat_lt, codes, Bool, true, false, not, List, [], ◌∷◌, ◌++◌, is_some, Option, Some, None}
+use Rattle.std.specs.List.{list_all, list_any, position_or_len}
 use Rattle.std.specs.Str.{bytes_eq}
 use denote.Enum.Bare.{sameb}
 use Rattle.ac_base.specs.declared.value.Value.{Value}
 use Rattle.ac_base.specs.declared.value.Value.TheVariants as value
 use Rattle.ac_syntax.specs.contracts.kind.ElemKind.{the_type}
-use Rattle.ac_syntax.specs.Code.{Simple, call_at, set_at, sum_at, Head, loop_at, view_at, stable_at, declare_at}
+use Rattle.ac_syntax.specs.Code.{Simple, call_at, set_at, sum_at, Head, loop_at, view_at, stable_at, declare_at, tasks_at, task_at}
 use Rattle.ac_syntax.specs.Items.{declares, commands, opens, begins, closes}
 use Rattle.ac_syntax.specs.declared.arg.Arg.{Arg}
 use Rattle.ac_syntax.specs.declared.arg.Arg.TheVariants.{Lit, NoElement, Var}
@@ -15,7 +15,7 @@ use Rattle.ac_syntax.specs.declared.decl.Decl.TheVariants.{TypeDecl, Object, Cur
 use Rattle.ac_syntax.specs.declared.kind.ElemKind.{ElemKind}
 use Rattle.ac_syntax.specs.declared.kind.ElemKind.TheVariants.{Integer, Str}
 use Rattle.ac_syntax.specs.declared.stmt.Stmt.{Stmt}
-use Rattle.ac_syntax.specs.declared.stmt.Stmt.TheVariants.{Call, Set, Sum, Loop, View, Stable, Declare}
+use Rattle.ac_syntax.specs.declared.stmt.Stmt.TheVariants.{Call, Set, Sum, Loop, View, Stable, Declare, Tasks}
 use Rattle.ac_syntax.specs.declared.view_kind.ViewKind.{ViewKind}
 use Rattle.ac_syntax.specs.declared.view_kind.ViewKind.TheVariants.{Query, Update, Reference, UpdateKey}
 use Rattle.ac_syntax.specs.declared.type_def.TypeDef.{TypeDef}
@@ -25,7 +25,8 @@ use Rattle.ac_check.specs.declared.rows.Answer.{Answer}
 use Rattle.ac_check.specs.declared.rows.Answer.TheVariants as answer
 use Rattle.ac_check.specs.Kinds.{is_map, is_set, is_queue, is_holder, has_cursors, goes_backward, is_built}
 use Rattle.ac_check.specs.Table.{Row, rows_of}
-use Rattle.ac_check.specs.Scopes.{Meaning, a_type, an_object, a_cursor, a_value, Scope, meaning_in, type_of, object_of, Typed, element_of, Standing}
+use Rattle.ac_check.specs.UsedNames.{optional_name, arg_names, args_names}
+use Rattle.ac_check.specs.Scopes.{Meaning, a_type, an_object, a_cursor, a_value, a_task, Entry, Scope, first_task, meaning_in, type_of, object_of, Typed, element_of, Standing}
 
 abbrev pub is_elem : ElemKind → ElemKind → Bool
 is_elem wanted found = sameb the_type found wanted
@@ -76,6 +77,7 @@ given_in (Some (a_type _)) = gives_nothing
 given_in (Some (an_object _ _)) = gives_nothing
 given_in (Some (a_cursor type _)) = gives_cursor type
 given_in (Some (a_value elem _)) = gives_value elem
+given_in (Some a_task) = gives_nothing
 
 abbrev pub given : Scope → Arg → Given
 given scope (Lit v) = gives_value (kind_of v)
@@ -101,6 +103,7 @@ takes (Some (a_type _)) found = false
 takes (Some (an_object _ _)) found = false
 takes (Some (a_cursor type is_variable)) found = is_variable && is_cursor type found
 takes (Some (a_value elem is_written)) found = is_written && is_value elem found
+takes (Some a_task) found = false
 
 -- a cursor variable of the type
 abbrev pub is_variable_of : (type : List ℕ) → Option Meaning → Bool
@@ -109,6 +112,7 @@ is_variable_of type (Some (a_type _)) = false
 is_variable_of type (Some (an_object _ _)) = false
 is_variable_of type (Some (a_cursor found is_variable)) = is_variable && bytes_eq found type
 is_variable_of type (Some (a_value _ _)) = false
+is_variable_of type (Some a_task) = false
 
 abbrev pub is_variable : Scope → (type : List ℕ) → Arg → Bool
 is_variable scope type (Lit _) = false
@@ -201,13 +205,65 @@ is_head scope (loop_at line name elements backward object) = is_looped backward 
 is_head scope (view_at line view object at name) = is_view scope view (object_of scope object) at
 is_head scope (stable_at line object) = is_looped false (object_of scope object)
 is_head scope (declare_at line decls) = true
+is_head scope (tasks_at line) = true
+is_head scope (task_at line name locals) = true
+
+-- in a task, behind whose name and those of other tasks its locals stand
+
+abbrev pub is_local : Scope → (first : ℕ) → List ℕ → Bool
+is_local scope first name = nat_lt first (position_or_len (λ (e : Entry). bytes_eq e.name name) scope)
+
+abbrev pub are_local : Scope → (first : ℕ) → List (List ℕ) → Bool
+are_local scope first names = list_all (is_local scope first) names
+
+abbrev pub is_on_queue : Option Typed → Bool
+is_on_queue None = false
+is_on_queue (Some typed) = is_queue typed.def.kind
+
+-- a command uses its task's locals and literals, and calls queues alone, but for Print
+abbrev pub is_task_simple : Scope → (first : ℕ) → Simple → Bool
+is_task_simple scope first (call_at line target object word args) =
+    is_on_queue (object_of scope object) && (not (bytes_eq word (codes "print")) && are_local scope first (optional_name target ++ args_names args))
+is_task_simple scope first (set_at line target from) = are_local scope first (target ∷ arg_names from)
+is_task_simple scope first (sum_at line target from minus number) = are_local scope first (target ∷ from ∷ [])
+
+-- a local is an integer
+abbrev pub is_task_decl : Decl → Bool
+is_task_decl (TypeDecl _ _ _) = false
+is_task_decl (Object _ _ _ _) = false
+is_task_decl (CursorVar _ _ _) = false
+is_task_decl (IntVar _ _) = true
+is_task_decl (TextVar _ _) = false
+
+-- no block stands in a task, but the next task of a block behind the last one
+abbrev pub is_task_head : Head → Bool
+is_task_head (loop_at _ _ _ _ _) = false
+is_task_head (view_at _ _ _ _ _) = false
+is_task_head (stable_at _ _) = false
+is_task_head (declare_at _ _) = false
+is_task_head (tasks_at _) = false
+is_task_head (task_at _ _ _) = true
+
+-- what an item may be where it stands
+abbrev pub suits : Option ℕ → ((first : ℕ) → Bool) → Bool
+suits None in_task = true
+suits (Some first) in_task = in_task first
+
+abbrev pub suits_decl : Scope → Decl → Bool
+suits_decl scope decl = suits (first_task scope) (λ _. is_task_decl decl)
+
+abbrev pub suits_simple : Scope → Simple → Bool
+suits_simple scope simple = suits (first_task scope) (λ first. is_task_simple scope first simple)
+
+abbrev pub suits_head : Scope → Head → Bool
+suits_head scope head = suits (first_task scope) (λ _. is_task_head head)
 
 -- an item keeps the rules
 abbrev pub is_well_typed : Standing → Bool
 is_well_typed s = elim s.item [
-  | declares decl ↦ is_decl s.scope decl
-  | commands simple ↦ is_simple s.scope simple
-  | opens head ↦ is_head s.scope head
+  | declares decl ↦ is_decl s.scope decl && suits_decl s.scope decl
+  | commands simple ↦ is_simple s.scope simple && suits_simple s.scope simple
+  | opens head ↦ is_head s.scope head && suits_head s.scope head
   | begins ↦ true
   | closes _ ↦ true
 ]
@@ -221,3 +277,19 @@ is_stmt scope (Loop line name elements backward object body) = is_head scope (lo
 is_stmt scope (View line view object at name body) = is_head scope (view_at line view object at name)
 is_stmt scope (Stable line object body) = is_head scope (stable_at line object)
 is_stmt scope (Declare line decls body) = true
+is_stmt scope (Tasks line tasks) = true
+
+-- and suits a task, or wherever it stands
+
+abbrev pub is_task_stmt : Scope → (first : ℕ) → Stmt → Bool
+is_task_stmt scope first (Call line target object word args) = is_task_simple scope first (call_at line target object word args)
+is_task_stmt scope first (Set line target from) = is_task_simple scope first (set_at line target from)
+is_task_stmt scope first (Sum line target from minus number) = is_task_simple scope first (sum_at line target from minus number)
+is_task_stmt scope first (Loop line name elements backward object body) = false
+is_task_stmt scope first (View line view object at name body) = false
+is_task_stmt scope first (Stable line object body) = false
+is_task_stmt scope first (Declare line decls body) = false
+is_task_stmt scope first (Tasks line tasks) = false
+
+abbrev pub suits_stmt : Scope → Stmt → Bool
+suits_stmt scope stmt = suits (first_task scope) (λ first. is_task_stmt scope first stmt)

@@ -1,10 +1,10 @@
 -- Items as a walk takes them: one by one, with the room that the objects so far have.
 use Rattle.std.specs.Prelude.{◌≡◌, ℕ, ◌+◌, ◌||◌, nat_lt, Bool, not, List, [], ◌∷◌, Option, Some, None, Result, Err, if◌then◌else◌}
 use Rattle.std.specs.List.{list_any}
-use Rattle.ac_syntax.specs.Code.{call_at, set_at, sum_at, loop_at, view_at, stable_at, declare_at}
+use Rattle.ac_syntax.specs.Code.{call_at, set_at, sum_at, loop_at, view_at, stable_at, declare_at, tasks_at}
 use Rattle.ac_syntax.specs.Items.{Item, commands, opens, item_line}
 use Rattle.ac_syntax.specs.declared.stmt.Stmt.{Stmt}
-use Rattle.ac_syntax.specs.declared.stmt.Stmt.TheVariants.{Call, Set, Sum, Loop, View, Stable, Declare}
+use Rattle.ac_syntax.specs.declared.stmt.Stmt.TheVariants.{Call, Set, Sum, Loop, View, Stable, Declare, Tasks}
 use Rattle.ac_syntax.specs.declared.refusal.RefusalKind.{RefusalKind}
 use Rattle.ac_syntax.specs.declared.refusal.RefusalKind.TheVariants.{Limit, UnknownName, WrongType, Twice}
 use Rattle.ac_syntax.specs.declared.fault.ScriptFault.{ScriptFault}
@@ -23,6 +23,7 @@ stmt_item (Loop line name elements backward object body) = opens (loop_at line n
 stmt_item (View line view object at name body) = opens (view_at line view object at name)
 stmt_item (Stable line object body) = opens (stable_at line object)
 stmt_item (Declare line decls body) = opens (declare_at line [])
+stmt_item (Tasks line tasks) = opens (tasks_at line)
 
 -- one of the names isn't in scope
 abbrev pub has_unknown : Scope → List (List ℕ) → Bool

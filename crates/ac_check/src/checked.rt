@@ -3,9 +3,11 @@ ghost use Rattle.std.specs.Prelude.{◌≡◌, ◌⊎◌, [], ℕ, Ok, Err, IfOk
 ghost use Rattle.ac_syntax.specs.declared.refusal.RefusalKind.{RefusalKind};
 ghost use Rattle.ac_syntax.specs.declared.fault.ScriptFault.TheVariants.{Refused, NoMemory};
 ghost use Rattle.ac_check.specs.Faults.{IsChecked, IsFirstFault};
+ghost use Rattle.ac_check.specs.HasTasks.{has_tasks};
 ghost use Rattle.ac_check.specs.Resolved.{resolve_decls, resolve};
 ghost use Rattle.ac_check.specs.Scopes.{with_decls};
 
+use crate::having::has_tasks;
 use crate::resolved::{ResolvedDecl, ResolvedStmts};
 use crate::walk::{Resolved, walk_script};
 use ac_syntax::{Script, ScriptFault};
@@ -57,6 +59,13 @@ impl Checked {
         ensures { result.now ≡ resolve (with_decls [] self.now.decls) self.now.stmts }
     {
         &self.resolved.stmts
+    }
+
+    /// Whether there is a block of tasks in it.
+    pub fn has_tasks(&self) -> bool
+        ensures { result ≡ has_tasks (resolve (with_decls [] self.now.decls) self.now.stmts) }
+    {
+        has_tasks(&self.resolved.stmts)
     }
 }
 

@@ -3,6 +3,8 @@ ghost use Rattle.ac_check.specs.Examples.{TakesElements, CountsArguments, Splice
 ghost use Rattle.ac_check.specs.Examples.{KeepsLoopCursor, WritesNothingQueried, WritesUpdated, WritesLooped, WritesNoSet, LoopsOverCursors};
 ghost use Rattle.ac_check.specs.Examples.{ViewsElements, ViewsSets, UpdatesNoKey, ViewsHolders, FitsCapacity, NeedsCursors, MakesRows};
 ghost use Rattle.ac_check.specs.Examples.{CountsNames, MeansByArguments, MeansByKind, TreesMeanByArguments};
+ghost use Rattle.ac_check.specs.TaskExamples.{CallsQueues, SetsLocals, HasNoBlocks, TakesTasks, RefusesTaskTwice, RefusesLocalAsItsTask, RefusesOuterName};
+ghost use Rattle.ac_check.specs.TaskExamples.{RefusesLocalOfAnother, RefusesOuterVariable, RefusesTextLocal, FreesNames};
 ghost use Rattle.ac_check.specs.ResolvedExamples.{PlacesInBlocks, PlacesNoName, ResolvesArguments, ResolvesByArguments, ResolvesObjects, ResolvesScript};
 
 /// Commands that keep the rules, and beside them some that break them.
@@ -53,4 +55,19 @@ pub fn resolved_examples()
     ensures by_arguments { ResolvesByArguments }
     ensures objects { ResolvesObjects }
     ensures script { ResolvesScript }
+{}
+
+/// What a task may have, and blocks of tasks.
+pub fn task_examples()
+    ensures calls_queues { CallsQueues }
+    ensures sets_locals { SetsLocals }
+    ensures has_no_blocks { HasNoBlocks }
+    ensures takes_tasks { TakesTasks }
+    ensures task_twice { RefusesTaskTwice }
+    ensures local_as_its_task { RefusesLocalAsItsTask }
+    ensures outer_name { RefusesOuterName }
+    ensures local_of_another { RefusesLocalOfAnother }
+    ensures outer_variable { RefusesOuterVariable }
+    ensures text_local { RefusesTextLocal }
+    ensures frees_names { FreesNames }
 {}

@@ -1,17 +1,19 @@
 //! What is faulty in an item: the first of the faults that it has.
-ghost use Rattle.std.specs.Prelude.{◌≡◌, ◌+◌, not, nat_lt, Option, Some, None};
+ghost use Rattle.std.specs.Prelude.{◌≡◌, ◌+◌, ℕ, [], not, nat_lt, Option, Some, None};
 ghost use Rattle.std.specs.Option.{option_copied};
 ghost use Rattle.ac_syntax.specs.Items as items;
-ghost use Rattle.ac_syntax.specs.Items.{declares, item_line};
-ghost use Rattle.ac_check.specs.Scopes.{standing};
+ghost use Rattle.ac_syntax.specs.Items.{declares, opens, item_line};
+ghost use Rattle.ac_syntax.specs.Code.{task_at};
+ghost use Rattle.ac_check.specs.Scopes.{first_task, standing};
 ghost use Rattle.ac_check.specs.Faults as faults;
-ghost use Rattle.ac_check.specs.Faults.{arg_names, args_names, optional_name, used, capacity, declared};
+ghost use Rattle.ac_check.specs.Faults.{used, capacity, declared};
+ghost use Rattle.ac_check.specs.UsedNames.{arg_names, args_names, optional_name};
 ghost use Rattle.ac_check.specs.Operations.{meant};
 ghost use Rattle.ac_check.specs.Walks as walks;
 ghost use Rattle.ac_check.specs.Walks.{has_unknown, fault_with, stmt_item};
 
 use crate::operation::Operation;
-use crate::rules::{is_well_typed_decl, is_well_typed_stmt};
+use crate::rules::{is_well_typed_decl, is_well_typed_stmt, suits_decl, suits_stmt};
 use crate::scope::Scope;
 use ac_syntax::{Arg, Decl, Ident, RefusalKind, Stmt};
 
@@ -87,7 +89,7 @@ fn has_unknown_stmt(scope: &Scope, stmt: &Stmt) -> bool
             !is_in_scope(scope, object) || has_unknown_optional(scope, at)
         }
         Stmt::Loop { object, .. } | Stmt::Stable { object, .. } => !is_in_scope(scope, object),
-        Stmt::Declare { .. } => false,
+        Stmt::Declare { .. } | Stmt::Tasks { .. } => false,
     }
 }
 
@@ -137,7 +139,8 @@ fn stmt_name(stmt: &Stmt) -> Option<&Ident>
         | Stmt::Set { .. }
         | Stmt::Sum { .. }
         | Stmt::Stable { .. }
-        | Stmt::Declare { .. } => None,
+        | Stmt::Declare { .. }
+        | Stmt::Tasks { .. } => None,
     }
 }
 
@@ -151,7 +154,8 @@ pub fn stmt_line(stmt: &Stmt) -> u64
         | Stmt::Loop { line, .. }
         | Stmt::View { line, .. }
         | Stmt::Stable { line, .. }
-        | Stmt::Declare { line, .. } => *line,
+        | Stmt::Declare { line, .. }
+        | Stmt::Tasks { line, .. } => *line,
     }
 }
 
@@ -180,12 +184,13 @@ fn declared_fault(
 }
 
 /// What is faulty in a declaration behind objects with so much room.
-pub fn decl_fault(scope: &Scope, room: u64, decl: &Decl) -> Option<RefusalKind>
+pub fn decl_fault(scope: &Scope, task: Option<usize>, room: u64, decl: &Decl) -> Option<RefusalKind>
+    requires { task ≡ first_task scope.now }
     ensures { result ≡ fault_with room (standing (declares decl.now) scope.now) }
 {
     if has_unknown_decl(scope, decl) {
         Some(RefusalKind::UnknownName)
-    } else if !is_well_typed_decl(scope, decl) {
+    } else if !(is_well_typed_decl(scope, decl) && suits_decl(task, decl)) {
         Some(RefusalKind::WrongType)
     } else {
         declared_fault(scope, room, Some(decl_name(decl)), decl_capacity(decl))
@@ -193,20 +198,30 @@ pub fn decl_fault(scope: &Scope, room: u64, decl: &Decl) -> Option<RefusalKind>
 }
 
 /// What is faulty in a command that means this operation, or in what begins a block, behind objects with so much room.
+#[tactic(auto, using(crate::proofs::TaskScopes::judged_by))]
 pub fn stmt_fault(
     scope: &Scope,
+    task: Option<usize>,
     room: u64,
     stmt: &Stmt,
     operation: Option<Operation>,
 ) -> Option<RefusalKind>
-    requires { operation ≡ meant scope.now stmt.now }
+    requires task { task ≡ first_task scope.now }
+    requires operation { operation ≡ meant scope.now stmt.now }
     ensures { result ≡ fault_with room (standing (stmt_item stmt.now) scope.now) }
 {
     if has_unknown_stmt(scope, stmt) {
         Some(RefusalKind::UnknownName)
-    } else if !is_well_typed_stmt(scope, stmt, operation) {
+    } else if !(is_well_typed_stmt(scope, stmt, operation) && suits_stmt(scope, task, stmt)) {
         Some(RefusalKind::WrongType)
     } else {
         declared_fault(scope, room, stmt_name(stmt), 0)
     }
+}
+
+/// What is faulty in the head of a task, behind objects with so much room.
+pub fn task_fault(scope: &Scope, room: u64, name: &Ident) -> Option<RefusalKind>
+    ensures { (line : ℕ) → result ≡ fault_with room (standing (opens (task_at line name.now [])) scope.now) }
+{
+    declared_fault(scope, room, Some(name), 0)
 }

@@ -62,6 +62,8 @@ fn is_built(kind: Kind) -> bool
             | Kind::OrderedSet
             | Kind::Tree
             | Kind::Holder
+            | Kind::Queue
+            | Kind::PriorityQueue
     )
 }
 

@@ -8,6 +8,7 @@ mod entry;
 mod examples;
 mod faults;
 mod given;
+mod having;
 mod kinds;
 mod law;
 mod meaning;
@@ -23,6 +24,7 @@ mod walk;
 pub use checked::{Checked, check};
 pub use examples::{
     block_examples, command_examples, declaration_examples, operation_examples, resolved_examples,
+    task_examples,
 };
 pub use law::{each_script, one_fault, one_row, places, rules_kept};
 pub use operation::{
@@ -32,6 +34,7 @@ pub use operation::{
 };
 pub use resolved::{
     ResolvedArg, ResolvedArgs, ResolvedDecl, ResolvedDecls, ResolvedStmt, ResolvedStmts,
+    ResolvedTask, ResolvedTasks,
 };
 pub use rows::{Answer, Letter};
 pub use table::{Row, rows_of};

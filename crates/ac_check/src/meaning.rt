@@ -12,4 +12,6 @@ pub enum Meaning {
     Cursor { of: Ident, is_variable: bool },
     /// A variable, or a view of an element.
     Value { elem: ElemKind, is_written: bool },
+    /// A task of a block.
+    Task,
 }

@@ -1,10 +1,10 @@
 //! What items are resolved to in the scope where they stand.
-ghost use Rattle.std.specs.Prelude.{◌≡◌, ◌++◌, ◌∷◌, [], map, true, unwrap_or, option_map, IfOk, OnOk};
+ghost use Rattle.std.specs.Prelude.{◌≡◌, ◌++◌, ◌∷◌, [], map, length, true, unwrap_or, option_map, IfOk, OnOk};
 ghost use Rattle.ac_syntax.specs.Code.{stop};
 ghost use Rattle.ac_syntax.specs.Statements.{before};
 ghost use Rattle.ac_check.specs.Resolved as resolved;
-ghost use Rattle.ac_check.specs.Resolved.{no_statement, a_block};
-ghost use Rattle.ac_check.specs.ResolvedStatements.{resolved_before};
+ghost use Rattle.ac_check.specs.Resolved.{no_statement, a_block, works_at};
+ghost use Rattle.ac_check.specs.ResolvedStatements.{resolved_before, resolved_task_before};
 ghost use Rattle.ac_check.specs.BlockHeads.{head_view, is_command};
 ghost use Rattle.ac_check.specs.Scopes as scopes;
 ghost use Rattle.ac_check.specs.Operations.{meant};
@@ -13,10 +13,11 @@ use crate::given::type_of;
 use crate::operation::{CommonCall, Operation};
 use crate::resolved::{
     ResolvedArg, ResolvedArgs, ResolvedDecl, ResolvedDecls, ResolvedStmt, ResolvedStmts,
+    ResolvedTask,
 };
 use crate::scope::Scope;
 use ac_base::{Elem, NoMemory, Value};
-use ac_syntax::{Arg, Decl, ElemKind, Ident, Kind, Stmt, TypeDef, ViewKind};
+use ac_syntax::{Arg, Decl, ElemKind, Ident, Kind, Stmt, TaskText, TypeDef, ViewKind};
 use std::alloc::Global;
 
 /// What begins a block, with the line of its first token.
@@ -205,4 +206,21 @@ pub fn resolve_command(
         }),
         _ => unreachable!(),
     }
+}
+
+/// A task with its commands.
+pub fn resolve_task(
+    scope: &Scope,
+    task: &TaskText,
+    steps: ResolvedStmts,
+) -> Result<ResolvedTask, NoMemory>
+    ensures { IfOk result (λ made. resolved_task_before made no_statement
+        ≡ a_block (works_at task.now.line task.now.name (length task.now.locals)) steps no_statement) }
+{
+    Ok(ResolvedTask {
+        line: task.line,
+        name: task.name.copy(scope.alloc())?,
+        locals: task.locals.items().len(),
+        steps,
+    })
 }

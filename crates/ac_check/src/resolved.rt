@@ -1,11 +1,11 @@
 //! Statements with nothing left to look up: each name is its place among those in scope where the item stands, and each call the operation
 //! that it means.
 ghost use Rattle.std.specs.Prelude.{◌≡◌};
-ghost use Rattle.ac_check.specs.ResolvedStatements.{resolved_of};
+ghost use Rattle.ac_check.specs.ResolvedStatements.{resolved_of, resolved_tasks_of};
 
 use crate::operation::Operation;
 use ac_base::Value;
-use ac_syntax::{TypeDef, ViewKind};
+use ac_syntax::{Ident, TypeDef, ViewKind};
 use std::marker::Model;
 
 /// An argument of a call, or what is assigned.
@@ -139,6 +139,11 @@ pub enum ResolvedStmt {
         decls: ResolvedDecls,
         body: ResolvedStmts,
     },
+    /// Tasks that run beside each other.
+    Tasks {
+        line: u64,
+        tasks: ResolvedTasks,
+    },
 }
 
 /// Statements in order.
@@ -176,6 +181,56 @@ impl ResolvedStmts {
 
     pub fn items(&self) -> &[ResolvedStmt]
         ensures { resolved_of result.now ≡ self.now }
+    {
+        &self.items
+    }
+}
+
+/// A task, with the line of its first token: its name, how many locals it has, and its commands.
+#[derive(Debug, Drop)]
+#[cycle(resolved)]
+pub struct ResolvedTask {
+    pub line: u64,
+    pub name: Ident,
+    pub locals: usize,
+    pub steps: ResolvedStmts,
+}
+
+/// Tasks in order.
+#[derive(Debug, Drop)]
+#[cycle(resolved)]
+pub struct ResolvedTasks {
+    items: Vec<ResolvedTask>,
+}
+
+impl Model for ResolvedTasks {
+    ghost use Rattle.ac_check.specs.Resolved.{ResolvedCode, resolved_size};
+    ghost use Rattle.ac_check.specs.ResolvedCoded.{coded_resolved};
+
+    ghost Value = { ResolvedCode };
+
+    ghost coded = { coded_resolved };
+
+    ghost use Rattle.ac_check.specs.ResolvedStatements.{resolved_tasks_of};
+
+    ghost view = { λ tasks. resolved_tasks_of tasks.items.items };
+
+    ghost size = { resolved_size };
+
+    ghost use Rattle.ac_check.specs.ResolvedFall.{resolved_tasks_fall};
+
+    ghost size_decreases = { λ a h. resolved_tasks_fall a.items.items };
+}
+
+impl ResolvedTasks {
+    pub fn from_vec(items: Vec<ResolvedTask>) -> ResolvedTasks
+        ensures { result ≡ resolved_tasks_of items.items }
+    {
+        ResolvedTasks { items }
+    }
+
+    pub fn items(&self) -> &[ResolvedTask]
+        ensures { resolved_tasks_of result.now ≡ self.now }
     {
         &self.items
     }

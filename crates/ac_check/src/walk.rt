@@ -1,32 +1,38 @@
 //! A walk over the items of a script in the order of the text, up to the first faulty one.
-ghost use Rattle.std.specs.Prelude.{◌≡◌, ◌∷◌, [], ℕ, List, take, false, Some, None, Err, IfOk, OnOk};
+ghost use Rattle.std.specs.Prelude.{◌≡◌, ◌∷◌, ◌++◌, [], ℕ, List, take, length, unwrap_or, false, Some, None, Err, IfOk, OnOk};
 ghost use Rattle.std.specs.Option.{option_map};
 ghost use Rattle.ac_syntax.specs.Code.{stop, loop_at, view_at};
 ghost use Rattle.ac_syntax.specs.Items.{declares};
-ghost use Rattle.ac_syntax.specs.Statements.{before};
+ghost use Rattle.ac_syntax.specs.Statements.{before, task_before};
 ghost use Rattle.ac_syntax.specs.declared.refusal.RefusalKind.{RefusalKind};
 ghost use Rattle.ac_syntax.specs.declared.fault.ScriptFault.TheVariants.{Refused};
-ghost use Rattle.ac_check.specs.Scopes.{with_entry, with_name, with_decls, decl_entry, loop_on, view_on};
+ghost use Rattle.ac_check.specs.Scopes.{entry, a_task, first_task, with_entry, with_name, with_decls, decl_entry, loop_on, view_on};
 ghost use Rattle.ac_check.specs.Scopes.{standing, standing_decls, standings_from, standings};
 ghost use Rattle.ac_check.specs.Faults.{is_in_scope, AreFaultless, IsFirstFault, IsChecked};
 ghost use Rattle.ac_check.specs.Meanings.{meaning_view};
 ghost use Rattle.ac_check.specs.Operations.{meant};
 ghost use Rattle.ac_check.specs.Resolved as resolved;
 ghost use Rattle.ac_check.specs.Resolved.{no_statement, a_block, IsResolved};
-ghost use Rattle.ac_check.specs.ResolvedStatements.{resolved_before};
+ghost use Rattle.ac_check.specs.ResolvedStatements.{resolved_before, resolved_task_before};
 ghost use Rattle.ac_check.specs.BlockHeads.{head_view};
 ghost use Rattle.ac_check.specs.Walks.{fault_with, outcome, goes_on, refused, stmt_item, StopsAs, StopsAt};
 
 use crate::call::meant;
 use crate::entry::{decl_meaning, loop_meaning, view_meaning};
-use crate::faults::{decl_capacity, decl_fault, decl_line, decl_name, stmt_fault, stmt_line};
+use crate::faults::{
+    decl_capacity, decl_fault, decl_line, decl_name, stmt_fault, stmt_line, task_fault,
+};
 use crate::meaning::Meaning;
 use crate::operation::Operation;
-use crate::resolve::{BlockHead, keep, place_of, resolve_command, resolve_decl};
-use crate::resolved::{ResolvedDecl, ResolvedDecls, ResolvedStmt, ResolvedStmts};
+use crate::resolve::{BlockHead, keep, place_of, resolve_command, resolve_decl, resolve_task};
+use crate::resolved::{
+    ResolvedDecl, ResolvedDecls, ResolvedStmt, ResolvedStmts, ResolvedTask, ResolvedTasks,
+};
 use crate::scope::Scope;
 use ac_base::NoMemory;
-use ac_syntax::{Decl, Ident, RefusalKind, Script, ScriptFault, Stmt, Stmts, ViewKind};
+use ac_syntax::{
+    Decl, Ident, RefusalKind, Script, ScriptFault, Stmt, Stmts, TaskText, TaskTexts, ViewKind,
+};
 use std::alloc::Global;
 
 /// Takes a name in, if it is known what it stands for.
@@ -69,13 +75,17 @@ impl Walk {
         }
     }
 
-    fn walk_decl(&mut self, decl: &Decl) -> Result<ResolvedDecl, ScriptFault>
+    fn walk_decl(&mut self, task: Option<usize>, decl: &Decl) -> Result<ResolvedDecl, ScriptFault>
+        requires { task ≡ first_task self.old.scope }
         ensures ok { OnOk result (outcome self.old.room (standing (declares decl.now) self.old.scope ∷ []) ≡ goes_on self.new.room) }
         ensures refused { StopsAt result self.old.room (standing (declares decl.now) self.old.scope) }
         ensures scope { OnOk result (self.new.scope ≡ with_entry self.old.scope (decl_entry self.old.scope decl.now)) }
         ensures resolved { IfOk result (λ made. made ≡ resolved.resolve_decl self.old.scope decl.now) }
     {
-        refuse(decl_line(decl), decl_fault(&self.scope, self.room, decl))?;
+        refuse(
+            decl_line(decl),
+            decl_fault(&self.scope, task, self.room, decl),
+        )?;
         let resolved = resolve_decl(&self.scope, decl);
         let meaning = decl_meaning(&self.scope, decl)?;
         declare(&mut self.scope, decl_name(decl), meaning)?;
@@ -83,7 +93,12 @@ impl Walk {
         Ok(resolved)
     }
 
-    fn walk_decls(&mut self, decls: &[Decl]) -> Result<ResolvedDecls, ScriptFault>
+    fn walk_decls(
+        &mut self,
+        task: Option<usize>,
+        decls: &[Decl],
+    ) -> Result<ResolvedDecls, ScriptFault>
+        requires { task ≡ first_task self.old.scope }
         ensures ok { OnOk result (outcome self.old.room (standing_decls self.old.scope decls.now) ≡ goes_on self.new.room) }
         ensures refused { StopsAs result (outcome self.old.room (standing_decls self.old.scope decls.now)) }
         ensures scope { OnOk result (self.new.scope ≡ with_decls self.old.scope decls.now) }
@@ -91,14 +106,15 @@ impl Walk {
     {
         let mut made = Vec::new(self.scope.alloc());
         for decl in decls {
-            let resolved = self.walk_decl(decl)?;
+            let resolved = self.walk_decl(task, decl)?;
             keep(&mut made, resolved)?;
         }
         Ok(ResolvedDecls::from_vec(made))
     }
 
     /// Judges a command, or what begins a block, and says what a call means.
-    fn judge(&self, stmt: &Stmt) -> Result<Option<Operation>, ScriptFault>
+    fn judge(&self, task: Option<usize>, stmt: &Stmt) -> Result<Option<Operation>, ScriptFault>
+        requires { task ≡ first_task self.now.scope }
         ensures ok { OnOk result (fault_with self.now.room (standing (stmt_item stmt.now) self.now.scope) ≡ None) }
         ensures refused { StopsAt result self.now.room (standing (stmt_item stmt.now) self.now.scope) }
         ensures operation { IfOk result (λ operation. operation ≡ meant self.now.scope stmt.now) }
@@ -106,7 +122,7 @@ impl Walk {
         let operation = meant(&self.scope, stmt);
         refuse(
             stmt_line(stmt),
-            stmt_fault(&self.scope, self.room, stmt, operation),
+            stmt_fault(&self.scope, task, self.room, stmt, operation),
         )?;
         Ok(operation)
     }
@@ -167,30 +183,38 @@ impl Walk {
     #[cycle(statements)]
     fn walk_body(
         &mut self,
+        task: Option<usize>,
         head: BlockHead,
         body: &Stmts,
         outside: usize,
     ) -> Result<ResolvedStmt, ScriptFault>
+        requires { task ≡ first_task self.old.scope }
         ensures ok { OnOk result (outcome self.old.room (standings_from self.old.scope body.now) ≡ goes_on self.new.room) }
         ensures refused { StopsAs result (outcome self.old.room (standings_from self.old.scope body.now)) }
         ensures scope { OnOk result (self.new.scope ≡ take outside self.old.scope) }
         ensures resolved { IfOk result (λ made. resolved_before made no_statement
             ≡ a_block (head_view head) (resolved.resolve self.old.scope body.now) no_statement) }
     {
-        let made = self.walk_statements(body)?;
+        let made = self.walk_statements(task, body)?;
         self.scope.leave(outside);
         Ok(head.with_body(made))
     }
 
     #[cycle(statements)]
-    fn walk_statement(&mut self, stmt: &Stmt) -> Result<ResolvedStmt, ScriptFault>
+    #[tactic(auto, using(crate::proofs::TaskScopes::loop_first, crate::proofs::TaskScopes::view_first, crate::proofs::TaskScopes::decls_first))]
+    fn walk_statement(
+        &mut self,
+        task: Option<usize>,
+        stmt: &Stmt,
+    ) -> Result<ResolvedStmt, ScriptFault>
+        requires { task ≡ first_task self.old.scope }
         ensures ok { OnOk result (outcome self.old.room (standings_from self.old.scope (before stmt.now stop)) ≡ goes_on self.new.room) }
         ensures refused { StopsAs result (outcome self.old.room (standings_from self.old.scope (before stmt.now stop))) }
         ensures scope { OnOk result (self.new.scope ≡ self.old.scope) }
         ensures resolved { IfOk result (λ made. resolved_before made no_statement
             ≡ resolved.resolve self.old.scope (before stmt.now stop)) }
     {
-        let operation = self.judge(stmt)?;
+        let operation = self.judge(task, stmt)?;
         let outside = self.scope.len();
         match stmt {
             Stmt::Call { .. } | Stmt::Set { .. } | Stmt::Sum { .. } => {
@@ -205,7 +229,7 @@ impl Walk {
                 body,
             } => {
                 let head = self.enter_loop(*line, name, *elements, *backward, object)?;
-                self.walk_body(head, body, outside)
+                self.walk_body(task, head, body, outside)
             }
             Stmt::View {
                 line,
@@ -216,11 +240,12 @@ impl Walk {
                 body,
             } => {
                 let head = self.enter_view(*line, *kind, object, at, name)?;
-                self.walk_body(head, body, outside)
+                self.walk_body(task, head, body, outside)
             }
             Stmt::Stable { line, object, body } => {
                 let object = self.scope.place(object.bytes());
                 self.walk_body(
+                    task,
                     BlockHead::Stable {
                         line: *line,
                         object,
@@ -230,14 +255,71 @@ impl Walk {
                 )
             }
             Stmt::Declare { line, decls, body } => {
-                let decls = self.walk_decls(decls.items())?;
-                self.walk_body(BlockHead::Declare { line: *line, decls }, body, outside)
+                let decls = self.walk_decls(task, decls.items())?;
+                self.walk_body(
+                    task,
+                    BlockHead::Declare { line: *line, decls },
+                    body,
+                    outside,
+                )
+            }
+            Stmt::Tasks { line, tasks } => {
+                let tasks = self.walk_tasks(task, tasks)?;
+                Ok(ResolvedStmt::Tasks { line: *line, tasks })
             }
         }
     }
 
+    /// Walks a task, whose name stays in scope.
     #[cycle(statements)]
-    fn walk_statements(&mut self, stmts: &Stmts) -> Result<ResolvedStmts, ScriptFault>
+    fn walk_task(&mut self, first: usize, task: &TaskText) -> Result<ResolvedTask, ScriptFault>
+        requires { first ≡ unwrap_or (first_task self.old.scope) (length self.old.scope) }
+        ensures ok { OnOk result (outcome self.old.room (standings_from self.old.scope (task_before task.now stop)) ≡ goes_on self.new.room) }
+        ensures refused { StopsAs result (outcome self.old.room (standings_from self.old.scope (task_before task.now stop))) }
+        ensures scope { OnOk result (self.new.scope ≡ self.old.scope ++ entry task.now.name a_task ∷ []) }
+        ensures resolved { IfOk result (λ made. resolved_task_before made no_statement
+            ≡ resolved.resolve self.old.scope (task_before task.now stop)) }
+    {
+        refuse(task.line, task_fault(&self.scope, self.room, &task.name))?;
+        declare(&mut self.scope, &task.name, Some(Meaning::Task))?;
+        let named = self.scope.len();
+        self.walk_decls(Some(first), task.locals.items())?;
+        let steps = self.walk_statements(Some(first), &task.steps)?;
+        self.scope.leave(named);
+        Ok(resolve_task(&self.scope, task, steps)?)
+    }
+
+    /// Walks the tasks of a block, whose names go out of scope behind the last.
+    #[cycle(statements)]
+    fn walk_tasks(
+        &mut self,
+        task: Option<usize>,
+        tasks: &TaskTexts,
+    ) -> Result<ResolvedTasks, ScriptFault>
+        requires { task ≡ first_task self.old.scope }
+        ensures ok { OnOk result (outcome self.old.room (standings_from self.old.scope tasks.now) ≡ goes_on self.new.room) }
+        ensures refused { StopsAs result (outcome self.old.room (standings_from self.old.scope tasks.now)) }
+        ensures scope { OnOk result (self.new.scope ≡ self.old.scope) }
+        ensures resolved { IfOk result (λ made. made ≡ resolved.resolve self.old.scope tasks.now) }
+    {
+        let mut made = Vec::new(self.scope.alloc());
+        let before = self.scope.len();
+        let first = task.unwrap_or(before);
+        for task in tasks.items() {
+            let resolved = self.walk_task(first, task)?;
+            keep(&mut made, resolved)?;
+        }
+        self.scope.leave(before);
+        Ok(ResolvedTasks::from_vec(made))
+    }
+
+    #[cycle(statements)]
+    fn walk_statements(
+        &mut self,
+        task: Option<usize>,
+        stmts: &Stmts,
+    ) -> Result<ResolvedStmts, ScriptFault>
+        requires { task ≡ first_task self.old.scope }
         ensures ok { OnOk result (outcome self.old.room (standings_from self.old.scope stmts.now) ≡ goes_on self.new.room) }
         ensures refused { StopsAs result (outcome self.old.room (standings_from self.old.scope stmts.now)) }
         ensures scope { OnOk result (self.new.scope ≡ self.old.scope) }
@@ -245,7 +327,7 @@ impl Walk {
     {
         let mut made = Vec::new(self.scope.alloc());
         for stmt in stmts.items() {
-            let resolved = self.walk_statement(stmt)?;
+            let resolved = self.walk_statement(task, stmt)?;
             keep(&mut made, resolved)?;
         }
         Ok(ResolvedStmts::from_vec(made))
@@ -266,7 +348,7 @@ pub fn walk_script(alloc: Global, script: &Script) -> Result<Resolved, ScriptFau
     ensures resolved { IfOk result (λ made. IsResolved script.now made.decls made.stmts) }
 {
     let mut walk = Walk::new(alloc);
-    let decls = walk.walk_decls(script.decls.items())?;
-    let stmts = walk.walk_statements(&script.stmts)?;
+    let decls = walk.walk_decls(None, script.decls.items())?;
+    let stmts = walk.walk_statements(None, &script.stmts)?;
     Ok(Resolved { decls, stmts })
 }

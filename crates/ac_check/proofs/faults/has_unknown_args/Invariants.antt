@@ -1,5 +1,5 @@
 use Rattle.std.proofs.Common.{◌≡◌, drop}
-use Rattle.ac_check.specs.Faults.{args_names}
+use Rattle.ac_check.specs.UsedNames.{args_names}
 use Rattle.ac_check.specs.Walks.{has_unknown}
 use Rattle.ac_check.proofs.faults.has_unknown_args.Given as goal
 

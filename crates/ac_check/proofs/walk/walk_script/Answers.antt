@@ -1,7 +1,13 @@
-use Rattle.std.proofs.Common.{◌∙◌}
+use Rattle.std.proofs.Common.{ap, sym, ◌∙◌}
+use Rattle.ac_check.specs.Scopes.{first_task}
 use Rattle.ac_check.proofs.Outcomes.{passed_on}
 use Rattle.ac_check.proofs.FirstFaults.{decls_stopped, behind_decls, faultless, first_fault}
+use Rattle.ac_check.proofs.TaskScopes.{decls_first}
 use Rattle.ac_check.proofs.walk.walk_script.Goals as goal
+
+pub walk_statements-requires : goal.walk_statements-requires
+walk_statements-requires c =
+    sym (ap first_task c.in_ok-decls.ensures.scope ∙ decls_first c.new-walk.result.scope c.items.result.now ∙ ap first_task c.new-walk.ensures.scope)
 
 pub returns-in_err-decls-clause-refused : goal.returns-in_err-decls-clause-refused
 returns-in_err-decls-clause-refused c line kind e =

@@ -1,15 +1,18 @@
-use Rattle.std.proofs.Common.{◌≡◌, ap, sym, ◌∙◌, take, List, get_or, arith}
+use Rattle.std.proofs.Common.{◌≡◌, ap, sym, ◌∙◌, take, length, List, Some, get_or, arith}
 use Rattle.std.proofs.lemmas.Result.{on_ok_weaker}
 use Rattle.ac_syntax.specs.Code.{code_size, stop}
-use Rattle.ac_syntax.specs.Statements.{before}
+use Rattle.ac_syntax.specs.Statements.{before, task_before}
+use Rattle.ac_syntax.specs.declared.stmt.TaskText.{TaskText}
 use Rattle.ac_syntax.specs.declared.stmt.Stmt.{Stmt}
 use Rattle.ac_syntax.specs.declared.stmt.Stmt.TheVariants.{Declare}
-use Rattle.ac_syntax.proofs.StatementSizes.{size_among}
-use Rattle.ac_check.specs.Scopes.{Scope, with_decls, Standing}
+use Rattle.ac_syntax.proofs.StatementSizes.{size_among, task_among}
+use Rattle.ac_check.specs.Scopes.{Scope, first_task, with_decls, Standing}
 use Rattle.ac_check.specs.Walks.{outcome}
 use Rattle.ac_check.proofs.Outcomes.{passed_on}
-use Rattle.ac_check.proofs.Blocks.{begins_with, declare_on, declare_stopped, outside_decls, statement_on, statement_stopped}
-use Rattle.ac_check.proofs.Resolving.{statements_on, statements_done}
+use Rattle.ac_check.proofs.Blocks.{begins_with, declare_on, declare_stopped, outside_decls, statement_on, statement_stopped, named, same_decls, same_scope, task_on, task_stopped, next_task_on, next_task_stopped, next_task_scope, tasks_left}
+use Rattle.ac_check.proofs.Resolving.{statements_on, statements_done, tasks_resolved_on, tasks_done}
+use Rattle.ac_check.proofs.Kept.{unnamed}
+use Rattle.ac_check.proofs.TaskScopes.{first_on, task_first, decls_first}
 use Rattle.ac_check.proofs.walk.Walk.+statements.Goals as goal
 
 pub walk_statement-returns-in_err-operation-clause-refused :
@@ -66,7 +69,7 @@ walk_statements-walk_statement-requires t c =
     let stmts = c.items-stmt-items.result.now in
     let stmt = c.stmt-item.result in
     let same : code_size (before stmt stop) ≡ code_size (before (get_or stmts c.loop-stmt.stmt-index stmt) stop) = ap (λ (s : Stmt). code_size (before s stop)) c.stmt-item.is in
-    (omega (arith, same, size_among stmts c.loop-stmt.stmt-index stmt c.loop-stmt-test.true, ap code_size c.items-stmt-items.ensures), tt)
+    (omega (arith, same, size_among stmts c.loop-stmt.stmt-index stmt c.loop-stmt-test.true, ap code_size c.items-stmt-items.ensures), c.requires ∙ ap first_task (sym c.loop-stmt.invariant.1))
 
 pub walk_statements-returns-in_err-resolved-clause-refused :
     goal.walk_statements-returns-in_err-resolved-clause-refused
@@ -96,3 +99,113 @@ walk_statements-returns-clause-resolved t c =
     c.from_vec.ensures
     ∙ statements_done c.loop-stmt.self.scope c.items-stmt-items.result.now c.loop-stmt.stmt-index _ c.loop-stmt-test.false c.loop-stmt.made.items
     c.loop-stmt.invariant.2
+
+pub walk_task-declare-requires : goal.walk_task-declare-requires
+walk_task-declare-requires t c =
+    let at = c.args.self.now in
+    let task = c.args.task.now in
+    unnamed at.room at.scope task.line task.name (sym (c.task_fault.ensures task.line) ∙ c.in_ok-refuse.ensures.ok)
+
+pub walk_task-walk_decls-requires : goal.walk_task-walk_decls-requires
+walk_task-walk_decls-requires t c =
+    let at = c.args.self.now in
+    ap Some c.requires ∙ sym (task_first at.scope c.args.task.now.name) ∙ sym (ap first_task c.in_ok-declare.ensures)
+
+pub walk_task-returns-in_err-walk_decls-clause-refused :
+    goal.walk_task-returns-in_err-walk_decls-clause-refused
+walk_task-returns-in_err-walk_decls-clause-refused t c =
+    let at = c.args.self.now in
+    let task = c.args.task.now in
+    let exit = c.from_residual-in_err-walk_decls in
+    passed_on exit.result c.walk_decls.result c.in_err-walk_decls.field-0.0 _ exit.ensures.1 c.in_err-walk_decls.was
+    (λ line kind e.
+    task_stopped at.room at.scope task (sym (c.task_fault.ensures task.line) ∙ c.in_ok-refuse.ensures.ok) _ kind
+    (same_decls at.room c.declare.new.scope (named at.scope task.name) c.items.result.now task.locals c.in_ok-declare.ensures c.items.ensures
+    ∙ c.walk_decls.ensures.refused line kind e))
+
+pub walk_task-walk_statements-requires : goal.walk_task-walk_statements-requires
+walk_task-walk_statements-requires t c =
+    let at = c.args.self.now in
+    let task = c.args.task.now in
+    let behind = named at.scope task.name in
+    let moved = c.in_ok-walk_decls.ensures.scope ∙ same_scope c.declare.new.scope behind c.items.result.now task.locals c.in_ok-declare.ensures c.items.ensures in
+    (omega arith, ap Some c.requires ∙ sym (task_first at.scope task.name) ∙ sym (decls_first behind task.locals) ∙ sym (ap first_task moved))
+
+pub walk_task-returns-in_err-steps-clause-refused :
+    goal.walk_task-returns-in_err-steps-clause-refused
+walk_task-returns-in_err-steps-clause-refused t c =
+    let at = c.args.self.now in
+    let task = c.args.task.now in
+    let behind = named at.scope task.name in
+    let exit = c.from_residual-in_err-steps in
+    passed_on exit.result c.walk_statements.result c.in_err-steps.field-0.0 _ exit.ensures.1 c.in_err-steps.was
+    (λ line kind e.
+    task_on at.room at.scope task (sym (c.task_fault.ensures task.line) ∙ c.in_ok-refuse.ensures.ok) c.walk_decls.new.self.room c.walk_decls.new.self.scope
+    (same_decls at.room c.declare.new.scope behind c.items.result.now task.locals c.in_ok-declare.ensures c.items.ensures ∙ c.in_ok-walk_decls.ensures.ok)
+    (c.in_ok-walk_decls.ensures.scope ∙ same_scope c.declare.new.scope behind c.items.result.now task.locals c.in_ok-declare.ensures c.items.ensures)
+    ∙ c.walk_statements.ensures.refused line kind e)
+
+pub walk_task-returns-clause-ok : goal.walk_task-returns-clause-ok
+walk_task-returns-clause-ok t c =
+    let at = c.args.self.now in
+    let task = c.args.task.now in
+    let behind = named at.scope task.name in
+    task_on at.room at.scope task (sym (c.task_fault.ensures task.line) ∙ c.in_ok-refuse.ensures.ok) c.walk_decls.new.self.room c.walk_decls.new.self.scope
+    (same_decls at.room c.declare.new.scope behind c.items.result.now task.locals c.in_ok-declare.ensures c.items.ensures ∙ c.in_ok-walk_decls.ensures.ok)
+    (c.in_ok-walk_decls.ensures.scope ∙ same_scope c.declare.new.scope behind c.items.result.now task.locals c.in_ok-declare.ensures c.items.ensures)
+    ∙ c.in_ok-steps.ensures.ok
+
+pub walk_task-returns-clause-scope : goal.walk_task-returns-clause-scope
+walk_task-returns-clause-scope t c =
+    let task = c.args.task.now in
+    let behind = named c.args.self.now.scope task.name in
+    let moved = c.in_ok-walk_decls.ensures.scope ∙ same_scope c.declare.new.scope behind c.items.result.now task.locals c.in_ok-declare.ensures c.items.ensures in
+    c.leave.ensures
+    ∙ ap (λ (s : Scope). take c.len-named.result s) (c.in_ok-steps.ensures.scope ∙ moved)
+    ∙ ap (λ n. take n (with_decls behind task.locals)) (c.len-named.ensures ∙ ap length c.in_ok-declare.ensures)
+    ∙ outside_decls behind task.locals
+
+pub walk_tasks-walk_task-requires : goal.walk_tasks-walk_task-requires
+walk_tasks-walk_task-requires t c =
+    let tasks = c.items-task-items.result.now in
+    let task = c.task-item.result in
+    let same : code_size (task_before task stop) ≡ code_size (task_before (get_or tasks c.loop-task.task-index task) stop) = ap (λ (s : TaskText). code_size (task_before s stop)) c.task-item.is in
+    (omega (arith, same, task_among tasks c.loop-task.task-index task c.loop-task-test.true, ap code_size c.items-task-items.ensures), c.loop-task.invariant.first_is)
+
+pub walk_tasks-returns-in_err-resolved-clause-refused :
+    goal.walk_tasks-returns-in_err-resolved-clause-refused
+walk_tasks-returns-in_err-resolved-clause-refused t c =
+    let at = c.loop-task.self in
+    let tasks = c.items-task-items.result.now in
+    passed_on c.from_residual.result c.walk_task.result c.in_err-resolved.field-0.0 _ c.from_residual.ensures.1 c.in_err-resolved.was
+    (λ line kind e.
+    sym c.loop-task.invariant.outcome_is
+    ∙ next_task_stopped at.room at.scope tasks c.loop-task.task-index c.task-item.result c.loop-task-test.true c.task-item.is _ kind
+    (c.walk_task.ensures.refused line kind e))
+
+pub walk_tasks-loop-task-preserved : goal.walk_tasks-loop-task-preserved
+walk_tasks-loop-task-preserved t c =
+    let at = c.loop-task.self in
+    let tasks = c.items-task-items.result.now in
+    let inv = c.loop-task.invariant in
+    let behind = c.in_ok-resolved.ensures in
+    record {
+      outcome_is = next_task_on at.room at.scope tasks c.loop-task.task-index c.task-item.result c.loop-task-test.true c.task-item.is _ _ behind.ok behind.scope ∙ inv.outcome_is;
+      scope_is = next_task_scope at.room at.scope tasks c.loop-task.task-index c.task-item.result c.loop-task-test.true c.task-item.is _ behind.scope ∙ inv.scope_is;
+      made_is = tasks_resolved_on at.scope _ tasks c.loop-task.task-index c.task-item.result c.loop-task-test.true c.task-item.is behind.scope
+          c.loop-task.made.items c.keep.new.items.items c.in_ok-resolved.resolved c.in_ok-keep.ensures behind.resolved
+          ∙ inv.made_is;
+      first_is = inv.first_is ∙ sym (first_on at.scope _ c.task-item.result.name behind.scope);
+    }
+
+pub walk_tasks-returns-clause-resolved : goal.walk_tasks-returns-clause-resolved
+walk_tasks-returns-clause-resolved t c =
+    c.from_vec.ensures
+    ∙ tasks_done c.loop-task.self.scope c.items-task-items.result.now c.loop-task.task-index _ c.loop-task-test.false c.loop-task.made.items
+    c.loop-task.invariant.made_is
+
+pub walk_tasks-returns-clause-scope : goal.walk_tasks-returns-clause-scope
+walk_tasks-returns-clause-scope t c =
+    c.leave.ensures
+    ∙ ap (λ n. take n c.loop-task.self.scope) c.len-before.ensures
+    ∙ tasks_left c.args.self.now.scope c.loop-task.self.scope c.items-task-items.result.now c.loop-task.task-index c.args.tasks.now c.loop-task-test.false c.loop-task.invariant.scope_is

@@ -1,10 +1,11 @@
-use Rattle.std.proofs.Common.{◌≡◌, ◌+◌, ◌*◌, drop}
+use Rattle.std.proofs.Common.{◌≡◌, ◌+◌, ◌*◌, drop, length}
+use Rattle.std.specs.Prelude.{unwrap_or}
 use Rattle.ac_syntax.specs.Code.{code_size, stop}
-use Rattle.ac_syntax.specs.Statements.{before, code_of}
-use Rattle.ac_check.specs.Scopes.{standings_from}
+use Rattle.ac_syntax.specs.Statements.{before, code_of, task_before, tasks_of}
+use Rattle.ac_check.specs.Scopes.{first_task, standings_from, behind_code}
 use Rattle.ac_check.specs.Resolved.{resolve}
 use Rattle.ac_check.specs.Walks.{outcome}
-use Rattle.ac_check.proofs.Resolving.{listed_before}
+use Rattle.ac_check.proofs.Resolving.{listed_before, tasks_before}
 use Rattle.ac_check.proofs.walk.Walk.+statements.Given as goal
 
 abbrev pub decreases-walk_body : goal.decreases-walk_body
@@ -21,3 +22,17 @@ invariant-walk_statements-loop-stmt l =
     (outcome l.self.room (standings_from l.self.scope (code_of (drop l.stmt-index l.stmt-items))) ≡ outcome l.initial.self.room (standings_from l.initial.self.scope l.stmts))
     × (l.self.scope ≡ l.initial.self.scope)
     × (listed_before l.made.items (resolve l.self.scope (code_of (drop l.stmt-index l.stmt-items))) ≡ resolve l.initial.self.scope l.stmts)
+
+abbrev pub decreases-walk_task : goal.decreases-walk_task
+decreases-walk_task l = 3 * code_size (task_before l.task.now stop)
+
+abbrev pub decreases-walk_tasks : goal.decreases-walk_tasks
+decreases-walk_tasks l = 3 * code_size l.tasks.now + 1
+
+abbrev pub invariant-walk_tasks-loop-task : goal.invariant-walk_tasks-loop-task
+invariant-walk_tasks-loop-task l = record {
+  outcome_is : outcome l.self.room (standings_from l.self.scope (tasks_of (drop l.task-index l.task-items))) ≡ outcome l.initial.self.room (standings_from l.initial.self.scope l.tasks);
+  scope_is : behind_code l.self.scope (tasks_of (drop l.task-index l.task-items)) ≡ behind_code l.initial.self.scope l.tasks;
+  made_is : tasks_before l.made.items (resolve l.self.scope (tasks_of (drop l.task-index l.task-items))) ≡ resolve l.initial.self.scope l.tasks;
+  first_is : l.first ≡ unwrap_or (first_task l.self.scope) (length l.self.scope);
+}

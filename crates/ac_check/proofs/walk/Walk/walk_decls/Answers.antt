@@ -1,8 +1,9 @@
 use Rattle.std.proofs.Common.{ap, sym, ◌∙◌, drop, ◌+◌, List}
 use Rattle.ac_syntax.specs.declared.decl.Decl.{Decl}
-use Rattle.ac_check.specs.Scopes.{standing_decls, with_entry, decl_entry}
+use Rattle.ac_check.specs.Scopes.{first_task, standing_decls, with_entry, decl_entry}
 use Rattle.ac_check.specs.Walks.{outcome}
 use Rattle.ac_check.proofs.Outcomes.{passed_on, next_item}
+use Rattle.ac_check.proofs.TaskScopes.{decl_first}
 use Rattle.ac_check.proofs.Resolving.{outcome_on, scope_on, resolved_on}
 use Rattle.ac_check.proofs.walk.Walk.walk_decls.Goals as goal
 
@@ -28,4 +29,5 @@ loop-decl-preserved c =
       resolved_on at.scope _ decls c.loop-decl.decl-index c.decl-item.result c.loop-decl-test.true c.decl-item.is behind.scope
           c.loop-decl.made.items c.keep.new.items.items c.in_ok-resolved.resolved c.in_ok-keep.ensures behind.resolved
           ∙ c.loop-decl.invariant.2,
+      c.loop-decl.invariant.3 ∙ sym (ap first_task behind.scope ∙ decl_first at.scope c.decl-item.result),
     )

@@ -1,5 +1,5 @@
 use Rattle.std.proofs.Common.{◌≡◌, ◌++◌, drop}
-use Rattle.ac_check.specs.Scopes.{standing_decls, with_decls}
+use Rattle.ac_check.specs.Scopes.{first_task, standing_decls, with_decls}
 use Rattle.ac_check.specs.Resolved.{resolve_decls}
 use Rattle.ac_check.specs.Walks.{outcome}
 use Rattle.ac_check.proofs.walk.Walk.walk_decls.Given as goal
@@ -9,3 +9,4 @@ invariant-loop-decl l =
     (outcome l.self.room (standing_decls l.self.scope (drop l.decl-index l.decls)) ≡ outcome l.initial.self.room (standing_decls l.initial.self.scope l.decls))
     × (with_decls l.self.scope (drop l.decl-index l.decls) ≡ with_decls l.initial.self.scope l.decls)
     × (l.made.items ++ resolve_decls l.self.scope (drop l.decl-index l.decls) ≡ resolve_decls l.initial.self.scope l.decls)
+    × (l.task ≡ first_task l.self.scope)

@@ -1,0 +1,14 @@
+use Rattle.std.proofs.Common.{◌≡◌, ◌+◌, ◌*◌, drop}
+use Rattle.ac_check.specs.HasTasks.{has_tasks}
+use Rattle.ac_check.specs.Resolved.{no_statement, resolved_size}
+use Rattle.ac_check.specs.ResolvedStatements.{resolved_before, resolved_of}
+use Rattle.ac_check.proofs.having.+having.Given as goal
+
+abbrev pub decreases-has_tasks : goal.decreases-has_tasks
+decreases-has_tasks l = 2 * resolved_size l.stmts.now + 1
+
+abbrev pub decreases-one_has_tasks : goal.decreases-one_has_tasks
+decreases-one_has_tasks l = 2 * resolved_size (resolved_before l.stmt.now no_statement)
+
+abbrev pub invariant-has_tasks-loop-stmt : goal.invariant-has_tasks-loop-stmt
+invariant-has_tasks-loop-stmt l = has_tasks (resolved_of (drop l.stmt-index l.stmt-items)) ≡ has_tasks l.stmts

@@ -1,0 +1,33 @@
+//! Whether statements have a block of tasks.
+ghost use Rattle.std.specs.Prelude.{◌≡◌};
+ghost use Rattle.ac_check.specs.HasTasks.{has_tasks};
+ghost use Rattle.ac_check.specs.Resolved.{no_statement};
+ghost use Rattle.ac_check.specs.ResolvedStatements.{resolved_before};
+
+use crate::resolved::{ResolvedStmt, ResolvedStmts};
+
+#[cycle(having)]
+pub(crate) fn has_tasks(stmts: &ResolvedStmts) -> bool
+    ensures { result ≡ has_tasks stmts.now }
+{
+    for stmt in stmts.items() {
+        if one_has_tasks(stmt) {
+            return true;
+        }
+    }
+    false
+}
+
+#[cycle(having)]
+fn one_has_tasks(stmt: &ResolvedStmt) -> bool
+    ensures { result ≡ has_tasks (resolved_before stmt.now no_statement) }
+{
+    match stmt {
+        ResolvedStmt::Loop { body, .. } => has_tasks(body),
+        ResolvedStmt::View { body, .. } => has_tasks(body),
+        ResolvedStmt::Stable { body, .. } => has_tasks(body),
+        ResolvedStmt::Declare { body, .. } => has_tasks(body),
+        ResolvedStmt::Tasks { .. } => true,
+        _ => false,
+    }
+}
