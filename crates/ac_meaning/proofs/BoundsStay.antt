@@ -4,11 +4,12 @@ use Rattle.ac_base.specs.declared.reason.Reason.{Reason}
 use Rattle.ac_base.specs.declared.guard.Class.TheVariants as class
 use Rattle.ac_base.specs.Tampering.{forbids}
 use Rattle.ac_model.specs.Objects.{Object}
-use Rattle.ac_meaning.specs.Holdings.{Held, of_rows, of_holder}
+use Rattle.ac_meaning.specs.Holdings.{Held, of_rows, of_holder, of_queue}
 use Rattle.ac_meaning.specs.Environment.{Bound, binds_type, binds_object, binds_cursor, binds_value, binds_element, State, bound_in, bound_at, with_bound, object_in}
 use Rattle.ac_meaning.specs.Stays.{Stays, HeldStays, BoundStays, EachStays, StateStays}
 use Rattle.ac_meaning.proofs.CallsStay.{none_some, same}
 use Rattle.ac_meaning.proofs.HoldersStay.{holder_same, holder_then}
+use Rattle.ac_meaning.proofs.QueuesStay.{queue_same, queue_then}
 
 -- a call that isn't refused
 pub passed : {V : Type 0} (o : Object ℕ V) (reason : Option Reason) (after : Object ℕ V) → reason ≡ None → Stays o reason after → Stays o None after
@@ -35,12 +36,15 @@ stays_then o a b h k = record {
 pub held_same : (h : Held) → HeldStays h h
 held_same (of_rows kind o) = (o, refl, same o None)
 held_same (of_holder e h) = (h, refl, holder_same h None)
+held_same (of_queue number q) = (q, refl, queue_same q)
 
 held_then : (h a b : Held) → HeldStays h a → HeldStays a b → HeldStays h b
 held_then (of_rows kind o) a b h k =
     let l : HeldStays (of_rows kind h.0) b = subst (λ x. HeldStays x b) h.1 k in (l.0, l.1, stays_then o h.0 l.0 h.2 l.2)
 held_then (of_holder e o) a b h k =
     let l : HeldStays (of_holder e h.0) b = subst (λ x. HeldStays x b) h.1 k in (l.0, l.1, holder_then o h.0 l.0 h.2 l.2)
+held_then (of_queue number q) a b h k =
+    let l : HeldStays (of_queue number h.0) b = subst (λ x. HeldStays x b) h.1 k in (l.0, l.1, queue_then q h.0 l.0 h.2 l.2)
 
 pub bound_same : (b : Bound) → BoundStays b b
 bound_same binds_type = tt
@@ -99,16 +103,21 @@ same_length (a ∷ xs) [] h = absurd h
 same_length (a ∷ xs) (x ∷ bs) h = ap suc (same_length xs bs h.1)
 
 pub state_same : (e : State) → StateStays e e
-state_same e = record { bounds = each_same e.bounds; next = refl }
+state_same e = record { bounds = each_same e.bounds; next = refl; blocks = refl }
 
 pub state_then : (e now after : State) → StateStays e now → StateStays now after → StateStays e after
-state_then e now after h k = record { bounds = each_then e.bounds now.bounds after.bounds h.bounds k.bounds; next = k.next ∙ h.next }
+state_then e now after h k = record {
+  bounds = each_then e.bounds now.bounds after.bounds h.bounds k.bounds;
+  next = k.next ∙ h.next;
+  blocks = k.blocks ∙ h.blocks;
+}
 
 pub state_set : (e now : State) (place : ℕ) (old b : Bound) → StateStays e now → bound_at e place ≡ old → BoundStays old b →
     StateStays e (with_bound now place b)
 state_set e now place old b h is k = record {
   bounds = each_set e.bounds now.bounds place b h.bounds (subst (λ x. BoundStays x b) (sym is) k);
   next = h.next;
+  blocks = h.blocks;
 }
 
 -- an object that is looked up

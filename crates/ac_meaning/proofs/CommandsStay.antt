@@ -3,6 +3,7 @@ use Rattle.std.proofs.Common.{◌≡◌, ◌==◌, ℕ, ℤ, Bool, true, false, 
 use Rattle.std.proofs.lemmas.Option.{same_Some}
 use Rattle.ac_base.specs.declared.value.Value.{Value}
 use Rattle.ac_base.specs.declared.reason.Reason.{Reason}
+use Rattle.ac_base.specs.declared.reason.Reason.TheVariants.{NoElement}
 use Rattle.ac_model.specs.Objects.{Object}
 use Rattle.ac_model.specs.Holders.{Holder}
 use Rattle.ac_syntax.specs.declared.kind.ElemKind.{ElemKind}
@@ -13,7 +14,7 @@ use Rattle.ac_check.specs.Resolved.{ResolvedSimple, calls_at, sets_at, sums_at}
 use Rattle.ac_meaning.specs.Elements.{ElementOf, tools_of, integer_in}
 use Rattle.ac_meaning.specs.Answers.{Answer, answers_ok, answers_value, answers_truth, answers_place, answers_list, answers_raised, answers_stalled, answers_integer}
 use Rattle.ac_meaning.specs.Replies.{Arguments, Source, itself, another, arguments_seen, source_in, Reply, Placed}
-use Rattle.ac_meaning.specs.Holdings.{RowKind, a_sequence, a_map, a_set, a_keyed_set, a_tree, RowOf, Held, of_rows, of_holder, same_element, same_kind, rows_in, holder_in, rows_reply, seen_in, own_calls, write, reply_of}
+use Rattle.ac_meaning.specs.Holdings.{RowKind, a_sequence, a_map, a_set, a_keyed_set, a_tree, RowOf, Held, of_rows, of_holder, of_queue, same_element, same_kind, rows_in, holder_in, rows_reply, seen_in, own_calls, write, reply_of}
 use Rattle.ac_meaning.specs.HolderReplies.{holder_source, holder_write}
 use Rattle.ac_meaning.specs.Environment.{Bound, binds_type, binds_object, binds_cursor, binds_value, binds_element, State, bound_at, with_bound, object_at, value_at}
 use Rattle.ac_meaning.specs.Commands.{Assigned, value_set, mark_set, assigned, element_written, place_in, variable_to, variable_set, source_place, source_of, source_set, after_call, unless_refused, waits_or_goes, replied, call_on, arguments, answer_from, assigned_from, is_integer, sum_of, sum_assigned, performed}
@@ -23,6 +24,7 @@ use Rattle.ac_meaning.proofs.VectorsStay.{replies_stay}
 use Rattle.ac_meaning.proofs.KeyedStay.{map_stays, set_stays, keyed_set_stays}
 use Rattle.ac_meaning.proofs.TreesStay.{names-with_element, tree_stays}
 use Rattle.ac_meaning.proofs.HoldersStay.{holder_passed, holder_write_stays, holder_stays, another_holder_stays}
+use Rattle.ac_meaning.proofs.QueuesStay.{queue_stays, queue_alone}
 use Rattle.ac_meaning.proofs.BoundsStay.{passed, state_same, state_then, state_set, object_there}
 
 -- Assignments
@@ -38,6 +40,7 @@ write_stays : (h : Held) (at : Mark) (v : Value) → (write h at v).reason ≡ N
 write_stays (of_rows kind o) at v none =
     (((own_calls kind o).write (seen_in kind o at) v).after, refl, own_write_stays kind o (seen_in kind o at) v)
 write_stays (of_holder e h) at v none = ((holder_write (tools_of e) h v).after, refl, holder_write_stays (tools_of e) h v none)
+write_stays (of_queue number q) at v none = none_some NoElement (sym none)
 
 -- an assignment that isn't refused
 abbrev AssignedStays : State → Assigned → Type 0
@@ -121,6 +124,7 @@ mapped f (Some s) t e = let p : f s ≡ t = cc in (s, refl, p)
 pub rows_found : (kind : RowKind) (found : Option Held) (s : Object ℕ (RowOf kind)) → rows_in kind found ≡ Some s → found ≡ Some (of_rows kind s)
 rows_found kind None s f = none_some s f
 rows_found kind (Some (of_holder e h)) s f = none_some s f
+rows_found kind (Some (of_queue number q)) s f = none_some s f
 rows_found kind (Some (of_rows other o)) s f = go (same_kind other kind) f
   where
     go : (p : Option (other ≡ kind)) → option_map (λ (q : other ≡ kind). coe 0 1 (i. Object ℕ (RowOf (q i))) o) p ≡ Some s →
@@ -133,6 +137,7 @@ rows_found kind (Some (of_rows other o)) s f = go (same_kind other kind) f
 pub holder_found : (e : ElemKind) (found : Option Held) (s : Holder (ElementOf e)) → holder_in e found ≡ Some s → found ≡ Some (of_holder e s)
 holder_found e None s f = none_some s f
 holder_found e (Some (of_rows kind o)) s f = none_some s f
+holder_found e (Some (of_queue number q)) s f = none_some s f
 holder_found e (Some (of_holder other h)) s f = go (same_element other e) f
   where
     go : (p : Option (other ≡ e)) → option_map (λ (q : other ≡ e). coe 0 1 (i. Holder (ElementOf (q i))) h) p ≡ Some s →
@@ -171,6 +176,10 @@ held_reply (of_holder e h) source operation args =
           let a = another_holder_stays h found args _ _ stays.source_stays m.0 m.1 in
           (of_holder e a.0, holder_found e source a.0 a.1, (m.0, sym m.2, holder_passed a.0 _ m.0 none a.2));
     }
+held_reply (of_queue number q) source operation args = record {
+  target = λ none. (_, refl, queue_stays q args operation);
+  source_stays = λ none k f. none_some k (sym (ap (option_map (of_queue number)) (queue_alone q args operation)) ∙ f);
+}
 
 source_set_stays : (e now : State) (place : Option ℕ) (found : Option Held) → StateStays e now →
     ((t : Held) → found ≡ Some t → (s : Held) × (source_of e place ≡ Some s) × HeldStays s t) → StateStays e (source_set now place found)

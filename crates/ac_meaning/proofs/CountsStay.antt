@@ -7,7 +7,7 @@ use Rattle.ac_base.specs.Guards.{HeldGuard}
 use Rattle.ac_model.specs.Objects.{Object}
 use Rattle.ac_model.specs.Holders.{Holder}
 use Rattle.ac_model.specs.Common.{hold_call, release_call, under_guards}
-use Rattle.ac_meaning.specs.Holdings.{Held, of_rows, of_holder, as_object, counted_as, from_rows, Guards, is_kind, held_on, guarded, held_under}
+use Rattle.ac_meaning.specs.Holdings.{Held, of_rows, of_holder, of_queue, as_object, counted_as, from_rows, Guards, is_kind, held_on, guarded, held_under}
 use Rattle.ac_meaning.specs.Environment.{Bound, binds_type, binds_object, binds_cursor, binds_value, binds_element, bound_by, bound_in, object_in, State, objects_by, under, bound_at, with_name, leaving}
 use Rattle.ac_meaning.specs.Commands.{performed}
 use Rattle.ac_meaning.specs.Stays.{Stays, HolderStays, HeldStays, BoundStays, EachStays}
@@ -43,6 +43,7 @@ object_held g guards o = counted guards o (g.object == o.number) g.kind
 held_held : (g : HeldGuard) (guards : Guards) (h : Held) → held_under (g ∷ guards) h ≡ held_with g (held_under guards h)
 held_held g guards (of_rows kind o) = ap (of_rows kind) (object_held g guards o)
 held_held g guards (of_holder e h) = ap (λ o. of_holder e (counted_as h o)) (object_held g guards (as_object h))
+held_held g guards (of_queue number q) = refl
 
 object_released : {V : Type 0} (k : GuardKind) (b : Bool) (o : Object ℕ V) →
     (if b then release_call false k (if b then hold_call false k o else o) else (if b then hold_call false k o else o)) ≡ o
@@ -66,6 +67,7 @@ held_released g guards (of_rows kind o) =
 held_released g guards (of_holder e h) =
     let o = as_object h in
     ap (λ p. of_holder e (counted_as h p)) (ap (release_on g _) (object_held g guards o) ∙ release_hold g (guarded guards _ o))
+held_released g guards (of_queue number q) = refl
 
 -- what is done to the objects is done to each alone
 bound_twice : (f g : Held → Held) (b : Bound) → bound_by f (bound_by g b) ≡ bound_by (λ h. f (g h)) b
@@ -98,6 +100,7 @@ guards_come_and_go = record {
 pub held_anew : (guards others : Guards) (h : Held) → held_under guards (held_under others h) ≡ held_under guards h
 held_anew guards others (of_rows kind o) = refl
 held_anew guards others (of_holder e h) = refl
+held_anew guards others (of_queue number q) = refl
 
 under_anew : (guards others : Guards) (e : State) → under guards (under others e) ≡ under guards e
 under_anew guards others e =
@@ -169,6 +172,7 @@ held_counts guards (of_rows kind o) after s e =
 held_counts guards (of_holder element h) after s e =
     ap (held_under guards) s.1
     ∙ (ap (of_holder element) (holder_counts guards h s.0 s.2 (ap cursors_of e) (ap elements_of e)) ∙ sym s.1)
+held_counts guards (of_queue number q) after s e = ap (held_under guards) s.1 ∙ sym s.1
 
 held_or : Held → Bound → Held
 held_or other binds_type = other

@@ -8,15 +8,17 @@ use Rattle.ac_syntax.specs.declared.view_kind.ViewKind.{ViewKind}
 use Rattle.ac_syntax.specs.declared.view_kind.ViewKind.TheVariants.{Query, Update, Reference, UpdateKey}
 use Rattle.ac_check.specs.declared.resolved.ResolvedDecl.{ResolvedDecl}
 use Rattle.ac_check.specs.declared.resolved.ResolvedDecl.TheVariants as decl
-use Rattle.ac_check.specs.Resolved.{ResolvedHead, loops_at, views_at, stables_at, declares_at, no_statement, a_command, a_block, resolve}
+use Rattle.ac_check.specs.Resolved.{ResolvedHead, loops_at, views_at, stables_at, declares_at, gathers_at, works_at, ResolvedCode, no_statement, a_command, a_block, resolve}
 use Rattle.ac_meaning.specs.Holdings.{Held, Guards, names_of, number_of, element_value}
-use Rattle.ac_meaning.specs.Environment.{Bound, binds_element, binds_value, State, under, object_at, mark_at, value_at, value_or_zero, with_name, leaving, Declared, unless_spent, after_decl, after_decls}
-use Rattle.ac_meaning.specs.Execution.{Outcome, scoped, commanded, guards_of_loop, guards_of_stable, guards_of_view, in_order, turn_bound, head_reason, turns, key_body, viewed, view_on, on_object, after_declared, block_on, exec_resolved}
+use Rattle.ac_meaning.specs.Environment.{Bound, binds_element, binds_value, State, under, object_at, guarded_at, mark_at, value_at, value_or_zero, with_name, leaving, Declared, unless_spent, after_decl, after_decls}
+use Rattle.ac_meaning.specs.Execution.{Outcome, Orders, scoped, commanded, guards_of_loop, guards_of_stable, guards_of_view, in_order, turn_bound, head_reason, turns, key_body, viewed, view_on, on_object, after_declared, block_on, exec_resolved}
 use Rattle.ac_meaning.specs.GuardedNames.{kept, ResolvedKeepsGuarded, KeepsGuarded}
 use Rattle.ac_meaning.proofs.Resolved.{runs_resolved}
 use Rattle.ac_meaning.proofs.Frames.{kept_weaker, kept_back}
 use Rattle.ac_meaning.proofs.Guarded.{commanded_keeps}
 use Rattle.ac_meaning.proofs.UpdatesAlone.{updates_are_alone, key_end_keeps}
+use Rattle.ac_meaning.proofs.QueuesLeft.{gathered_keeps}
+use Rattle.ac_meaning.proofs.GuardedPlaces.{guarded_is_there}
 
 -- the environment has these names, and more behind them
 pub record Extends (e now : State) : Type 0 where
@@ -108,9 +110,10 @@ module _ (body : Guards → State → Outcome) (keeps : KeepsAll body) (guards :
   loop_keeps number elements backward object (Some h) e = turns_keep elements object h (in_order backward (names_of h)) e
 
   placed_keeps : (number : ℕ) (view : ViewKind) (object : ℕ) (at : Option ℕ) (e : State) (found : Option Held) →
-      object_at (under guards e) object ≡ found → kept guards (on_object body guards (views_at number view object at) found e).after ≡ kept guards e
+      guarded_at (under guards e) object ≡ found → kept guards (on_object body guards (views_at number view object at) found e).after ≡ kept guards e
   placed_keeps number view object at e None there = refl
-  placed_keeps number view object at e (Some h) there = view_keeps number view object (mark_at e at) h e there _ refl
+  placed_keeps number view object at e (Some h) there =
+      view_keeps number view object (mark_at e at) h e (guarded_is_there (under guards e) object h there) _ refl
 
   stable_keeps : (number object : ℕ) (found : Option Held) (e : State) →
       kept guards (on_object body guards (stables_at number object) found e).after ≡ kept guards e
@@ -122,19 +125,23 @@ module _ (body : Guards → State → Outcome) (keeps : KeepsAll body) (guards :
   declared_keeps e d None f ext = rw (f, after_declared) (back e d.after (body guards d.after).after ext (keeps guards d.after))
   declared_keeps e d (Some number) f ext = rw (f, after_declared) (back e d.after d.after ext refl)
 
-  block_keeps : (e : State) (head : ResolvedHead) → kept guards (block_on body guards e head).after ≡ kept guards e
-  block_keeps e (loops_at number elements backward object) = loop_keeps number elements backward object (object_at (under guards e) object) e
-  block_keeps e (views_at number view object at) = placed_keeps number view object at e (object_at (under guards e) object) refl
-  block_keeps e (stables_at number object) = stable_keeps number object (object_at (under guards e) object) e
-  block_keeps e (declares_at number decls) = declared_keeps e (after_decls decls e) _ refl (decls_extend decls e)
+  block_keeps : (orders : Orders) (tasks : ResolvedCode) (e : State) (head : ResolvedHead) →
+      kept guards (block_on body guards orders tasks e head).after ≡ kept guards e
+  block_keeps orders tasks e (loops_at number elements backward object) = loop_keeps number elements backward object (guarded_at (under guards e) object) e
+  block_keeps orders tasks e (views_at number view object at) = placed_keeps number view object at e (guarded_at (under guards e) object) refl
+  block_keeps orders tasks e (stables_at number object) = stable_keeps number object (guarded_at (under guards e) object) e
+  block_keeps orders tasks e (declares_at number decls) = declared_keeps e (after_decls decls e) _ refl (decls_extend decls e)
+  block_keeps orders tasks e (gathers_at number) = gathered_keeps guards (orders e.blocks) tasks e
+  block_keeps orders tasks e (works_at number name locals) = refl
 
 pub resolved_keeps : ResolvedKeepsGuarded
-resolved_keeps no_statement guards e = refl
-resolved_keeps (a_command simple rest) guards e = resolved_keeps rest guards (commanded guards e simple).after ∙ commanded_keeps guards e simple
-resolved_keeps (a_block head body rest) guards e =
-    resolved_keeps rest guards (block_on (exec_resolved body) guards e head).after
-    ∙ block_keeps (exec_resolved body) (resolved_keeps body) guards e head
+resolved_keeps orders no_statement guards e = refl
+resolved_keeps orders (a_command simple rest) guards e =
+    resolved_keeps orders rest guards (commanded guards e simple).after ∙ commanded_keeps guards e simple
+resolved_keeps orders (a_block head body rest) guards e =
+    resolved_keeps orders rest guards (block_on (exec_resolved orders body) guards orders body e head).after
+    ∙ block_keeps (exec_resolved orders body) (resolved_keeps orders body) guards orders body e head
 
 pub exec_keeps : KeepsGuarded
-exec_keeps code scope guards e =
-    ap (λ (r : Outcome). kept guards r.after) (sym (runs_resolved code scope guards e)) ∙ resolved_keeps (resolve scope code) guards e
+exec_keeps orders code scope guards e =
+    ap (λ (r : Outcome). kept guards r.after) (sym (runs_resolved orders code scope guards e)) ∙ resolved_keeps orders (resolve scope code) guards e

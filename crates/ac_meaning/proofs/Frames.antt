@@ -6,7 +6,7 @@ use Rattle.std.proofs.lemmas.Option.{slice_get-map}
 use Rattle.std.proofs.Math.Seq.{take-append_seam}
 use Rattle.ac_base.specs.declared.guard.GuardKind.TheVariants as guard
 use Rattle.ac_base.specs.Guards.{HeldGuard}
-use Rattle.ac_meaning.specs.Holdings.{of_rows, of_holder, Guards, is_on, held_under, number_of, names_of, holds_element, has_root}
+use Rattle.ac_meaning.specs.Holdings.{of_rows, of_holder, of_queue, Guards, is_on, held_under, number_of, names_of, holds_element, has_root}
 use Rattle.ac_meaning.specs.Environment.{Bound, binds_type, binds_object, binds_cursor, binds_value, binds_element, bound_by, bound_in, State, under, at_rest, bound_at, with_bound, leaving}
 use Rattle.ac_meaning.specs.GuardedNames.{is_guarded, is_element_guarded, Frame, of_type, of_object, of_cursor, of_value, of_element, names_if, frame, kept}
 
@@ -15,6 +15,7 @@ pub frame_under : (guards held : Guards) (b : Bound) → frame guards (bound_by 
 frame_under guards held binds_type = refl
 frame_under guards held (binds_object (of_rows kind o)) = refl
 frame_under guards held (binds_object (of_holder e h)) = refl
+frame_under guards held (binds_object (of_queue number q)) = refl
 frame_under guards held (binds_cursor mark) = refl
 frame_under guards held (binds_value v) = refl
 frame_under guards held (binds_element object at) = refl

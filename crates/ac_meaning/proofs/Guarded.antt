@@ -13,7 +13,7 @@ use Rattle.ac_model.specs.Objects.{Object}
 use Rattle.ac_model.specs.Holders.{Holder}
 use Rattle.ac_model.specs.Letters.{tampers_cursors}
 use Rattle.ac_check.specs.Resolved.{ResolvedSimple}
-use Rattle.ac_meaning.specs.Holdings.{Held, of_rows, of_holder, have_root, Guards, is_on, is_kind, held_on, held_under}
+use Rattle.ac_meaning.specs.Holdings.{Held, of_rows, of_holder, of_queue, have_root, Guards, is_on, is_kind, held_on, held_under}
 use Rattle.ac_meaning.specs.Environment.{Bound, binds_type, binds_object, binds_cursor, binds_value, binds_element, bound_by, State, under}
 use Rattle.ac_meaning.specs.Commands.{performed}
 use Rattle.ac_meaning.specs.Execution.{commanded}
@@ -125,6 +125,7 @@ held_frame guards (of_holder element h) after s e =
     no_names (is_guarded guards s.0.number) ∙ sym (no_names (is_guarded guards h.number)) in
     let has = element_stays guards h s.0 (ap elements_of e) s.2 in
     ap (λ x. frame guards (binds_object x)) s.1 ∙ (λ i. of_object (s.2.number i) false (none i) (has i))
+held_frame guards (of_queue number q) after s e = ap (λ x. frame guards (binds_object x)) s.1
 
 bound_frame : (guards : Guards) (b after : Bound) → BoundStays (bound_by (held_under guards) b) after →
     frame guards after ≡ frame guards (bound_by (held_under guards) b)

@@ -18,7 +18,7 @@ use Rattle.ac_check.specs.declared.operation.HolderCall.TheVariants as holder_ca
 use Rattle.ac_meaning.specs.Elements.{Tools, ElementOf}
 use Rattle.ac_meaning.specs.Replies.{Arguments, Source, without, itself, another, by_source, Reply, changes_ok}
 use Rattle.ac_meaning.specs.HolderReplies.{holder_source, holder_write, holder_alone_reply, holder_reply}
-use Rattle.ac_meaning.specs.Holdings.{Held, of_rows, of_holder, holds_element, element_value}
+use Rattle.ac_meaning.specs.Holdings.{Held, of_rows, of_holder, of_queue, holds_element, element_value}
 use Rattle.ac_meaning.specs.Stays.{HolderStays, HolderSourceStays, HolderReplyStays}
 use Rattle.ac_meaning.proofs.CallsStay.{none_some, first_none, second_none}
 
@@ -76,6 +76,7 @@ holder_write_stays tools h v none = record {
 -- Element is refused where there is none
 pub element_stands : (h : Held) (at : Mark) → holds_element h ≡ true → (element_value h at).reason ≡ None
 element_stands (of_rows kind o) at has = absurd (cc)
+element_stands (of_queue number q) at has = absurd (cc)
 element_stands (of_holder e h) at has = go h.element has
   where
     go : {T : Type 0} (element : Option T) → not (is_none element) ≡ true → first_reason (reason_if (is_none element) Empty ∷ []) ≡ None

@@ -14,7 +14,7 @@ use Rattle.ac_model.specs.Letters.{no_mark}
 use Rattle.ac_meaning.specs.Elements.{ElementOf}
 use Rattle.ac_syntax.specs.declared.type_def.TypeDef.{TypeDef}
 use Rattle.ac_syntax.specs.declared.kind.ElemKind.{ElemKind}
-use Rattle.ac_check.specs.Kinds.{is_holder}
+use Rattle.ac_check.specs.Kinds.{is_holder, is_queue}
 use Rattle.ac_check.specs.declared.resolved.ResolvedDecl.{ResolvedDecl}
 use Rattle.ac_check.specs.declared.resolved.ResolvedDecl.TheVariants as decl
 use Rattle.ac_meaning.specs.Holdings.{RowKind, Held, of_rows, of_holder, as_object, counted_as, have_capacity, kind_by, Guards, is_kind, held_on, guard_on, guarded, held_under, number_of, limit_by, new_within, new_held}
@@ -22,7 +22,7 @@ use Rattle.ac_meaning.specs.Environment.{binds_type, binds_object, binds_cursor,
 use Rattle.ac_meaning.specs.Numbers.{NumbersDiffer, GuardsBelow, NewObjectsAreUnguarded}
 use Rattle.ac_meaning.proofs.CountsStay.{parts_under, blocks_keep_counts}
 use Rattle.ac_meaning.proofs.NumbersApart.{is_there}
-use Rattle.ac_meaning.proofs.NextRises.{decl_rises}
+use Rattle.ac_meaning.proofs.NextRises.{decl_next}
 
 another_number : (g : HeldGuard) (guards : Guards) (number : ℕ) (kind : GuardKind) (b : Bool) → (g.object == number) ≡ b → (g.object ≡ number → ⊥) →
     held_on guards number kind ≡ 0 → held_on (g ∷ guards) number kind ≡ 0
@@ -62,7 +62,7 @@ module _ (guards : Guards) (number : ℕ) (limit : Limit) (none : (kind : GuardK
   new_unguarded : (def : TypeDef) → held_under guards (new_within def number limit) ≡ new_within def number limit
   new_unguarded def =
       either_unguarded (is_holder def.kind) _ _ (holder_unguarded def.first)
-      (rows_unguarded (kind_by def.kind def.first def.second def.keyed))
+      (either_unguarded (is_queue def.kind) _ _ refl (rows_unguarded (kind_by def.kind def.first def.second def.keyed)))
 
 object_under : (guards : Guards) (e : State) (h : Held) → under guards e ≡ e → held_under guards h ≡ h →
     under guards (number_taken (with_name e (binds_object h))) ≡ number_taken (with_name e (binds_object h))
@@ -102,7 +102,7 @@ decls_under guards [] e is below = is
 decls_under guards (d ∷ ds) e is below =
     let first = after_decl e d in
     decls_step guards (after_decls ds) first first.spent refl (decl_under guards e d is below)
-    (later guards e first.after (decl_rises e d) below) (decls_under guards ds)
+    (later guards e first.after (decl_next e d) below) (decls_under guards ds)
 
 pub new_objects_are_unguarded : NewObjectsAreUnguarded
 new_objects_are_unguarded = record {

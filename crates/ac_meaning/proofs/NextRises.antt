@@ -1,4 +1,4 @@
--- No number is given again.
+-- No number is given again, and no block of tasks counted back.
 use Rattle.std.proofs.Common.{◌≡◌, ◌≤◌, ◌++◌, ℕ, Bool, true, false, List, [], ◌∷◌, length, nat_lt, refl, subst, arith, Option, Some, None, if◌then◌else◌}
 use Rattle.ac_base.specs.Limits.{numbers_end}
 use Rattle.ac_base.specs.declared.reason.Reason.{Reason}
@@ -6,39 +6,42 @@ use Rattle.ac_base.specs.declared.value.Value.{Value}
 use Rattle.ac_base.specs.declared.value.Value.TheVariants as value
 use Rattle.std.specs.Prelude.{pos}
 use Rattle.ac_model.specs.Letters.{Mark, no_mark, mark_at as mark_of_name}
+use Rattle.ac_syntax.specs.Code.{Code}
 use Rattle.ac_syntax.specs.declared.view_kind.ViewKind.{ViewKind}
 use Rattle.ac_syntax.specs.declared.view_kind.ViewKind.TheVariants.{Query, Update, Reference, UpdateKey}
 use Rattle.ac_check.specs.declared.resolved.ResolvedDecl.{ResolvedDecl}
 use Rattle.ac_check.specs.declared.resolved.ResolvedDecl.TheVariants as decl
-use Rattle.ac_check.specs.Resolved.{ResolvedSimple, ResolvedHead, loops_at, views_at, stables_at, declares_at, ResolvedCode, no_statement, a_command, a_block, resolve}
+use Rattle.ac_check.specs.Scopes.{Scope}
+use Rattle.ac_check.specs.Resolved.{ResolvedSimple, ResolvedHead, loops_at, views_at, stables_at, declares_at, gathers_at, works_at, ResolvedCode, no_statement, a_command, a_block, resolve}
 use Rattle.ac_meaning.specs.Holdings.{Held, Guards, names_of, number_of, element_value}
-use Rattle.ac_meaning.specs.Environment.{Bound, binds_type, binds_cursor, binds_element, binds_value, State, under, object_at, mark_at, value_at, value_or_zero, with_name, leaving, Declared, unless_spent, after_decl, after_decls}
-use Rattle.ac_meaning.specs.Execution.{Outcome, scoped, commanded, guards_of_loop, guards_of_stable, guards_of_view, in_order, turn_bound, head_reason, key_end, key_end_on, turns, key_body, viewed, view_on, on_object, after_declared, block_on, exec_resolved}
-use Rattle.ac_meaning.specs.Numbers.{NextRises}
+use Rattle.ac_meaning.specs.Environment.{Bound, binds_type, binds_cursor, binds_element, binds_value, State, under, object_at, guarded_at, mark_at, value_at, value_or_zero, with_name, leaving, Declared, unless_spent, after_decl, after_decls}
+use Rattle.ac_meaning.specs.Execution.{Outcome, Orders, scoped, commanded, guards_of_loop, guards_of_stable, guards_of_view, in_order, turn_bound, head_reason, key_end, key_end_on, gathered, turns, key_body, viewed, view_on, on_object, after_declared, block_on, exec, exec_resolved}
+use Rattle.ac_meaning.specs.Numbers.{NextRises, BlocksRise}
 use Rattle.ac_meaning.proofs.Resolved.{runs_resolved}
 use Rattle.ac_meaning.proofs.CommandsStay.{command_stays}
+use Rattle.ac_meaning.proofs.QueuesLeft.{gathered_next, gathered_blocks}
 
--- the next number of the second is no lower
+-- the next number of the second is no lower, and neither is its count of blocks
 abbrev pub Rises : State → State → Type 0
-Rises e now = e.next ≤ now.next
+Rises e now = (e.next ≤ now.next) × (e.blocks ≤ now.blocks)
 
-equal_rises : (e now : State) → now.next ≡ e.next → Rises e now
-equal_rises e now h = omega (arith, h)
+equal_rises : (e now : State) → now.next ≡ e.next → now.blocks ≡ e.blocks → Rises e now
+equal_rises e now h k = (omega (arith, h), omega (arith, k))
 
 rises_then : (e now later : State) → Rises e now → Rises now later → Rises e later
-rises_then e now later h k = omega (arith, h, k)
+rises_then e now later h k = (omega (arith, h.0, k.0), omega (arith, h.1, k.1))
 
 name_rises : (e : State) (b : Bound) → Rises e (with_name e b)
-name_rises e b = equal_rises e (with_name e b) refl
+name_rises e b = equal_rises e (with_name e b) refl refl
 
 either_rises : (e : State) (b : Bool) (x y : Declared) → Rises e x.after → Rises e y.after → Rises e (if b then x else y).after
 either_rises e true x y h k = h
 either_rises e false x y h k = k
 
-pub decl_rises : (e : State) (d : ResolvedDecl) → Rises e (after_decl e d).after
+decl_rises : (e : State) (d : ResolvedDecl) → Rises e (after_decl e d).after
 decl_rises e decl.TypeDecl = name_rises e binds_type
 decl_rises e (decl.Object line def capacity) =
-    either_rises e (nat_lt e.next numbers_end) _ _ (omega arith) (omega arith)
+    either_rises e (nat_lt e.next numbers_end) _ _ (omega arith, omega arith) (equal_rises e e refl refl)
 decl_rises e decl.Cursor = name_rises e (binds_cursor no_mark)
 decl_rises e decl.Integer = name_rises e (binds_value (value.Int (pos 0)))
 decl_rises e decl.Text = name_rises e (binds_value (value.Text []))
@@ -49,23 +52,28 @@ decls_step others e first None f h k = rw f (rises_then e first.after (others fi
 decls_step others e first (Some line) f h k = rw f h
 
 pub decls_rise : (ds : List ResolvedDecl) (e : State) → Rises e (after_decls ds e).after
-decls_rise [] e = equal_rises e e refl
+decls_rise [] e = equal_rises e e refl refl
 decls_rise (d ∷ ds) e =
     let first = after_decl e d in decls_step (after_decls ds) e first first.spent refl (decl_rises e d) (decls_rise ds)
 
-command_rises : (guards : Guards) (e : State) (simple : ResolvedSimple) → Rises e (commanded guards e simple).after
-command_rises guards e simple = equal_rises e (commanded guards e simple).after (command_stays (under guards e) simple).next
+pub command_rises : (guards : Guards) (e : State) (simple : ResolvedSimple) → Rises e (commanded guards e simple).after
+command_rises guards e simple =
+    let stays = command_stays (under guards e) simple in equal_rises e (commanded guards e simple).after stays.next stays.blocks
 
-key_end_rises : (number object : ℕ) (e : State) (at : Mark) (copy : Value) (found : Option Held) → Rises e (key_end_on number object e at copy found).after
-key_end_rises number object e at copy None = equal_rises e e refl
-key_end_rises number object e at copy (Some h) = equal_rises e (key_end_on number object e at copy (Some h)).after refl
+pub key_end_rises : (number object : ℕ) (e : State) (at : Mark) (copy : Value) (found : Option Held) → Rises e (key_end_on number object e at copy found).after
+key_end_rises number object e at copy None = equal_rises e e refl refl
+key_end_rises number object e at copy (Some h) = equal_rises e (key_end_on number object e at copy (Some h)).after refl refl
+
+gathered_rises : (order : List ℕ) (tasks : ResolvedCode) (e : State) → Rises e (gathered order tasks e).after
+gathered_rises order tasks e =
+    (omega (arith, gathered_next order tasks e), gathered_blocks order tasks e)
 
 module _ (body : Guards → State → Outcome) (rises : (guards : Guards) (e : State) → Rises e (body guards e).after) (guards : Guards) where
   scoped_rises : (held : Guards) (e start : State) → Rises e start → Rises e (scoped e (body held) start).after
   scoped_rises held e start h = rises_then e start (body held start).after h (rises held start)
 
-  turns_rise : (elements : Bool) (object : ℕ) (h : Held) (names : List ℕ) (e : State) → Rises e (turns body guards elements object h names e).after
-  turns_rise elements object h [] e = equal_rises e e refl
+  pub turns_rise : (elements : Bool) (object : ℕ) (h : Held) (names : List ℕ) (e : State) → Rises e (turns body guards elements object h names e).after
+  turns_rise elements object h [] e = equal_rises e e refl refl
   turns_rise elements object h (name ∷ names) e =
       let b = turn_bound elements object (mark_of_name (number_of h) name) in
       let now = (scoped e (body (guards_of_loop elements h ++ guards)) (with_name e b)).after in
@@ -93,38 +101,56 @@ module _ (body : Guards → State → Outcome) (rises : (guards : Guards) (e : S
   view_rises : (number : ℕ) (view : ViewKind) (object : ℕ) (at : Mark) (h : Held) (e : State) (reason : Option Reason) →
       head_reason view h at ≡ reason → Rises e (view_on body guards number view object at h e).after
   view_rises number view object at h e None f = rw (f, view_on) (viewed_rises number view object at h e)
-  view_rises number view object at h e (Some reason) f = rw (f, view_on) (equal_rises e e refl)
+  view_rises number view object at h e (Some reason) f = rw (f, view_on) (equal_rises e e refl refl)
 
   object_rises : (head : ResolvedHead) (found : Option Held) (e : State) → Rises e (on_object body guards head found e).after
-  object_rises head None e = equal_rises e e refl
+  object_rises head None e = equal_rises e e refl refl
   object_rises (loops_at number elements backward object) (Some h) e = turns_rise elements object h (in_order backward (names_of h)) e
   object_rises (views_at number view object at) (Some h) e = view_rises number view object (mark_at e at) h e _ refl
   object_rises (stables_at number object) (Some h) e = rises (guards_of_stable h ++ guards) e
-  object_rises (declares_at number decls) (Some h) e = equal_rises e e refl
+  object_rises (declares_at number decls) (Some h) e = equal_rises e e refl refl
+  object_rises (gathers_at number) (Some h) e = equal_rises e e refl refl
+  object_rises (works_at number name locals) (Some h) e = equal_rises e e refl refl
 
   declared_rises : (e : State) (d : Declared) (spent : Option ℕ) → d.spent ≡ spent → Rises e d.after → Rises e (after_declared body guards e d).after
   declared_rises e d None f h = rw (f, after_declared) (scoped_rises guards e d.after h)
   declared_rises e d (Some number) f h = rw (f, after_declared) h
 
-  block_rises : (e : State) (head : ResolvedHead) → Rises e (block_on body guards e head).after
-  block_rises e (loops_at number elements backward object) = object_rises (loops_at number elements backward object) (object_at (under guards e) object) e
-  block_rises e (views_at number view object at) = object_rises (views_at number view object at) (object_at (under guards e) object) e
-  block_rises e (stables_at number object) = object_rises (stables_at number object) (object_at (under guards e) object) e
-  block_rises e (declares_at number decls) = declared_rises e (after_decls decls e) _ refl (decls_rise decls e)
+  pub block_rises : (orders : Orders) (tasks : ResolvedCode) (e : State) (head : ResolvedHead) → Rises e (block_on body guards orders tasks e head).after
+  block_rises orders tasks e (loops_at number elements backward object) = object_rises (loops_at number elements backward object) (guarded_at (under guards e) object) e
+  block_rises orders tasks e (views_at number view object at) = object_rises (views_at number view object at) (guarded_at (under guards e) object) e
+  block_rises orders tasks e (stables_at number object) = object_rises (stables_at number object) (guarded_at (under guards e) object) e
+  block_rises orders tasks e (declares_at number decls) = declared_rises e (after_decls decls e) _ refl (decls_rise decls e)
+  block_rises orders tasks e (gathers_at number) = gathered_rises (orders e.blocks) tasks e
+  block_rises orders tasks e (works_at number name locals) = equal_rises e e refl refl
 
-pub resolved_rises : (code : ResolvedCode) (guards : Guards) (e : State) → Rises e (exec_resolved code guards e).after
-resolved_rises no_statement guards e = equal_rises e e refl
-resolved_rises (a_command simple rest) guards e =
+pub resolved_rises : (orders : Orders) (code : ResolvedCode) (guards : Guards) (e : State) → Rises e (exec_resolved orders code guards e).after
+resolved_rises orders no_statement guards e = equal_rises e e refl refl
+resolved_rises orders (a_command simple rest) guards e =
     let now = (commanded guards e simple).after in
-    rises_then e now (exec_resolved rest guards now).after (command_rises guards e simple) (resolved_rises rest guards now)
-resolved_rises (a_block head body rest) guards e =
-    let now = (block_on (exec_resolved body) guards e head).after in
-    rises_then e now (exec_resolved rest guards now).after (block_rises (exec_resolved body) (resolved_rises body) guards e head) (resolved_rises rest guards now)
+    rises_then e now (exec_resolved orders rest guards now).after (command_rises guards e simple) (resolved_rises orders rest guards now)
+resolved_rises orders (a_block head body rest) guards e =
+    let now = (block_on (exec_resolved orders body) guards orders body e head).after in
+    rises_then e now (exec_resolved orders rest guards now).after
+    (block_rises (exec_resolved orders body) (resolved_rises orders body) guards orders body e head)
+    (resolved_rises orders rest guards now)
+
+statements_rise : (orders : Orders) (code : Code) (scope : Scope) (guards : Guards) (e : State) → Rises e (exec orders code scope guards e).after
+statements_rise orders code scope guards e =
+    subst (λ (r : Outcome). Rises e r.after) (runs_resolved orders code scope guards e) (resolved_rises orders (resolve scope code) guards e)
+
+pub decl_next : (e : State) (d : ResolvedDecl) → e.next ≤ (after_decl e d).after.next
+decl_next e d = (decl_rises e d).0
 
 pub next_rises : NextRises
 next_rises = record {
-  decls = decls_rise;
-  resolved = resolved_rises;
-  statements = λ code scope guards e.
-      subst (λ (r : Outcome). Rises e r.after) (runs_resolved code scope guards e) (resolved_rises (resolve scope code) guards e);
+  decls = λ ds e. (decls_rise ds e).0;
+  resolved = λ orders code guards e. (resolved_rises orders code guards e).0;
+  statements = λ orders code scope guards e. (statements_rise orders code scope guards e).0;
+}
+
+pub blocks_rise : BlocksRise
+blocks_rise = record {
+  resolved = λ orders code guards e. (resolved_rises orders code guards e).1;
+  statements = λ orders code scope guards e. (statements_rise orders code scope guards e).1;
 }

@@ -5,11 +5,12 @@ use Rattle.ac_base.specs.Limits.{numbers_end}
 use Rattle.ac_syntax.specs.declared.type_def.TypeDef.{TypeDef}
 use Rattle.ac_model.specs.Objects.{empty_object}
 use Rattle.ac_model.specs.Holders.{empty_holder}
-use Rattle.ac_check.specs.Kinds.{is_holder}
+use Rattle.ac_model.specs.Queues.{empty_queue}
+use Rattle.ac_check.specs.Kinds.{is_holder, is_queue}
 use Rattle.ac_check.specs.declared.resolved.ResolvedDecl.{ResolvedDecl}
 use Rattle.ac_check.specs.declared.resolved.ResolvedDecl.TheVariants as decl
 use Rattle.ac_check.specs.Resolved.{ResolvedSimple}
-use Rattle.ac_meaning.specs.Holdings.{Held, of_rows, of_holder, Guards, number_of, have_capacity, kind_by, limit_by, new_held}
+use Rattle.ac_meaning.specs.Holdings.{Held, of_rows, of_holder, of_queue, Guards, number_of, have_capacity, kind_by, discipline_by, limit_by, new_held}
 use Rattle.ac_meaning.specs.Environment.{Bound, binds_type, binds_object, binds_cursor, binds_value, binds_element, bound_in, object_in, State, under, with_name, leaving, number_taken, Declared, unless_spent, after_decl, after_decls}
 use Rattle.ac_meaning.specs.Commands.{performed}
 use Rattle.ac_meaning.specs.Execution.{exec, exec_resolved}
@@ -122,14 +123,16 @@ left_goes_on count e d = record {
 -- Declarations
 
 new_number : (def : TypeDef) (number : ℕ) (capacity : Option ℕ) → number_of (new_held def number capacity) ≡ number
-new_number def number capacity = go (is_holder def.kind)
+new_number def number capacity = go (is_holder def.kind) (is_queue def.kind)
   where
-    go : (b : Bool) →
+    go : (b c : Bool) →
         number_of (if b then of_holder def.first (empty_holder number (limit_by capacity))
+        else if c then of_queue number (record { discipline = discipline_by def.kind; queue = empty_queue (limit_by capacity) })
         else let kind = kind_by def.kind def.first def.second def.keyed in
         of_rows kind (empty_object (have_capacity kind) number (limit_by capacity))) ≡ number
-    go true = refl
-    go false = refl
+    go true c = refl
+    go false true = refl
+    go false false = refl
 
 new_once : (n next number : ℕ) (b : Bool) → (next == number) ≡ b → n ≤ 1 → (next ≤ number → n ≡ 0) → n + (if b then 1 else 0) ≤ 1
 new_once n next number true e once below = let p : next ≤ number = grind (arith, nat_tests) in omega (arith, below p)
@@ -177,12 +180,12 @@ numbers_go_on = record {
   first = record { once = λ number. omega arith; below_next = λ number h. refl };
   decls = decls_go_on;
   commands = command_goes_on;
-  resolved = λ code guards e d.
-      goes_on e (exec_resolved code guards e).after (next_rises.resolved code guards e)
-      (λ number. kept_numbered guards e (exec_resolved code guards e).after number (resolved_keeps code guards e)) d;
-  statements = λ code scope guards e d.
-      goes_on e (exec code scope guards e).after (next_rises.statements code scope guards e)
-      (λ number. kept_numbered guards e (exec code scope guards e).after number (exec_keeps code scope guards e)) d;
+  resolved = λ orders code guards e d.
+      goes_on e (exec_resolved orders code guards e).after (next_rises.resolved orders code guards e)
+      (λ number. kept_numbered guards e (exec_resolved orders code guards e).after number (resolved_keeps orders code guards e)) d;
+  statements = λ orders code scope guards e d.
+      goes_on e (exec orders code scope guards e).after (next_rises.statements orders code scope guards e)
+      (λ number. kept_numbered guards e (exec orders code scope guards e).after number (exec_keeps orders code scope guards e)) d;
   guarded = under_goes_on;
   rested = λ e d. under_goes_on [] e d;
   named = named_goes_on;

@@ -1,7 +1,7 @@
 -- Objects go on under their numbers, and names come and go at the end.
 use Rattle.std.proofs.Common.{◌≡◌, ◌<◌, ◌≤◌, ◌++◌, ℕ, zero, suc, List, [], ◌∷◌, take, length, slice_get, refl, sym, ap, subst, ◌∙◌, arith, Some}
 use Rattle.std.proofs.Math.Seq.{take-append_seam}
-use Rattle.ac_meaning.specs.Holdings.{Held, of_rows, of_holder, number_of}
+use Rattle.ac_meaning.specs.Holdings.{Held, of_rows, of_holder, of_queue, number_of}
 use Rattle.ac_meaning.specs.Environment.{Bound, binds_type, binds_object, binds_cursor, binds_value, binds_element, bound_in, object_in, State, bound_at}
 use Rattle.ac_meaning.specs.Commands.{performed}
 use Rattle.ac_meaning.specs.Stays.{HeldStays, BoundStays, next_of, ObjectGoesOn, NamesComeAndGo}
@@ -12,10 +12,12 @@ use Rattle.ac_meaning.proofs.CommandsStay.{command_stays}
 pub held_number : (h after : Held) → HeldStays h after → number_of after ≡ number_of h
 held_number (of_rows kind o) after s = ap number_of s.1 ∙ s.2.number
 held_number (of_holder e h) after s = ap number_of s.1 ∙ s.2.number
+held_number (of_queue number q) after s = ap number_of s.1
 
 held_next : (h after : Held) → HeldStays h after → next_of h ≤ next_of after
 held_next (of_rows kind o) after s = subst (λ n. o.next ≤ n) (sym (ap next_of s.1)) s.2.next
 held_next (of_holder e h) after s = subst (λ n. next_of (of_holder e h) ≤ n) (sym (ap next_of s.1)) (omega arith)
+held_next (of_queue number q) after s = subst (λ n. next_of (of_queue number q) ≤ n) (sym (ap next_of s.1)) (omega arith)
 
 goes_on : (h : Held) (now : State) (place : ℕ) (b : Bound) → bound_at now place ≡ b → BoundStays (binds_object h) b → ObjectGoesOn h now place
 goes_on h now place (binds_object after) is s = record {

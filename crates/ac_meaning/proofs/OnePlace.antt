@@ -5,7 +5,7 @@ use Rattle.ac_base.specs.declared.guard.GuardKind.{GuardKind}
 use Rattle.ac_base.specs.Guards.{HeldGuard, raised_kind, one_more, one_less}
 use Rattle.ac_model.specs.Objects.{Object}
 use Rattle.ac_model.specs.Common.{hold_call, release_call, under_guards, guards_on}
-use Rattle.ac_meaning.specs.Holdings.{Held, of_rows, of_holder, as_object, counted_as, with_rows_by, number_of, are_sets, is_a_set, guard_on}
+use Rattle.ac_meaning.specs.Holdings.{Held, of_rows, of_holder, of_queue, as_object, counted_as, with_rows_by, number_of, are_sets, is_a_set, guard_on}
 use Rattle.ac_meaning.specs.Environment.{Bound, binds_type, binds_object, binds_cursor, binds_value, binds_element, bound_by, bound_in, object_in, State, objects_by, object_at, with_bound}
 use Rattle.ac_meaning.specs.UnderGuards.{held_with, held_without}
 use Rattle.ac_meaning.specs.Numbers.{has_number, times_numbered, NumbersDiffer, GuardsAreOnOneObject}
@@ -72,6 +72,7 @@ held_spares g (of_holder element h) e =
     let o = as_object h in
     ap (λ p. of_holder element (counted_as h p))
     (where_other o (hold_call false g.kind o) (g.object == h.number) (another h.number g.object e))
+held_spares g (of_queue number q) e = refl
 
 released_spares : (g : HeldGuard) → SparesOthers g.object (held_without g)
 released_spares g (of_rows kind o) e =
@@ -80,6 +81,7 @@ released_spares g (of_holder element h) e =
     let o = as_object h in
     ap (λ p. of_holder element (counted_as h p))
     (where_other o (release_call false g.kind o) (g.object == h.number) (another h.number g.object e))
+released_spares g (of_queue number q) e = refl
 
 same_number : (n m : ℕ) → m ≡ n → (n == m) ≡ true
 same_number n m e = grind (arith, nat_tests)
@@ -99,6 +101,7 @@ held_own (of_holder element h) kind =
     ap (λ p. of_holder element (counted_as h p))
     (where_own o (hold_call false (raised_kind false kind) o) (h.number == h.number) (same_number h.number h.number refl)
     ∙ ap (λ k. under_guards o (one_more k (guards_on o))) (raised_once false kind))
+held_own (of_queue number q) kind = refl
 
 released_own : (h k : Held) (kind : GuardKind) → number_of k ≡ number_of h →
     held_without (guard_on h kind) k ≡ with_rows_by (λ V o. release_call (is_a_set h) kind o) k
@@ -111,6 +114,7 @@ released_own h (of_holder element k) kind e =
     ap (λ p. of_holder element (counted_as k p))
     (where_own o (release_call false (raised_kind (is_a_set h) kind) o) (number_of h == k.number) (same_number (number_of h) k.number e)
     ∙ ap (λ n. under_guards o (one_less n (guards_on o))) (raised_once (is_a_set h) kind))
+released_own h (of_queue number q) kind e = refl
 
 pub guards_are_on_one_object : GuardsAreOnOneObject
 guards_are_on_one_object = record {

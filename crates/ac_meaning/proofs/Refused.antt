@@ -6,6 +6,8 @@ use Rattle.ac_model.specs.Rows.{Entry, Node}
 use Rattle.ac_model.specs.Objects.{Object}
 use Rattle.ac_model.specs.Calls.{Call, Done}
 use Rattle.ac_model.specs.Holders.{Holder}
+use Rattle.ac_model.specs.Queues.{Discipline, by_arrival, by_priority}
+use Rattle.ac_history.specs.States.{TaskQueue}
 use Rattle.ac_model.specs.Lists as list
 use Rattle.ac_model.specs.Vectors as vector
 use Rattle.ac_check.specs.declared.operation.Operation.{Operation}
@@ -26,6 +28,8 @@ use Rattle.ac_check.specs.declared.operation.TreeChangeCall.{TreeChangeCall}
 use Rattle.ac_check.specs.declared.operation.TreeChangeCall.TheVariants as tree_change_call
 use Rattle.ac_check.specs.declared.operation.HolderCall.{HolderCall}
 use Rattle.ac_check.specs.declared.operation.HolderCall.TheVariants as holder_call
+use Rattle.ac_check.specs.declared.operation.QueueCall.{QueueCall}
+use Rattle.ac_check.specs.declared.operation.QueueCall.TheVariants as queue_call
 use Rattle.ac_check.specs.declared.operation.WalkCall.{WalkCall}
 use Rattle.ac_check.specs.declared.operation.WalkCall.TheVariants as walk_call
 use Rattle.ac_check.specs.declared.operation.OrderedCall.{OrderedCall}
@@ -57,7 +61,8 @@ use Rattle.ac_meaning.specs.SetReplies.{set_own, set_alone_reply, set_pair_reply
 use Rattle.ac_meaning.specs.KeyedSetReplies.{key_reply, keyed_set_reply}
 use Rattle.ac_meaning.specs.TreeReplies.{tree_own, tree_look_reply, tree_change_reply, tree_reply}
 use Rattle.ac_meaning.specs.HolderReplies.{holder_source, holder_alone_reply, holder_reply}
-use Rattle.ac_meaning.specs.Holdings.{SequenceKind, of_list, of_vector, RowKind, a_sequence, a_map, a_set, a_keyed_set, a_tree, RowOf, Held, of_rows, of_holder, rows_in, holder_in, reply_by, rows_reply, seen_in, reply_of}
+use Rattle.ac_meaning.specs.QueueReplies.{item_answer, high_reply, queue_alone_reply, queue_reply}
+use Rattle.ac_meaning.specs.Holdings.{SequenceKind, of_list, of_vector, RowKind, a_sequence, a_map, a_set, a_keyed_set, a_tree, RowOf, Held, of_rows, of_holder, of_queue, rows_in, holder_in, reply_by, rows_reply, seen_in, reply_of}
 use Rattle.ac_meaning.specs.Environment.{Bound, binds_type, binds_object, binds_cursor, binds_value, binds_element, State, bound_at, object_at, value_at}
 use Rattle.ac_meaning.specs.Commands.{Performed, Assigned, source_place, source_of, after_call, assigned, unless_refused, waits_or_goes, replied, call_on, arguments, answer_in, answer_from, assigned_from, is_integer, sum_of, sum_assigned}
 use Rattle.ac_meaning.specs.Laws.{IsRefusal, RefusalsLeave}
@@ -239,6 +244,23 @@ holder_plain tools h source args (operation.Holder c) r = go c r
     go _ r = r
 holder_plain tools h source args _ r = r
 
+item_plain : (item : Option ℤ) → Plain (item_answer item)
+item_plain None r = r
+item_plain (Some n) r = r
+
+high_plain : (d : Discipline) (q : TaskQueue) (at_least : ℤ) → Plain (high_reply d q at_least).answer
+high_plain by_arrival q at_least r = r
+high_plain by_priority q at_least r = item_plain _ r
+
+queue_plain : (q : TaskQueue) (args : Arguments) (op : Operation) → Plain (queue_reply q args op).answer
+queue_plain q args (operation.Queue c) r = go c r
+  where
+    go : (c : QueueCall) → Plain (queue_alone_reply q args c).answer
+    go queue_call.Dequeue r = item_plain _ r
+    go queue_call.DequeueOnlyHighPriority r = high_plain q.discipline q args.first.count r
+    go _ r = r
+queue_plain q args _ r = r
+
 rows_plain : (kind : RowKind) (o : Object ℕ (RowOf kind)) (source : Source (Object ℕ (RowOf kind))) (args : Arguments) (op : Operation) →
     Plain (rows_reply kind o source args op).answer
 rows_plain (a_sequence which e) o source args op h = reply_plain (tools_of e) o source args which op h
@@ -251,6 +273,7 @@ held_plain : (h : Held) (source : Option Held) (op : Operation) (args : Argument
 held_plain (of_rows kind o) source op args r =
     rows_plain kind o (source_in (seen_in kind) o (rows_in kind source) args) (arguments_seen (seen_in kind o) args) op r
 held_plain (of_holder e h) source op args r = holder_plain (tools_of e) h (holder_source h (holder_in e source) args) args op r
+held_plain (of_queue number q) source op args r = queue_plain q args op r
 
 answer_plain : (e : State) (b : Bound) → Plain (answer_in e b)
 answer_plain e binds_type h = h

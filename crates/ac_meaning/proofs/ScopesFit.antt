@@ -9,7 +9,7 @@ use Rattle.ac_syntax.specs.declared.decl.Decl.{Decl}
 use Rattle.ac_syntax.specs.declared.decl.Decl.TheVariants as source_decl
 use Rattle.ac_syntax.specs.declared.type_def.TypeDef.{TypeDef}
 use Rattle.ac_syntax.specs.declared.view_kind.ViewKind.{ViewKind}
-use Rattle.ac_check.specs.Scopes.{Meaning, a_type, an_object, a_cursor, a_value, Entry, entry, Scope, Typed, type_of, object_in as object_meant, loop_meaning, view_meaning, meaning_in, object_of, decl_entry, with_entry, with_decls}
+use Rattle.ac_check.specs.Scopes.{Meaning, a_type, an_object, a_cursor, a_value, a_task, Entry, entry, Scope, Typed, type_of, object_in as object_meant, loop_meaning, view_meaning, meaning_in, object_of, decl_entry, with_entry, with_decls}
 use Rattle.ac_check.specs.Rules.{is_object_of, is_looped, is_view}
 use Rattle.ac_check.specs.Kept.{DeclKept, DeclsKept}
 use Rattle.ac_check.specs.Resolved.{place_of, resolve_decl, resolve_decls}
@@ -123,8 +123,10 @@ under_fits scope guards e h = state_fits [] scope e (under guards e) (kept-under
 pub goes_on_fitting : GoesOnFitting
 goes_on_fitting = record {
   commands = λ scope e simple h. all_stay scope e.bounds (performed e simple).after.bounds (command_stays e simple).bounds h;
-  resolved = λ code scope guards e h. state_fits guards scope e (exec_resolved code guards e).after (resolved_keeps code guards e) h;
-  statements = λ code scope guards e h. state_fits guards scope e (exec code scope guards e).after (exec_keeps code scope guards e) h;
+  resolved = λ orders code scope guards e h.
+      state_fits guards scope e (exec_resolved orders code guards e).after (resolved_keeps orders code guards e) h;
+  statements = λ orders code scope guards e h.
+      state_fits guards scope e (exec orders code scope guards e).after (exec_keeps orders code scope guards e) h;
   guarded = under_fits;
   rested = λ scope e h. under_fits scope [] e h;
   left = λ scope more e h. first_ones scope more e.bounds h;
@@ -157,6 +159,7 @@ object_fits (an_object t d) typed (binds_element p x) f k = absurd k
 object_fits (a_type d) typed b f k = none_some typed f
 object_fits (a_cursor t v) typed b f k = none_some typed f
 object_fits (a_value e w) typed b f k = none_some typed f
+object_fits a_task typed b f k = none_some typed f
 
 object_found : (scope : Scope) (e : State) (name : List ℕ) (typed : Typed) (meant : Option Meaning) → meaning_in scope name ≡ meant →
     FitsScope scope e → option_and_then object_meant meant ≡ Some typed → (h : Held) × (object_at e (place_of scope name) ≡ Some h)

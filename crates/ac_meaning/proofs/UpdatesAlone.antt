@@ -9,7 +9,7 @@ use Rattle.ac_model.specs.Letters.{Mark, needs}
 use Rattle.ac_model.specs.KeyedSets.{update_key_reason}
 use Rattle.ac_model.specs.Cursors.{seen}
 use Rattle.ac_syntax.specs.declared.view_kind.ViewKind.TheVariants.{UpdateKey}
-use Rattle.ac_meaning.specs.Holdings.{a_sequence, a_map, a_set, a_keyed_set, a_tree, Held, of_rows, of_holder, Guards, held_on, guarded, held_under, number_of, names_of, holds_element, has_root, key_updated}
+use Rattle.ac_meaning.specs.Holdings.{a_sequence, a_map, a_set, a_keyed_set, a_tree, Held, of_rows, of_holder, of_queue, Guards, held_on, guarded, held_under, number_of, names_of, holds_element, has_root, key_updated}
 use Rattle.ac_meaning.specs.Environment.{binds_object, State, under, bound_at, with_bound, object_at}
 use Rattle.ac_meaning.specs.Execution.{head_reason, key_end_on}
 use Rattle.ac_meaning.specs.UnderGuards.{UpdatesKeepCounts}
@@ -39,6 +39,7 @@ update_alone guards (of_rows (a_map which k e) o) at same none = none_some NoEle
 update_alone guards (of_rows (a_set which e) o) at same none = none_some NoElement (sym none)
 update_alone guards (of_rows (a_tree e) o) at same none = none_some NoElement (sym none)
 update_alone guards (of_holder e h) at same none = none_some NoElement (sym none)
+update_alone guards (of_queue number q) at same none = none_some NoElement (sym none)
 
 -- what is found under guards has their counts
 found_under : (guards : Guards) (e : State) (place : ℕ) (h : Held) → object_at (under guards e) place ≡ Some h → held_under guards h ≡ h
@@ -63,6 +64,7 @@ number_stays (of_rows (a_map which k e) o) at copy = refl
 number_stays (of_rows (a_set which e) o) at copy = refl
 number_stays (of_rows (a_tree e) o) at copy = refl
 number_stays (of_holder e h) at copy = refl
+number_stays (of_queue number q) at copy = refl
 
 no_element : (h : Held) (at : Mark) (copy : Value) → holds_element (key_updated h at copy).after ≡ holds_element h
 no_element (of_rows (a_keyed_set which) o) at copy = refl
@@ -71,6 +73,7 @@ no_element (of_rows (a_map which k e) o) at copy = refl
 no_element (of_rows (a_set which e) o) at copy = refl
 no_element (of_rows (a_tree e) o) at copy = refl
 no_element (of_holder e h) at copy = refl
+no_element (of_queue number q) at copy = refl
 
 same_root : (h : Held) (at : Mark) (copy : Value) → has_root (key_updated h at copy).after ≡ has_root h
 same_root (of_rows (a_keyed_set which) o) at copy = refl
@@ -79,6 +82,7 @@ same_root (of_rows (a_map which k e) o) at copy = refl
 same_root (of_rows (a_set which e) o) at copy = refl
 same_root (of_rows (a_tree e) o) at copy = refl
 same_root (of_holder e h) at copy = refl
+same_root (of_queue number q) at copy = refl
 
 -- of an object without a guard nothing but its number is kept, whether it has a root, and that it is no holder with an element
 unguarded_frame : (guards : Guards) (h now : Held) → is_guarded guards (number_of h) ≡ false → number_of now ≡ number_of h →

@@ -1,4 +1,4 @@
--- The environment of a script: what each name in scope holds, and the number of the next object.
+-- The environment of a script: what each name in scope holds, the number of the next object, and how many blocks of tasks have begun.
 --
 -- A place is that of a name among the names in scope. Which these are is told by the text alone (the scope of `ac_check`), so that what they hold is a list beside it.
 use Rattle.std.specs.Prelude.{ℕ, ◌+◌, pos, nat_lt, List, [], ◌∷◌, ◌++◌, map, take, slice_get, slice_set, Option, Some, None, if◌then◌else◌}
@@ -9,7 +9,7 @@ use Rattle.ac_base.specs.declared.value.Value.TheVariants as value
 use Rattle.ac_model.specs.Letters.{Mark, no_mark}
 use Rattle.ac_check.specs.declared.resolved.ResolvedDecl.{ResolvedDecl}
 use Rattle.ac_check.specs.declared.resolved.ResolvedDecl.TheVariants as decl
-use Rattle.ac_meaning.specs.Holdings.{Held, Guards, held_under, held_at_rest, new_held, nodes_of, element_value}
+use Rattle.ac_meaning.specs.Holdings.{Held, takes_guards, Guards, held_under, held_at_rest, new_held, nodes_of, element_value}
 
 -- what a name holds
 pub data Bound : Type 0 where
@@ -27,9 +27,11 @@ pub record State : Type 0 where
   pub bounds : List Bound
   -- the number of the next object
   pub next : ℕ
+  -- how many blocks of tasks have begun
+  pub blocks : ℕ
 
 abbrev pub first_state : State
-first_state = record { bounds = []; next = 1 }
+first_state = record { bounds = []; next = 1; blocks = 0 }
 
 -- under these guards, and at rest
 
@@ -72,6 +74,14 @@ object_in (binds_element _ _) = None
 
 abbrev pub object_at : State → ℕ → Option Held
 object_at e place = object_in (bound_at e place)
+
+-- that a block can guard: on a queue no guard is held
+abbrev pub only_guarded : Option Held → Option Held
+only_guarded None = None
+only_guarded (Some h) = if takes_guards h then Some h else None
+
+abbrev pub guarded_at : State → ℕ → Option Held
+guarded_at e place = only_guarded (object_at e place)
 
 -- the mark of a cursor: what holds none is at no element
 abbrev pub mark_in : Bound → Mark

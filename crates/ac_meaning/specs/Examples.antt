@@ -19,7 +19,7 @@ use Rattle.ac_base.specs.Limits.{numbers_end}
 use Rattle.ac_check.specs.Scopes.{with_decls}
 use Rattle.ac_meaning.specs.Answers.{lines_text}
 use Rattle.ac_meaning.specs.Environment.{binds_type, binds_value}
-use Rattle.ac_meaning.specs.Execution.{exec, text_of}
+use Rattle.ac_meaning.specs.Execution.{no_orders, exec, text_of}
 
 abbrev pub lines : List (List ℕ) → List ℕ
 lines texts = flat_map (λ text. text ++ 10 ∷ []) texts
@@ -243,13 +243,13 @@ LoopsHoldTheirGuards =
 -- where the numbers of objects are spent the declaration's line says so, and its block is skipped
 abbrev pub SpentNumberSkipsBlock : Type 0
 SpentNumberSkipsBlock =
-    lines_text (exec
+    lines_text (exec no_orders
     (block (declare_at 3 (decl.IntVar 4 (codes "n") ∷ list 5 (codes "a") ∷ list 6 (codes "b") ∷ []))
     (one (set_at 8 (codes "n") (number 1)) stop)
     (one (set_at 10 (codes "m") (number 2)) stop))
     (with_decls [] (list_type 1 Integer ∷ decl.IntVar 2 (codes "m") ∷ []))
     []
-    (record { bounds = binds_type ∷ binds_value (value.Int (pos 0)) ∷ []; next = numbers_end - 1 })).lines
+    (record { bounds = binds_type ∷ binds_value (value.Int (pos 0)) ∷ []; next = numbers_end - 1; blocks = 0 })).lines
     ≡ lines (codes "6: raised CONSTRAINT_ERROR (names spent)" ∷ codes "10: 2" ∷ [])
 
 -- each call that lists have with vectors, by what it answers and leaves: elements that come and go

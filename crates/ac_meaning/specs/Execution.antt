@@ -1,20 +1,22 @@
 -- Execution: the lines of statements and the environment after them, while the guards of the enclosing blocks are held.
-use Rattle.std.specs.Prelude.{ℕ, Bool, true, false, List, [], ◌∷◌, ◌++◌, length, reverse, Option, Some, None}
+use Rattle.std.specs.Prelude.{ℕ, Bool, true, false, List, [], ◌∷◌, ◌++◌, length, reverse, if◌then◌else◌, Option, Some, None}
 use Rattle.ac_base.specs.declared.value.Value.{Value}
 use Rattle.ac_base.specs.declared.reason.Reason.{Reason}
 use Rattle.ac_base.specs.declared.reason.Reason.TheVariants.{NamesSpent}
 use Rattle.ac_base.specs.declared.guard.GuardKind.TheVariants as guard
 use Rattle.ac_model.specs.Letters.{Mark, mark_at as mark_of_name}
+use Rattle.ac_history.specs.Orders.{run_of}
 use Rattle.ac_syntax.specs.Code.{Code, stop, one, block}
 use Rattle.ac_syntax.specs.declared.script.Script.{Script}
 use Rattle.ac_syntax.specs.declared.view_kind.ViewKind.{ViewKind}
 use Rattle.ac_syntax.specs.declared.view_kind.ViewKind.TheVariants.{Query, Update, Reference, UpdateKey}
-use Rattle.ac_check.specs.Scopes.{Scope, with_decls, inside}
-use Rattle.ac_check.specs.Resolved.{ResolvedSimple, ResolvedHead, loops_at, views_at, stables_at, declares_at, ResolvedCode, no_statement, a_command, a_block, resolve_simple, resolve_head, resolve_decls}
+use Rattle.ac_check.specs.Scopes.{Scope, with_decls, inside, behind_block}
+use Rattle.ac_check.specs.Resolved.{ResolvedSimple, ResolvedHead, loops_at, views_at, stables_at, declares_at, gathers_at, works_at, ResolvedCode, no_statement, a_command, a_block, resolve_simple, resolve_head, resolve_decls, resolve}
 use Rattle.ac_meaning.specs.Answers.{Answer, Line, line, answers_raised, lines_text}
 use Rattle.ac_meaning.specs.Holdings.{Held, Guards, names_of, number_of, guard_on, element_value, key_update_reason, key_updated}
-use Rattle.ac_meaning.specs.Environment.{Bound, binds_object, binds_cursor, binds_value, binds_element, State, first_state, under, at_rest, with_bound, object_at, mark_at, value_at, value_or_zero, with_name, leaving, Declared, after_decls}
+use Rattle.ac_meaning.specs.Environment.{Bound, binds_object, binds_cursor, binds_value, binds_element, State, first_state, under, at_rest, with_bound, object_at, guarded_at, mark_at, value_at, value_or_zero, with_name, leaving, Declared, after_decls}
 use Rattle.ac_meaning.specs.Commands.{performed, number_in}
+use Rattle.ac_meaning.specs.TaskBlocks.{tasks_of, block_of, block_fits, block_lines, after_block}
 
 -- what statements come to: their lines, and the environment after them
 pub record Outcome : Type 0 where
@@ -38,6 +40,18 @@ scoped e body start = let r = body start in outcome r.lines (leaving (length e.b
 -- a command under the guards, on the environment as they make it
 abbrev pub commanded : Guards → State → ResolvedSimple → Outcome
 commanded guards e simple = let r = performed (under guards e) simple in one_line (number_in simple) r.answer (at_rest r.after)
+
+-- A block of tasks, by the order in which these have their turns
+abbrev pub run_by : (order : List ℕ) → (tasks : ResolvedCode) → State → Outcome
+run_by order tasks e = let b = run_of (block_of e tasks) order in outcome (block_lines (tasks_of e tasks) b) (after_block tasks b e)
+
+-- one whose numbers don't fit is in no script that can run
+abbrev pub gathered : (order : List ℕ) → (tasks : ResolvedCode) → State → Outcome
+gathered order tasks e = if block_fits (block_of e tasks) then run_by order tasks e else outcome [] e
+
+-- the order of each block of tasks, by how many began before it
+abbrev pub Orders : Type 0
+Orders = ℕ → List ℕ
 
 -- Blocks on an object
 
@@ -115,13 +129,15 @@ module _ (body : Guards → State → Outcome) (guards : Guards) where
   view_on number view object at h e =
       elim (head_reason view h at) [ None ↦ viewed number view object at h e | Some reason ↦ one_line number (answers_raised reason) e ]
 
-  -- a block on no object is in no script that can run
+  -- a block on no object, or on one that takes no guards, is in no script that can run
   abbrev pub on_object : ResolvedHead → Option Held → State → Outcome
   on_object head None e = outcome [] e
   on_object (loops_at number elements backward object) (Some h) e = turns elements object h (in_order backward (names_of h)) e
   on_object (views_at number view object at) (Some h) e = view_on number view object (mark_at e at) h e
   on_object (stables_at number object) (Some h) e = body (guards_of_stable h ++ guards) e
   on_object (declares_at number decls) (Some h) e = outcome [] e
+  on_object (gathers_at number) (Some h) e = outcome [] e
+  on_object (works_at number name locals) (Some h) e = outcome [] e
 
   -- where no number is left for an object, its line says so and the body is skipped
   abbrev pub after_declared : State → Declared → Outcome
@@ -131,29 +147,46 @@ module _ (body : Guards → State → Outcome) (guards : Guards) where
         | Some number ↦ one_line number (answers_raised NamesSpent) (leaving (length e.bounds) d.after)
       ]
 
-  abbrev pub block_on : State → ResolvedHead → Outcome
-  block_on e (loops_at number elements backward object) =
-      on_object (loops_at number elements backward object) (object_at (under guards e) object) e
-  block_on e (views_at number view object at) = on_object (views_at number view object at) (object_at (under guards e) object) e
-  block_on e (stables_at number object) = on_object (stables_at number object) (object_at (under guards e) object) e
-  block_on e (declares_at number decls) = after_declared e (after_decls decls e)
+  -- a block, whose statements are these where they are tasks. A task alone is in no script that can run
+  abbrev pub block_on : Orders → (tasks : ResolvedCode) → State → ResolvedHead → Outcome
+  block_on orders tasks e (loops_at number elements backward object) =
+      on_object (loops_at number elements backward object) (guarded_at (under guards e) object) e
+  block_on orders tasks e (views_at number view object at) = on_object (views_at number view object at) (guarded_at (under guards e) object) e
+  block_on orders tasks e (stables_at number object) = on_object (stables_at number object) (guarded_at (under guards e) object) e
+  block_on orders tasks e (declares_at number decls) = after_declared e (after_decls decls e)
+  block_on orders tasks e (gathers_at number) = gathered (orders e.blocks) tasks e
+  block_on orders tasks e (works_at number name locals) = outcome [] e
 
 -- statements in order, in the scope where they stand
-abbrev pub exec : Code → Scope → Guards → State → Outcome
-exec stop scope guards e = outcome [] e
-exec (one simple rest) scope guards e = followed (commanded guards e (resolve_simple scope simple)) (exec rest scope guards)
-exec (block head body rest) scope guards e =
-    followed (block_on (exec body (inside scope head)) guards e (resolve_head scope head)) (exec rest scope guards)
+abbrev pub exec : Orders → Code → Scope → Guards → State → Outcome
+exec orders stop scope guards e = outcome [] e
+exec orders (one simple rest) scope guards e = followed (commanded guards e (resolve_simple scope simple)) (exec orders rest scope guards)
+exec orders (block head body rest) scope guards e =
+    followed
+    (block_on (exec orders body (inside scope head)) guards orders (resolve (inside scope head) body) e (resolve_head scope head))
+    (exec orders rest (behind_block scope head) guards)
 
 -- a script: its outermost declarations, and its statements with no guards
+unfoldable pub run_with : Orders → Script → Outcome
+run_with orders script =
+    exec orders script.stmts (with_decls [] script.decls) [] (after_decls (resolve_decls [] script.decls) first_state).after
+
+unfoldable pub text_with : Orders → Script → List ℕ
+text_with orders script = lines_text (run_with orders script).lines
+
+-- where no order tells anything, tasks go in rounds. A script without tasks runs the same by all orders
+abbrev pub no_orders : Orders
+no_orders i = []
+
 unfoldable pub run : Script → Outcome
-run script = exec script.stmts (with_decls [] script.decls) [] (after_decls (resolve_decls [] script.decls) first_state).after
+run script = run_with no_orders script
 
 unfoldable pub text_of : Script → List ℕ
 text_of script = lines_text (run script).lines
 
 -- the same of resolved statements
-abbrev pub exec_resolved : ResolvedCode → Guards → State → Outcome
-exec_resolved no_statement guards e = outcome [] e
-exec_resolved (a_command simple rest) guards e = followed (commanded guards e simple) (exec_resolved rest guards)
-exec_resolved (a_block head body rest) guards e = followed (block_on (exec_resolved body) guards e head) (exec_resolved rest guards)
+abbrev pub exec_resolved : Orders → ResolvedCode → Guards → State → Outcome
+exec_resolved orders no_statement guards e = outcome [] e
+exec_resolved orders (a_command simple rest) guards e = followed (commanded guards e simple) (exec_resolved orders rest guards)
+exec_resolved orders (a_block head body rest) guards e =
+    followed (block_on (exec_resolved orders body) guards orders body e head) (exec_resolved orders rest guards)

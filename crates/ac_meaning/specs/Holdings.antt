@@ -1,5 +1,5 @@
 -- The objects of a script, of every kind and element type in one type, and the guards on them.
-use Rattle.std.specs.Prelude.{◌≡◌, ℕ, ◌+◌, Bool, true, false, not, ◌&&◌, ◌==◌, if◌then◌else◌, List, [], ◌∷◌, Option, Some, None, is_none, option_map, refl}
+use Rattle.std.specs.Prelude.{◌≡◌, ℕ, ℤ, ◌+◌, Bool, true, false, not, ◌&&◌, ◌==◌, if◌then◌else◌, List, [], ◌∷◌, Option, Some, None, is_none, option_map, refl}
 use Rattle.ac_base.specs.Key.{key_of_text}
 use Rattle.ac_base.specs.declared.limit.Limit.{Limit}
 use Rattle.ac_base.specs.declared.limit.Limit.TheVariants.{Unbounded, Bounded}
@@ -13,19 +13,21 @@ use Rattle.ac_base.specs.Rows.{names}
 use Rattle.ac_model.specs.Rows.{Entry, Node}
 use Rattle.ac_model.specs.Objects.{Object, empty_object, length_of}
 use Rattle.ac_model.specs.Holders.{Holder, empty_holder}
+use Rattle.ac_model.specs.Queues.{Discipline, by_arrival, by_priority, empty_queue}
 use Rattle.ac_model.specs.Letters.{Mark}
-use Rattle.ac_model.specs.Calls.{Call, Look}
+use Rattle.ac_model.specs.Calls.{Call, Look, look}
 use Rattle.ac_model.specs.Common.{under_guards}
 use Rattle.ac_model.specs.KeyedSets as by_key
 use Rattle.ac_model.specs.Cursors.{seen}
 use Rattle.ac_model.specs.Trees.{seen_in_tree}
+use Rattle.ac_history.specs.States.{TaskQueue}
 use Rattle.ac_syntax.specs.declared.kind.ElemKind.{ElemKind}
 use Rattle.ac_syntax.specs.declared.kind.ElemKind.TheVariants.{Integer, Str}
 use Rattle.ac_syntax.specs.declared.kind.Kind.{Kind}
 use Rattle.ac_syntax.specs.declared.kind.Kind.TheVariants as kinds
 use Rattle.ac_syntax.specs.declared.type_def.TypeDef.{TypeDef}
 use Rattle.ac_check.specs.declared.operation.Operation.{Operation}
-use Rattle.ac_check.specs.Kinds.{is_holder}
+use Rattle.ac_check.specs.Kinds.{is_holder, is_queue}
 use Rattle.ac_meaning.specs.Elements.{Tools, ElementOf, tools_of, Text, text_in, texts, keyed_texts}
 use Rattle.ac_meaning.specs.Replies.{Arguments, Source, arguments_seen, source_in, Reply, carried}
 use Rattle.ac_meaning.specs.SequenceReplies.{OwnCalls, sequence_own}
@@ -37,6 +39,7 @@ use Rattle.ac_meaning.specs.MapReplies.{map_own, map_reply}
 use Rattle.ac_meaning.specs.SetReplies.{set_own, set_reply}
 use Rattle.ac_meaning.specs.TreeReplies.{tree_own, tree_reply}
 use Rattle.ac_meaning.specs.HolderReplies.{holder_source, holder_element, holder_write, holder_listing, holder_reply}
+use Rattle.ac_meaning.specs.QueueReplies.{queue_listing, queue_reply}
 
 -- the kinds whose objects are rows in an order that the program makes
 pub data SequenceKind : Type 0 where
@@ -64,6 +67,8 @@ RowOf (a_tree e) = Node (ElementOf e)
 pub data Held : Type 0 where
   of_rows : (kind : RowKind) → Object ℕ (RowOf kind) → Held
   of_holder : (element : ElemKind) → Holder (ElementOf element) → Held
+  -- with its number
+  of_queue : (number : ℕ) → TaskQueue → Held
 
 -- a holder as an object: its number, its limit and its guards, and no rows
 abbrev pub as_object : {T : Type 0} → Holder T → Object ℕ T
@@ -73,17 +78,23 @@ as_object h = record (empty_object false h.number h.limit) { cursor_guards = h.c
 abbrev pub counted_as : {T : Type 0} → Holder T → Object ℕ T → Holder T
 counted_as h o = record h { cursor_guards = o.cursor_guards; element_guards = o.element_guards }
 
+-- a queue as an object: its number and its limit alone. Guards are held on none
+abbrev pub queue_object : ℕ → TaskQueue → Object ℕ ℤ
+queue_object number q = empty_object false number q.queue.limit
+
 -- what is told of objects with rows, whatever stands in them
 module _ {A : Type 0} (f : (V : Type 0) → Object ℕ V → A) where
   abbrev pub from_rows : Held → A
   from_rows (of_rows kind o) = f _ o
   from_rows (of_holder e h) = f _ (as_object h)
+  from_rows (of_queue number q) = f _ (queue_object number q)
 
--- and what is changed in them: of a holder its counts of guards
+-- and what is changed in them: of a holder its counts of guards, of a queue nothing
 module _ (f : (V : Type 0) → Object ℕ V → Object ℕ V) where
   abbrev pub with_rows_by : Held → Held
   with_rows_by (of_rows kind o) = of_rows kind (f _ o)
   with_rows_by (of_holder e h) = of_holder e (counted_as h (f _ (as_object h)))
+  with_rows_by (of_queue number q) = of_queue number q
 
 -- the number that guards and cursors know an object by
 abbrev pub number_of : Held → ℕ
@@ -101,6 +112,7 @@ nodes_of h = from_rows (λ V o. length_of o) h
 abbrev pub holds_element : Held → Bool
 holds_element (of_rows kind o) = false
 holds_element (of_holder e h) = not (is_none h.element)
+holds_element (of_queue number q) = false
 
 abbrev pub are_sets : RowKind → Bool
 are_sets (a_sequence _ _) = false
@@ -113,6 +125,7 @@ are_sets (a_tree _) = false
 abbrev pub is_a_set : Held → Bool
 is_a_set (of_rows kind o) = are_sets kind
 is_a_set (of_holder e h) = false
+is_a_set (of_queue number q) = false
 
 -- trees have a root, at which something stands that is no element
 abbrev pub have_root : RowKind → Bool
@@ -125,6 +138,13 @@ have_root (a_tree _) = true
 abbrev pub has_root : Held → Bool
 has_root (of_rows kind o) = have_root kind
 has_root (of_holder e h) = false
+has_root (of_queue number q) = false
+
+-- guards are held on every object but a queue
+abbrev pub takes_guards : Held → Bool
+takes_guards (of_rows kind o) = true
+takes_guards (of_holder e h) = true
+takes_guards (of_queue number q) = false
 
 -- Guards
 
@@ -213,11 +233,13 @@ abbrev pub rows_in : (kind : RowKind) → Option Held → Option (Object ℕ (Ro
 rows_in kind None = None
 rows_in kind (Some (of_rows other o)) = option_map (λ p. coe 0 1 (i. Object ℕ (RowOf (p i))) o) (same_kind other kind)
 rows_in kind (Some (of_holder e h)) = None
+rows_in kind (Some (of_queue number q)) = None
 
 -- and as a holder of such elements
 abbrev pub holder_in : (e : ElemKind) → Option Held → Option (Holder (ElementOf e))
 holder_in e None = None
 holder_in e (Some (of_rows kind o)) = None
+holder_in e (Some (of_queue number q)) = None
 holder_in e (Some (of_holder other h)) = option_map (λ p. coe 0 1 (i. Holder (ElementOf (p i))) h) (same_element other e)
 
 -- the operation on a list or a vector
@@ -250,6 +272,7 @@ reply_of (of_rows kind o) source operation args =
     (rows_reply kind o (source_in (seen_in kind) o (rows_in kind source) args) (arguments_seen (seen_in kind o) args) operation)
 reply_of (of_holder e h) source operation args =
     carried (of_holder e) (holder_reply (tools_of e) h (holder_source h (holder_in e source) args) args operation)
+reply_of (of_queue number q) source operation args = carried (of_queue number) (queue_reply q args operation)
 
 -- The element that a name stands for
 
@@ -261,10 +284,11 @@ own_calls (a_set which e) o = set_own (tools_of e) which o
 own_calls (a_keyed_set which) o = set_own keyed_texts which o
 own_calls (a_tree e) o = tree_own (tools_of e) o
 
--- Element (C), as a value. A holder has one element, and no cursor designates it
+-- Element (C), as a value. A holder has one element, and no cursor designates it; no name stands for an item of a queue
 abbrev pub element_value : Held → Mark → Look (Option Value)
 element_value (of_rows kind o) c = (own_calls kind o).element (seen_in kind o c)
 element_value (of_holder e h) c = holder_element (tools_of e) h
+element_value (of_queue number q) c = look (Some NoElement) None
 
 -- a write through a name that stands for an element
 pub record Written : Type 0 where
@@ -277,23 +301,27 @@ written hold c = record { reason = c.reason; after = hold c.after }
 abbrev pub write : Held → Mark → Value → Written
 write (of_rows kind o) c v = written (of_rows kind) ((own_calls kind o).write (seen_in kind o c) v)
 write (of_holder e h) c v = written (of_holder e) (holder_write (tools_of e) h v)
+write (of_queue number q) c v = record { reason = Some NoElement; after = of_queue number q }
 
 -- the text that Print answers
 abbrev pub listing_of : Held → List ℕ
 listing_of (of_rows kind o) = (own_calls kind o).listing
 listing_of (of_holder e h) = holder_listing (tools_of e) h
+listing_of (of_queue number q) = queue_listing q
 
 -- The update of a key: why its head is refused, and its end, with the copy. Only a keyed set has one
 abbrev pub key_update_reason : Held → Mark → Option Reason
 key_update_reason (of_rows (a_keyed_set which) o) c = by_key.update_key_reason o (seen o c)
 key_update_reason (of_rows _ o) c = Some NoElement
 key_update_reason (of_holder e h) c = Some NoElement
+key_update_reason (of_queue number q) c = Some NoElement
 
 abbrev pub key_updated : Held → Mark → Value → Written
 key_updated (of_rows (a_keyed_set which) o) c v =
     written (of_rows (a_keyed_set which)) (by_key.end_update_key_call key_of_text (order_by texts which) o (seen o c) (text_in v))
 key_updated (of_rows kind o) c v = record { reason = None; after = of_rows kind o }
 key_updated (of_holder e h) c v = record { reason = None; after = of_holder e h }
+key_updated (of_queue number q) c v = record { reason = None; after = of_queue number q }
 
 -- A new object
 
@@ -335,11 +363,16 @@ kind_by kinds.OrderedSet first second keyed = set_by of_ordered first keyed
 kind_by kinds.Tree first second keyed = a_tree first
 kind_by _ first second keyed = a_sequence of_list first
 
+abbrev pub discipline_by : Kind → Discipline
+discipline_by kinds.PriorityQueue = by_priority
+discipline_by _ = by_arrival
+
 -- a new object of the type, of this number and within this limit
 abbrev pub new_within : TypeDef → ℕ → Limit → Held
 new_within def number limit =
     let kind = kind_by def.kind def.first def.second def.keyed in
     if is_holder def.kind then of_holder def.first (empty_holder number limit)
+    else if is_queue def.kind then of_queue number (record { discipline = discipline_by def.kind; queue = empty_queue limit })
     else of_rows kind (empty_object (have_capacity kind) number limit)
 
 -- a holder's capacity is a limit in bytes

@@ -1,9 +1,9 @@
 -- What holds of every script when it runs.
-use Rattle.std.specs.Prelude.{◌≡◌, ⊤, ℕ, [], length, Some}
+use Rattle.std.specs.Prelude.{◌≡◌, ◌<◌, ◌≤◌, ⊤, ℕ, [], length, Some}
 use Rattle.ac_syntax.specs.Code.{Code}
 use Rattle.ac_syntax.specs.declared.script.Script.{Script}
 use Rattle.ac_check.specs.Scopes.{Scope}
-use Rattle.ac_check.specs.Resolved.{ResolvedScript, ResolvedSimple, resolve, resolve_script}
+use Rattle.ac_check.specs.Resolved.{ResolvedCode, ResolvedScript, ResolvedSimple, resolve, resolve_script}
 use Rattle.ac_check.specs.declared.operation.Operation.{Operation}
 use Rattle.ac_model.specs.Objects.{Object}
 use Rattle.ac_meaning.specs.Elements.{Tools}
@@ -13,19 +13,29 @@ use Rattle.ac_meaning.specs.Answers.{Answer, answers_ok, answers_value, answers_
 use Rattle.ac_meaning.specs.Commands.{performed}
 use Rattle.ac_meaning.specs.Holdings.{SequenceKind, Held, Guards, reply_by}
 use Rattle.ac_meaning.specs.Environment.{State, first_state, object_at, after_decls}
-use Rattle.ac_meaning.specs.Execution.{Outcome, exec, exec_resolved, run}
+use Rattle.ac_meaning.specs.Execution.{Outcome, Orders, exec, exec_resolved, run_with}
 
 -- statements come to what they are resolved to comes to
 abbrev pub RunsResolved : Type 0
-RunsResolved = (code : Code) (scope : Scope) (guards : Guards) (e : State) →
-    exec_resolved (resolve scope code) guards e ≡ exec code scope guards e
+RunsResolved = (orders : Orders) (code : Code) (scope : Scope) (guards : Guards) (e : State) →
+    exec_resolved orders (resolve scope code) guards e ≡ exec orders code scope guards e
 
 -- a script, by what it is resolved to
-abbrev pub run_resolved : ResolvedScript → Outcome
-run_resolved script = exec_resolved script.stmts [] (after_decls script.decls first_state).after
+abbrev pub run_resolved : Orders → ResolvedScript → Outcome
+run_resolved orders script = exec_resolved orders script.stmts [] (after_decls script.decls first_state).after
 
 abbrev pub ScriptRunsResolved : Type 0
-ScriptRunsResolved = (script : Script) → run_resolved (resolve_script script) ≡ run script
+ScriptRunsResolved = (orders : Orders) (script : Script) → run_resolved orders (resolve_script script) ≡ run_with orders script
+
+-- orders that are the same for the blocks from one count up to another
+abbrev pub Agree : (orders others : Orders) → (from to : ℕ) → Type 0
+Agree orders others from to = (block : ℕ) → from ≤ block → block < to → others block ≡ orders block
+
+-- what statements come to is told by the orders of the blocks of tasks that begin in them
+abbrev pub OrdersTell : Type 0
+OrdersTell = (orders others : Orders) (code : ResolvedCode) (guards : Guards) (e : State) →
+    Agree orders others e.blocks (exec_resolved orders code guards e).after.blocks →
+    exec_resolved others code guards e ≡ exec_resolved orders code guards e
 
 -- what stays of a list or a vector through every operation on it, whatever the source and the arguments
 abbrev pub RepliesStay : Type 0 → Type 0

@@ -11,9 +11,11 @@ pub mod SetReplies
 pub mod KeyedSetReplies
 pub mod TreeReplies
 pub mod HolderReplies
+pub mod QueueReplies
 pub mod Holdings
 pub mod Environment
 pub mod Commands
+pub mod TaskBlocks
 pub mod Execution
 pub mod Meanings
 pub mod Stays
@@ -27,3 +29,4 @@ pub mod Examples
 pub mod KeyedExamples
 pub mod TreeExamples
 pub mod HolderExamples
+pub mod TaskExamples

@@ -7,7 +7,7 @@ use Rattle.ac_syntax.specs.Refusals.{Spells, IsFirstRefusal}
 use Rattle.ac_syntax.specs.Canonical.{canonical_text}
 use Rattle.ac_check.specs.Faults.{IsFirstFault, IsChecked}
 use Rattle.ac_meaning.specs.declared.limits.TheConstants.{INPUT_LIMIT}
-use Rattle.ac_meaning.specs.Execution.{text_of}
+use Rattle.ac_meaning.specs.Execution.{Orders, text_of, text_with}
 
 -- what is written, and the status that the program ends with
 pub record Meaning : Type 0 where
@@ -39,6 +39,10 @@ written text = record { text = text; status = 0 }
 -- its lines, where it is run, and its canonical text, where it is checked alone
 abbrev pub ran : Script → Meaning
 ran script = written (text_of script)
+
+-- the lines by which it is run where its blocks of tasks go by these orders
+abbrev pub ran_with : Orders → Script → Meaning
+ran_with orders script = written (text_with orders script)
 
 abbrev pub canonical : Script → Meaning
 canonical script = written (canonical_text script)

@@ -5,9 +5,10 @@ use Rattle.ac_base.specs.Rows.{names}
 use Rattle.ac_model.specs.Objects.{Object}
 use Rattle.ac_model.specs.Letters.{tampers_cursors}
 use Rattle.ac_model.specs.Holders.{Holder, tampers}
+use Rattle.ac_history.specs.States.{TaskQueue}
 use Rattle.ac_meaning.specs.Elements.{ElementOf}
 use Rattle.ac_meaning.specs.Replies.{Source, without, itself, another, Reply}
-use Rattle.ac_meaning.specs.Holdings.{RowOf, Held, of_rows, of_holder, from_rows, number_of}
+use Rattle.ac_meaning.specs.Holdings.{RowOf, Held, of_rows, of_holder, of_queue, from_rows, number_of}
 use Rattle.ac_meaning.specs.Environment.{Bound, binds_type, binds_object, binds_cursor, binds_value, binds_element, State, bound_at, object_at, with_name, leaving}
 
 -- the object's number and its counts of guards; no name is taken back; and where a guard is held, a call that isn't refused keeps the
@@ -48,10 +49,16 @@ pub record HolderReplyStays {T : Type 0} (h : Holder T) (source : Source (Holder
   pub target : HolderStays h r.reason r.after
   pub source_stays : HolderSourceStays source r.reason r.source
 
+-- of a queue its discipline and its limit
+pub record QueueStays (q after : TaskQueue) : Type 0 where
+  pub discipline : after.discipline ≡ q.discipline
+  pub limit : after.queue.limit ≡ q.queue.limit
+
 -- and its kind
 abbrev pub HeldStays : Held → Held → Type 0
 HeldStays (of_rows kind o) after = (now : Object ℕ (RowOf kind)) × (after ≡ of_rows kind now) × Stays o None now
 HeldStays (of_holder e h) after = (now : Holder (ElementOf e)) × (after ≡ of_holder e now) × HolderStays h None now
+HeldStays (of_queue number q) after = (now : TaskQueue) × (after ≡ of_queue number now) × QueueStays q now
 
 -- a name goes on to hold what it held, a cursor variable another cursor and a variable another value
 abbrev pub BoundStays : Bound → Bound → Type 0
@@ -69,10 +76,11 @@ EachStays [] (_ ∷ _) = ⊥
 EachStays (_ ∷ _) [] = ⊥
 EachStays (b ∷ bounds) (c ∷ after) = BoundStays b c × EachStays bounds after
 
--- through a command, which makes no object either
+-- through a command, which makes no object and begins no block of tasks either
 pub record StateStays (e after : State) : Type 0 where
   pub bounds : EachStays e.bounds after.bounds
   pub next : after.next ≡ e.next
+  pub blocks : after.blocks ≡ e.blocks
 
 -- the next name that an object gives
 abbrev pub next_of : Held → ℕ

@@ -15,6 +15,8 @@ ghost use Rattle.ac_meaning.specs.TreeExamples.{BoundedTreesAreFull, RootsAreNoN
 ghost use Rattle.ac_meaning.specs.HolderExamples.{HolderIsBounded, ViewsGuardHolders, HoldersAreCompared, HoldersGiveAndTake};
 ghost use Rattle.ac_meaning.specs.HolderExamples.{LimitsAreOfBoth, WritesAreWithinLimits, IntegersHaveEightBytes, EmptyStringsHaveNone};
 ghost use Rattle.ac_meaning.specs.HolderExamples.{HoldersMeetThemselves, GuardsAreOfBoth, InnerHoldersAreNew, HoldersHaveNoNodes};
+ghost use Rattle.ac_meaning.specs.TaskExamples.{QueuesStall, PrioritiesGoFirst, AllTasksStall, OneItemGoesByTurns};
+ghost use Rattle.ac_meaning.specs.TaskExamples.{TwoItemsGoAsOrdered, RaisedStepGoesOn, LocalsAreOwn, BlocksHaveOrders};
 
 /// What small scripts write, to the byte.
 pub fn list_scripts()
@@ -112,6 +114,18 @@ pub fn holder_calls()
     ensures limits_are_of_both { LimitsAreOfBoth }
     ensures holders_meet_themselves { HoldersMeetThemselves }
     ensures guards_are_of_both { GuardsAreOfBoth }
+{}
+
+/// What small scripts with queues and blocks of tasks write.
+pub fn task_scripts()
+    ensures queues_stall { QueuesStall }
+    ensures priorities_go_first { PrioritiesGoFirst }
+    ensures all_tasks_stall { AllTasksStall }
+    ensures one_item_goes_by_turns { OneItemGoesByTurns }
+    ensures two_items_go_as_ordered { TwoItemsGoAsOrdered }
+    ensures raised_step_goes_on { RaisedStepGoesOn }
+    ensures locals_are_own { LocalsAreOwn }
+    ensures blocks_have_orders { BlocksHaveOrders }
 {}
 
 /// How maps and trees are listed.

@@ -1,12 +1,12 @@
 //! What holds of every script when it runs.
-ghost use Rattle.ac_meaning.specs.Laws.{RunsResolved, ScriptRunsResolved, RepliesStay, CommandsStay};
+ghost use Rattle.ac_meaning.specs.Laws.{RunsResolved, ScriptRunsResolved, OrdersTell, RepliesStay, CommandsStay};
 ghost use Rattle.ac_meaning.specs.Laws.{ObjectsGoOn, NamesStayInScope, RefusalsLeave};
 ghost use Rattle.ac_meaning.specs.Stays.{NamesComeAndGo};
 ghost use Rattle.ac_meaning.specs.GuardedNames.{ResolvedKeepsGuarded, KeepsGuarded, GuardedStays, DesignatedStays, BlocksGuard};
 ghost use Rattle.ac_meaning.specs.GuardedNames.{TurnsKeepNames, UpdatesAreAlone, ElementsStay, ViewsGuardElements};
 ghost use Rattle.ac_meaning.specs.Walks.{WalksInOrder};
 ghost use Rattle.ac_meaning.specs.FitsScope.{NamesFound, DeclaredFits, HeadsFit, GoesOnFitting};
-ghost use Rattle.ac_meaning.specs.Numbers.{NumbersTell, NumbersGoOnDiffering, NextRises};
+ghost use Rattle.ac_meaning.specs.Numbers.{NumbersTell, NumbersGoOnDiffering, NextRises, BlocksRise};
 ghost use Rattle.ac_meaning.specs.Numbers.{NewObjectsAreUnguarded, GuardsAreOnOneObject};
 ghost use Rattle.ac_meaning.specs.UnderGuards.{GuardsComeAndGo, CountsAreTheGuards, PartsUnder};
 ghost use Rattle.ac_meaning.specs.UnderGuards.{CommandsKeepCounts, BlocksKeepCounts, UpdatesKeepCounts};
@@ -15,6 +15,13 @@ ghost use Rattle.ac_meaning.specs.UnderGuards.{CommandsKeepCounts, BlocksKeepCou
 pub fn resolved_statements()
     ensures each { RunsResolved }
     ensures script { ScriptRunsResolved }
+{}
+
+/// What statements come to is told by the orders of the blocks of tasks that begin in them, each of which is counted once: where none
+/// begins, no order tells anything.
+pub fn blocks_have_orders()
+    ensures counted { BlocksRise }
+    ensures told { OrdersTell }
 {}
 
 /// A call keeps the numbers of its objects and their counts of guards, and takes back no name; and while a guard is held on an
