@@ -4,7 +4,7 @@ use Rattle.ac_syntax.specs.declared.kind.ElemKind.TheVariants.{Integer, Str}
 use Rattle.ac_meaning.specs.Holdings.{SequenceKind, a_sequence, a_map, a_set, a_keyed_set, a_tree, rows_in, holder_in}
 use Rattle.ac_meaning.specs.KeyedReplies.{KeyedKind}
 use Rattle.ac_objects.specs.declared.object.Object.{Object}
-use Rattle.ac_objects.specs.declared.object.Object.TheVariants.{Integers, Texts, IntegerSet, TextSet, KeyedSet, IntegersByInteger, IntegersByText, TextsByInteger, TextsByText, IntegerTree, TextTree, IntegerHolder, TextHolder}
+use Rattle.ac_objects.specs.declared.object.Object.TheVariants.{Integers, Texts, IntegerSet, TextSet, KeyedSet, IntegersByInteger, IntegersByText, TextsByInteger, TextsByText, IntegerTree, TextTree, IntegerHolder, TextHolder, Queue}
 use Rattle.ac_objects.specs.World.{memory_of, held_of}
 
 pub no_integers : (which : SequenceKind) (s : Object) → ((x : _) → s ≡ Integers x → ⊥) → rows_in (a_sequence which Integer) (Some (held_of s)) ≡ None
@@ -22,6 +22,7 @@ no_integers which (IntegerTree x) none = refl
 no_integers which (TextTree x) none = refl
 no_integers which (IntegerHolder x) none = refl
 no_integers which (TextHolder x) none = refl
+no_integers which (Queue x) none = refl
 
 pub no_texts : (which : SequenceKind) (s : Object) → ((x : _) → s ≡ Texts x → ⊥) → rows_in (a_sequence which Str) (Some (held_of s)) ≡ None
 unfolding memory_of
@@ -38,6 +39,7 @@ no_texts which (IntegerTree x) none = refl
 no_texts which (TextTree x) none = refl
 no_texts which (IntegerHolder x) none = refl
 no_texts which (TextHolder x) none = refl
+no_texts which (Queue x) none = refl
 
 pub no_integer_set : (which : KeyedKind) (s : Object) → ((x : _) → s ≡ IntegerSet x → ⊥) → rows_in (a_set which Integer) (Some (held_of s)) ≡ None
 unfolding memory_of
@@ -54,6 +56,7 @@ no_integer_set which (IntegerTree x) none = refl
 no_integer_set which (TextTree x) none = refl
 no_integer_set which (IntegerHolder x) none = refl
 no_integer_set which (TextHolder x) none = refl
+no_integer_set which (Queue x) none = refl
 
 pub no_text_set : (which : KeyedKind) (s : Object) → ((x : _) → s ≡ TextSet x → ⊥) → rows_in (a_set which Str) (Some (held_of s)) ≡ None
 unfolding memory_of
@@ -70,6 +73,7 @@ no_text_set which (IntegerTree x) none = refl
 no_text_set which (TextTree x) none = refl
 no_text_set which (IntegerHolder x) none = refl
 no_text_set which (TextHolder x) none = refl
+no_text_set which (Queue x) none = refl
 
 pub no_integers_by_integer : (which : KeyedKind) (s : Object) → ((x : _) → s ≡ IntegersByInteger x → ⊥) → rows_in (a_map which Integer Integer) (Some (held_of s)) ≡ None
 unfolding memory_of
@@ -86,6 +90,7 @@ no_integers_by_integer which (IntegerTree x) none = refl
 no_integers_by_integer which (TextTree x) none = refl
 no_integers_by_integer which (IntegerHolder x) none = refl
 no_integers_by_integer which (TextHolder x) none = refl
+no_integers_by_integer which (Queue x) none = refl
 
 pub no_integers_by_text : (which : KeyedKind) (s : Object) → ((x : _) → s ≡ IntegersByText x → ⊥) → rows_in (a_map which Str Integer) (Some (held_of s)) ≡ None
 unfolding memory_of
@@ -102,6 +107,7 @@ no_integers_by_text which (IntegerTree x) none = refl
 no_integers_by_text which (TextTree x) none = refl
 no_integers_by_text which (IntegerHolder x) none = refl
 no_integers_by_text which (TextHolder x) none = refl
+no_integers_by_text which (Queue x) none = refl
 
 pub no_texts_by_integer : (which : KeyedKind) (s : Object) → ((x : _) → s ≡ TextsByInteger x → ⊥) → rows_in (a_map which Integer Str) (Some (held_of s)) ≡ None
 unfolding memory_of
@@ -118,6 +124,7 @@ no_texts_by_integer which (IntegerTree x) none = refl
 no_texts_by_integer which (TextTree x) none = refl
 no_texts_by_integer which (IntegerHolder x) none = refl
 no_texts_by_integer which (TextHolder x) none = refl
+no_texts_by_integer which (Queue x) none = refl
 
 pub no_texts_by_text : (which : KeyedKind) (s : Object) → ((x : _) → s ≡ TextsByText x → ⊥) → rows_in (a_map which Str Str) (Some (held_of s)) ≡ None
 unfolding memory_of
@@ -134,6 +141,7 @@ no_texts_by_text which (IntegerTree x) none = refl
 no_texts_by_text which (TextTree x) none = refl
 no_texts_by_text which (IntegerHolder x) none = refl
 no_texts_by_text which (TextHolder x) none = refl
+no_texts_by_text which (Queue x) none = refl
 
 pub no_keyed_set : (which : KeyedKind) (s : Object) → ((x : _) → s ≡ KeyedSet x → ⊥) → rows_in (a_keyed_set which) (Some (held_of s)) ≡ None
 unfolding memory_of
@@ -150,6 +158,7 @@ no_keyed_set which (IntegerTree x) none = refl
 no_keyed_set which (TextTree x) none = refl
 no_keyed_set which (IntegerHolder x) none = refl
 no_keyed_set which (TextHolder x) none = refl
+no_keyed_set which (Queue x) none = refl
 
 pub no_integer_tree : (s : Object) → ((x : _) → s ≡ IntegerTree x → ⊥) → rows_in (a_tree Integer) (Some (held_of s)) ≡ None
 unfolding memory_of
@@ -166,6 +175,7 @@ no_integer_tree (IntegerTree x) none = absurd (none x refl)
 no_integer_tree (TextTree x) none = refl
 no_integer_tree (IntegerHolder x) none = refl
 no_integer_tree (TextHolder x) none = refl
+no_integer_tree (Queue x) none = refl
 
 pub no_text_tree : (s : Object) → ((x : _) → s ≡ TextTree x → ⊥) → rows_in (a_tree Str) (Some (held_of s)) ≡ None
 unfolding memory_of
@@ -182,6 +192,7 @@ no_text_tree (IntegerTree x) none = refl
 no_text_tree (TextTree x) none = absurd (none x refl)
 no_text_tree (IntegerHolder x) none = refl
 no_text_tree (TextHolder x) none = refl
+no_text_tree (Queue x) none = refl
 
 pub no_integer_holder : (s : Object) → ((x : _) → s ≡ IntegerHolder x → ⊥) → holder_in Integer (Some (held_of s)) ≡ None
 unfolding memory_of
@@ -198,6 +209,7 @@ no_integer_holder (IntegerTree x) none = refl
 no_integer_holder (TextTree x) none = refl
 no_integer_holder (IntegerHolder x) none = absurd (none x refl)
 no_integer_holder (TextHolder x) none = refl
+no_integer_holder (Queue x) none = refl
 
 pub no_text_holder : (s : Object) → ((x : _) → s ≡ TextHolder x → ⊥) → holder_in Str (Some (held_of s)) ≡ None
 unfolding memory_of
@@ -214,3 +226,4 @@ no_text_holder (IntegerTree x) none = refl
 no_text_holder (TextTree x) none = refl
 no_text_holder (IntegerHolder x) none = refl
 no_text_holder (TextHolder x) none = absurd (none x refl)
+no_text_holder (Queue x) none = refl

@@ -1,5 +1,5 @@
 -- A call on a holder as a call on an object.
-use Rattle.std.proofs.Common.{◌≡◌, ◌==◌, ◌++◌, ℕ, ℤ, Bool, true, false, List, [], ◌∷◌, refl, sym, ap, subst, ◌∙◌, ne_eqb, Option, Some, None, Result, Ok, Err, option_map}
+use Rattle.std.proofs.Common.{◌≡◌, inl, inr, ◌==◌, ◌++◌, ℕ, ℤ, Bool, true, false, List, [], ◌∷◌, refl, sym, ap, subst, ◌∙◌, ne_eqb, Option, Some, None, Result, Ok, Err, option_map}
 use Rattle.std.specs.Prelude.{IfSome}
 use Rattle.ac_base.specs.declared.cursor.Cursor.{Cursor}
 use Rattle.ac_base.specs.declared.fault.Fault.{Fault}
@@ -30,7 +30,7 @@ use Rattle.ac_objects.specs.declared.reply.Placed.{Placed}
 use Rattle.ac_objects.specs.Called.{Tells, Places, HeldAfter, Called, CalledWith, Lasts, WritesTo}
 use Rattle.ac_objects.specs.Given.{StepsOn}
 use Rattle.ac_objects.specs.HolderCalls.{ChangesHolder, HolderSays, HolderAfter, HolderReplied, HolderRepliedWith}
-use Rattle.ac_objects.specs.Standing.{counts_in_held}
+use Rattle.ac_objects.specs.Standing.{held_counts}
 use Rattle.ac_objects.specs.World.{in_holder, memory_of, held_in, held_of, AgreesIn}
 use Rattle.ac_objects.proofs.Sources.{holder_own, if_false}
 
@@ -48,7 +48,7 @@ no_names : (before : List ℕ) (name : ℕ) (after : List ℕ) → [] ≡ before
 no_names [] name after is = cc
 no_names (b ∷ before) name after is = cc
 
-no_turn : (backward : Bool) (before : List ℕ) (name : ℕ) (after : List ℕ) → in_order backward [] ≡ before ++ name ∷ after → ⊥
+pub no_turn : (backward : Bool) (before : List ℕ) (name : ℕ) (after : List ℕ) → in_order backward [] ≡ before ++ name ∷ after → ⊥
 no_turn false before name after is = no_names before name after is
 no_turn true before name after is = no_names before name after is
 
@@ -65,6 +65,7 @@ module _ (e : ElemKind) where
   tells new w answer is (said.Value v) h = h
   tells new w answer is (said.Truth is_true) h = h
   tells new w answer is (said.Place c) h = absurd h
+  tells new w answer is said.Stalled h = absurd h
   tells new w answer is said.Listing h = h ∙ ap answers_list (ap listing_of (sym (held_is new w is)))
 
   places : (w : Object) (p : Option Placed) (variable : Option replies.Placed) → p ≡ None → variable ≡ None → Places w p variable
@@ -72,7 +73,7 @@ module _ (e : ElemKind) where
 
   called : (old new : Holder (ElementOf e)) (w v : Object) (r : replies.Reply (Holder (ElementOf e))) (result : Result Reply Fault) →
       memory_of v ≡ in_holder e new → (new ≡ old → v ≡ w) → HolderReplied (tools_of e) r old new result → Called (carried (of_holder e) r) w v result
-  called old new w v r (Ok made) is same h = (
+  called old new w v r (Ok made) is same h = inl (
     record {
       goes = h.0.goes;
       reason = h.0.reason;
@@ -93,7 +94,7 @@ module _ (e : ElemKind) where
   called_with : (old new source now : Holder (ElementOf e)) (w v s t : Object) (r : replies.Reply (Holder (ElementOf e))) (result : Result Reply Fault) →
       memory_of v ≡ in_holder e new → (new ≡ old → v ≡ w) → memory_of t ≡ in_holder e now → (now ≡ source → t ≡ s) →
       HolderRepliedWith (tools_of e) r old source new now result → CalledWith (carried (of_holder e) r) w s v t result
-  called_with old new source now w v s t r (Ok made) is same now_is same_source h = (
+  called_with old new source now w v s t r (Ok made) is same now_is same_source h = inl (
     record {
       goes = h.0.goes;
       reason = h.0.reason;
@@ -112,15 +113,18 @@ module _ (e : ElemKind) where
   lasts_in old new w v reason is now s = record {
     cursors = λ c agrees. subst (λ m. AgreesIn m c) (sym now) tt;
     counts =
-        ap (λ m. counts_in_held (held_in m)) now
-        ∙ ((λ i. record { number = s.number i; cursor_guards = s.cursor_guards i; element_guards = s.element_guards i })
-        ∙ ap (λ m. counts_in_held (held_in m)) (sym is));
+        ap (λ m. held_counts (held_in m)) now
+        ∙ ((λ i. record {
+          guards = record { number = s.number i; cursor_guards = s.cursor_guards i; element_guards = s.element_guards i };
+          takes = true;
+        })
+        ∙ ap (λ m. held_counts (held_in m)) (sym is));
   }
 
   same_lasts : (old new : Holder (ElementOf e)) (w v : Object) → memory_of w ≡ in_holder e old → memory_of v ≡ in_holder e new → new ≡ old → Lasts w v
   same_lasts old new w v is now same = record {
     cursors = λ c agrees. subst (λ m. AgreesIn m c) (sym now) tt;
-    counts = ap (λ m. counts_in_held (held_in m)) (now ∙ (ap (in_holder e) same ∙ sym is));
+    counts = ap (λ m. held_counts (held_in m)) (now ∙ (ap (in_holder e) same ∙ sym is));
   }
 
   stays_to : (old new after : Holder (ElementOf e)) (w v : Object) (reason : Option Reason) → memory_of w ≡ in_holder e old → memory_of v ≡ in_holder e new →
@@ -200,8 +204,9 @@ module _ (e : ElemKind) where
   -- a source of another kind is none
 
   with_none : (r q : replies.Reply Held) (w v s : Object) (result : Result Reply Fault) → q ≡ r → Called r w v result → CalledWith q w s v s result
-  with_none r q w v s (Ok made) same h =
-      subst (λ x. CalledWith x w s v s (Ok made)) (sym same) (h.0, subst (λ x. HeldAfter s s x) (sym h.1) refl)
+  with_none r q w v s (Ok made) same (inl h) =
+      subst (λ x. CalledWith x w s v s (Ok made)) (sym same) (inl (h.0, subst (λ x. HeldAfter s s x) (sym h.1) refl))
+  with_none r q w v s (Ok made) same (inr h) = subst (λ x. CalledWith x w s v s (Ok made)) (sym same) (inr (h, refl))
   with_none r q w v s (Err (fault.Raised reason)) same h = subst (λ x. CalledWith x w s v s (Err (fault.Raised reason))) (sym same) (h.0, h.1, refl)
   with_none r q w v s (Err fault.NoMemory) same h = (h, refl)
 

@@ -20,7 +20,7 @@ use Rattle.ac_model.specs.Trees.{root_name}
 use Rattle.ac_model.proofs.Unslotted.{tree_agreement_kept}
 use Rattle.ac_check.specs.declared.operation.Operation.{Operation}
 use Rattle.ac_meaning.specs.Answers.{answers_list}
-use Rattle.ac_meaning.specs.Holdings.{RowKind, RowOf, Held, of_rows, of_holder, number_of, rows_in, have_root, seen_in, own_calls, listing_of, Written, written, write, rows_reply, reply_of}
+use Rattle.ac_meaning.specs.Holdings.{RowKind, RowOf, Held, of_rows, of_holder, of_queue, number_of, rows_in, have_root, seen_in, own_calls, listing_of, Written, written, write, rows_reply, reply_of}
 use Rattle.ac_meaning.specs.Replies.{itself, another, arguments_seen, source_in, carried}
 use Rattle.ac_meaning.specs.Replies as replies
 use Rattle.ac_meaning.specs.Stays.{Stays}
@@ -34,7 +34,7 @@ use Rattle.ac_objects.specs.declared.reply.Reply.{Reply}
 use Rattle.ac_objects.specs.Arguments.{SlotAgrees, mark_in}
 use Rattle.ac_objects.specs.Called.{IsFound, Tells, Places, HeldAfter, Called, CalledWith, Lasts, RowsLast, AreValid, WritesTo, WritesIn}
 use Rattle.ac_objects.specs.Replied.{IsOwnName, IsOwnCursor, Says, SetsVariable, SourceAfter, Replied, RepliedWith}
-use Rattle.ac_objects.specs.Standing.{counts_in_held}
+use Rattle.ac_objects.specs.Standing.{held_counts}
 use Rattle.ac_objects.specs.World.{in_rows, memory_of, held_in, held_of, AgreesIn, ObjectAgrees}
 use Rattle.ac_objects.proofs.Given.{no_root}
 use Rattle.ac_objects.proofs.Made.{seen_marks_by}
@@ -132,6 +132,7 @@ module _ (kind : RowKind) where
   tells new w r is valid after lists (said.Value v) h = h
   tells new w r is valid after lists (said.Truth is_true) h = h
   tells new w r is valid after lists (said.Place c) h = (h.0, found new w c is valid h.1)
+  tells new w r is valid after lists said.Stalled h = absurd h
   tells new w r is valid after lists said.Listing h =
       h.1 ∙ ap answers_list (lists h.0 h.1 ∙ (ap (λ a. (own_calls kind a).listing) (sym after) ∙ ap listing_of (sym (held_is new w is))))
 
@@ -143,7 +144,7 @@ module _ (kind : RowKind) where
   called : (old new : Container (RowOf kind)) (w v : AnyObject) (r : replies.Reply (Object ℕ (RowOf kind))) (result : Result Reply Fault) →
       memory_of v ≡ in_rows kind new → (new ≡ old → v ≡ w) → IsValid (plain new.object) → IsListing r → Replied r old new result →
       Called (carried (of_rows kind) r) w v result
-  called old new w v r (Ok made) is same valid lists h = (
+  called old new w v r (Ok made) is same valid lists h = inl (
     record {
       goes = h.goes;
       reason = h.reason;
@@ -164,7 +165,7 @@ module _ (kind : RowKind) where
   called_with : (old new source now : Container (RowOf kind)) (w v s t : AnyObject) (r : replies.Reply (Object ℕ (RowOf kind))) (result : Result Reply Fault) →
       memory_of v ≡ in_rows kind new → (new ≡ old → v ≡ w) → memory_of t ≡ in_rows kind now → (now ≡ source → t ≡ s) → IsValid (plain new.object) →
       IsListing r → RepliedWith r old source new now result → CalledWith (carried (of_rows kind) r) w s v t result
-  called_with old new source now w v s t r (Ok made) is same is_source same_source valid lists h = (
+  called_with old new source now w v s t r (Ok made) is same is_source same_source valid lists h = inl (
     record {
       goes = h.goes;
       reason = h.reason;
@@ -182,7 +183,9 @@ module _ (kind : RowKind) where
       Lasts w v
   lasts_in old new w v is now l = record {
     cursors = λ c agrees. subst (λ m. AgreesIn m c) (sym now) (l.cursors c (subst (λ m. AgreesIn m c) is agrees));
-    counts = ap (λ m. counts_in_held (held_in m)) now ∙ (l.counts ∙ ap (λ m. counts_in_held (held_in m)) (sym is));
+    counts =
+        ap (λ m. held_counts (held_in m)) now
+        ∙ ((λ i. record { guards = l.counts i; takes = true }) ∙ ap (λ m. held_counts (held_in m)) (sym is));
   }
 
   is_listing : (o : Object ℕ (RowOf kind)) (source : replies.Source (Object ℕ (RowOf kind))) (args : replies.Arguments) (op : Operation) →
@@ -278,8 +281,9 @@ module _ (kind : RowKind) where
   unlike_reply o h op a none = ap (λ x. carried (of_rows kind) (rows_reply kind o (source_in (seen_in kind) o x a) (arguments_seen (seen_in kind o) a) op)) none
 
   with_none : (r q : replies.Reply Held) (w v s : AnyObject) (result : Result Reply Fault) → q ≡ r → Called r w v result → CalledWith q w s v s result
-  with_none r q w v s (Ok made) e h =
-      subst (λ x. CalledWith x w s v s (Ok made)) (sym e) (h.0, subst (λ x. HeldAfter s s x) (sym h.1) refl)
+  with_none r q w v s (Ok made) e (inl h) =
+      subst (λ x. CalledWith x w s v s (Ok made)) (sym e) (inl (h.0, subst (λ x. HeldAfter s s x) (sym h.1) refl))
+  with_none r q w v s (Ok made) e (inr h) = subst (λ x. CalledWith x w s v s (Ok made)) (sym e) (inr (h, refl))
   with_none r q w v s (Err (fault.Raised reason)) e h = subst (λ x. CalledWith x w s v s (Err (fault.Raised reason))) (sym e) (h.0, h.1, refl)
   with_none r q w v s (Err fault.NoMemory) e h = (h, refl)
 
@@ -302,6 +306,7 @@ module _ (kind : RowKind) where
       kind_in None = kind
       kind_in (Some (of_rows k _)) = k
       kind_in (Some (of_holder _ _)) = kind
+      kind_in (Some (of_queue _ _)) = kind
 
       own_found : (other : RowKind) (p : Object ℕ (RowOf other)) → other ≡ kind → rows_in kind (Some (of_rows other p)) ≡ None → ⊥
       own_found other p e none =

@@ -20,7 +20,7 @@ use Rattle.ac_objects.specs.declared.bound.Bound.TheVariants as bound
 use Rattle.ac_objects.specs.Blocks.{IsHeldAt}
 use Rattle.ac_objects.specs.Counts.{with_counts, memory_counted}
 use Rattle.ac_objects.specs.Standing.{counts_in_held}
-use Rattle.ac_objects.specs.World.{World, world, memory_of, held_in, held_of, AgreesIn, state_of, IsSound, Persists}
+use Rattle.ac_objects.specs.World.{World, Counters, world, memory_of, held_in, held_of, AgreesIn, state_of, IsSound, Persists}
 use Rattle.ac_objects.proofs.Memory.{own_number_in, number_counted, agrees_counted, more_in, less_in}
 use Rattle.ac_objects.proofs.InScope.{GoesOn, object_there, set_state, set_object, set_sound, set_persists, within, left_object}
 
@@ -74,7 +74,7 @@ no_set number = of_rows (a_sequence of_list Integer) (empty_object false number 
 own_guard : (o : Object) (g : HeldGuard) → g.object ≡ number_of (held_of o) → g ≡ guard_on (no_set (number_of (held_of o))) g.kind
 own_guard o g e = λ i. record { object = e i; kind = g.kind }
 
-module _ (bounds : List Bound) (next place : ℕ) (o : Object) (there : slice_get bounds place ≡ Some (bound.Object o)) where
+module _ (bounds : List Bound) (next : Counters) (place : ℕ) (o : Object) (there : slice_get bounds place ≡ Some (bound.Object o)) where
   -- what stands at the place is the object
   pub is_held : (h : Held) → object_at (state_of (world bounds next)) place ≡ Some h → held_of o ≡ h
   is_held h e = same_Some (held_of o) h (sym (object_there bounds next place o there) ∙ e)
@@ -114,7 +114,7 @@ module _ (bounds : List Bound) (next place : ℕ) (o : Object) (there : slice_ge
 
 -- What the code does to the object that it reads at a place of the world
 
-module _ (w : World) (bounds : List Bound) (next place : ℕ) (x : Bound) (o : Object) (view : world bounds next ≡ w) (sound : IsSound (world bounds next))
+module _ (w : World) (bounds : List Bound) (next : Counters) (place : ℕ) (x : Bound) (o : Object) (view : world bounds next ≡ w) (sound : IsSound (world bounds next))
     (read : x ≡ get_or bounds place x) (is : x ≡ bound.Object o) (k : Held) (stands : object_at (state_of w) place ≡ Some k) where
   pub object_read : slice_get bounds place ≡ Some (bound.Object o)
   object_read =

@@ -21,7 +21,7 @@ use Rattle.ac_objects.specs.declared.bound.Bound.TheVariants as bound
 use Rattle.ac_objects.specs.Arguments.{SlotAgrees}
 use Rattle.ac_objects.specs.Given.{HasNumber, GivenBy, IsGiven}
 use Rattle.ac_objects.specs.RootFree.{NoRootAmong}
-use Rattle.ac_objects.specs.World.{World, world, held_of, state_of, ObjectAgrees, BoundAgrees, IsKnown, IsSound, memory_of}
+use Rattle.ac_objects.specs.World.{World, Counters, world, held_of, state_of, ObjectAgrees, BoundAgrees, IsKnown, IsSound, memory_of}
 use Rattle.ac_objects.proofs.Memory.{none_in, other_in, agrees_if_own}
 use Rattle.ac_objects.proofs.InScope.{object_there}
 
@@ -153,11 +153,11 @@ none_agrees (bound.Cursor c) = tt
 none_agrees (bound.Value v) = tt
 none_agrees (bound.Element object at) = tt
 
-module _ (bounds : List Bound) (next place : ℕ) (o : Object) (there : slice_get bounds place ≡ Some (bound.Object o)) (sound : IsSound (world bounds next)) where
-  number_below : number_of (held_of o) < next
+module _ (bounds : List Bound) (next : Counters) (place : ℕ) (o : Object) (there : slice_get bounds place ≡ Some (bound.Object o)) (sound : IsSound (world bounds next)) where
+  number_below : number_of (held_of o) < next.next
   number_below =
       let e = state_of (world bounds next) in
-      elim (cases_lt (number_of (held_of o)) next) [
+      elim (cases_lt (number_of (held_of o)) next.next) [
         | inl below ↦ below
         | inr above ↦ absurd (omega (
           arith,
@@ -181,10 +181,10 @@ module _ (bounds : List Bound) (next place : ℕ) (o : Object) (there : slice_ge
   pub given_known : (c : Cursor) → IsGiven o c → IsKnown (world bounds next) c
   given_known cursor.NoElement given = record { made = tt; agrees = λ i d h. none_agrees (get_or bounds i d) }
   given_known (cursor.At object name) given = record {
-    made = subst (λ n. n < next) (sym given.number) number_below;
+    made = subst (λ n. n < next.next) (sym given.number) number_below;
     agrees = λ i d h. same_object i (get_or bounds i d) object name (slice_get-get_or bounds i d h) given.number given.agrees;
   }
 
 -- so it is of what is found at a place
 pub found_known : (w : World) (place : ℕ) (o : Object) (c : Cursor) → slice_get w.bounds place ≡ Some (bound.Object o) → IsSound w → IsGiven o c → IsKnown w c
-found_known w place o c there sound given = given_known w.bounds w.next place o there sound c given
+found_known w place o c there sound given = given_known w.bounds w.counters place o there sound c given

@@ -16,7 +16,7 @@ use Rattle.ac_objects.specs.declared.object.Object.{Object}
 use Rattle.ac_objects.specs.declared.bound.Bound.{Bound}
 use Rattle.ac_objects.specs.declared.bound.Bound.TheVariants as bound
 use Rattle.ac_objects.specs.Standing.{counts_in, counts_of}
-use Rattle.ac_objects.specs.World.{World, world, held_of, bound_of, state_of, ObjectAgrees, BoundAgrees, IsKnown, cursor_in, IsSound, Persists, memory_of}
+use Rattle.ac_objects.specs.World.{World, Counters, world, held_of, bound_of, state_of, ObjectAgrees, BoundAgrees, IsKnown, cursor_in, IsSound, Persists, memory_of}
 use Rattle.ac_objects.proofs.Memory.{none_in}
 
 -- the same object to guards and cursors
@@ -41,11 +41,11 @@ set_there [] i x h = absurd (omega (arith, h))
 set_there (y ∷ xs) zero x h = refl
 set_there (y ∷ xs) (suc i) x h = set_there xs i x (omega (arith, h))
 
-pub bound_there : (bounds : List Bound) (next place : ℕ) (b : Bound) → slice_get bounds place ≡ Some b →
+pub bound_there : (bounds : List Bound) (next : Counters) (place : ℕ) (b : Bound) → slice_get bounds place ≡ Some b →
     meant.bound_at (state_of (world bounds next)) place ≡ bound_of b
 bound_there bounds next place b e = ap meant.bound_in (slice_get-map bound_of bounds place ∙ ap (option_map bound_of) e)
 
-pub object_there : (bounds : List Bound) (next place : ℕ) (o : Object) → slice_get bounds place ≡ Some (bound.Object o) →
+pub object_there : (bounds : List Bound) (next : Counters) (place : ℕ) (o : Object) → slice_get bounds place ≡ Some (bound.Object o) →
     meant.object_at (state_of (world bounds next)) place ≡ Some (held_of o)
 object_there bounds next place o e = ap meant.object_in (bound_there bounds next place (bound.Object o) e)
 
@@ -56,12 +56,12 @@ set_numbered number (x ∷ bs) zero b now e same =
     ap (λ n. n + times_numbered number bs) (same ∙ ap (has_number number) (sym (ap (λ s. elim s [ None ↦ x | Some y ↦ y ]) e)))
 set_numbered number (x ∷ bs) (suc place) b now e same = ap (λ n. has_number number x + n) (set_numbered number bs place b now e same)
 
-module _ (bounds : List Bound) (next place : ℕ) (o now : Object) (there : slice_get bounds place ≡ Some (bound.Object o)) (goes : GoesOn o now) where
+module _ (bounds : List Bound) (next : Counters) (place : ℕ) (o now : Object) (there : slice_get bounds place ≡ Some (bound.Object o)) (goes : GoesOn o now) where
   abbrev pub after_set : World
   after_set = world (set bounds place (bound.Object now)) next
 
   pub set_state : state_of after_set ≡ meant.with_bound (state_of (world bounds next)) place (meant.binds_object (held_of now))
-  set_state = ap (λ bs. record { bounds = bs; next = next }) (map-set bound_of bounds place (bound.Object now))
+  set_state = ap (λ bs. record { bounds = bs; next = next.next; blocks = next.blocks }) (map-set bound_of bounds place (bound.Object now))
 
   pub set_object : meant.object_at (state_of after_set) place ≡ Some (held_of now)
   set_object = object_there (set bounds place (bound.Object now)) next place now (set_there bounds place (bound.Object now) (slice_get_within bounds place (bound.Object o) there))
@@ -93,12 +93,12 @@ module _ (bounds : List Bound) (next place : ℕ) (o now : Object) (there : slic
 
 -- names that go
 
-module _ (bounds : List Bound) (next count : ℕ) where
+module _ (bounds : List Bound) (next : Counters) (count : ℕ) where
   abbrev pub after_leaving : World
   after_leaving = world (take count bounds) next
 
   pub left_state : state_of after_leaving ≡ meant.leaving count (state_of (world bounds next))
-  left_state = ap (λ bs. record { bounds = bs; next = next }) (sym (take-map bound_of count bounds))
+  left_state = ap (λ bs. record { bounds = bs; next = next.next; blocks = next.blocks }) (sym (take-map bound_of count bounds))
 
   pub left_persists : Persists (world bounds next) after_leaving
   left_persists c known = record { made = known.made; agrees = All-take (λ b. BoundAgrees b c) count bounds known.agrees }
@@ -112,12 +112,12 @@ module _ (bounds : List Bound) (next count : ℕ) where
 
 -- a name more, which holds no object
 
-module _ (bounds : List Bound) (next : ℕ) (b : Bound) (agrees : (c : Cursor) → BoundAgrees b c) where
+module _ (bounds : List Bound) (next : Counters) (b : Bound) (agrees : (c : Cursor) → BoundAgrees b c) where
   abbrev pub after_naming : World
   after_naming = world (bounds ++ b ∷ []) next
 
   pub named_state : state_of after_naming ≡ meant.with_name (state_of (world bounds next)) (bound_of b)
-  named_state = ap (λ bs. record { bounds = bs; next = next }) (map_push bound_of bounds b)
+  named_state = ap (λ bs. record { bounds = bs; next = next.next; blocks = next.blocks }) (map_push bound_of bounds b)
 
   pub named_persists : Persists (world bounds next) after_naming
   named_persists c known = record { made = known.made; agrees = All-push (λ b. BoundAgrees b c) bounds b known.agrees (agrees c) }
@@ -131,7 +131,7 @@ module _ (bounds : List Bound) (next : ℕ) (b : Bound) (agrees : (c : Cursor) �
   }
 
 -- an object that stands in an environment stands in memory
-pub within : (bounds : List Bound) (next place : ℕ) (h : Held) → meant.object_at (state_of (world bounds next)) place ≡ Some h → place < length bounds
+pub within : (bounds : List Bound) (next : Counters) (place : ℕ) (h : Held) → meant.object_at (state_of (world bounds next)) place ≡ Some h → place < length bounds
 within bounds next place h e = elim (cases_lt place (length bounds)) [
   | inl below ↦ below
   | inr past ↦ absurd (none-some h (sym (ap (λ b. meant.object_in (meant.bound_in b)) (slice_get-map bound_of bounds place ∙ ap (option_map bound_of) (slice_get_past bounds place past))) ∙ e))
@@ -163,7 +163,7 @@ set_last (y ∷ []) zero x h = refl
 set_last (y ∷ (z ∷ xs)) zero x h = absurd (omega (arith, h))
 set_last (y ∷ xs) (suc last) x h = ap (λ ys. y ∷ ys) (set_last xs last x (omega (arith, h)))
 
-module _ (w : World) (bounds now : List Bound) (next last : ℕ) (b : Bound) (view : world bounds next ≡ w) (written : now ≡ set bounds last b)
+module _ (w : World) (bounds now : List Bound) (next : Counters) (last : ℕ) (b : Bound) (view : world bounds next ≡ w) (written : now ≡ set bounds last b)
     (long : length w.bounds ≡ last + 1) (none : meant.object_in (bound_of b) ≡ None) where
   turned : now ≡ take last bounds ++ b ∷ []
   turned = written ∙ set_last bounds last b (ap (λ (v : World). length v.bounds) view ∙ long)
@@ -186,7 +186,7 @@ module _ (w : World) (bounds now : List Bound) (next last : ℕ) (b : Bound) (vi
       (left_sound bounds next last sound))
 
 -- where memory was wanted for it, nothing changed
-module _ (w : World) (bounds now : List Bound) (next : ℕ) (b : Bound) (ok : Bool) (view : world bounds next ≡ w)
+module _ (w : World) (bounds now : List Bound) (next : Counters) (b : Bound) (ok : Bool) (view : world bounds next ≡ w)
     (pushed : now ≡ (if ok then bounds ++ b ∷ [] else bounds)) (none : meant.object_in (bound_of b) ≡ None) where
   either_sound : (ok : Bool) → IsKnown (world bounds next) (cursor_in b) → IsSound (world bounds next) →
       IsSound (world (if ok then bounds ++ b ∷ [] else bounds) next)

@@ -10,7 +10,7 @@ use Rattle.ac_base.specs.Tampering.{forbids}
 use Rattle.ac_model.specs.Objects.{Object}
 use Rattle.ac_model.specs.Letters.{Mark}
 use Rattle.ac_meaning.specs.Environment.{Bound, binds_type, binds_object, binds_cursor, binds_value, binds_element, State, bound_at, object_in}
-use Rattle.ac_meaning.specs.Holdings.{RowKind, RowOf, have_root, Held, of_rows, of_holder, element_value}
+use Rattle.ac_meaning.specs.Holdings.{RowKind, RowOf, have_root, Held, of_rows, of_holder, of_queue, element_value}
 use Rattle.ac_meaning.specs.Stays.{Stays, HeldStays, BoundStays, StateStays}
 use Rattle.ac_meaning.proofs.BoundsStay.{each_at, object_there}
 use Rattle.ac_meaning.proofs.HoldersStay.{element_stands, stands_there}
@@ -65,6 +65,7 @@ held_lasts (of_holder e o) k m s held h =
       stands = element_stands (of_holder e s.0) m (ap not (s.2.element refl t.0 t.1) ∙ stands_there e o m h);
       guarded = omega (arith, held, s.2.element_guards);
     })
+held_lasts (of_queue number q) k m s held h = absurd (omega (arith, held))
 
 element_before : (b : Bound) (object : ℕ) (m : Mark) → BoundStays b (binds_element object m) → b ≡ binds_element object m
 element_before binds_type object m s = absurd s

@@ -32,6 +32,7 @@ pub mod Families
 pub mod Apart
 pub mod CalledRows
 pub mod CalledHolders
+pub mod CalledQueues
 pub mod HolderOperations
 pub mod NewObjects
 pub mod Declaring
@@ -40,3 +41,4 @@ pub mod InPlaces
 pub mod Names
 pub mod Lasting
 pub mod Performing
+pub mod Lent

@@ -1,50 +1,62 @@
 -- What a name holds, read and set.
-use Rattle.std.proofs.Common.{◌≡◌, ℕ, List, get_or, slice_get, slice_set, refl, sym, ap, subst, ◌∙◌, Option, Some, None, Result, Ok, Err, IfOk}
+use Rattle.std.proofs.Common.{◌≡◌, ◌==◌, ◌<◌, ℕ, ℤ, false, List, [], ◌∷◌, get_or, slice_get, slice_set, refl, sym, ap, subst, ◌∙◌, arith, is_none, Option, Some, None, Result, Ok, Err, IfOk}
+use Rattle.std.proofs.lemmas.Bool.Decides.{nat_tests}
 use Rattle.std.specs.Borrow.{Bor}
 use Rattle.ac_base.specs.declared.cursor.Cursor.{Cursor}
 use Rattle.ac_base.specs.declared.fault.Fault.{Fault}
 use Rattle.ac_base.specs.declared.fault.Fault.TheVariants as fault
 use Rattle.ac_base.specs.declared.fault.NoMemory.{NoMemory}
+use Rattle.ac_base.specs.declared.limit.Limit.{Limit}
+use Rattle.ac_base.specs.declared.limit.Limit.TheVariants.{Unbounded, Bounded}
+use Rattle.ac_base.specs.declared.reason.Reason.TheVariants.{Empty, TooLarge}
 use Rattle.ac_base.specs.declared.value.Value.{Value}
+use Rattle.ac_base.specs.declared.value.Value.TheVariants.{Int}
+use Rattle.ac_base.specs.FirstReason.{first_reason}
+use Rattle.ac_base.specs.Limits.{is_past}
 use Rattle.ac_model.specs.Calls.{Done}
 use Rattle.ac_model.specs.Cursors.{plain_mark}
-use Rattle.ac_model.specs.Letters.{no_mark}
+use Rattle.ac_model.specs.Holders.{is_too_large}
+use Rattle.ac_model.specs.Letters.{Mark, no_mark, reason_if}
+use Rattle.ac_model.specs.Objects as model
+use Rattle.ac_syntax.specs.declared.kind.ElemKind.{ElemKind}
+use Rattle.ac_syntax.specs.declared.kind.ElemKind.TheVariants.{Integer, Str}
 use Rattle.ac_meaning.specs.Commands.{argument_in, answer_in, assigned_to, element_written, mark_set, value_set}
 use Rattle.ac_meaning.specs.Environment as meant
 use Rattle.ac_meaning.specs.Environment.{State, value_in, value_or_zero, element_in, mark_in, bound_at, object_at, binds_object, with_bound}
-use Rattle.ac_meaning.specs.Holdings.{element_value, write}
+use Rattle.ac_meaning.specs.Elements.{ElementOf, tools_of}
+use Rattle.ac_meaning.specs.Holdings.{RowKind, RowOf, a_sequence, a_map, a_set, a_keyed_set, a_tree, Held, of_rows, of_holder, of_queue, element_value, Written, write}
 use Rattle.ac_objects.specs.declared.bound.Bound.{Bound}
 use Rattle.ac_objects.specs.declared.bound.Bound.TheVariants as bound
 use Rattle.ac_objects.specs.declared.object.Object.{Object}
-use Rattle.ac_objects.specs.Called.{WritesTo, Lasts}
+use Rattle.ac_objects.specs.Called.{WritesTo, NotRaised, IsWithinLimit, Lasts}
 use Rattle.ac_objects.specs.Given.{HoldsObject, HoldsCursor}
 use Rattle.ac_objects.specs.Standing.{ElementsStand}
 use Rattle.ac_objects.specs.Steps.{Advances, CanRead, AssignsTo, WritesAt, SetsMark, SetsValue, StandsSomewhere, marked}
-use Rattle.ac_objects.specs.World.{World, world, state_of, bound_of, held_of, IsKnown, IsSound, cursor_in}
+use Rattle.ac_objects.specs.World.{World, Counters, world, state_of, bound_of, held_of, IsKnown, IsSound, cursor_in}
 use Rattle.ac_objects.proofs.Places.{all_at, set_same, found_or}
 use Rattle.ac_objects.proofs.Worlds.{stands_in, object_there_in, bound_there, bound_past, state_set, set_advances, same_advances, object_replaces, none_known, known_agrees}
 
 -- Reading
 
-pub read_found : (w : World) (bs : List Bound) (n i : ℕ) (b : Bound) → world bs n ≡ w → slice_get bs i ≡ Some b →
+pub read_found : (w : World) (bs : List Bound) (n : Counters) (i : ℕ) (b : Bound) → world bs n ≡ w → slice_get bs i ≡ Some b →
     argument_in (state_of w) (bound_of b) ≡ argument_in (state_of w) (bound_at (state_of w) i)
 read_found w bs n i b view there =
     subst (λ x. argument_in (state_of x) (bound_of b) ≡ argument_in (state_of x) (bound_at (state_of x) i)) view
     (ap (argument_in (state_of (world bs n))) (sym (bound_there bs n i b there)))
 
-pub say_found : (w : World) (bs : List Bound) (n i : ℕ) (b : Bound) → world bs n ≡ w → slice_get bs i ≡ Some b →
+pub say_found : (w : World) (bs : List Bound) (n : Counters) (i : ℕ) (b : Bound) → world bs n ≡ w → slice_get bs i ≡ Some b →
     answer_in (state_of w) (bound_of b) ≡ answer_in (state_of w) (bound_at (state_of w) i)
 say_found w bs n i b view there =
     subst (λ x. answer_in (state_of x) (bound_of b) ≡ answer_in (state_of x) (bound_at (state_of x) i)) view
     (ap (answer_in (state_of (world bs n))) (sym (bound_there bs n i b there)))
 
-pub read_past : (w : World) (bs : List Bound) (n i : ℕ) → world bs n ≡ w → slice_get bs i ≡ None →
+pub read_past : (w : World) (bs : List Bound) (n : Counters) (i : ℕ) → world bs n ≡ w → slice_get bs i ≡ None →
     argument_in (state_of w) meant.binds_type ≡ argument_in (state_of w) (bound_at (state_of w) i)
 read_past w bs n i view past =
     subst (λ x. argument_in (state_of x) meant.binds_type ≡ argument_in (state_of x) (bound_at (state_of x) i)) view
     (ap (argument_in (state_of (world bs n))) (sym (bound_past bs n i past)))
 
-pub say_past : (w : World) (bs : List Bound) (n i : ℕ) → world bs n ≡ w → slice_get bs i ≡ None →
+pub say_past : (w : World) (bs : List Bound) (n : Counters) (i : ℕ) → world bs n ≡ w → slice_get bs i ≡ None →
     answer_in (state_of w) meant.binds_type ≡ answer_in (state_of w) (bound_at (state_of w) i)
 say_past w bs n i view past =
     subst (λ x. answer_in (state_of x) meant.binds_type ≡ answer_in (state_of x) (bound_at (state_of x) i)) view
@@ -58,7 +70,7 @@ value_read e (meant.binds_cursor mark) = refl
 value_read e (meant.binds_value v) = refl
 value_read e (meant.binds_element object at) = refl
 
-pub can_read : (bs : List Bound) (n i object : ℕ) (at : Cursor) → IsSound (world bs n) → ElementsStand (state_of (world bs n)) →
+pub can_read : (bs : List Bound) (n : Counters) (i object : ℕ) (at : Cursor) → IsSound (world bs n) → ElementsStand (state_of (world bs n)) →
     slice_get bs i ≡ Some (bound.Element object at) → CanRead bs object at
 can_read bs n i object at sound stand there =
     let st = stand i object (plain_mark at) (bound_there bs n i (bound.Element object at) there) in
@@ -71,7 +83,7 @@ can_read bs n i object at sound stand there =
       stands = subst (λ h. (element_value h (plain_mark at)).reason ≡ None) (sym s.is_held) st.stands;
     }
 
-pub can_read_in : (w : World) (bs : List Bound) (n i object : ℕ) (at : Cursor) → world bs n ≡ w → IsSound (world bs n) → ElementsStand (state_of w) →
+pub can_read_in : (w : World) (bs : List Bound) (n : Counters) (i object : ℕ) (at : Cursor) → world bs n ≡ w → IsSound (world bs n) → ElementsStand (state_of w) →
     slice_get bs i ≡ Some (bound.Element object at) → CanRead bs object at
 can_read_in w bs n i object at view sound stand there = can_read bs n i object at sound (subst (λ x. ElementsStand (state_of x)) (sym view) stand) there
 
@@ -81,7 +93,7 @@ pub read_object : (bs : List Bound) (i : ℕ) (at : Cursor) (b : Bound) (found :
 read_object bs i at b found r e holds = subst (λ x. HoldsObject x found) (e ∙ found_or bs i (bound.Object r.held) b r.there) holds
 
 pub reads_value : (bs : List Bound) (i : ℕ) (at : Cursor) (r : CanRead bs i at) (o : Object) → o ≡ r.held → (result : Result Value NoMemory) →
-    IfOk result (λ v. (element_value (held_of o) (plain_mark at)).answer ≡ Some v) → (n : ℕ) →
+    IfOk result (λ v. (element_value (held_of o) (plain_mark at)).answer ≡ Some v) → (n : Counters) →
     IfOk result (λ v. v ≡ value_in (state_of (world bs n)) (meant.binds_element i (plain_mark at)))
 reads_value bs i at r o same (Ok v) e n =
     let m = plain_mark at in
@@ -98,15 +110,15 @@ held_mark (bound.Cursor held) c e = ap plain_mark e
 held_mark (bound.Value v) c e = ap plain_mark e
 held_mark (bound.Element object at) c e = ap plain_mark e
 
-pub mark_found : (w : World) (bs : List Bound) (n i : ℕ) (b : Bound) (c : Cursor) → world bs n ≡ w → slice_get bs i ≡ Some b → HoldsCursor b c →
+pub mark_found : (w : World) (bs : List Bound) (n : Counters) (i : ℕ) (b : Bound) (c : Cursor) → world bs n ≡ w → slice_get bs i ≡ Some b → HoldsCursor b c →
     plain_mark c ≡ mark_in (bound_at (state_of w) i)
 mark_found w bs n i b c view there holds =
     subst (λ x. plain_mark c ≡ mark_in (bound_at (state_of x) i)) view (held_mark b c holds ∙ ap mark_in (sym (bound_there bs n i b there)))
 
-pub mark_past : (w : World) (bs : List Bound) (n i : ℕ) → world bs n ≡ w → slice_get bs i ≡ None → no_mark ≡ mark_in (bound_at (state_of w) i)
+pub mark_past : (w : World) (bs : List Bound) (n : Counters) (i : ℕ) → world bs n ≡ w → slice_get bs i ≡ None → no_mark ≡ mark_in (bound_at (state_of w) i)
 mark_past w bs n i view past = subst (λ x. no_mark ≡ mark_in (bound_at (state_of x) i)) view (ap mark_in (sym (bound_past bs n i past)))
 
-advances_marked : (bs : List Bound) (n i : ℕ) (c : Cursor) (b : Bound) → slice_get bs i ≡ Some b → IsSound (world bs n) → IsKnown (world bs n) c →
+advances_marked : (bs : List Bound) (n : Counters) (i : ℕ) (c : Cursor) (b : Bound) → slice_get bs i ≡ Some b → IsSound (world bs n) → IsKnown (world bs n) c →
     Advances (world bs n) (world (slice_set bs i (marked c b)) n)
 advances_marked bs n i c (bound.Cursor old) there sound known =
     set_advances bs n i (bound.Cursor old) (bound.Cursor c) sound there (record { counts = refl; agrees = λ x h. tt }) known
@@ -119,7 +131,7 @@ advances_marked bs n i c (bound.Value v) there sound known =
 advances_marked bs n i c (bound.Element object at) there sound known =
     subst (λ ys. Advances (world bs n) (world ys n)) (sym (set_same bs i (bound.Element object at) there)) (same_advances (world bs n) sound)
 
-state_marked : (bs : List Bound) (n i : ℕ) (c : Cursor) (b : Bound) → slice_get bs i ≡ Some b →
+state_marked : (bs : List Bound) (n : Counters) (i : ℕ) (c : Cursor) (b : Bound) → slice_get bs i ≡ Some b →
     state_of (world (slice_set bs i (marked c b)) n) ≡ mark_set (state_of (world bs n)) i (plain_mark c) (bound_of b)
 state_marked bs n i c (bound.Cursor old) there = state_set bs n i (bound.Cursor c)
 state_marked bs n i c bound.Type there = ap (λ ys. state_of (world ys n)) (set_same bs i bound.Type there)
@@ -134,6 +146,11 @@ sets_mark bs i c b new there is =
       advances = λ n sound known. advances_marked bs n i c b there sound known;
       set = λ n. state_marked bs n i c b there ∙ ap (mark_set (state_of (world bs n)) i (plain_mark c)) (sym (bound_there bs n i b there));
     })
+
+pub marked_advances : (w : World) (bs now : List Bound) (n : Counters) → world bs n ≡ w → IsSound (world bs n) → (i : ℕ) (c : Cursor) → SetsMark i c bs now →
+    IsKnown w c → Advances w (world now n)
+marked_advances w bs now n view sound i c s known =
+    subst (λ v. Advances v (world now n)) view (s.advances n sound (subst (λ v. IsKnown v c) (sym view) known))
 
 -- A value
 
@@ -179,7 +196,7 @@ writes_at bs i at v o p now b result e is there written lasts =
     subst (λ x. WritesAt i at v x bs (slice_set bs i (bound.Object now)) result) (object_is bs i o p b e is there)
     (record { now = now; bounds = refl; written = written; lasts = lasts })
 
-assigns_element : (bs now : List Bound) (n object : ℕ) (at : Cursor) (v : Value) (o : Object) (result : Result Done Fault) →
+assigns_element : (bs now : List Bound) (n : Counters) (object : ℕ) (at : Cursor) (v : Value) (o : Object) (result : Result Done Fault) →
     slice_get bs object ≡ Some (bound.Object o) → WritesAt object at v o bs now result →
     AssignsTo (element_written (state_of (world bs n)) object (plain_mark at) v (Some (held_of o))) (world bs n) (world now n) result
 assigns_element bs now n object at v o (Ok done) there k = (
@@ -198,7 +215,7 @@ pub sets_element : (bs now : List Bound) (i object : ℕ) (at : Cursor) (v : Val
     slice_get bs i ≡ Some (bound.Element object at) →
     ((o : Object) → slice_get bs object ≡ Some (bound.Object o) → WritesAt object at v o bs now result) → SetsValue i v bs now result
 sets_element bs now i object at v result s there f =
-    let r = can_read bs s.next i object at s.sound s.stand there in
+    let r = can_read bs s.counters i object at s.sound s.stand there in
     let k = f r.held r.there in
     record {
       advances = λ n sound.
@@ -210,3 +227,43 @@ sets_element bs now i object at v result s there f =
           (subst (λ x. AssignsTo (element_written e object (plain_mark at) v x) (world bs n) (world now n) result)
           (sym (object_there_in bs n object r.held r.there)) (assigns_element bs now n object at v r.held result r.there k));
     }
+
+-- an integer is never refused: an element that stands is of rows, or of a holder, whose limit has room for one as for the element that is there
+
+rows_taken : (kind : RowKind) (o : model.Object ℕ (RowOf kind)) (m : Mark) (v : Value) → (element_value (of_rows kind o) m).reason ≡ None →
+    (write (of_rows kind o) m v).reason ≡ None
+rows_taken (a_sequence which e) o m v h = h
+rows_taken (a_map which k e) o m v h = h
+rows_taken (a_set which e) o m v h = refl
+rows_taken (a_keyed_set which) o m v h = refl
+rows_taken (a_tree e) o m v h = h
+
+none_past : (limit : Limit) → is_past limit 0 ≡ false
+none_past Unbounded = refl
+none_past (Bounded most) = grind (arith, nat_tests)
+
+holder_taken : (e : ElemKind) (limit : Limit) (element : Option (ElementOf e)) (n : ℤ) → is_too_large (tools_of e).size limit element ≡ false →
+    first_reason (reason_if (is_none element) Empty ∷ []) ≡ None →
+    first_reason (reason_if (is_none element) Empty ∷ reason_if (is_past limit ((tools_of e).size ((tools_of e).from_value (Int n)))) TooLarge ∷ []) ≡ None
+holder_taken e limit None n within h = absurd (cc)
+holder_taken Integer limit (Some x) n within h = ap (λ b. first_reason (None ∷ reason_if b TooLarge ∷ [])) within
+holder_taken Str limit (Some x) n within h = ap (λ b. first_reason (None ∷ reason_if b TooLarge ∷ [])) (none_past limit)
+
+integer_taken : (h : Held) (m : Mark) (n : ℤ) → IsWithinLimit h → (element_value h m).reason ≡ None → (write h m (Int n)).reason ≡ None
+integer_taken (of_rows kind o) m n within stands = rows_taken kind o m (Int n) stands
+integer_taken (of_holder e h) m n within stands = holder_taken e h.limit h.element n within.within_limit stands
+integer_taken (of_queue number q) m n within stands = absurd (cc)
+
+not_raised : (w : Written) (old new : Object) (result : Result Done Fault) → w.reason ≡ None → WritesTo w old new result → NotRaised result
+not_raised w old new (Ok done) none h = tt
+not_raised w old new (Err (fault.Raised reason)) none h = absurd (cc (none, h.0))
+not_raised w old new (Err fault.NoMemory) none h = tt
+
+pub takes_integer : (bs : List Bound) (i : ℕ) (at : Cursor) (v : Value) (p now : Object) (b : Bound) (result : Result Done Fault) (r : CanRead bs i at) →
+    b ≡ get_or bs i b → b ≡ bound.Object p → IsWithinLimit (held_of p) → WritesTo (write (held_of p) (plain_mark at) v) p now result →
+    (n : ℤ) → v ≡ Int n → NotRaised result
+takes_integer bs i at v p now b result r e is within written n integer =
+    let same = object_is bs i r.held p b e is r.there in
+    let stands : (element_value (held_of p) (plain_mark at)).reason ≡ None = ap (λ o. (element_value (held_of o) (plain_mark at)).reason) same ∙ r.stands in
+    not_raised (write (held_of p) (plain_mark at) v) p now result
+    (ap (λ x. (write (held_of p) (plain_mark at) x).reason) integer ∙ integer_taken (held_of p) (plain_mark at) n within stands) written

@@ -1,10 +1,13 @@
--- The source of a call: none and the object itself are one. Only a listing answers a text, and a call that answers a value only looks.
-use Rattle.std.proofs.Common.{◌≡◌, ◌==◌, ℕ, List, Bool, true, false, refl, sym, ap, subst, ◌∙◌, eq-eqb, Option, Some, None, option_map, if◌then◌else◌}
+-- The source of a call: none and the object itself are one. Only a listing answers a text, and a call that answers a value only looks, unless it is a queue's.
+use Rattle.std.proofs.Common.{◌≡◌, ◌⊎◌, inl, inr, ◌==◌, ℕ, ℤ, List, Bool, true, false, refl, sym, ap, subst, ◌∙◌, eq-eqb, Option, Some, None, option_map, if◌then◌else◌}
 use Rattle.std.specs.Prelude.{⊤}
 use Rattle.ac_base.specs.declared.value.Value.{Value}
+use Rattle.ac_base.specs.declared.value.Value.TheVariants.{Int}
 use Rattle.ac_model.specs.Objects.{Object}
 use Rattle.ac_model.specs.Calls.{Call, Done}
 use Rattle.ac_model.specs.Holders.{Holder}
+use Rattle.ac_model.specs.Queues.{Discipline, by_arrival, by_priority, dequeue_call, high_only_call, current_use_call, peak_use_call}
+use Rattle.ac_history.specs.States.{TaskQueue}
 use Rattle.ac_model.specs.Lists as list
 use Rattle.ac_model.specs.Vectors as vector
 use Rattle.ac_check.specs.declared.operation.Operation.{Operation}
@@ -25,6 +28,8 @@ use Rattle.ac_check.specs.declared.operation.TreeChangeCall.{TreeChangeCall}
 use Rattle.ac_check.specs.declared.operation.TreeChangeCall.TheVariants as tree_change_call
 use Rattle.ac_check.specs.declared.operation.HolderCall.{HolderCall}
 use Rattle.ac_check.specs.declared.operation.HolderCall.TheVariants as holder_call
+use Rattle.ac_check.specs.declared.operation.QueueCall.{QueueCall}
+use Rattle.ac_check.specs.declared.operation.QueueCall.TheVariants as queue_call
 use Rattle.ac_check.specs.declared.operation.WalkCall.{WalkCall}
 use Rattle.ac_check.specs.declared.operation.WalkCall.TheVariants as walk_call
 use Rattle.ac_check.specs.declared.operation.OrderedCall.{OrderedCall}
@@ -48,6 +53,7 @@ use Rattle.ac_meaning.specs.Elements.{Tools, ElementOf, tools_of, Text, keyed_te
 use Rattle.ac_meaning.specs.Answers.{Answer, answers_ok, answers_value, answers_truth, answers_place, answers_list, answers_raised, answers_stalled}
 use Rattle.ac_meaning.specs.TreeReplies.{tree_own, tree_look_reply, tree_change_reply, tree_reply}
 use Rattle.ac_meaning.specs.HolderReplies.{holder_source, holder_element, holder_alone_reply, holder_reply}
+use Rattle.ac_meaning.specs.QueueReplies.{item_answer, high_reply, queue_alone_reply, queue_reply}
 use Rattle.ac_meaning.specs.Replies.{Arguments, Placed, Source, without, itself, another, by_source, arguments_seen, source_in, Reply, value_answer, carried}
 use Rattle.ac_meaning.specs.SequenceReplies.{OwnCalls, sequence_own, common_reply, sequence_reply, capacity_reply}
 use Rattle.ac_meaning.specs.ListReplies.{list_alone_reply, list_reply}
@@ -56,7 +62,7 @@ use Rattle.ac_meaning.specs.KeyedReplies.{KeyedKind, of_hashed, of_ordered, walk
 use Rattle.ac_meaning.specs.MapReplies.{map_own, map_alone_reply, ordered_map_reply, map_reply}
 use Rattle.ac_meaning.specs.KeyedSetReplies.{keyed_set_reply}
 use Rattle.ac_meaning.specs.SetReplies.{set_own, set_alone_reply, set_pair_reply, ordered_set_reply, set_reply}
-use Rattle.ac_meaning.specs.Holdings.{SequenceKind, of_list, of_vector, RowKind, a_sequence, a_map, a_set, a_keyed_set, a_tree, RowOf, Held, of_rows, of_holder, same_element, rows_in, holder_in, seen_in, own_calls, reply_by, rows_reply, reply_of}
+use Rattle.ac_meaning.specs.Holdings.{SequenceKind, of_list, of_vector, RowKind, a_sequence, a_map, a_set, a_keyed_set, a_tree, RowOf, Held, of_rows, of_holder, of_queue, same_element, rows_in, holder_in, seen_in, own_calls, reply_by, rows_reply, reply_of}
 use Rattle.ac_meaning.proofs.RowKinds.{rows_own}
 use Rattle.ac_objects.proofs.KeyedOperations.{key_alone}
 
@@ -141,7 +147,7 @@ module _ {T : Type 0} (tools : Tools T) (o : Object ℕ T) (args : Arguments) wh
   reply_alone of_list op = list_alone op
   reply_alone of_vector op = vector_alone op
 
-if_true : {A : Type 0} (x y : A) (b : Bool) → b ≡ true → (if b then x else y) ≡ x
+pub if_true : {A : Type 0} (x y : A) (b : Bool) → b ≡ true → (if b then x else y) ≡ x
 if_true x y true e = refl
 if_true x y false e = absurd (cc)
 
@@ -251,6 +257,7 @@ itself_alone (of_holder e h) op args =
     ∙ (ap (λ s. carried (of_holder e) (holder_reply (tools_of e) h s args op))
     (if_true itself (another h args) (h.number == h.number) (eq-eqb h.number h.number refl))
     ∙ ap (carried (of_holder e)) (sym (holder_alone (tools_of e) h args op)))
+itself_alone (of_queue number q) op args = refl
 
 -- Listings and values
 
@@ -523,14 +530,46 @@ module _ {T : Type 0} (tools : Tools T) (h : Holder T) (source : Source (Holder 
   holder_looks (operation.Holder c) = holder_call_looks c
   holder_looks _ = tt
 
+-- a queue answers a value that is an integer, and its item may have left
+
+-- an integer
+abbrev pub IsInteger : Value → Type 0
+IsInteger v = (n : ℤ) × (v ≡ Int n)
+
+abbrev OnlyIntegers : Answer → Type 0
+OnlyIntegers (answers_value v) = IsInteger v
+OnlyIntegers _ = ⊤
+
+integer_items : (item : Option ℤ) → OnlyIntegers (item_answer item)
+integer_items None = tt
+integer_items (Some n) = (n, refl)
+
+high_integers : (d : Discipline) (q : TaskQueue) (at_least : ℤ) → OnlyIntegers (high_reply d q at_least).answer
+high_integers by_arrival q at_least = tt
+high_integers by_priority q at_least = integer_items (high_only_call q.queue at_least).answer
+
+module _ (q : TaskQueue) (args : Arguments) where
+  queue_call_integers : (c : QueueCall) → OnlyIntegers (queue_alone_reply q args c).answer
+  queue_call_integers queue_call.Enqueue = tt
+  queue_call_integers queue_call.Dequeue = integer_items (dequeue_call q.queue).answer
+  queue_call_integers queue_call.CurrentUse = (current_use_call q.queue, refl)
+  queue_call_integers queue_call.PeakUse = (peak_use_call q.queue, refl)
+  queue_call_integers queue_call.Print = tt
+  queue_call_integers queue_call.DequeueOnlyHighPriority = high_integers q.discipline q args.first.count
+
+  queue_integers : (op : Operation) → OnlyIntegers (queue_reply q args op).answer
+  queue_integers (operation.Queue c) = queue_call_integers c
+  queue_integers _ = tt
+
 -- and of any object
 pub values_look : (h : Held) (source : Option Held) (op : Operation) (args : Arguments) (v : Value) →
-    (reply_of h source op args).answer ≡ answers_value v → Looks h (reply_of h source op args)
+    (reply_of h source op args).answer ≡ answers_value v → Looks h (reply_of h source op args) ⊎ IsInteger v
 values_look (of_rows kind o) source op args v e =
     let l = rows_look kind o (source_in (seen_in kind) o (rows_in kind source) args) (arguments_seen (seen_in kind o) args) op v e in
-    record { after = ap (of_rows kind) l.after; source = ap (option_map (of_rows kind)) l.source; variable = l.variable }
+    inl (record { after = ap (of_rows kind) l.after; source = ap (option_map (of_rows kind)) l.source; variable = l.variable })
 values_look (of_holder e h) source op args v is =
     let s = holder_source h (holder_in e source) args in
     let r = holder_reply (tools_of e) h s args op in
     let l : Looks h r = subst (λ a. IfValue a (Looks h r)) is (holder_looks (tools_of e) h s args op) in
-    record { after = ap (of_holder e) l.after; source = ap (option_map (of_holder e)) l.source; variable = l.variable }
+    inl (record { after = ap (of_holder e) l.after; source = ap (option_map (of_holder e)) l.source; variable = l.variable })
+values_look (of_queue number q) source op args v is = inr (subst OnlyIntegers is (queue_integers q args op))

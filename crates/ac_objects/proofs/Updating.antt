@@ -24,8 +24,8 @@ use Rattle.ac_model.proofs.Unslotted.{tree_agreement_kept, seen_marks}
 use Rattle.ac_objects.proofs.Made.{slot_agrees}
 use Rattle.ac_setwork.specs.KeyCalls.{cursor_guard_of}
 use Rattle.ac_meaning.specs.Elements.{Text, text_in, texts}
-use Rattle.ac_meaning.specs.KeyedReplies.{order_by}
-use Rattle.ac_meaning.specs.Holdings.{Held, Guards, Written, of_rows, of_holder, as_object, counted_as, a_sequence, a_map, a_set, a_keyed_set, a_tree, number_of, held_on, guarded, held_under, guard_on, with_rows_by, element_value, key_update_reason, key_updated}
+use Rattle.ac_meaning.specs.KeyedReplies.{KeyedKind, order_by}
+use Rattle.ac_meaning.specs.Holdings.{RowKind, RowOf, Held, Guards, Written, of_rows, of_holder, of_queue, as_object, counted_as, a_sequence, a_map, a_set, a_keyed_set, a_tree, number_of, held_on, guarded, held_under, guard_on, with_rows_by, is_on, element_value, key_update_reason, key_updated}
 use Rattle.ac_meaning.specs.Environment.{Bound, binds_type, binds_object, binds_cursor, binds_value, binds_element, State, bound_at, bound_by, object_at, objects_by, under, at_rest, value_at, value_in, value_or_zero, element_in, with_bound, leaving}
 use Rattle.ac_meaning.specs.Execution.{end_lines, key_end_on}
 use Rattle.ac_meaning.specs.UnderGuards.{held_without}
@@ -36,13 +36,13 @@ use Rattle.ac_objects.specs.declared.bound.Bound.{Bound as Place}
 use Rattle.ac_objects.specs.declared.bound.Bound.TheVariants as bound
 use Rattle.ac_objects.specs.declared.keyed_set.KeyedSet.{KeyedSet as KeyedTexts}
 use Rattle.ac_objects.specs.declared.object.Object.{Object}
-use Rattle.ac_objects.specs.declared.object.Object.TheVariants.{Integers, Texts, IntegerSet, TextSet, KeyedSet, IntegersByInteger, IntegersByText, TextsByInteger, TextsByText, IntegerTree, TextTree, IntegerHolder, TextHolder}
-use Rattle.ac_objects.specs.Blocks.{IsHeldAt}
-use Rattle.ac_objects.specs.KeyedSets.{keyed_items, keyed_kind}
+use Rattle.ac_objects.specs.declared.object.Object.TheVariants.{Integers, Texts, IntegerSet, TextSet, KeyedSet, IntegersByInteger, IntegersByText, TextsByInteger, TextsByText, IntegerTree, TextTree, IntegerHolder, TextHolder, Queue}
+use Rattle.ac_objects.specs.Blocks.{IsHeldAt, guards_of_update_key}
+use Rattle.ac_objects.specs.KeyedSets.{keyed_items, keyed_kind, keys_of}
 use Rattle.ac_objects.specs.KeyUpdates.{UpdateEnds, key_ended}
-use Rattle.ac_objects.specs.Standing.{StandsAt, counts_in, counts_in_held, counts_of}
+use Rattle.ac_objects.specs.Standing.{StandsAt, counts_in, counts_in_held, held_counts, counts_of}
 use Rattle.ac_objects.specs.Steps.{CanRead}
-use Rattle.ac_objects.specs.World.{World, world, memory_of, held_in, held_of, AgreesIn, ObjectAgrees, IsKnown, IsSound, Persists, in_rows, state_of}
+use Rattle.ac_objects.specs.World.{World, Counters, world, memory_of, held_in, held_of, AgreesIn, ObjectAgrees, IsKnown, IsSound, Persists, in_rows, state_of}
 use Rattle.ac_objects.proofs.Counted.{is_held, is_own, is_counted, no_set, own_number, less_held, less_goes_on, with_one_less, object_read}
 use Rattle.ac_objects.proofs.Families.{keyed_set, keyed_set_now}
 use Rattle.ac_objects.proofs.InScope.{GoesOn, object_there, set_state, set_sound, set_persists, left_object}
@@ -63,6 +63,7 @@ update_reads (of_rows (a_map which k v) o) at e = absurd (cc)
 update_reads (of_rows (a_set which k) o) at e = absurd (cc)
 update_reads (of_rows (a_tree k) o) at e = absurd (cc)
 update_reads (of_holder k h) at e = absurd (cc)
+update_reads (of_queue number q) at e = absurd (cc)
 
 -- a keyed set that an object is
 
@@ -145,6 +146,7 @@ none_refused (IntegerTree x) m none = refl
 none_refused (TextTree x) m none = refl
 none_refused (IntegerHolder x) m none = refl
 none_refused (TextHolder x) m none = refl
+none_refused (Queue x) m none = refl
 
 abbrev only_released : Held → Written
 only_released h = record { reason = None; after = with_rows_by (λ V p. release_call false guard.Cursors p) h }
@@ -164,6 +166,7 @@ none_ended (IntegerTree x) m copy none = refl
 none_ended (TextTree x) m copy none = refl
 none_ended (IntegerHolder x) m copy none = refl
 none_ended (TextHolder x) m copy none = refl
+none_ended (Queue x) m copy none = refl
 
 module _ (o now : Object) (g : HeldGuard) (now_is : now ≡ with_one_less o g.kind) (cursors : g.kind ≡ guard.Cursors) where
   is_less : now ≡ with_one_less o guard.Cursors
@@ -184,15 +187,16 @@ module _ (o now : Object) (g : HeldGuard) (now_is : now ≡ with_one_less o g.ki
 
 -- the object of a place, whose counts change alone
 counts_ended : (h : Held) (m : Mark) (copy : Text) →
-    counts_in_held (key_ended h m copy).after ≡ counts_in_held (with_rows_by (λ V p. release_call false guard.Cursors p) h)
+    held_counts (key_ended h m copy).after ≡ held_counts (with_rows_by (λ V p. release_call false guard.Cursors p) h)
 counts_ended (of_rows (a_keyed_set which) o) m copy = refl
 counts_ended (of_rows (a_sequence which k) o) m copy = refl
 counts_ended (of_rows (a_map which k v) o) m copy = refl
 counts_ended (of_rows (a_set which k) o) m copy = refl
 counts_ended (of_rows (a_tree k) o) m copy = refl
 counts_ended (of_holder k h) m copy = refl
+counts_ended (of_queue number q) m copy = refl
 
-module _ (w : World) (bounds : List Place) (next place : ℕ) (x : Place) (o : Object) (view : world bounds next ≡ w) (sound : IsSound (world bounds next))
+module _ (w : World) (bounds : List Place) (next : Counters) (place : ℕ) (x : Place) (o : Object) (view : world bounds next ≡ w) (sound : IsSound (world bounds next))
     (read : x ≡ get_or bounds place x) (is : x ≡ bound.Object o) (k : Held) (stands : object_at (state_of w) place ≡ Some k) where
   there : slice_get bounds place ≡ Some (bound.Object o)
   there = object_read w bounds next place x o view sound read is k stands
@@ -268,7 +272,7 @@ module _ (w : World) (bounds : List Place) (next place : ℕ) (x : Place) (o : O
             let e = state_of w in
             ap counts_of state
             ∙ (map_set counts_in e.bounds place (binds_object (held_of now))
-            ∙ (ap (λ y. slice_set (counts_of e) place (Some y)) (ap counts_in_held ended.1 ∙ counts_ended (held_of o) m copy)
+            ∙ (ap (λ y. slice_set (counts_of e) place (Some y)) (ap held_counts ended.1 ∙ counts_ended (held_of o) m copy)
             ∙ (sym (map_set counts_in e.bounds place (binds_object (with_rows_by (λ V p. release_call false guard.Cursors p) (held_of o))))
             ∙ ap counts_of (sym released))))
 
@@ -283,6 +287,7 @@ element_under guards (of_rows (a_map which k v) o) m = refl
 element_under guards (of_rows (a_set which k) o) m = refl
 element_under guards (of_rows (a_tree k) o) m = refl
 element_under guards (of_holder k h) m = refl
+element_under guards (of_queue number q) m = refl
 
 found_under : (guards : Guards) (found : Option Held) (m : Mark) → element_in (option_map (held_under guards) found) m ≡ element_in found m
 found_under guards None m = refl
@@ -354,6 +359,7 @@ module _ (g : HeldGuard) (guards : Guards) (cursors : g.kind ≡ guard.Cursors) 
       ap (λ p. of_holder k (counted_as h p))
       (fits (release_call false guard.Cursors o)
       (less_one o.cursor_guards _ (sym (cursor_count o.number own) ∙ ap cursors_of e)) (sym (sym (element_count o.number) ∙ ap elements_of e)))
+  counts_fit (of_queue number q) at v e own = refl
 
 reasons_fit : (h : Held) (at : Mark) (v : Value) → (key_ended h at (text_in v)).reason ≡ (key_updated h at v).reason
 reasons_fit (of_rows (a_keyed_set which) o) at v = refl
@@ -362,6 +368,7 @@ reasons_fit (of_rows (a_map which k x) o) at v = refl
 reasons_fit (of_rows (a_set which k) o) at v = refl
 reasons_fit (of_rows (a_tree k) o) at v = refl
 reasons_fit (of_holder k h) at v = refl
+reasons_fit (of_queue number q) at v = refl
 
 module _ (key : UpdateKey) (old new : State) (copy : Text) (result : Option Reason) (held : IsHeldAt old key.object key.guard)
     (cursors : key.guard.kind ≡ guard.Cursors) (below : key.object < key.names) (copied : copy ≡ text_in (value_at old key.names))
@@ -406,7 +413,7 @@ stands_left e now count place m is below s = subst (λ x. StandsAt x place m) (s
 })
 
 -- a copy that can be read
-pub can_copy : (w : World) (bs : List Place) (n i : ℕ) (at : Cursor) → world bs n ≡ w → IsKnown w at → StandsAt (state_of w) i (plain_mark at) → CanRead bs i at
+pub can_copy : (w : World) (bs : List Place) (n : Counters) (i : ℕ) (at : Cursor) → world bs n ≡ w → IsKnown w at → StandsAt (state_of w) i (plain_mark at) → CanRead bs i at
 can_copy w bs n i at view known s =
     let found = stands_in bs n i s.held (subst (λ v. object_at (state_of v) i ≡ Some s.held) (sym view) s.there) in
     record {
@@ -416,7 +423,7 @@ can_copy w bs n i at view known s =
       stands = subst (λ h. (element_value h (plain_mark at)).reason ≡ None) (sym found.is_held) s.stands;
     }
 
-pub copied_there : (w : World) (bs : List Place) (n i : ℕ) (m : Mark) → world bs n ≡ w → (result : Result Value NoMemory) →
+pub copied_there : (w : World) (bs : List Place) (n : Counters) (i : ℕ) (m : Mark) → world bs n ≡ w → (result : Result Value NoMemory) →
     IfOk result (λ v. v ≡ value_in (state_of (world bs n)) (binds_element i m)) →
     (h : Held) → object_at (state_of w) i ≡ Some h → IfOk result (λ v. v ≡ value_or_zero (element_value h m).answer)
 copied_there w bs n i m view (Ok v) e h at =

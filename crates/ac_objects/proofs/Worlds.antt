@@ -1,12 +1,11 @@
 -- Environments in memory, where one name holds something else.
 use Rattle.std.proofs.Common.{◌≡◌, ◌==◌, ◌+◌, ◌<◌, ◌≤◌, ℕ, List, [], ◌∷◌, map, slice_get, slice_set, refl, sym, ap, subst, ◌∙◌, arith, option_map, Option, Some, None, if◌then◌else◌}
-use Rattle.ac_base.specs.Guards.{GuardCounts}
 use Rattle.ac_base.specs.declared.cursor.Cursor.{Cursor}
 use Rattle.ac_base.specs.declared.cursor.Cursor.TheVariants as cursor
 use Rattle.ac_base.specs.declared.name.Name.{Name}
 use Rattle.ac_meaning.specs.Environment as meant
 use Rattle.ac_meaning.specs.Environment.{State, binds_type, binds_object, binds_cursor, binds_value, binds_element, object_at, object_in, bound_in, bound_at, with_bound}
-use Rattle.ac_meaning.specs.Holdings.{Held, of_rows, of_holder, number_of}
+use Rattle.ac_meaning.specs.Holdings.{Held, of_rows, of_holder, of_queue, number_of}
 use Rattle.ac_meaning.specs.Numbers.{has_number, times_numbered, NumbersDiffer}
 use Rattle.ac_meaning.proofs.CallsStay.{none_some}
 use Rattle.ac_meaning.proofs.NumbersApart.{is_there, numbers_tell}
@@ -14,24 +13,24 @@ use Rattle.ac_objects.specs.declared.bound.Bound.{Bound}
 use Rattle.ac_objects.specs.declared.bound.Bound.TheVariants as bound
 use Rattle.ac_objects.specs.declared.object.Object.{Object}
 use Rattle.ac_objects.specs.Called.{IsFound, Lasts}
-use Rattle.ac_objects.specs.Standing.{counts_in, counts_of}
+use Rattle.ac_objects.specs.Standing.{HeldCounts, counts_in, counts_of}
 use Rattle.ac_objects.specs.Steps.{Replaces, Advances}
-use Rattle.ac_objects.specs.World.{World, world, state_of, bound_of, held_of, ObjectAgrees, BoundAgrees, IsKnown, IsSound, cursor_in, memory_of}
+use Rattle.ac_objects.specs.World.{World, Counters, world, state_of, bound_of, held_of, ObjectAgrees, BoundAgrees, IsKnown, IsSound, cursor_in, memory_of}
 use Rattle.ac_objects.proofs.Memory.{none_in, agrees_if_own}
 use Rattle.ac_objects.proofs.Places.{same_some, all_at, all_set, all_by, map_set, map_get, map_same}
 
 -- what is seen of a place
 
-pub state_set : (bs : List Bound) (n i : ℕ) (b : Bound) → state_of (world (slice_set bs i b) n) ≡ with_bound (state_of (world bs n)) i (bound_of b)
-state_set bs n i b = λ j. record { bounds = map_set bound_of bs i b j; next = n }
+pub state_set : (bs : List Bound) (n : Counters) (i : ℕ) (b : Bound) → state_of (world (slice_set bs i b) n) ≡ with_bound (state_of (world bs n)) i (bound_of b)
+state_set bs n i b = λ j. record { bounds = map_set bound_of bs i b j; next = n.next; blocks = n.blocks }
 
-pub bound_there : (bs : List Bound) (n i : ℕ) (b : Bound) → slice_get bs i ≡ Some b → bound_at (state_of (world bs n)) i ≡ bound_of b
+pub bound_there : (bs : List Bound) (n : Counters) (i : ℕ) (b : Bound) → slice_get bs i ≡ Some b → bound_at (state_of (world bs n)) i ≡ bound_of b
 bound_there bs n i b e = ap bound_in (map_get bound_of bs i ∙ ap (option_map bound_of) e)
 
-pub bound_past : (bs : List Bound) (n i : ℕ) → slice_get bs i ≡ None → bound_at (state_of (world bs n)) i ≡ binds_type
+pub bound_past : (bs : List Bound) (n : Counters) (i : ℕ) → slice_get bs i ≡ None → bound_at (state_of (world bs n)) i ≡ binds_type
 bound_past bs n i e = ap bound_in (map_get bound_of bs i ∙ ap (option_map bound_of) e)
 
-pub object_there_in : (bs : List Bound) (n i : ℕ) (o : Object) → slice_get bs i ≡ Some (bound.Object o) →
+pub object_there_in : (bs : List Bound) (n : Counters) (i : ℕ) (o : Object) → slice_get bs i ≡ Some (bound.Object o) →
     object_at (state_of (world bs n)) i ≡ Some (held_of o)
 object_there_in bs n i o e = ap object_in (bound_there bs n i (bound.Object o) e)
 
@@ -50,26 +49,27 @@ found_bound (Some (bound.Cursor c)) h e = none_some h e
 found_bound (Some (bound.Value v)) h e = none_some h e
 found_bound (Some (bound.Element object at)) h e = none_some h e
 
-pub stands_in : (bs : List Bound) (n i : ℕ) (h : Held) → object_at (state_of (world bs n)) i ≡ Some h → StandsIn bs i h
+pub stands_in : (bs : List Bound) (n : Counters) (i : ℕ) (h : Held) → object_at (state_of (world bs n)) i ≡ Some h → StandsIn bs i h
 stands_in bs n i h e =
     let f = found_bound (slice_get bs i) h (ap (λ x. object_in (bound_in x)) (sym (map_get bound_of bs i)) ∙ e) in
     record { object = f.0; there = f.1; is_held = f.2 }
 
 -- numbers are told by the counts
 
-numbered : ℕ → Option GuardCounts → ℕ
+numbered : ℕ → Option HeldCounts → ℕ
 numbered number None = 0
-numbered number (Some g) = if g.number == number then 1 else 0
+numbered number (Some c) = if c.guards.number == number then 1 else 0
 
-all_numbered : ℕ → List (Option GuardCounts) → ℕ
+all_numbered : ℕ → List (Option HeldCounts) → ℕ
 all_numbered number [] = 0
-all_numbered number (g ∷ gs) = numbered number g + all_numbered number gs
+all_numbered number (c ∷ cs) = numbered number c + all_numbered number cs
 
 bound_numbered : (number : ℕ) (b : meant.Bound) → has_number number b ≡ numbered number (counts_in b)
 unfolding numbered
 bound_numbered number binds_type = refl
 bound_numbered number (binds_object (of_rows kind o)) = refl
 bound_numbered number (binds_object (of_holder e h)) = refl
+bound_numbered number (binds_object (of_queue own q)) = refl
 bound_numbered number (binds_cursor mark) = refl
 bound_numbered number (binds_value v) = refl
 bound_numbered number (binds_element object at) = refl
@@ -99,14 +99,14 @@ counts_set : (bs : List Bound) (i : ℕ) (old b : Bound) → slice_get bs i ≡ 
 counts_set bs i old b there same =
     counts_twice (slice_set bs i b) ∙ (map_same (λ b. counts_in (bound_of b)) bs i old b there same ∙ sym (counts_twice bs))
 
-known_set : (bs : List Bound) (n i : ℕ) (old b : Bound) (c : Cursor) → slice_get bs i ≡ Some old → Replaces old b → IsKnown (world bs n) c →
+known_set : (bs : List Bound) (n : Counters) (i : ℕ) (old b : Bound) (c : Cursor) → slice_get bs i ≡ Some old → Replaces old b → IsKnown (world bs n) c →
     IsKnown (world (slice_set bs i b) n) c
 known_set bs n i old b c there r k = record {
   made = k.made;
   agrees = all_set (λ x. BoundAgrees x c) bs i b k.agrees (r.agrees c (all_at (λ x. BoundAgrees x c) bs i old k.agrees there));
 }
 
-pub set_advances : (bs : List Bound) (n i : ℕ) (old b : Bound) → IsSound (world bs n) → slice_get bs i ≡ Some old → Replaces old b →
+pub set_advances : (bs : List Bound) (n : Counters) (i : ℕ) (old b : Bound) → IsSound (world bs n) → slice_get bs i ≡ Some old → Replaces old b →
     IsKnown (world bs n) (cursor_in b) → Advances (world bs n) (world (slice_set bs i b) n)
 set_advances bs n i old b sound there r known =
     let counts = counts_set bs i old b there r.counts in
@@ -146,14 +146,14 @@ none_agrees (bound.Element object at) = tt
 pub none_known : (w : World) → IsKnown w cursor.NoElement
 none_known w = record { made = tt; agrees = λ k d l. none_agrees _ }
 
-pub known_agrees : (bs : List Bound) (n i : ℕ) (o : Object) (c : Cursor) → IsKnown (world bs n) c → slice_get bs i ≡ Some (bound.Object o) →
+pub known_agrees : (bs : List Bound) (n : Counters) (i : ℕ) (o : Object) (c : Cursor) → IsKnown (world bs n) c → slice_get bs i ≡ Some (bound.Object o) →
     ObjectAgrees o c
 known_agrees bs n i o c k there = all_at (λ b. BoundAgrees b c) bs i (bound.Object o) k.agrees there
 
 below : (next number times : ℕ) → 1 ≤ times → (next ≤ number → times ≡ 0) → number < next
 below next number times h k = grind (arith)
 
-same_object : (bs : List Bound) (n i k : ℕ) (o p : Object) → IsSound (world bs n) → slice_get bs i ≡ Some (bound.Object o) →
+same_object : (bs : List Bound) (n : Counters) (i k : ℕ) (o p : Object) → IsSound (world bs n) → slice_get bs i ≡ Some (bound.Object o) →
     slice_get bs k ≡ Some (bound.Object p) → number_of (held_of o) ≡ number_of (held_of p) → o ≡ p
 same_object bs n i k o p sound here there same =
     let place : i ≡ k = numbers_tell (state_of (world bs n)) i k (held_of o) (held_of p) sound.numbers_differ (object_there_in bs n i o here)
@@ -161,7 +161,7 @@ same_object bs n i k o p sound here there same =
     let found : Some (bound.Object o) ≡ Some (bound.Object p) = sym here ∙ (ap (slice_get bs) place ∙ there) in
     cc
 
-bound_finds : (bs : List Bound) (n i k : ℕ) (o : Object) (object : ℕ) (name : Name) → IsSound (world bs n) → slice_get bs i ≡ Some (bound.Object o) →
+bound_finds : (bs : List Bound) (n : Counters) (i k : ℕ) (o : Object) (object : ℕ) (name : Name) → IsSound (world bs n) → slice_get bs i ≡ Some (bound.Object o) →
     object ≡ number_of (held_of o) → ObjectAgrees o (cursor.At object name) → (b : Bound) → slice_get bs k ≡ Some b → BoundAgrees b (cursor.At object name)
 bound_finds bs n i k o object name sound here own agrees bound.Type there = tt
 bound_finds bs n i k o object name sound here own agrees (bound.Object p) there =
@@ -172,7 +172,7 @@ bound_finds bs n i k o object name sound here own agrees (bound.Value v) there =
 bound_finds bs n i k o object name sound here own agrees (bound.Element other at) there = tt
 
 -- a cursor that its object finds is known
-pub found_known : (bs : List Bound) (n i : ℕ) (o : Object) (c : Cursor) → IsSound (world bs n) → slice_get bs i ≡ Some (bound.Object o) → IsFound o c →
+pub found_known : (bs : List Bound) (n : Counters) (i : ℕ) (o : Object) (c : Cursor) → IsSound (world bs n) → slice_get bs i ≡ Some (bound.Object o) → IsFound o c →
     IsKnown (world bs n) c
 found_known bs n i o cursor.NoElement sound here f = none_known (world bs n)
 found_known bs n i o (cursor.At object name) sound here f =
@@ -180,7 +180,7 @@ found_known bs n i o (cursor.At object name) sound here f =
     let h = held_of o in
     let times = is_there e.bounds i h (object_there_in bs n i o here) in
     record {
-      made = subst (λ x. x < n) (sym f.0) (below n (number_of h) (times_numbered (number_of h) e.bounds) times (sound.numbers_differ.below_next (number_of h)));
+      made = subst (λ x. x < n.next) (sym f.0) (below n.next (number_of h) (times_numbered (number_of h) e.bounds) times (sound.numbers_differ.below_next (number_of h)));
       agrees = all_by (λ b. BoundAgrees b (cursor.At object name)) bs
           (λ k b there. bound_finds bs n i k o object name sound here f.0 f.1 b there);
     }

@@ -1,8 +1,8 @@
 -- The keys of blocks, and what begins and ends them does.
-use Rattle.std.specs.Prelude.{◌≡◌, ◌<◌, ◌-◌, ◌^◌, ℕ, [], ◌∷◌, Option, Some, None}
+use Rattle.std.specs.Prelude.{◌≡◌, ◌<◌, ◌-◌, ◌^◌, ℕ, true, [], ◌∷◌, Option, Some, None}
 use Rattle.ac_base.specs.declared.guard.GuardKind.{GuardKind}
 use Rattle.ac_base.specs.Guards.{HeldGuard, count_of, raised_kind}
-use Rattle.ac_meaning.specs.Holdings.{Held, Guards, number_of, is_a_set}
+use Rattle.ac_meaning.specs.Holdings.{Held, Guards, number_of, is_a_set, takes_guards}
 use Rattle.ac_meaning.specs.Environment.{State, objects_by, object_at}
 use Rattle.ac_meaning.specs.UnderGuards.{held_with, held_without}
 use Rattle.ac_objects.specs.declared.blocks.LoopKey.{LoopKey}
@@ -42,10 +42,11 @@ pub record IsHeldAt (e : State) (place : ℕ) (g : HeldGuard) : Type 0 where
   pub own : g.object ≡ number_of held
   pub counted : 0 < count_of g.kind (counts_in_held held)
 
--- 64 bits count one guard more of the kind on the object at the place
+-- guards are held on the object at the place, and 64 bits count one more of the kind
 pub record HasRoom (e : State) (place : ℕ) (kind : GuardKind) : Type 0 where
   pub held : Held
   pub there : object_at e place ≡ Some held
+  pub takes : takes_guards held ≡ true
   pub counted : count_of (raised_kind (is_a_set held) kind) (counts_in_held held) < 2 ^ 64 - 1
 
 -- 64 bits count two cursor guards more

@@ -1,5 +1,5 @@
 -- What a call on an object in memory comes to, as the meaning of its reply has it.
-use Rattle.std.specs.Prelude.{◌≡◌, ⊤, ℕ, false, Option, Some, None, Result, Ok, Err}
+use Rattle.std.specs.Prelude.{◌≡◌, ◌⊎◌, ⊤, ℕ, false, Option, Some, None, Result, Ok, Err}
 use Rattle.ac_base.specs.declared.cursor.Cursor.{Cursor}
 use Rattle.ac_base.specs.declared.cursor.Cursor.TheVariants.{NoElement, At}
 use Rattle.ac_base.specs.declared.fault.Fault.{Fault}
@@ -8,9 +8,11 @@ use Rattle.ac_model.specs.Objects.{IsValid, plain}
 use Rattle.ac_model.specs.Objects as lists
 use Rattle.ac_model.specs.Calls.{Call, Done, IsAfter}
 use Rattle.ac_model.specs.Cursors.{plain_mark}
+use Rattle.ac_model.specs.Holders.{IsValidHolder}
 use Rattle.ac_model.specs.Containers.{Container, guards_of}
 use Rattle.ac_meaning.specs.Answers.{Answer, answers_ok, answers_value, answers_truth, answers_place, answers_list}
-use Rattle.ac_meaning.specs.Holdings.{Held, number_of, listing_of, Written}
+use Rattle.ac_meaning.specs.Elements.{tools_of}
+use Rattle.ac_meaning.specs.Holdings.{Held, of_rows, of_holder, of_queue, number_of, listing_of, Written}
 use Rattle.ac_meaning.specs.Replies as replies
 use Rattle.ac_objects.specs.declared.argument.Arguments.{Arguments}
 use Rattle.ac_objects.specs.declared.object.Object.{Object}
@@ -19,13 +21,15 @@ use Rattle.ac_objects.specs.declared.reply.Said.TheVariants as said
 use Rattle.ac_objects.specs.declared.reply.Placed.{Placed}
 use Rattle.ac_objects.specs.declared.reply.Reply.{Reply}
 use Rattle.ac_objects.specs.Arguments.{AllAgree, SlotAgrees}
-use Rattle.ac_objects.specs.Standing.{counts_in_held}
-use Rattle.ac_objects.specs.World.{InMemory, in_rows, in_holder, memory_of, held_of, ObjectAgrees}
+use Rattle.ac_objects.specs.Replied.{IsStalled}
+use Rattle.ac_objects.specs.Standing.{held_counts}
+use Rattle.ac_objects.specs.World.{InMemory, in_rows, in_holder, in_queue, memory_of, held_of, ObjectAgrees}
 
 -- the cursors among the arguments have the slots that the object would find
 abbrev pub AllAgreeIn : InMemory → Arguments → Type 0
 AllAgreeIn (in_rows kind l) args = AllAgree l.object args
 AllAgreeIn (in_holder e h) args = ⊤
+AllAgreeIn (in_queue number q) args = ⊤
 
 abbrev pub AgreesWith : Object → Arguments → Type 0
 AgreesWith o args = AllAgreeIn (memory_of o) args
@@ -35,13 +39,14 @@ abbrev pub IsFound : Object → Cursor → Type 0
 IsFound o NoElement = ⊤
 IsFound o (At object name) = (object ≡ number_of (held_of o)) × ObjectAgrees o (At object name)
 
--- the answer is the meaning's
+-- the answer of a call that didn't wait is the meaning's
 abbrev pub Tells : Object → Said → Answer → Type 0
 Tells o said.Done answer = answer ≡ answers_ok
 Tells o (said.Value v) answer = answer ≡ answers_value v
 Tells o (said.Truth is_true) answer = answer ≡ answers_truth is_true
 Tells o (said.Place c) answer = (answer ≡ answers_place (plain_mark c)) × IsFound o c
 Tells o said.Listing answer = answer ≡ answers_list (listing_of (held_of o))
+Tells o said.Stalled answer = ⊥
 
 -- and so is the variable that is set
 abbrev pub Places : Object → Option Placed → Option replies.Placed → Type 0
@@ -61,22 +66,23 @@ abbrev pub HeldAfter : Object → Object → Option Held → Type 0
 HeldAfter old new None = new ≡ old
 HeldAfter old new (Some after) = held_of new ≡ after
 
--- made, or refused for the meaning's reason, or out of memory; and then nothing changes
+-- made, or it would wait, or refused for the meaning's reason, or out of memory; and then nothing changes
 abbrev pub Called : replies.Reply Held → (old new : Object) → Result Reply Fault → Type 0
-Called r old new (Ok made) = IsCalled r new made × (r.source ≡ None)
+Called r old new (Ok made) = (IsCalled r new made × (r.source ≡ None)) ⊎ IsStalled r old new made
 Called r old new (Err (fault.Raised reason)) = (r.reason ≡ Some reason) × (new ≡ old)
 Called r old new (Err fault.NoMemory) = new ≡ old
 
 -- the same with another object as the source
 abbrev pub CalledWith : replies.Reply Held → (old source new source_new : Object) → Result Reply Fault → Type 0
-CalledWith r old source new source_new (Ok made) = IsCalled r new made × HeldAfter source source_new r.source
+CalledWith r old source new source_new (Ok made) =
+    (IsCalled r new made × HeldAfter source source_new r.source) ⊎ (IsStalled r old new made × (source_new ≡ source))
 CalledWith r old source new source_new (Err (fault.Raised reason)) = (r.reason ≡ Some reason) × (new ≡ old) × (source_new ≡ source)
 CalledWith r old source new source_new (Err fault.NoMemory) = (new ≡ old) × (source_new ≡ source)
 
 -- what stays of an object: the slots that cursors had, its number and its guards
 pub record Lasts (old new : Object) : Type 0 where
   pub cursors : (c : Cursor) → ObjectAgrees old c → ObjectAgrees new c
-  pub counts : counts_in_held (held_of new) ≡ counts_in_held (held_of old)
+  pub counts : held_counts (held_of new) ≡ held_counts (held_of old)
 
 -- and of its rows
 pub record RowsLast {V : Type 0} (old new : Container V) : Type 0 where
@@ -92,6 +98,18 @@ abbrev pub WritesTo : Written → (old new : Object) → Result Done Fault → T
 WritesTo w old new (Ok done) = (w.reason ≡ None) × (held_of new ≡ w.after)
 WritesTo w old new (Err (fault.Raised reason)) = (w.reason ≡ Some reason) × (new ≡ old)
 WritesTo w old new (Err fault.NoMemory) = new ≡ old
+
+-- it isn't refused
+abbrev pub NotRaised : {A : Type 0} → Result A Fault → Type 0
+NotRaised (Ok _) = ⊤
+NotRaised (Err (fault.Raised _)) = ⊥
+NotRaised (Err fault.NoMemory) = ⊤
+
+-- of a holder: its element is no larger than its limit
+abbrev pub IsWithinLimit : Held → Type 0
+IsWithinLimit (of_rows kind o) = ⊤
+IsWithinLimit (of_holder e h) = IsValidHolder (tools_of e).size h
+IsWithinLimit (of_queue number q) = ⊤
 
 -- the same in its rows
 abbrev pub WritesIn : {V : Type 0} → (lists.Object ℕ V → Call (lists.Object ℕ V) Done) → (old new : Container V) → Result Done Fault → Type 0

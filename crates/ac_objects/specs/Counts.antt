@@ -1,13 +1,12 @@
--- An object in memory with other counts of guards.
+-- An object in memory with other counts of guards. A queue has none.
 use Rattle.std.specs.Prelude.{◌≡◌, refl}
-use Rattle.std.proofs.Common.{ap, ◌∙◌}
 use Rattle.ac_base.specs.Guards.{GuardCounts}
 use Rattle.ac_model.specs.Containers.{with_guards, guards_of}
 use Rattle.ac_forms.specs.HolderFields.{with_guards as holder_with}
 use Rattle.ac_meaning.specs.Elements.{Text}
-use Rattle.ac_meaning.specs.Holdings.{is_a_set, a_keyed_set}
+use Rattle.ac_meaning.specs.Holdings.{a_keyed_set}
 use Rattle.ac_objects.specs.declared.object.Object.{Object}
-use Rattle.ac_objects.specs.declared.object.Object.TheVariants.{Integers, Texts, IntegerSet, TextSet, KeyedSet, IntegersByInteger, IntegersByText, TextsByInteger, TextsByText, IntegerTree, TextTree, IntegerHolder, TextHolder}
+use Rattle.ac_objects.specs.declared.object.Object.TheVariants.{Integers, Texts, IntegerSet, TextSet, KeyedSet, IntegersByInteger, IntegersByText, TextsByInteger, TextsByText, IntegerTree, TextTree, IntegerHolder, TextHolder, Queue}
 use Rattle.ac_objects.specs.declared.keyed_set.KeyedSet.{KeyedSet as KeyedTexts}
 use Rattle.ac_objects.specs.declared.map.Map.{Map}
 use Rattle.ac_objects.specs.declared.map.Map.TheVariants as map
@@ -19,8 +18,7 @@ use Rattle.ac_objects.specs.KeyedSets.{keyed_items}
 use Rattle.ac_objects.specs.Maps.{entries_of}
 use Rattle.ac_objects.specs.Sequences.{rows_of}
 use Rattle.ac_objects.specs.Sets.{items_of, set_kind_of}
-use Rattle.ac_objects.specs.Standing.{counts_in_held}
-use Rattle.ac_objects.specs.World.{InMemory, in_rows, in_holder, memory_of, held_in, held_of}
+use Rattle.ac_objects.specs.World.{InMemory, in_rows, in_holder, in_queue, memory_of}
 
 -- with this number and these counts
 
@@ -53,6 +51,7 @@ with_counts (IntegerTree t) counts = IntegerTree (with_guards t counts)
 with_counts (TextTree t) counts = TextTree (with_guards t counts)
 with_counts (IntegerHolder h) counts = IntegerHolder (holder_with h counts)
 with_counts (TextHolder h) counts = TextHolder (holder_with h counts)
+with_counts (Queue q) counts = Queue q
 
 -- the laws of guards, of each type of objects
 
@@ -106,6 +105,7 @@ map_rest (map.Ordered m) counts others = refl
 abbrev pub counted_in : InMemory → GuardCounts → InMemory
 counted_in (in_rows kind l) counts = in_rows kind (with_guards l counts)
 counted_in (in_holder e h) counts = in_holder e (holder_with h counts)
+counted_in (in_queue number q) counts = in_queue number q
 
 keyed_counted : (s : Set Text Text) (counts : GuardCounts) →
     in_rows (a_keyed_set (set_kind_of (set_with s counts))) (items_of (set_with s counts)) ≡ in_rows (a_keyed_set (set_kind_of s)) (with_guards (items_of s) counts)
@@ -135,48 +135,4 @@ memory_counted (IntegerTree t) counts = refl
 memory_counted (TextTree t) counts = refl
 memory_counted (IntegerHolder h) counts = refl
 memory_counted (TextHolder h) counts = refl
-
-given_in : (m : InMemory) (counts : GuardCounts) → counts_in_held (held_in (counted_in m counts)) ≡ counts
-given_in (in_rows kind l) counts = refl
-given_in (in_holder e h) counts = refl
-
-set_in : (m : InMemory) (counts : GuardCounts) → is_a_set (held_in (counted_in m counts)) ≡ is_a_set (held_in m)
-set_in (in_rows kind l) counts = refl
-set_in (in_holder e h) counts = refl
-
-pub counts_given : (o : Object) (counts : GuardCounts) → counts_in_held (held_of (with_counts o counts)) ≡ counts
-counts_given o counts = ap (λ m. counts_in_held (held_in m)) (memory_counted o counts) ∙ given_in (memory_of o) counts
-
-pub set_kept : (o : Object) (counts : GuardCounts) → is_a_set (held_of (with_counts o counts)) ≡ is_a_set (held_of o)
-set_kept o counts = ap (λ m. is_a_set (held_in m)) (memory_counted o counts) ∙ set_in (memory_of o) counts
-
-pub counts_own : (o : Object) → with_counts o (counts_in_held (held_of o)) ≡ o
-unfolding memory_of
-counts_own (Integers s) = ap Integers (sequence_own s)
-counts_own (Texts s) = ap Texts (sequence_own s)
-counts_own (IntegerSet s) = ap IntegerSet (set_own s)
-counts_own (TextSet s) = ap TextSet (set_own s)
-counts_own (KeyedSet s) = ap KeyedSet (keyed_set_own s)
-counts_own (IntegersByInteger m) = ap IntegersByInteger (map_own m)
-counts_own (IntegersByText m) = ap IntegersByText (map_own m)
-counts_own (TextsByInteger m) = ap TextsByInteger (map_own m)
-counts_own (TextsByText m) = ap TextsByText (map_own m)
-counts_own (IntegerTree t) = refl
-counts_own (TextTree t) = refl
-counts_own (IntegerHolder h) = refl
-counts_own (TextHolder h) = refl
-
-pub rest_kept : (o : Object) (counts others : GuardCounts) → with_counts (with_counts o counts) others ≡ with_counts o others
-rest_kept (Integers s) counts others = ap Integers (sequence_rest s counts others)
-rest_kept (Texts s) counts others = ap Texts (sequence_rest s counts others)
-rest_kept (IntegerSet s) counts others = ap IntegerSet (set_rest s counts others)
-rest_kept (TextSet s) counts others = ap TextSet (set_rest s counts others)
-rest_kept (KeyedSet s) counts others = ap KeyedSet (keyed_set_rest s counts others)
-rest_kept (IntegersByInteger m) counts others = ap IntegersByInteger (map_rest m counts others)
-rest_kept (IntegersByText m) counts others = ap IntegersByText (map_rest m counts others)
-rest_kept (TextsByInteger m) counts others = ap TextsByInteger (map_rest m counts others)
-rest_kept (TextsByText m) counts others = ap TextsByText (map_rest m counts others)
-rest_kept (IntegerTree t) counts others = refl
-rest_kept (TextTree t) counts others = refl
-rest_kept (IntegerHolder h) counts others = refl
-rest_kept (TextHolder h) counts others = refl
+memory_counted (Queue q) counts = refl

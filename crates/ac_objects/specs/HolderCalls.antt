@@ -23,13 +23,14 @@ ChangesHolder c old new (Err (fault.Raised reason)) = (c.reason ≡ Some reason)
 ChangesHolder c old new (Err fault.NoMemory) = new ≡ old
 
 module _ {T : Type 0} (tools : Tools T) where
-  -- the answer is the meaning's; a listing's text isn't made yet. No call of a holder answers a cursor
+  -- the answer is the meaning's; a listing's text isn't made yet. No call of a holder answers a cursor, and none waits
   abbrev pub HolderSays : Holder T → Said → Answer → Type 0
   HolderSays h said.Done answer = answer ≡ answers_ok
   HolderSays h (said.Value v) answer = answer ≡ answers_value v
   HolderSays h (said.Truth is_true) answer = answer ≡ answers_truth is_true
   HolderSays h (said.Place c) answer = ⊥
   HolderSays h said.Listing answer = answer ≡ answers_list (holder_listing tools h)
+  HolderSays h said.Stalled answer = ⊥
 
   -- a call that was made
   pub record IsHolderMade (r : replies.Reply (Holder T)) (new : Holder T) (made : Reply) : Type 0 where

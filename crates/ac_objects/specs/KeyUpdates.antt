@@ -10,7 +10,7 @@ use Rattle.ac_model.specs.KeyedSets.{end_update_key_call}
 use Rattle.ac_model.specs.Letters.{Mark}
 use Rattle.ac_meaning.specs.Elements.{Text, texts}
 use Rattle.ac_meaning.specs.KeyedReplies.{order_by}
-use Rattle.ac_meaning.specs.Holdings.{Held, Guards, Written, written, of_rows, of_holder, a_keyed_set}
+use Rattle.ac_meaning.specs.Holdings.{Held, Guards, Written, written, of_rows, of_holder, of_queue, a_keyed_set}
 use Rattle.ac_meaning.specs.Environment.{State, under, value_at, leaving}
 use Rattle.ac_meaning.specs.Execution.{key_end, end_lines}
 use Rattle.ac_objects.specs.declared.blocks.UpdateKey.{UpdateKey}
@@ -22,6 +22,7 @@ key_ended (of_rows (a_keyed_set which) o) at copy =
     written (of_rows (a_keyed_set which)) (end_update_key_call key_of_text (order_by texts which) o (seen o at) copy)
 key_ended (of_rows kind o) at copy = record { reason = None; after = of_rows kind (release_call false guard.Cursors o) }
 key_ended (of_holder e h) at copy = record { reason = None; after = of_holder e (released guard.Cursors h) }
+key_ended (of_queue number q) at copy = record { reason = None; after = of_queue number q }
 
 -- what an update comes to where it ends, in the environment that its body left, whatever guards are held beside its own
 abbrev pub UpdateEnds : UpdateKey → (old new : State) → Option Reason → Type 0

@@ -8,6 +8,7 @@ pub mod SequenceCalls
 pub mod SetCalls
 pub mod KeyCalls
 pub mod HolderCalls
+pub mod QueueCalls
 pub mod RowCalls
 pub mod MapCalls
 pub mod Replied
@@ -25,3 +26,4 @@ pub mod Blocks
 pub mod Called
 pub mod KeyUpdates
 pub mod Steps
+pub mod Lent

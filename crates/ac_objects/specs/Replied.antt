@@ -1,5 +1,5 @@
 -- How the code's reply is the meaning's.
-use Rattle.std.specs.Prelude.{◌≡◌, ◌⊎◌, ⊤, ℕ, false, List, Option, Some, None, Result, Ok, Err}
+use Rattle.std.specs.Prelude.{◌≡◌, ◌⊎◌, ⊤, ℕ, true, false, List, Option, Some, None, Result, Ok, Err}
 use Rattle.ac_base.specs.declared.cursor.Cursor.{Cursor}
 use Rattle.ac_base.specs.declared.cursor.Cursor.TheVariants.{NoElement, At}
 use Rattle.ac_base.specs.declared.fault.Fault.{Fault}
@@ -23,6 +23,18 @@ abbrev pub told : Reply → Result Done Fault → Result Reply Fault
 told reply (Ok done) = Ok reply
 told reply (Err f) = Err f
 
+-- a call that would wait: all is as it was
+pub record Stalls {S X : Type 0} (r : replies.Reply S) (old new : X) (s : Said) : Type 0 where
+  pub waits : r.stalls ≡ true
+  pub reason : r.reason ≡ None
+  pub same : new ≡ old
+  pub says : s ≡ said.Stalled
+
+-- and no variable is set
+pub record IsStalled {S X : Type 0} (r : replies.Reply S) (old new : X) (made : Reply) : Type 0 where
+  pub stalls : Stalls r old new made.said
+  pub none_set : made.variable ≡ None
+
 -- a name of one of the object's elements, or its root's
 abbrev pub IsOwnName : {V : Type 0} → Object Name V → Name → Type 0
 IsOwnName o name = IsNamed o name ⊎ (name ≡ root_name)
@@ -36,13 +48,14 @@ IsOwnCursor o (At object name) = (object ≡ o.number) × IsOwnName o name
 abbrev pub IsAnswer : {V : Type 0} → Object Name V → Cursor → Mark → Type 0
 IsAnswer o c mark = (mark ≡ plain_mark c) × IsOwnCursor o c
 
--- the answer is the meaning's; a listing's text isn't made yet
+-- the answer is the meaning's; a listing's text isn't made yet. No call of an object with rows waits
 abbrev pub Says : {V : Type 0} → Object Name V → Said → Answer → Type 0
 Says o said.Done answer = answer ≡ answers_ok
 Says o (said.Value v) answer = answer ≡ answers_value v
 Says o (said.Truth is_true) answer = answer ≡ answers_truth is_true
 Says o (said.Place c) answer = (answer ≡ answers_place (plain_mark c)) × IsOwnCursor o c
 Says o said.Listing answer = (text : List ℕ) × (answer ≡ answers_list text)
+Says o said.Stalled answer = ⊥
 
 -- the variable that is set is the meaning's
 abbrev pub SetsVariable : {V : Type 0} → Object Name V → Option Placed → Option replies.Placed → Type 0

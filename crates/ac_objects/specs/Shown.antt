@@ -5,7 +5,7 @@ use Rattle.ac_meaning.specs.Answers as meant
 use Rattle.ac_meaning.specs.Holdings.{Held, listing_of}
 use Rattle.ac_meaning.specs.Environment.{State, object_at}
 use Rattle.ac_objects.specs.declared.reply.Said.{Said}
-use Rattle.ac_objects.specs.declared.reply.Said.TheVariants.{Done, Value, Truth, Place, Listing}
+use Rattle.ac_objects.specs.declared.reply.Said.TheVariants.{Done, Value, Truth, Place, Listing, Stalled}
 
 -- in this environment, where the object of the call has this place
 abbrev pub Shows : State → ℕ → Said → meant.Answer → Type 0
@@ -14,3 +14,4 @@ Shows e object (Value v) answer = answer ≡ meant.answers_value v
 Shows e object (Truth is_true) answer = answer ≡ meant.answers_truth is_true
 Shows e object (Place c) answer = answer ≡ meant.answers_place (plain_mark c)
 Shows e object Listing answer = (h : Held) × (object_at e object ≡ Some h) × (answer ≡ meant.answers_list (listing_of h))
+Shows e object Stalled answer = answer ≡ meant.answers_stalled

@@ -1,5 +1,5 @@
 -- The steps of a command: what is read before a call, the call on the objects in their places, and what is assigned.
-use Rattle.std.specs.Prelude.{◌≡◌, ⊤, ℕ, ℤ, if◌then◌else◌, false, List, slice_get, slice_set, Option, Some, None, Result, Ok, Err}
+use Rattle.std.specs.Prelude.{◌≡◌, ◌⊎◌, ⊤, ℕ, ℤ, if◌then◌else◌, false, List, slice_get, slice_set, Option, Some, None, Result, Ok, Err}
 use Rattle.ac_base.specs.declared.cursor.Cursor.{Cursor}
 use Rattle.ac_base.specs.declared.fault.Fault.{Fault}
 use Rattle.ac_base.specs.declared.value.Value.{Value}
@@ -27,9 +27,10 @@ use Rattle.ac_objects.specs.declared.reply.Reply.{Reply}
 use Rattle.ac_objects.specs.Arguments as arguments
 use Rattle.ac_objects.specs.Shown.{Shows}
 use Rattle.ac_objects.specs.Called.{AgreesWith, Called, CalledWith, Lasts, WritesTo}
+use Rattle.ac_objects.specs.Replied.{Stalls, IsStalled}
 use Rattle.ac_objects.specs.Standing.{IsObject, ElementsStand, counts_in, counts_of}
 use Rattle.std.specs.Option.{ForSome}
-use Rattle.ac_objects.specs.World.{World, world, state_of, bound_of, held_of, ObjectAgrees, BoundAgrees, IsKnown, IsSound, Persists}
+use Rattle.ac_objects.specs.World.{World, Counters, world, state_of, bound_of, held_of, ObjectAgrees, BoundAgrees, IsKnown, IsSound, Persists}
 
 -- the cursors among the arguments are known
 pub record AllKnown (w : World) (args : Arguments) : Type 0 where
@@ -72,6 +73,7 @@ SaidKnown w (said.Value _) = ⊤
 SaidKnown w (said.Truth _) = ⊤
 SaidKnown w (said.Place c) = IsKnown w c
 SaidKnown w said.Listing = ⊤
+SaidKnown w said.Stalled = ⊤
 
 -- the variable that is set, without slots, and its cursor is known
 abbrev pub placed_of : Option Placed → Option replies.Placed
@@ -93,7 +95,7 @@ pub record IsCalledAt (r : replies.Reply Held) (object : ℕ) (source : Option �
   pub placed_known : PlacedKnown new made.variable
 
 abbrev pub CalledAt : replies.Reply Held → (object : ℕ) → (source : Option ℕ) → (old new : World) → Result Reply Fault → Type 0
-CalledAt r object source old new (Ok made) = IsCalledAt r object source old new made
+CalledAt r object source old new (Ok made) = IsCalledAt r object source old new made ⊎ IsStalled r old new made
 CalledAt r object source old new (Err (fault.Raised reason)) = (r.reason ≡ Some reason) × (new ≡ old)
 CalledAt r object source old new (Err fault.NoMemory) = ⊤
 
@@ -119,14 +121,14 @@ pub record WritesAt (object : ℕ) (at : Cursor) (v : Value) (o : Object) (old n
 
 -- a cursor is given to a name
 pub record SetsMark (place : ℕ) (c : Cursor) (old new : List Bound) : Type 0 where
-  pub advances : (next : ℕ) → IsSound (world old next) → IsKnown (world old next) c → Advances (world old next) (world new next)
-  pub set : (next : ℕ) → state_of (world new next) ≡ mark_set (state_of (world old next)) place (plain_mark c) (bound_at (state_of (world old next)) place)
+  pub advances : (counters : Counters) → IsSound (world old counters) → IsKnown (world old counters) c → Advances (world old counters) (world new counters)
+  pub set : (counters : Counters) → state_of (world new counters) ≡ mark_set (state_of (world old counters)) place (plain_mark c) (bound_at (state_of (world old counters)) place)
 
 -- and a value
 pub record SetsValue (place : ℕ) (v : Value) (old new : List Bound) (result : Result Done Fault) : Type 0 where
-  pub advances : (next : ℕ) → IsSound (world old next) → Advances (world old next) (world new next)
-  pub set : (next : ℕ) → ElementsStand (state_of (world old next)) →
-      AssignsTo (value_set (state_of (world old next)) place v (bound_at (state_of (world old next)) place)) (world old next) (world new next) result
+  pub advances : (counters : Counters) → IsSound (world old counters) → Advances (world old counters) (world new counters)
+  pub set : (counters : Counters) → ElementsStand (state_of (world old counters)) →
+      AssignsTo (value_set (state_of (world old counters)) place v (bound_at (state_of (world old counters)) place)) (world old counters) (world new counters) result
 
 -- what two names hold are objects with numbers of their own, at which the cursors among the arguments agree
 pub record CanCall (target source : Bound) (args : Arguments) : Type 0 where
@@ -149,18 +151,18 @@ pub record CalledBounds (operation : Operation) (args : Arguments) (target sourc
 
 -- a call in places, with the object itself or another as the source
 pub record CallsIn (operation : Operation) (args : Arguments) (object : ℕ) (source : Option ℕ) (old new : List Bound) (result : Result Reply Fault) : Type 0 where
-  pub advances : (next : ℕ) → IsSound (world old next) → AllKnown (world old next) args → Advances (world old next) (world new next)
-  pub called : (next : ℕ) → IsSound (world old next) → AllKnown (world old next) args → (h : Held) → object_at (state_of (world old next)) object ≡ Some h →
-      CalledAt (reply_of h (source_of (state_of (world old next)) source) operation (arguments.arguments_of args)) object source
-      (world old next) (world new next) result
+  pub advances : (counters : Counters) → IsSound (world old counters) → AllKnown (world old counters) args → Advances (world old counters) (world new counters)
+  pub called : (counters : Counters) → IsSound (world old counters) → AllKnown (world old counters) args → (h : Held) → object_at (state_of (world old counters)) object ≡ Some h →
+      CalledAt (reply_of h (source_of (state_of (world old counters)) source) operation (arguments.arguments_of args)) object source
+      (world old counters) (world new counters) result
 
 -- the objects stand in their places, and the arguments are of their world
 pub record CanCallIn (bs : List Bound) (object : ℕ) (source : Option ℕ) (args : Arguments) : Type 0 where
-  pub next : ℕ
-  pub sound : IsSound (world bs next)
-  pub known : AllKnown (world bs next) args
-  pub object_there : IsObject (state_of (world bs next)) object
-  pub source_there : ForSome source (IsObject (state_of (world bs next)))
+  pub counters : Counters
+  pub sound : IsSound (world bs counters)
+  pub known : AllKnown (world bs counters) args
+  pub object_there : IsObject (state_of (world bs counters)) object
+  pub source_there : ForSome source (IsObject (state_of (world bs counters)))
 
 -- what a name holds after it is given a cursor
 abbrev pub marked : Cursor → Bound → Bound
@@ -172,9 +174,9 @@ marked c (bound.Element object at) = bound.Element object at
 
 -- the bounds of a world whose elements stand
 pub record StandsSomewhere (bs : List Bound) : Type 0 where
-  pub next : ℕ
-  pub sound : IsSound (world bs next)
-  pub stand : ElementsStand (state_of (world bs next))
+  pub counters : Counters
+  pub sound : IsSound (world bs counters)
+  pub stand : ElementsStand (state_of (world bs counters))
 
 -- what is assigned where this was read
 abbrev pub answer_of : Argument → meant.Answer
@@ -196,7 +198,7 @@ pub record IsPerformed (r : replies.Reply Held) (object : ℕ) (args : List Reso
   pub known : SaidKnown new said
 
 abbrev pub PerformsAt : replies.Reply Held → (object : ℕ) → List ResolvedArg → (old new : World) → Result Said Fault → Type 0
-PerformsAt r object args old new (Ok said) = IsPerformed r object args old new said
+PerformsAt r object args old new (Ok said) = IsPerformed r object args old new said ⊎ Stalls r (state_of old) (state_of new) said
 PerformsAt r object args old new (Err (fault.Raised reason)) = (r.reason ≡ Some reason) × (new ≡ old)
 PerformsAt r object args old new (Err fault.NoMemory) = ⊤
 

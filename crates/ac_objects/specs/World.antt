@@ -6,14 +6,16 @@ use Rattle.ac_model.specs.Containers.{Container}
 use Rattle.ac_model.specs.Objects.{plain}
 use Rattle.ac_model.specs.Cursors.{plain_mark}
 use Rattle.ac_model.specs.Holders.{Holder}
+use Rattle.ac_history.specs.States.{TaskQueue}
+use Rattle.ac_book.specs.Shared.{shared}
 use Rattle.ac_syntax.specs.declared.kind.ElemKind.{ElemKind}
 use Rattle.ac_syntax.specs.declared.kind.ElemKind.TheVariants.{Integer, Str}
-use Rattle.ac_meaning.specs.Holdings.{RowKind, RowOf, Held, of_rows, of_holder, a_sequence, a_map, a_set, a_keyed_set, a_tree}
+use Rattle.ac_meaning.specs.Holdings.{RowKind, RowOf, Held, of_rows, of_holder, of_queue, a_sequence, a_map, a_set, a_keyed_set, a_tree}
 use Rattle.ac_meaning.specs.Elements.{ElementOf}
 use Rattle.ac_meaning.specs.Environment as meant
 use Rattle.ac_meaning.specs.Numbers.{NumbersDiffer}
 use Rattle.ac_objects.specs.declared.object.Object.{Object}
-use Rattle.ac_objects.specs.declared.object.Object.TheVariants.{Integers, Texts, IntegerSet, TextSet, KeyedSet, IntegersByInteger, IntegersByText, TextsByInteger, TextsByText, IntegerTree, TextTree, IntegerHolder, TextHolder}
+use Rattle.ac_objects.specs.declared.object.Object.TheVariants.{Integers, Texts, IntegerSet, TextSet, KeyedSet, IntegersByInteger, IntegersByText, TextsByInteger, TextsByText, IntegerTree, TextTree, IntegerHolder, TextHolder, Queue}
 use Rattle.ac_objects.specs.Arguments.{SlotAgrees}
 use Rattle.ac_objects.specs.Sequences.{rows_of, kind_of}
 use Rattle.ac_objects.specs.Sets.{items_of, set_kind_of}
@@ -22,18 +24,31 @@ use Rattle.ac_objects.specs.Maps.{entries_of, map_kind_of}
 use Rattle.ac_objects.specs.declared.bound.Bound.{Bound}
 use Rattle.ac_objects.specs.declared.bound.Bound.TheVariants as bound
 
--- by the places of their names, and the number of the next object
+-- the number of the next object, and how many blocks of tasks have begun
+pub record Counters : Type 0 where
+  pub next : ℕ
+  pub blocks : ℕ
+
+abbrev pub counted : (next blocks : ℕ) → Counters
+counted next blocks = record { next = next; blocks = blocks }
+
+-- where numbers run from this one
+abbrev pub counted_from : ℕ → Counters
+counted_from first = counted first 0
+
+-- by the places of their names
 pub record World : Type 0 where
   pub bounds : List Bound
-  pub next : ℕ
+  pub counters : Counters
 
-abbrev pub world : List Bound → ℕ → World
-world bounds next = record { bounds = bounds; next = next }
+abbrev pub world : List Bound → Counters → World
+world bounds counters = record { bounds = bounds; counters = counters }
 
--- an object in memory: its kind, and its rows with the slots of their names, or a holder, which has no names
+-- an object in memory: its kind, and its rows with the slots of their names, or a holder or a queue, which have no names
 pub data InMemory : Type 0 where
   in_rows : (kind : RowKind) → Container (RowOf kind) → InMemory
   in_holder : (element : ElemKind) → Holder (ElementOf element) → InMemory
+  in_queue : (number : ℕ) → TaskQueue → InMemory
 
 unfoldable pub memory_of : Object → InMemory
 memory_of (Integers s) = in_rows (a_sequence (kind_of s) Integer) (rows_of s)
@@ -49,12 +64,14 @@ memory_of (IntegerTree t) = in_rows (a_tree Integer) t
 memory_of (TextTree t) = in_rows (a_tree Str) t
 memory_of (IntegerHolder h) = in_holder Integer h
 memory_of (TextHolder h) = in_holder Str h
+memory_of (Queue q) = in_queue q.tag (shared q.queue)
 
 -- without the slots of names: as the meaning of scripts has them
 
 abbrev pub held_in : InMemory → Held
 held_in (in_rows kind l) = of_rows kind (plain l.object)
 held_in (in_holder e h) = of_holder e h
+held_in (in_queue number q) = of_queue number q
 
 abbrev pub held_of : Object → Held
 held_of o = held_in (memory_of o)
@@ -67,7 +84,7 @@ bound_of (bound.Value v) = meant.binds_value v
 bound_of (bound.Element object at) = meant.binds_element object (plain_mark at)
 
 abbrev pub state_of : World → meant.State
-state_of w = record { bounds = map bound_of w.bounds; next = w.next }
+state_of w = record { bounds = map bound_of w.bounds; next = w.counters.next; blocks = w.counters.blocks }
 
 -- Cursors
 
@@ -75,6 +92,7 @@ state_of w = record { bounds = map bound_of w.bounds; next = w.next }
 abbrev pub AgreesIn : InMemory → Cursor → Type 0
 AgreesIn (in_rows kind l) c = SlotAgrees l.object c
 AgreesIn (in_holder e h) c = ⊤
+AgreesIn (in_queue number q) c = ⊤
 
 abbrev pub ObjectAgrees : Object → Cursor → Type 0
 ObjectAgrees o c = AgreesIn (memory_of o) c
@@ -93,7 +111,7 @@ IsMade next (cursor.At object name) = object < next
 
 -- a cursor that a script can have: the one of an object that was made, with the slot that this one would find, if it is in scope
 pub record IsKnown (w : World) (c : Cursor) : Type 0 where
-  pub made : IsMade w.next c
+  pub made : IsMade w.counters.next c
   pub agrees : All (λ b. BoundAgrees b c) w.bounds
 
 -- the cursor that a name holds, or at which its element stands

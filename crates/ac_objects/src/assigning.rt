@@ -1,8 +1,9 @@
 //! Values and cursors that are given to the names of a script.
-ghost use Rattle.std.specs.Prelude.{◌≡◌, ℕ, None, Some, slice_get, slice_set};
+ghost use Rattle.std.specs.Prelude.{◌≡◌, ℕ, ℤ, None, Some, slice_get, slice_set};
 ghost use Rattle.ac_meaning.specs.Commands.{value_set, mark_set};
 ghost use Rattle.ac_meaning.specs.Environment.{bound_at};
 ghost use Rattle.ac_model.specs.Cursors.{plain_mark};
+ghost use Rattle.ac_objects.specs.Called.{NotRaised};
 ghost use Rattle.ac_objects.specs.Standing.{ElementsStand, counts_of};
 ghost use Rattle.ac_objects.specs.Steps.{AssignsTo, SetsMark, SetsValue, CanRead, WritesAt, StandsSomewhere, marked};
 ghost use Rattle.ac_objects.specs.World.{state_of, IsKnown, Persists, IsSound, world};
@@ -29,11 +30,12 @@ impl Objects {
         put_mark(&mut self.bounds, place, cursor)
     }
 
-    /// Gives a variable the value, or the element that a name stands for. Another name takes none.
+    /// Gives a variable the value, or the element that a name stands for. Another name takes none. An integer is never refused.
     #[inline(always)]
     pub(crate) fn set_value(&mut self, place: usize, value: Value) -> Result<(), Fault>
         requires { ElementsStand (state_of self.old) }
         ensures set { AssignsTo (value_set (state_of self.old) place value (bound_at (state_of self.old) place)) self.old self.new result }
+        ensures integers { (n : ℤ) → value ≡ Value.Int n → NotRaised result }
         ensures persists { Persists self.old self.new }
         ensures counts { counts_of (state_of self.new) ≡ counts_of (state_of self.old) }
     {
@@ -69,7 +71,8 @@ fn put_value(
     value: Value,
 ) -> Result<(), Fault>
     requires { StandsSomewhere bounds.old.items }
-    ensures { SetsValue place value bounds.old.items bounds.new.items result }
+    ensures set { SetsValue place value bounds.old.items bounds.new.items result }
+    ensures integers { (n : ℤ) → value ≡ Value.Int n → NotRaised result }
 {
     match bounds.get(place) {
         None => Ok(()),
@@ -107,11 +110,15 @@ fn put_element(
     value: Value,
 ) -> Result<(), Fault>
     requires { CanRead bounds.old.items object at }
-    ensures { (o : AnyObject) → slice_get bounds.old.items object ≡ Some (bound.Object o) →
+    ensures written { (o : AnyObject) → slice_get bounds.old.items object ≡ Some (bound.Object o) →
         WritesAt object at value o bounds.old.items bounds.new.items result }
+    ensures integers { (n : ℤ) → value ≡ Value.Int n → NotRaised result }
 {
     match &mut bounds[object] {
-        Bound::Object(held) => write_element(held, alloc, at, value),
+        Bound::Object(held) => {
+            held.law();
+            write_element(held, alloc, at, value)
+        }
         _ => unreachable!(),
     }
 }

@@ -1,7 +1,8 @@
 //! An answer is given to a target, and the variable among the arguments is set.
-ghost use Rattle.std.specs.Prelude.{◌≡◌, ℕ, None, Some};
+ghost use Rattle.std.specs.Prelude.{◌≡◌, ℕ, ℤ, None, Some};
 ghost use Rattle.ac_meaning.specs.Answers.{Answer, answers_value};
 ghost use Rattle.ac_meaning.specs.Commands.{assigned, variable_set};
+ghost use Rattle.ac_objects.specs.Called.{NotRaised};
 ghost use Rattle.ac_objects.specs.Shown.{Shows};
 ghost use Rattle.ac_objects.specs.Standing.{ElementsStand, counts_of};
 ghost use Rattle.ac_objects.specs.Steps.{AssignsTo, SaidKnown, placed_of, PlacedKnown};
@@ -14,13 +15,14 @@ use ac_base::{Fault, Value};
 use ac_check::ResolvedArg;
 
 impl Objects {
-    /// Gives what a call answered to the target, where it is a value or a cursor.
+    /// Gives what a call answered to the target, where it is a value or a cursor. An integer is never refused.
     #[inline(always)]
     pub(crate) fn give(&mut self, target: Option<usize>, said: &Said) -> Result<(), Fault>
         requires stand { ElementsStand (state_of self.old) }
         requires known { SaidKnown self.old said.now }
         ensures given { (object : ℕ) (answer : Answer) → Shows (state_of self.old) object said.now answer →
             AssignsTo (assigned (state_of self.old) target answer) self.old self.new result }
+        ensures integers { (n : ℤ) → said.now ≡ Said.Value (Value.Int n) → NotRaised result }
         ensures persists { Persists self.old self.new }
         ensures counts { counts_of (state_of self.new) ≡ counts_of (state_of self.old) }
     {
@@ -36,6 +38,7 @@ impl Objects {
         requires known { SaidKnown self.old said.now }
         ensures given { (object : ℕ) (answer : Answer) → Shows (state_of self.old) object said.now answer →
             AssignsTo (assigned (state_of self.old) (Some place) answer) self.old self.new result }
+        ensures integers { (n : ℤ) → said.now ≡ Said.Value (Value.Int n) → NotRaised result }
         ensures persists { Persists self.old self.new }
         ensures counts { counts_of (state_of self.new) ≡ counts_of (state_of self.old) }
     {
@@ -45,7 +48,7 @@ impl Objects {
                 self.set_mark(place, *cursor);
                 Ok(())
             }
-            Said::Done | Said::Truth(_) | Said::Listing => Ok(()),
+            Said::Done | Said::Truth(_) | Said::Listing | Said::Stalled => Ok(()),
         }
     }
 
@@ -53,6 +56,7 @@ impl Objects {
     fn give_value(&mut self, place: usize, value: &Value) -> Result<(), Fault>
         requires { ElementsStand (state_of self.old) }
         ensures given { AssignsTo (assigned (state_of self.old) (Some place) (answers_value value.now)) self.old self.new result }
+        ensures integers { (n : ℤ) → value.now ≡ Value.Int n → NotRaised result }
         ensures persists { Persists self.old self.new }
         ensures counts { counts_of (state_of self.new) ≡ counts_of (state_of self.old) }
     {

@@ -1,18 +1,19 @@
 //! The guards that blocks hold on the objects of a script.
-ghost use Rattle.std.specs.Prelude.{◌≡◌, true, false, Some, refl};
-ghost use Rattle.ac_base.specs.Guards.{raised_kind};
+ghost use Rattle.std.specs.Prelude.{◌≡◌, ◌<◌, true, false, None, Some, refl};
+ghost use Rattle.ac_base.specs.Guards.{raised_kind, count_of, one_more, one_less};
 ghost use Rattle.ac_model.specs.Common.{hold_call};
 ghost use Rattle.ac_model.specs.Containers.{guards_of};
-ghost use Rattle.ac_meaning.specs.Holdings.{Held, with_rows_by, is_a_set, guard_on};
-ghost use Rattle.ac_meaning.specs.Environment.{object_at, objects_by};
+ghost use Rattle.ac_meaning.specs.Holdings.{Held, with_rows_by, is_a_set, guard_on, takes_guards};
+ghost use Rattle.ac_meaning.specs.Environment.{object_at, guarded_at, objects_by};
 ghost use Rattle.ac_meaning.specs.UnderGuards.{held_with, held_without};
 ghost use Rattle.ac_objects.specs.Blocks.{HasRoom, HasRoomForTwo, IsHeldAt};
 ghost use Rattle.ac_objects.specs.Counts as counts;
+ghost use Rattle.ac_objects.specs.Counts.{with_counts};
 ghost use Rattle.ac_objects.specs.KeyedSets.{keyed_items};
 ghost use Rattle.ac_objects.specs.Maps.{entries_of};
 ghost use Rattle.ac_objects.specs.Sequences.{rows_of};
 ghost use Rattle.ac_objects.specs.Sets.{items_of};
-ghost use Rattle.ac_objects.specs.Standing.{IsObject, counts_in_held};
+ghost use Rattle.ac_objects.specs.Standing.{TakesGuards, counts_in_held};
 ghost use Rattle.ac_objects.specs.World.{held_of, state_of, Persists};
 
 use crate::bound::Bound;
@@ -164,23 +165,16 @@ impl<K: ScriptElement, V: ScriptElement> Guarded for Map<K, V> {
     }
 }
 
-impl Guarded for Object {
-    ghost is_set = { λ o. is_a_set (held_of o) };
-
-    ghost guards = { λ o. counts_in_held (held_of o) };
-
-    ghost with_guards = { counts.with_counts };
-
-    ghost guards_given = { counts.counts_given };
-
-    ghost guards_own = { counts.counts_own };
-
-    ghost rest_kept = { counts.rest_kept };
-
-    ghost set_kept = { counts.set_kept };
-
+impl Object {
+    /// Holds one guard more. On a set it is a cursor guard, whatever the kind.
     #[tactic(auto, unfolding(crate::specs::World::memory_of))]
-    fn hold(&mut self, kind: GuardKind) -> GuardKey {
+    fn hold(&mut self, kind: GuardKind) -> GuardKey
+        requires takes { takes_guards (held_of self.old) ≡ true }
+        requires room { count_of (raised_kind (is_a_set (held_of self.old)) kind) (counts_in_held (held_of self.old)) < u64.MAX }
+        ensures object { result.object ≡ (counts_in_held (held_of self.old)).number }
+        ensures kind { result.kind ≡ raised_kind (is_a_set (held_of self.old)) kind }
+        ensures held { self.new ≡ with_counts self.old (one_more result.kind (counts_in_held (held_of self.old))) }
+    {
         match self {
             Object::Integers(sequence) => sequence.hold(kind),
             Object::Texts(sequence) => sequence.hold(kind),
@@ -195,11 +189,17 @@ impl Guarded for Object {
             Object::TextTree(tree) => tree.hold(kind),
             Object::IntegerHolder(holder) => holder.hold(kind),
             Object::TextHolder(holder) => holder.hold(kind),
+            Object::Queue(_) => unreachable!(),
         }
     }
 
+    /// Releases the guard of the key.
     #[tactic(auto, unfolding(crate::specs::World::memory_of))]
-    fn release(&mut self, key: GuardKey) {
+    pub(crate) fn release(&mut self, key: GuardKey)
+        requires own { key.object ≡ (counts_in_held (held_of self.old)).number }
+        requires held { 0 < count_of key.kind (counts_in_held (held_of self.old)) }
+        ensures { self.new ≡ with_counts self.old (one_less key.kind (counts_in_held (held_of self.old))) }
+    {
         match self {
             Object::Integers(sequence) => sequence.release(key),
             Object::Texts(sequence) => sequence.release(key),
@@ -214,11 +214,15 @@ impl Guarded for Object {
             Object::TextTree(tree) => tree.release(key),
             Object::IntegerHolder(holder) => holder.release(key),
             Object::TextHolder(holder) => holder.release(key),
+            Object::Queue(_) => unreachable!(),
         }
     }
 
+    /// How many guards of the kind are held.
     #[tactic(auto, unfolding(crate::specs::World::memory_of))]
-    fn held(&self, kind: GuardKind) -> u64 {
+    fn held(&self, kind: GuardKind) -> u64
+        ensures { result ≡ count_of kind (counts_in_held (held_of self.now)) }
+    {
         match self {
             Object::Integers(sequence) => sequence.held(kind),
             Object::Texts(sequence) => sequence.held(kind),
@@ -233,11 +237,10 @@ impl Guarded for Object {
             Object::TextTree(tree) => tree.held(kind),
             Object::IntegerHolder(holder) => holder.held(kind),
             Object::TextHolder(holder) => holder.held(kind),
+            Object::Queue(_) => 0,
         }
     }
-}
 
-impl Object {
     /// The kind of guard that is held where this one is asked for: of a set, cursor guards alone.
     #[tactic(auto, unfolding(crate::specs::World::memory_of))]
     fn raised(&self, kind: GuardKind) -> GuardKind
@@ -248,11 +251,34 @@ impl Object {
             _ => kind,
         }
     }
+
+    /// Whether guards are held on it, as on every object but a queue.
+    #[tactic(auto, unfolding(crate::specs::World::memory_of))]
+    fn takes_guards(&self) -> bool
+        ensures { result ≡ takes_guards (held_of self.now) }
+    {
+        match self {
+            Object::Queue(_) => false,
+            _ => true,
+        }
+    }
 }
 
 impl Objects {
+    /// Whether an object stands at the place that takes guards.
+    pub fn takes_guards(&self, place: usize) -> bool
+        ensures yes { result ≡ true → TakesGuards (state_of self.now) place }
+        ensures no { result ≡ false → guarded_at (state_of self.now) place ≡ None }
+    {
+        match self.object_at(place) {
+            Some(object) => object.takes_guards(),
+            None => false,
+        }
+    }
+
     /// Whether 64 bits count one guard more of the kind.
     pub(crate) fn has_room(&self, place: usize, kind: GuardKind) -> bool
+        requires { TakesGuards (state_of self.now) place }
         ensures { result ≡ true → HasRoom (state_of self.now) place kind }
     {
         match self.object_at(place) {

@@ -6,7 +6,7 @@ ghost use Rattle.ac_meaning.specs.Holdings.{reply_of, number_of, element_value, 
 ghost use Rattle.ac_meaning.specs.Replies.{itself, another, arguments_seen};
 ghost use Rattle.ac_objects.specs.Arguments.{AllAgree, arguments_of, mark_in};
 ghost use Rattle.ac_objects.specs.Replied.{Replied, RepliedWith, told};
-ghost use Rattle.ac_objects.specs.Called.{AgreesWith, Called, CalledWith, Lasts, AreValid, WritesTo, WritesIn};
+ghost use Rattle.ac_objects.specs.Called.{AgreesWith, IsWithinLimit, Called, CalledWith, Lasts, AreValid, WritesTo, WritesIn};
 ghost use Rattle.ac_objects.specs.World.{held_of, ObjectAgrees};
 
 use crate::argument::Arguments;
@@ -14,9 +14,10 @@ use crate::holder_calls::{operate_holder, operate_holders};
 use crate::holder_elements::{value, write};
 use crate::object::Object;
 use crate::operated_rows::OperatedRows;
+use crate::queue_calls::operate_queue;
 use crate::reply::Reply;
 use crate::row_object::RowObject;
-use ac_base::{Fault, NoMemory, Value};
+use ac_base::{Fault, NoMemory, Reason, Value};
 use ac_check::Operation;
 use ac_cursor::Cursor;
 use std::alloc::Global;
@@ -50,6 +51,7 @@ pub fn call_object(
         Object::TextTree(tree) => call_own(tree, alloc, operation, args, reply),
         Object::IntegerHolder(holder) => operate_holder(holder, alloc, operation, args, reply),
         Object::TextHolder(holder) => operate_holder(holder, alloc, operation, args, reply),
+        Object::Queue(queue) => operate_queue(&mut queue.queue, operation, args, reply),
     }
 }
 
@@ -128,6 +130,7 @@ pub fn call_objects(
             }
             _ => operate_holder(holder, alloc, operation, args, reply),
         },
+        Object::Queue(queue) => operate_queue(&mut queue.queue, operation, args, reply),
     }
 }
 
@@ -236,6 +239,7 @@ pub fn element_of(object: &Object, alloc: Global, at: Cursor) -> Result<Value, N
         Object::TextTree(tree) => tree.element_value(alloc, at),
         Object::IntegerHolder(holder) => value(holder, alloc),
         Object::TextHolder(holder) => value(holder, alloc),
+        Object::Queue(_) => unreachable!(),
     }
 }
 
@@ -265,6 +269,22 @@ pub fn write_element(
         Object::TextTree(tree) => written(tree, alloc, at, value),
         Object::IntegerHolder(holder) => write(holder, alloc, value),
         Object::TextHolder(holder) => write(holder, alloc, value),
+        Object::Queue(_) => Err(Fault::Raised(Reason::NoElement)),
+    }
+}
+
+impl Object {
+    /// What holds of every object, for proofs alone: a holder's element is no larger than its limit.
+    #[inline(always)]
+    #[tactic(auto, unfolding(crate::specs::World::memory_of))]
+    pub(crate) fn law(&self)
+        ensures { IsWithinLimit (held_of self.now) }
+    {
+        match self {
+            Object::IntegerHolder(holder) => holder.law(),
+            Object::TextHolder(holder) => holder.law(),
+            _ => {}
+        }
     }
 }
 

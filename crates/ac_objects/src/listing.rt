@@ -14,13 +14,14 @@ ghost use Rattle.ac_objects.specs.World.{held_of, state_of};
 use crate::holder_elements::write_listing;
 use crate::object::Object;
 use crate::objects::Objects;
+use crate::queue_listing::write_queue;
 use crate::row_object::ListedRows;
 use crate::trees::write_tree;
 use ac_cursor::Cursor;
 use ac_io::{Sink, WriteFault, add};
 
 /// What stands before an item.
-fn comma(is_first: bool) -> &'static [u8]
+pub(crate) fn comma(is_first: bool) -> &'static [u8]
     ensures { result.now ≡ comma_at is_first }
 {
     if is_first { b"" } else { b", " }
@@ -104,6 +105,7 @@ fn write_object<K: Sink>(
         Object::TextTree(tree) => write_tree(tree, text, sink),
         Object::IntegerHolder(holder) => write_listing(holder, text, sink),
         Object::TextHolder(holder) => write_listing(holder, text, sink),
+        Object::Queue(queue) => write_queue(&queue.queue, text, sink),
     }
 }
 

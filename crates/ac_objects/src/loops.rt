@@ -11,7 +11,7 @@ ghost use Rattle.ac_meaning.specs.Walks.{first_mark};
 ghost use Rattle.ac_objects.specs.Blocks.{holding, releasing, guard_if, guards_of_loop_key, HasRoom, HasRoomForTwo, IsHeldAt};
 ghost use Rattle.ac_objects.specs.Given.{StepsOn};
 ghost use Rattle.ac_objects.specs.RootFree.{NoRootAmong};
-ghost use Rattle.ac_objects.specs.Standing.{IsObject, ComingStands, counts_of};
+ghost use Rattle.ac_objects.specs.Standing.{IsObject, TakesGuards, ComingStands, counts_of};
 ghost use Rattle.ac_objects.specs.World.{bound_of, cursor_in, state_of, IsKnown, Persists};
 ghost use Rattle.ac_objects.specs.declared.bound.Bound.TheVariants as bound;
 
@@ -29,7 +29,7 @@ impl Objects {
         backward: bool,
         object: usize,
     ) -> Result<LoopKey, NoMemory>
-        requires object { IsObject (state_of self.old) object }
+        requires object { TakesGuards (state_of self.old) object }
         ensures key { IfOk result (λ key. (key.object ≡ object) × (key.names ≡ length self.old.bounds) × (key.backward ≡ backward)
             × IsKnown self.new key.coming) }
         ensures opened { (h : Held) → object_at (state_of self.old) object ≡ Some h → IfOk result (λ key.
@@ -256,6 +256,7 @@ impl Objects {
 
     /// Whether 64 bits count the guards of one loop more.
     fn has_room_for_loop(&self, place: usize, elements: bool) -> bool
+        requires { TakesGuards (state_of self.now) place }
         ensures cursors { result ≡ true → HasRoom (state_of self.now) place GuardKind.Cursors }
         ensures elements { result ≡ true → elements ≡ true → HasRoom (state_of self.now) place GuardKind.Elements }
         ensures both { result ≡ true → elements ≡ true → HasRoomForTwo (state_of self.now) place }

@@ -1,10 +1,12 @@
 //! New objects without elements, of every kind and element type.
 ghost use Rattle.std.specs.Prelude.{◌≡◌, Bool, true, false, Option, IfOk};
 ghost use Rattle.ac_base.specs.Limits.{IsLimit};
-ghost use Rattle.ac_check.specs.Kinds.{is_holder};
-ghost use Rattle.ac_meaning.specs.Holdings.{a_sequence, a_set, a_keyed_set, a_map, kind_by, element_or, limit_by, new_held, new_within, is_vector, is_hashed};
+ghost use Rattle.ac_check.specs.Kinds.{has_cursors, is_queue};
+ghost use Rattle.ac_book.specs.Shared.{shared};
+ghost use Rattle.ac_meaning.specs.Holdings.{a_sequence, a_set, a_keyed_set, a_map, kind_by, element_or, discipline_by, limit_by, new_held, new_within, is_vector, is_hashed};
 ghost use Rattle.ac_model.specs.Holders.{empty_holder};
 ghost use Rattle.ac_model.specs.Objects.{plain, empty_object};
+ghost use Rattle.ac_model.specs.Queues.{empty_queue};
 ghost use Rattle.ac_syntax.specs.declared.kind.ElemKind.{ElemKind as Elements};
 ghost use Rattle.ac_objects.specs.Maps.{entries_of, map_kind_of};
 ghost use Rattle.ac_objects.specs.Sequences.{rows_of, kind_of};
@@ -14,6 +16,7 @@ ghost use Rattle.ac_objects.specs.World.{held_of};
 use crate::element::ScriptElement;
 use crate::keyed_set::KeyedSet;
 use crate::map::Map;
+use crate::numbered_queue::NumberedQueue;
 use crate::object::Object;
 use crate::sequence::Sequence;
 use crate::set::Set;
@@ -23,6 +26,7 @@ use ac_forms::Holder;
 use ac_hashed::{HashedMap, HashedSet};
 use ac_list::List;
 use ac_ordered::{OrderedMap, OrderedSet};
+use ac_queue::{AnyQueue, PriorityQueue, Queue};
 use ac_syntax::{ElemKind, Kind, TypeDef};
 use ac_tree::Tree;
 use ac_vector::Vector;
@@ -44,7 +48,7 @@ pub(crate) fn new_object(
         Kind::HashedMap | Kind::OrderedMap => new_map_object(alloc, def, tag, limit),
         Kind::Holder => new_holder_object(alloc, def, tag, limit),
         Kind::Tree => new_tree_object(alloc, def, tag, limit),
-        _ => Err(NoMemory),
+        Kind::Queue | Kind::PriorityQueue => new_queue_object(alloc, def, tag, limit),
     }
 }
 
@@ -106,6 +110,20 @@ fn new_tree_object(alloc: Global, def: &TypeDef, tag: Tag, limit: Limit) -> Resu
             Ok(Object::TextTree(made))
         }
     }
+}
+
+fn new_queue_object(
+    alloc: Global,
+    def: &TypeDef,
+    tag: Tag,
+    limit: Limit,
+) -> Result<Object, NoMemory>
+    requires kind { is_queue def.now.kind ≡ true }
+    requires limit { IsLimit limit }
+    ensures { IfOk result (λ made. held_of made ≡ new_within def.now tag limit) }
+{
+    let queue = new_queue(alloc, def.kind, limit)?;
+    Ok(Object::Queue(NumberedQueue { tag, queue }))
 }
 
 fn new_set_object(alloc: Global, def: &TypeDef, tag: Tag, limit: Limit) -> Result<Object, NoMemory>
@@ -203,7 +221,7 @@ fn new_sequence<T: Drop>(
     requires { IsLimit limit }
     ensures kind { (first : Elements) (second : Option Elements) (keyed : Bool) →
         IfOk result (λ made. kind_by kind first second keyed ≡ a_sequence (kind_of made) first) }
-    ensures rows { IfOk result (λ _. is_holder kind ≡ false) }
+    ensures rows { IfOk result (λ _. has_cursors kind ≡ true) }
     ensures empty { IfOk result (λ made. plain (rows_of made).object ≡ empty_object (is_vector (kind_of made)) tag limit) }
 {
     match kind {
@@ -230,6 +248,24 @@ fn new_holder<T: Elem>(alloc: Global, tag: Tag, limit: Limit) -> Result<Holder<T
     }
 }
 
+/// A queue without items.
+fn new_queue(alloc: Global, kind: Kind, limit: Limit) -> Result<AnyQueue, NoMemory>
+    requires { IsLimit limit }
+    ensures { IfOk result (λ made. shared made ≡ record { discipline = discipline_by kind; queue = empty_queue limit }) }
+{
+    match kind {
+        Kind::Queue => match Queue::new(alloc, limit) {
+            Ok(queue) => Ok(AnyQueue::Plain(queue)),
+            Err(_) => Err(NoMemory),
+        },
+        Kind::PriorityQueue => match PriorityQueue::new(alloc, limit) {
+            Ok(queue) => Ok(AnyQueue::Ranked(queue)),
+            Err(_) => Err(NoMemory),
+        },
+        _ => Err(NoMemory),
+    }
+}
+
 /// A tree without elements.
 fn new_tree<T: Elem>(alloc: Global, tag: Tag, limit: Limit) -> Result<Tree<T>, NoMemory>
     requires { IsLimit limit }
@@ -252,7 +288,7 @@ fn new_set<T: ScriptElement>(
     ensures kind { (first : Elements) (second : Option Elements) →
         IfOk result (λ made. (kind_by kind first second false ≡ a_set (set_kind_of made) first)
         × (kind_by kind first second true ≡ a_keyed_set (set_kind_of made))) }
-    ensures rows { IfOk result (λ _. is_holder kind ≡ false) }
+    ensures rows { IfOk result (λ _. has_cursors kind ≡ true) }
     ensures empty { IfOk result (λ made. plain (items_of made).object ≡ empty_object (is_hashed (set_kind_of made)) tag limit) }
 {
     match kind {
@@ -278,7 +314,7 @@ fn new_map<K: ScriptElement, V: ScriptElement>(
     requires { IsLimit limit }
     ensures kind { (first : Elements) (second : Option Elements) (keyed : Bool) →
         IfOk result (λ made. kind_by kind first second keyed ≡ a_map (map_kind_of made) first (element_or first second)) }
-    ensures rows { IfOk result (λ _. is_holder kind ≡ false) }
+    ensures rows { IfOk result (λ _. has_cursors kind ≡ true) }
     ensures empty { IfOk result (λ made. plain (entries_of made).object ≡ empty_object (is_hashed (map_kind_of made)) tag limit) }
 {
     match kind {

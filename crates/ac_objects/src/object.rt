@@ -1,6 +1,7 @@
 //! An object of a script, of any kind and element type.
 use crate::keyed_set::KeyedSet;
 use crate::map::Map;
+use crate::numbered_queue::NumberedQueue;
 use crate::sequence::Sequence;
 use crate::set::Set;
 use ac_base::Text;
@@ -23,4 +24,5 @@ pub enum Object {
     TextTree(Tree<Text>),
     IntegerHolder(Holder<i64>),
     TextHolder(Holder<Text>),
+    Queue(NumberedQueue),
 }

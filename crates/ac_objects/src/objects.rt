@@ -8,7 +8,7 @@ ghost use Rattle.ac_base.specs.declared.reason.Reason.{Reason as Refusal};
 ghost use Rattle.ac_objects.specs.Performs.{Performs, Untouched, answered};
 ghost use Rattle.ac_objects.specs.Standing.{IsObject, ElementsStand, counts_of};
 ghost use Rattle.ac_objects.specs.Steps.{PerformsAt, PlacedKnown, placed_of, reply_in, if_integer, sum_given};
-ghost use Rattle.ac_objects.specs.World.{state_of, world, Persists};
+ghost use Rattle.ac_objects.specs.World.{state_of, world, counted_from, Persists};
 
 use crate::bound::Bound;
 use crate::frame::Frame;
@@ -26,27 +26,29 @@ pub struct Objects {
     pub(crate) alloc: Global,
     pub(crate) mint: TagMint,
     pub(crate) bounds: Vec<Bound>,
+    pub(crate) blocks: u64,
 }
 
 impl Model for Objects {
-    ghost use Rattle.ac_objects.specs.World.{World, world, IsSound};
+    ghost use Rattle.ac_objects.specs.World.{World, world, counted, IsSound};
 
     ghost Value = { World };
 
-    ghost view = { λ o. world o.bounds.items o.mint };
+    ghost view = { λ o. world o.bounds.items (counted o.mint o.blocks) };
 
-    ghost invariant = { λ o. IsSound (world o.bounds.items o.mint) };
+    ghost invariant = { λ o. IsSound (world o.bounds.items (counted o.mint o.blocks)) };
 }
 
 impl Objects {
-    /// No names, and objects whose numbers run from this one.
+    /// No names, objects whose numbers run from this one, and no block of tasks that has begun.
     pub fn starting_at(alloc: Global, first: u64) -> Objects
-        ensures { result ≡ world [] first }
+        ensures { result ≡ world [] (counted_from first) }
     {
         Objects {
             alloc,
             mint: TagMint::starting_at(first),
             bounds: Vec::new(alloc),
+            blocks: 0,
         }
     }
 
@@ -180,7 +182,7 @@ impl Objects {
 }
 
 #[inline(always)]
-fn integer_of(value: Value) -> i64
+pub(crate) fn integer_of(value: Value) -> i64
     ensures { result ≡ integer_in value }
 {
     match value {

@@ -9,7 +9,7 @@ ghost use Rattle.ac_objects.specs.Shown.{Shows};
 ghost use Rattle.ac_objects.specs.Standing.{IsObject, ElementsStand};
 ghost use Rattle.ac_objects.specs.Steps.{AllKnown, CanRead, answer_of, source_or, SaidKnown};
 ghost use Rattle.ac_check.specs.declared.resolved.ResolvedArg.{ResolvedArg as ArgData};
-ghost use Rattle.ac_objects.specs.World.{World, state_of, world, IsKnown};
+ghost use Rattle.ac_objects.specs.World.{World, Counters, state_of, world, IsKnown};
 
 use crate::argument::{Argument, Arguments};
 use crate::bound::Bound;
@@ -212,8 +212,8 @@ pub(crate) fn copy_element(
     at: Cursor,
 ) -> Result<Value, NoMemory>
     requires { CanRead bounds.now.items object at }
-    ensures { (next : ℕ) → IfOk result (λ value.
-        value ≡ value_in (state_of (world bounds.now.items next)) (binds_element object (plain_mark at))) }
+    ensures { (counters : Counters) → IfOk result (λ value.
+        value ≡ value_in (state_of (world bounds.now.items counters)) (binds_element object (plain_mark at))) }
 {
     match bounds[object].object() {
         Some(held) => element_of(held, alloc, at),

@@ -13,6 +13,8 @@ pub enum Said {
     Place(Cursor),
     /// The object's listing, which isn't made here.
     Listing,
+    /// The call would wait, and nothing of it has happened.
+    Stalled,
 }
 
 /// What the cursor variable at a place of the arguments is set to.

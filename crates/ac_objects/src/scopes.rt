@@ -37,7 +37,7 @@ impl Object {
             Object::TextsByText(map) => map.live_nodes(),
             Object::IntegerTree(tree) => tree.live_nodes(),
             Object::TextTree(tree) => tree.live_nodes(),
-            Object::IntegerHolder(_) | Object::TextHolder(_) => 0,
+            Object::IntegerHolder(_) | Object::TextHolder(_) | Object::Queue(_) => 0,
         }
     }
 }

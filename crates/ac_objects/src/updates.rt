@@ -9,7 +9,7 @@ ghost use Rattle.ac_meaning.specs.Environment.{object_at, mark_at, value_at, val
 ghost use Rattle.ac_meaning.specs.Execution.{head_reason, guards_of_view};
 ghost use Rattle.ac_meaning.specs.UnderGuards.{held_without};
 ghost use Rattle.ac_objects.specs.Blocks.{holding, releasing, guards_of_update_key, IsHeldAt};
-ghost use Rattle.ac_objects.specs.Standing.{IsObject, StandsAt, ElementsStand, counts_of};
+ghost use Rattle.ac_objects.specs.Standing.{TakesGuards, StandsAt, ElementsStand, counts_of};
 ghost use Rattle.ac_objects.specs.KeyUpdates.{UpdateEnds, key_ended};
 ghost use Rattle.ac_objects.specs.World.{state_of, IsKnown, Persists};
 
@@ -25,7 +25,7 @@ use ac_model::allowed;
 impl Objects {
     /// Begins an update of the element at which a cursor stands: its name holds a copy, and a guard is held.
     pub fn enter_update(&mut self, object: usize, at: Option<usize>) -> Result<UpdateKey, Fault>
-        requires object { IsObject (state_of self.old) object }
+        requires object { TakesGuards (state_of self.old) object }
         ensures key { IfOk result (λ key. (key.object ≡ object) × (key.names ≡ length self.old.bounds)
             × (plain_mark key.at ≡ mark_at (state_of self.old) at) × IsKnown self.new key.at) }
         ensures guard { IfOk result (λ key. key.guard.kind ≡ GuardKind.Cursors) }

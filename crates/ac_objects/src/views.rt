@@ -6,7 +6,7 @@ ghost use Rattle.ac_meaning.specs.Holdings.{Held, guard_on};
 ghost use Rattle.ac_meaning.specs.Environment.{object_at, mark_at, with_name, leaving, binds_element};
 ghost use Rattle.ac_meaning.specs.Execution.{head_reason, guards_of_view, guards_of_stable};
 ghost use Rattle.ac_objects.specs.Blocks.{holding, releasing, guards_of_view_key, IsHeldAt};
-ghost use Rattle.ac_objects.specs.Standing.{IsObject};
+ghost use Rattle.ac_objects.specs.Standing.{TakesGuards};
 ghost use Rattle.ac_objects.specs.World.{state_of, IsKnown, Persists};
 
 use crate::blocks::ViewKey;
@@ -26,7 +26,7 @@ impl Objects {
         at: Option<usize>,
     ) -> Result<ViewKey, Fault>
         requires view { kind ≡ ViewKind.UpdateKey → ⊥ }
-        requires object { IsObject (state_of self.old) object }
+        requires object { TakesGuards (state_of self.old) object }
         ensures key { IfOk result (λ key. (key.object ≡ object) × (key.names ≡ length self.old.bounds)) }
         ensures opened { (h : Held) → object_at (state_of self.old) object ≡ Some h → IfOk result (λ key.
             (head_reason kind h (mark_at (state_of self.old) at) ≡ None)
@@ -56,7 +56,7 @@ impl Objects {
 
     /// Begins a `stable` block, with its guard held.
     pub fn enter_stable(&mut self, object: usize) -> Result<ViewKey, NoMemory>
-        requires object { IsObject (state_of self.old) object }
+        requires object { TakesGuards (state_of self.old) object }
         ensures key { IfOk result (λ key. (key.object ≡ object) × (key.names ≡ length self.old.bounds)) }
         ensures opened { (h : Held) → object_at (state_of self.old) object ≡ Some h → IfOk result (λ key.
             (guards_of_view_key key ≡ guards_of_stable h)

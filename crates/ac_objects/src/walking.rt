@@ -16,9 +16,8 @@ ghost use Rattle.ac_objects.specs.World.{held_of, ObjectAgrees};
 use crate::holder_elements::refused;
 use crate::object::Object;
 use crate::row_object::RowObject;
-use ac_base::{Elem, Fault, Name, Reason};
+use ac_base::{Fault, Name, Reason};
 use ac_cursor::Cursor;
-use ac_forms::Holder;
 
 /// The cursor at which a loop over the object begins.
 fn first_in<C: RowObject>(object: &C, backward: bool) -> Cursor
@@ -97,8 +96,8 @@ fn refused_in<C: RowObject>(object: &C, at: Cursor) -> Option<Reason>
     object.refused(at)
 }
 
-/// A holder has no cursors, so that a loop over it ends where it begins.
-fn first_of_none<T: Elem>(_holder: &Holder<T>) -> Cursor
+/// A holder or a queue has no cursors, so that a loop over it ends where it begins.
+fn first_of_none<T>(_object: &T) -> Cursor
     ensures first { result ≡ Cursor.NoElement }
     ensures named { NoRootAmong [] }
 {
@@ -106,7 +105,7 @@ fn first_of_none<T: Elem>(_holder: &Holder<T>) -> Cursor
 }
 
 /// And so it goes on.
-fn next_of_none<T: Elem>(_holder: &Holder<T>) -> Cursor
+fn next_of_none<T>(_object: &T) -> Cursor
     ensures { result ≡ Cursor.NoElement }
 {
     Cursor::NoElement
@@ -134,6 +133,7 @@ impl Object {
             Object::TextTree(tree) => first_in(tree, backward),
             Object::IntegerHolder(holder) => first_of_none(holder),
             Object::TextHolder(holder) => first_of_none(holder),
+            Object::Queue(queue) => first_of_none(queue),
         }
     }
 
@@ -159,6 +159,7 @@ impl Object {
             Object::TextTree(tree) => next_in(tree, backward, at),
             Object::IntegerHolder(holder) => next_of_none(holder),
             Object::TextHolder(holder) => next_of_none(holder),
+            Object::Queue(queue) => next_of_none(queue),
         }
     }
 
@@ -182,6 +183,7 @@ impl Object {
             Object::TextTree(tree) => refused_in(tree, at),
             Object::IntegerHolder(holder) => refused(holder),
             Object::TextHolder(holder) => refused(holder),
+            Object::Queue(_) => Some(Reason::NoElement),
         }
     }
 }

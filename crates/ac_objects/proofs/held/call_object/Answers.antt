@@ -1,7 +1,8 @@
 use Rattle.std.proofs.Common.{sym, ap, ◌∙◌}
 use Rattle.ac_syntax.specs.declared.kind.ElemKind.TheVariants.{Integer, Str}
 use Rattle.ac_meaning.specs.Holdings.{a_sequence, a_map, a_set, a_keyed_set, a_tree}
-use Rattle.ac_objects.specs.declared.object.Object.TheVariants.{Integers, Texts, IntegerSet, TextSet, KeyedSet, IntegersByInteger, IntegersByText, TextsByInteger, TextsByText, IntegerTree, TextTree, IntegerHolder, TextHolder}
+use Rattle.ac_book.specs.Shared.{shared}
+use Rattle.ac_objects.specs.declared.object.Object.TheVariants.{Integers, Texts, IntegerSet, TextSet, KeyedSet, IntegersByInteger, IntegersByText, TextsByInteger, TextsByText, IntegerTree, TextTree, IntegerHolder, TextHolder, Queue}
 use Rattle.ac_objects.specs.KeyedSets.{keyed_items, keyed_kind}
 use Rattle.ac_objects.specs.Maps.{entries_of, map_kind_of}
 use Rattle.ac_objects.specs.Sequences.{rows_of, kind_of}
@@ -13,6 +14,8 @@ use Rattle.ac_objects.proofs.Families.{sequence_now, sequence_same, set_now, set
 use Rattle.ac_objects.proofs.CalledRows.{own_called, own_lasts}
 use Rattle.ac_objects.proofs.CalledHolders as holders
 use Rattle.ac_objects.proofs.CalledHolders.{integer_holder, text_holder}
+use Rattle.ac_objects.proofs.CalledQueues as queues
+use Rattle.ac_objects.proofs.CalledQueues.{queue_memory}
 use Rattle.ac_objects.proofs.held.call_object.Goals as goal
 
 pub returns-in-Integers-clause-called : goal.returns-in-Integers-clause-called
@@ -229,3 +232,18 @@ returns-in-TextHolder-clause-lasts c =
     let old = c.in-TextHolder.holder in
     holders.own_lasts Str old call.new.holder c.args.object.now (TextHolder call.new.holder) c.args.operation (arguments_of c.args.args.now)
     (told call.new.reply call.result) (ap memory_of c.in-TextHolder.is ∙ text_holder old) (text_holder call.new.holder) call.ensures
+
+pub returns-in-Queue-clause-called : goal.returns-in-Queue-clause-called
+returns-in-Queue-clause-called c =
+    let call = c.operate_queue in
+    let old = c.in-Queue.queue in
+    queues.own_called old.tag old.queue call.new.queue c.args.object.now (Queue (record old { queue = call.new.queue })) c.args.operation
+    (arguments_of c.args.args.now) (told call.new.reply call.result) (ap memory_of c.in-Queue.is ∙ queue_memory old)
+    (queue_memory (record old { queue = call.new.queue })) (λ same. ap (λ q. Queue (record old { queue = q })) same ∙ sym c.in-Queue.is) call.ensures
+
+pub returns-in-Queue-clause-lasts : goal.returns-in-Queue-clause-lasts
+returns-in-Queue-clause-lasts c =
+    let call = c.operate_queue in
+    let old = c.in-Queue.queue in
+    queues.lasts old.tag (shared old.queue) (shared call.new.queue) c.args.object.now (Queue (record old { queue = call.new.queue }))
+    (ap memory_of c.in-Queue.is ∙ queue_memory old) (queue_memory (record old { queue = call.new.queue }))

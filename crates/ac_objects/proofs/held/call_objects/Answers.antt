@@ -2,7 +2,8 @@ use Rattle.std.proofs.Common.{refl, sym, ap, ◌∙◌}
 use Rattle.ac_syntax.specs.declared.kind.ElemKind.TheVariants.{Integer, Str}
 use Rattle.ac_model.specs.Objects.{plain}
 use Rattle.ac_meaning.specs.Holdings.{a_sequence, a_map, a_set, a_keyed_set, a_tree}
-use Rattle.ac_objects.specs.declared.object.Object.TheVariants.{Integers, Texts, IntegerSet, TextSet, KeyedSet, IntegersByInteger, IntegersByText, TextsByInteger, TextsByText, IntegerTree, TextTree, IntegerHolder, TextHolder}
+use Rattle.ac_book.specs.Shared.{shared}
+use Rattle.ac_objects.specs.declared.object.Object.TheVariants.{Integers, Texts, IntegerSet, TextSet, KeyedSet, IntegersByInteger, IntegersByText, TextsByInteger, TextsByText, IntegerTree, TextTree, IntegerHolder, TextHolder, Queue}
 use Rattle.ac_objects.specs.Arguments.{arguments_of}
 use Rattle.ac_objects.specs.KeyedSets.{keyed_items, keyed_kind}
 use Rattle.ac_objects.specs.Maps.{entries_of, map_kind_of}
@@ -15,6 +16,8 @@ use Rattle.ac_objects.proofs.Apart.{no_integers, no_texts, no_integer_set, no_te
 use Rattle.ac_objects.proofs.CalledRows.{own_lasts, unlike_called, two_called, two_lasts}
 use Rattle.ac_objects.proofs.CalledHolders as holders
 use Rattle.ac_objects.proofs.CalledHolders.{integer_holder, text_holder}
+use Rattle.ac_objects.proofs.CalledQueues as queues
+use Rattle.ac_objects.proofs.CalledQueues.{queue_memory}
 use Rattle.ac_objects.proofs.held.call_objects.Goals as goal
 
 pub returns-in-Integers-source-clause-called : goal.returns-in-Integers-source-clause-called
@@ -712,3 +715,18 @@ returns-in_default-source-12 c =
           (told call.new.reply call.result) is (text_holder call.new.holder) call.ensures;
       source_lasts = record { cursors = λ at agrees. agrees; counts = refl };
     }
+
+pub returns-in-Queue-clause-called : goal.returns-in-Queue-clause-called
+returns-in-Queue-clause-called c =
+    let call = c.operate_queue in
+    let old = c.in-Queue.queue in
+    queues.any_called old.tag old.queue call.new.queue c.args.object.now (Queue (record old { queue = call.new.queue })) c.args.source.now c.args.operation
+    (arguments_of c.args.args.now) (told call.new.reply call.result) (ap memory_of c.in-Queue.is ∙ queue_memory old)
+    (queue_memory (record old { queue = call.new.queue })) (λ same. ap (λ q. Queue (record old { queue = q })) same ∙ sym c.in-Queue.is) call.ensures
+
+pub returns-in-Queue-clause-lasts : goal.returns-in-Queue-clause-lasts
+returns-in-Queue-clause-lasts c =
+    let call = c.operate_queue in
+    let old = c.in-Queue.queue in
+    queues.lasts old.tag (shared old.queue) (shared call.new.queue) c.args.object.now (Queue (record old { queue = call.new.queue }))
+    (ap memory_of c.in-Queue.is ∙ queue_memory old) (queue_memory (record old { queue = call.new.queue }))

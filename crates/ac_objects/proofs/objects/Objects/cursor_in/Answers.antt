@@ -1,5 +1,6 @@
 use Rattle.std.proofs.Common.{length, refl, sym}
 use Rattle.std.proofs.lemmas.Bool.{ltb-false}
+use Rattle.ac_objects.specs.World.{counted}
 use Rattle.ac_objects.proofs.Names.{mark_found, mark_past}
 use Rattle.ac_objects.proofs.Places.{seen_there, seen_past}
 use Rattle.ac_objects.proofs.objects.Objects.cursor_in.Goals as goal
@@ -8,11 +9,11 @@ pub returns-in-Some-clause-mark : goal.returns-in-Some-clause-mark
 returns-in-Some-clause-mark c =
     let bs = c.self.inside.bounds.items in
     let b = c.in-Some.bound.now in
-    mark_found c.args.self.now bs c.self.inside.mint c.args.place b c.cursor.result c.self.view_is
+    mark_found c.args.self.now bs (counted c.self.inside.mint c.self.inside.blocks) c.args.place b c.cursor.result c.self.view_is
     (seen_there c.deref.result.now bs c.args.place b b c.deref.ensures.value c.in-Some.ensures.lookup.3.0 c.in-Some.ensures.lookup.1 refl) c.cursor.ensures
 
 pub returns-in-None-clause-mark : goal.returns-in-None-clause-mark
 returns-in-None-clause-mark c =
     let bs = c.self.inside.bounds.items in
-    mark_past c.args.self.now bs c.self.inside.mint c.args.place c.self.view_is (seen_past c.deref.result.now bs c.args.place c.deref.ensures.value
+    mark_past c.args.self.now bs (counted c.self.inside.mint c.self.inside.blocks) c.args.place c.self.view_is (seen_past c.deref.result.now bs c.args.place c.deref.ensures.value
     (ltb-false c.args.place (length c.deref.result.now) (sym c.in-None.ensures.lookup.0)))

@@ -8,6 +8,7 @@ use Rattle.ac_meaning.specs.Environment.{binds_value, mark_at, objects_by, objec
 use Rattle.ac_meaning.specs.Execution.{head_reason, guards_of_view}
 use Rattle.ac_meaning.specs.Holdings.{element_value, guard_on, is_a_set, key_update_reason}
 use Rattle.ac_meaning.specs.UnderGuards.{held_with}
+use Rattle.ac_meaning.proofs.GuardedPlaces.{guarded_is_there}
 use Rattle.ac_objects.specs.Blocks.{holding}
 use Rattle.ac_objects.specs.World.{state_of}
 use Rattle.ac_objects.proofs.InScope.{named_object, value_named}
@@ -19,15 +20,17 @@ copy_at-requires-clause-element c =
     let e = state_of c.args.self.now in
     let at = plain_mark c.cursor_at-at.result in
     let object = c.requires.object in
-    passed_stands e c.args.object object.held at object.there
-    (sym (passed c.refuses_update.result (key_update_reason object.held at) (sym c.in_ok-allowed.was ∙ c.allowed.ensures) (c.refuses_update.ensures object.held object.there)))
+    let there = guarded_is_there e c.args.object object.held object.there in
+    passed_stands e c.args.object object.held at there
+    (sym (passed c.refuses_update.result (key_update_reason object.held at) (sym c.in_ok-allowed.was ∙ c.allowed.ensures) (c.refuses_update.ensures object.held there)))
 
 pub returns-clause-guard : goal.returns-clause-guard
 returns-clause-guard c =
     let e = state_of c.args.self.now in
     let object = c.requires.object in
+    let there = guarded_is_there e c.args.object object.held object.there in
     let held = c.hold-guard.ensures.held object.held
-    (ap (λ s. object_at s c.args.object) c.in_ok-add.ensures.named ∙ named_object e (binds_value c.in_ok-copy.copy) c.args.object object.held object.there) in
+    (ap (λ s. object_at s c.args.object) c.in_ok-add.ensures.named ∙ named_object e (binds_value c.in_ok-copy.copy) c.args.object object.held there) in
     ap (λ (g : HeldGuard). g.kind) held.0 ∙ raised_cursors (is_a_set object.held)
 
 pub returns-clause-opened : goal.returns-clause-opened

@@ -10,6 +10,6 @@ returns-in-Some c h =
     let o = c.in-Some.object.now in
     record {
       held = held_of o;
-      there = object_there w.bounds w.next c.args.place o c.in-Some.ensures;
+      there = object_there w.bounds w.counters c.args.place o c.in-Some.ensures;
       counted = subst (λ n. n < 18446744073709551614) c.held.ensures (ltb-true c.held.result 18446744073709551614 h);
     }
