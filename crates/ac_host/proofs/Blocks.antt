@@ -2,7 +2,7 @@
 use Rattle.std.proofs.Common.{◌≡◌, ◌<◌, ◌≤◌, ℕ, Bool, true, false, List, [], ◌∷◌, ◌++◌, length, nat_lt, refl, sym, ap, subst, ◌∙◌, arith, Option, Some, None, Result, Ok, Err, OnOk, IsErrAnd, if◌then◌else◌}
 use Rattle.std.proofs.lemmas.List.{length-map, take_all, take-append-le}
 use Rattle.std.proofs.lemmas.Option.{slice_get_within}
-use Rattle.std.proofs.lemmas.Result.{err_from_is_err_and}
+use Rattle.std.proofs.lemmas.Result.{err_from_is_err_and, on_ok_weaker}
 use Rattle.ac_base.specs.Guards.{HeldGuard}
 use Rattle.ac_base.specs.Limits.{numbers_end}
 use Rattle.ac_base.specs.declared.guard.GuardKind.{GuardKind}
@@ -15,13 +15,13 @@ use Rattle.ac_model.specs.Letters.{Mark, no_mark, mark_at as mark_of_name}
 use Rattle.ac_syntax.specs.declared.view_kind.ViewKind.{ViewKind}
 use Rattle.ac_syntax.specs.declared.view_kind.ViewKind.TheVariants.{Query, Update, Reference, UpdateKey}
 use Rattle.ac_syntax.specs.declared.type_def.TypeDef.{TypeDef}
-use Rattle.ac_check.specs.Resolved.{ResolvedCode, loops_at, views_at, stables_at}
+use Rattle.ac_check.specs.Resolved.{ResolvedCode, ResolvedHead, loops_at, views_at, stables_at}
 use Rattle.ac_check.specs.declared.resolved.ResolvedDecl.{ResolvedDecl}
 use Rattle.ac_check.specs.declared.resolved.ResolvedDecl.TheVariants as decl
 use Rattle.ac_meaning.specs.Answers.{line, lines_text, answers_raised}
-use Rattle.ac_meaning.specs.Holdings.{Held, Guards, number_of, names_of, new_held, held_under, guard_on}
-use Rattle.ac_meaning.specs.Environment.{Bound, binds_type, binds_object, binds_cursor, binds_value, binds_element, bound_by, bound_in, object_in, mark_in, State, objects_by, under, bound_at, object_at, mark_at, with_name, leaving, number_taken, Declared, declared, unless_spent, after_decl, after_decls}
-use Rattle.ac_meaning.specs.Execution.{Outcome, outcome, one_line, exec_resolved, guards_of_loop, guards_of_stable, guards_of_view, head_reason, in_order, turn_bound, turns, view_on, viewed, on_object, after_declared, scoped}
+use Rattle.ac_meaning.specs.Holdings.{Held, of_rows, of_holder, of_queue, takes_guards, Guards, number_of, names_of, new_held, held_under, guard_on}
+use Rattle.ac_meaning.specs.Environment.{Bound, binds_type, binds_object, binds_cursor, binds_value, binds_element, bound_by, bound_in, object_in, mark_in, State, objects_by, under, bound_at, object_at, guarded_at, mark_at, with_name, leaving, number_taken, Declared, declared, unless_spent, after_decl, after_decls}
+use Rattle.ac_meaning.specs.Execution.{Outcome, outcome, Orders, one_line, exec_resolved, guards_of_loop, guards_of_stable, guards_of_view, head_reason, in_order, turn_bound, turns, view_on, viewed, on_object, after_declared, scoped}
 use Rattle.ac_meaning.specs.GuardedNames.{of_element, frame, kept}
 use Rattle.ac_meaning.specs.Numbers.{GuardsBelow}
 use Rattle.ac_meaning.specs.UnderGuards.{held_with, held_without}
@@ -29,11 +29,12 @@ use Rattle.ac_meaning.proofs.BoundsStay.{object_there}
 use Rattle.ac_meaning.proofs.CountsStay.{parts_under, counts_are_the_guards, bound_under}
 use Rattle.ac_meaning.proofs.ExecKeeps.{resolved_keeps}
 use Rattle.ac_meaning.proofs.Frames.{kept_back}
+use Rattle.ac_meaning.proofs.GuardedPlaces.{guarded_is_there, guarded_takes}
 use Rattle.ac_meaning.proofs.NewObjects.{new_objects_are_unguarded}
 use Rattle.ac_meaning.proofs.NextRises.{next_rises}
 use Rattle.ac_meaning.proofs.NumbersApart.{numbers_go_on}
 use Rattle.ac_objects.specs.Blocks.{holding, releasing, IsHeldAt}
-use Rattle.ac_objects.specs.Standing.{counts_of}
+use Rattle.ac_objects.specs.Standing.{TakesGuards, counts_of}
 use Rattle.ac_objects.specs.World.{World, state_of}
 use Rattle.ac_host.specs.declared.end.HostEnd.{HostEnd}
 use Rattle.ac_host.specs.Ready.{ElementsKept, IsUnder}
@@ -41,12 +42,23 @@ use Rattle.ac_host.specs.Running.{inside}
 use Rattle.ac_host.specs.Writing.{Broke, Writes, Ran, WroteSoFar}
 use Rattle.ac_host.proofs.Holding.{releasing_under, released_again, held_now, object_by_there, number_stays}
 use Rattle.ac_host.proofs.Standing.{elements_longer, kept_named, bound_found, no_type_object, longer}
-use Rattle.ac_host.proofs.Telling.{so_far_all}
+use Rattle.ac_host.proofs.Telling.{wrote_nothing, so_far_all}
 use Rattle.ac_host.proofs.Turns.{many_kept}
 
-pub on_ok_of : {T E P Q : Type 0} (r : Result T E) → (P → Q) → OnOk r P → OnOk r Q
-on_ok_of (Ok x) f p = f p
-on_ok_of (Err e) f p = tt
+-- an object that takes guards
+pub record Taken (s : State) (place : ℕ) : Type 0 where
+  pub held : Held
+  pub there : object_at s place ≡ Some held
+  pub guarded : guarded_at s place ≡ Some held
+  pub takes : takes_guards held ≡ true
+
+pub taken : (s : State) (place : ℕ) → TakesGuards s place → Taken s place
+taken s place t = record {
+  held = t.held;
+  there = guarded_is_there s place t.held t.there;
+  guarded = t.there;
+  takes = guarded_takes s place t.held t.there;
+}
 
 pub there_within : (e : State) (place : ℕ) (h : Held) → object_at e place ≡ Some h → place < length e.bounds
 there_within e place h there =
@@ -68,7 +80,7 @@ module _ {K T : Type 0} (held : K → Option (List ℕ)) (faults : K → ℕ) (r
   ran_inside more guards count a b now later r result left ran = record {
     writes = ran.writes;
     after =
-        on_ok_of result
+        on_ok_weaker result
         (λ is.
         left
         ∙ (ap (λ s. releasing more (leaving count s)) is
@@ -94,6 +106,15 @@ module _ {K T : Type 0} (held : K → Option (List ℕ)) (faults : K → ℕ) (r
     writes = so_far_all held faults room counts a b e whole so_far;
     after = is ∙ ap (under guards) so_far.after;
   }
+
+  -- a block on no object, or on one that takes no guards
+  pub ran_nowhere : (a : K) (now : World) (guards : Guards) (e : State) → IsUnder now guards e → (body : Guards → State → Outcome) (head : ResolvedHead) (object : ℕ) →
+      guarded_at (state_of now) object ≡ None → (x : T) →
+      Ran held faults room counts a a now guards (on_object body guards head (guarded_at (under guards e) object) e) (Ok x)
+  ran_nowhere a now guards e u body head object none x =
+      let here : guarded_at (under guards e) object ≡ None = ap (λ s. guarded_at s object) (sym u.is) ∙ none in
+      subst (λ o. Ran held faults room counts a a now guards (on_object body guards head o e) (Ok x)) (sym here)
+      (record { writes = wrote_nothing held faults room counts a; after = u.is })
 
   -- a refusal that leaves this environment
   pub ran_line : (a b : K) (now : World) (guards : Guards) (number : ℕ) (reason : Reason) (e : State) (whole : Outcome) (result : Result T HostEnd) →
@@ -148,73 +169,78 @@ held_named e b place g is =
       counted = is.counted;
     }
 
-one_held : (s : State) (place : ℕ) (h : Held) (kind : GuardKind) (g : HeldGuard) → object_at s place ≡ Some h → g ∷ [] ≡ guard_on h kind ∷ [] →
-    IsHeldAt (holding (guard_on h kind ∷ []) s) place g
+one_held : (s : State) (place : ℕ) (h : Held) → takes_guards h ≡ true → (kind : GuardKind) (g : HeldGuard) → object_at s place ≡ Some h →
+    g ∷ [] ≡ guard_on h kind ∷ [] → IsHeldAt (holding (guard_on h kind ∷ []) s) place g
 unfolding first_of
-one_held s place h kind g there is =
-    subst (IsHeldAt (holding (guard_on h kind ∷ []) s) place) (sym (ap (first_of g) is)) (held_now (guard_on h kind) s place h there refl)
+one_held s place h takes kind g there is =
+    subst (IsHeldAt (holding (guard_on h kind ∷ []) s) place) (sym (ap (first_of g) is)) (held_now (guard_on h kind) s place h takes there refl)
 
-pub stable_held : (s : State) (place : ℕ) (h : Held) (g : HeldGuard) → object_at s place ≡ Some h → g ∷ [] ≡ guards_of_stable h →
+pub stable_held : (s : State) (place : ℕ) (h : Held) → takes_guards h ≡ true → (g : HeldGuard) → object_at s place ≡ Some h → g ∷ [] ≡ guards_of_stable h →
     IsHeldAt (holding (guards_of_stable h) s) place g
-stable_held s place h g there is = one_held s place h guard.Elements g there is
+stable_held s place h takes g there is = one_held s place h takes guard.Elements g there is
 
-view_one_held : (s : State) (place : ℕ) (kind : ViewKind) (h : Held) (g : HeldGuard) → object_at s place ≡ Some h → g ∷ [] ≡ guards_of_view kind h →
-    IsHeldAt (holding (guards_of_view kind h) s) place g
-view_one_held s place Query h g there is = one_held s place h guard.Elements g there is
-view_one_held s place Update h g there is = one_held s place h guard.Elements g there is
-view_one_held s place Reference h g there is = one_held s place h guard.Elements g there is
-view_one_held s place UpdateKey h g there is = one_held s place h guard.Cursors g there is
+view_one_held : (s : State) (place : ℕ) (kind : ViewKind) (h : Held) → takes_guards h ≡ true → (g : HeldGuard) → object_at s place ≡ Some h →
+    g ∷ [] ≡ guards_of_view kind h → IsHeldAt (holding (guards_of_view kind h) s) place g
+view_one_held s place Query h takes g there is = one_held s place h takes guard.Elements g there is
+view_one_held s place Update h takes g there is = one_held s place h takes guard.Elements g there is
+view_one_held s place Reference h takes g there is = one_held s place h takes guard.Elements g there is
+view_one_held s place UpdateKey h takes g there is = one_held s place h takes guard.Cursors g there is
 
-pub view_held : (s : State) (b : Bound) (place : ℕ) (kind : ViewKind) (h : Held) (g : HeldGuard) → object_at s place ≡ Some h → g ∷ [] ≡ guards_of_view kind h →
-    IsHeldAt (with_name (holding (guards_of_view kind h) s) b) place g
-view_held s b place kind h g there is =
-    held_named (holding (guards_of_view kind h) s) b place g (view_one_held s place kind h g there is)
+pub view_held : (s : State) (b : Bound) (place : ℕ) (kind : ViewKind) (h : Held) → takes_guards h ≡ true → (g : HeldGuard) → object_at s place ≡ Some h →
+    g ∷ [] ≡ guards_of_view kind h → IsHeldAt (with_name (holding (guards_of_view kind h) s) b) place g
+view_held s b place kind h takes g there is =
+    held_named (holding (guards_of_view kind h) s) b place g (view_one_held s place kind h takes g there is)
 
-pub loop_cursors_held : (s : State) (place : ℕ) (elements : Bool) (h : Held) (g : HeldGuard) (others : Guards) → object_at s place ≡ Some h →
-    g ∷ others ≡ guards_of_loop elements h → IsHeldAt (holding (guards_of_loop elements h) s) place g
+takes_still : (g : HeldGuard) (h : Held) → takes_guards (held_with g h) ≡ takes_guards h
+takes_still g (of_rows kind o) = refl
+takes_still g (of_holder e h) = refl
+takes_still g (of_queue number q) = refl
+
+pub loop_cursors_held : (s : State) (place : ℕ) (elements : Bool) (h : Held) → takes_guards h ≡ true → (g : HeldGuard) (others : Guards) →
+    object_at s place ≡ Some h → g ∷ others ≡ guards_of_loop elements h → IsHeldAt (holding (guards_of_loop elements h) s) place g
 unfolding first_of
-loop_cursors_held s place false h g others there is =
-    subst (IsHeldAt (holding (guards_of_loop false h) s) place) (sym (ap (first_of g) is)) (held_now (guard_on h guard.Cursors) s place h there refl)
-loop_cursors_held s place true h g others there is =
+loop_cursors_held s place false h takes g others there is =
+    subst (IsHeldAt (holding (guards_of_loop false h) s) place) (sym (ap (first_of g) is)) (held_now (guard_on h guard.Cursors) s place h takes there refl)
+loop_cursors_held s place true h takes g others there is =
     let el = guard_on h guard.Elements in
     subst (IsHeldAt (holding (guards_of_loop true h) s) place) (sym (ap (first_of g) is))
-    (held_now (guard_on h guard.Cursors) (objects_by (held_with el) s) place (held_with el h) (object_by_there (held_with el) s place h there)
+    (held_now (guard_on h guard.Cursors) (objects_by (held_with el) s) place (held_with el h) (takes_still el h ∙ takes) (object_by_there (held_with el) s place h there)
     (sym (number_stays el h)))
 
 no_more : (g : HeldGuard) (guards : Guards) → g ∷ guards ≡ [] → ⊥
 no_more g guards e = cc
 
 -- the element guard, when the cursor guard is released
-pub loop_elements_held : (s : State) (place : ℕ) (elements : Bool) (h : Held) (g x : HeldGuard) → object_at s place ≡ Some h →
+pub loop_elements_held : (s : State) (place : ℕ) (elements : Bool) (h : Held) → takes_guards h ≡ true → (g x : HeldGuard) → object_at s place ≡ Some h →
     g ∷ x ∷ [] ≡ guards_of_loop elements h → IsHeldAt (objects_by (held_without g) (holding (guards_of_loop elements h) s)) place x
 unfolding first_of rest_of
-loop_elements_held s place false h g x there is = absurd (no_more x [] (ap rest_of is))
-loop_elements_held s place true h g x there is =
+loop_elements_held s place false h takes g x there is = absurd (no_more x [] (ap rest_of is))
+loop_elements_held s place true h takes g x there is =
     let cursors = guard_on h guard.Cursors in
     let elements = guard_on h guard.Elements in
     let held = objects_by (held_without cursors) (holding (guards_of_loop true h) s) in
     subst (λ y. IsHeldAt (objects_by (held_without y) (holding (guards_of_loop true h) s)) place x) (sym (ap (first_of g) is))
     (subst (IsHeldAt held place) (sym (ap (λ l. first_of x (rest_of l)) is))
-    (subst (λ e. IsHeldAt e place elements) (sym (released_again (cursors ∷ []) (objects_by (held_with elements) s))) (held_now elements s place h there refl)))
+    (subst (λ e. IsHeldAt e place elements) (sym (released_again (cursors ∷ []) (objects_by (held_with elements) s))) (held_now elements s place h takes there refl)))
 
 -- What each comes to
 
 whole_left : (e : State) (count : ℕ) → length e.bounds ≤ count → leaving count e ≡ e
 whole_left e count all = λ i. record e { bounds = take_all count e.bounds all i }
 
-many_exec : (code : ResolvedCode) (guards : Guards) (e : State) → length (exec_resolved code guards e).after.bounds ≡ length e.bounds
-many_exec code guards e = many_kept guards e (exec_resolved code guards e).after (resolved_keeps code guards e)
+many_exec : (orders : Orders) (code : ResolvedCode) (guards : Guards) (e : State) → length (exec_resolved orders code guards e).after.bounds ≡ length e.bounds
+many_exec orders code guards e = many_kept guards e (exec_resolved orders code guards e).after (resolved_keeps orders code guards e)
 
-pub stable_comes : (code : ResolvedCode) (guards more : Guards) (e : State) (line object count : ℕ) (h : Held) → object_at (under guards e) object ≡ Some h →
+pub stable_comes : (orders : Orders) (code : ResolvedCode) (guards more : Guards) (e : State) (line object count : ℕ) (h : Held) → guarded_at (under guards e) object ≡ Some h →
     more ≡ guards_of_stable h → count ≡ length e.bounds →
-    inside count (exec_resolved code (more ++ guards) e) ≡ on_object (exec_resolved code) guards (stables_at line object) (object_at (under guards e) object) e
-stable_comes code guards more e line object count h there is many =
+    inside count (exec_resolved orders code (more ++ guards) e) ≡ on_object (exec_resolved orders code) guards (stables_at line object) (guarded_at (under guards e) object) e
+stable_comes orders code guards more e line object count h there is many =
     let held = guards_of_stable h ++ guards in
-    let r = exec_resolved code held e in
-    let all : length r.after.bounds ≤ count = omega (arith, many, many_exec code held e) in
-    ap (λ m. inside count (exec_resolved code (m ++ guards) e)) is
+    let r = exec_resolved orders code held e in
+    let all : length r.after.bounds ≤ count = omega (arith, many, many_exec orders code held e) in
+    ap (λ m. inside count (exec_resolved orders code (m ++ guards) e)) is
     ∙ (ap (λ s. outcome r.lines s) (whole_left r.after count all)
-    ∙ ap (λ o. on_object (exec_resolved code) guards (stables_at line object) o e) (sym there))
+    ∙ ap (λ o. on_object (exec_resolved orders code) guards (stables_at line object) o e) (sym there))
 
 pub mark_under : (guards : Guards) (e : State) (at : Option ℕ) → mark_at (under guards e) at ≡ mark_at e at
 mark_under guards e None = refl
@@ -239,50 +265,50 @@ view_on_comes : (body : Guards → State → Outcome) (guards : Guards) (e : Sta
     view_on body guards line kind object at h e ≡ inside (length e.bounds) (body (guards_of_view kind h ++ guards) (with_name e (binds_element object at)))
 view_on_comes body guards e line object kind at h other none = rw (none, view_on) (viewed_comes body guards e line object kind at h other)
 
-pub view_comes : (code : ResolvedCode) (guards more : Guards) (e : State) (line object count : ℕ) (kind : ViewKind) (at : Option ℕ) (mark : Mark) (h : Held) →
-    (kind ≡ UpdateKey → ⊥) → object_at (under guards e) object ≡ Some h → more ≡ guards_of_view kind h → count ≡ length e.bounds → mark ≡ mark_at e at → head_reason kind h mark ≡ None →
-    inside count (exec_resolved code (more ++ guards) (with_name e (binds_element object mark)))
-    ≡ on_object (exec_resolved code) guards (views_at line kind object at) (object_at (under guards e) object) e
-view_comes code guards more e line object count kind at mark h other there is many mark_is none =
-    ap (λ m. inside count (exec_resolved code (m ++ guards) (with_name e (binds_element object mark)))) is
-    ∙ (ap (λ n. inside n (exec_resolved code (guards_of_view kind h ++ guards) (with_name e (binds_element object mark)))) many
-    ∙ (sym (view_on_comes (exec_resolved code) guards e line object kind mark h other none)
-    ∙ (ap (λ m. view_on (exec_resolved code) guards line kind object m h e) mark_is
-    ∙ ap (λ o. on_object (exec_resolved code) guards (views_at line kind object at) o e) (sym there))))
+pub view_comes : (orders : Orders) (code : ResolvedCode) (guards more : Guards) (e : State) (line object count : ℕ) (kind : ViewKind) (at : Option ℕ) (mark : Mark) (h : Held) →
+    (kind ≡ UpdateKey → ⊥) → guarded_at (under guards e) object ≡ Some h → more ≡ guards_of_view kind h → count ≡ length e.bounds → mark ≡ mark_at e at → head_reason kind h mark ≡ None →
+    inside count (exec_resolved orders code (more ++ guards) (with_name e (binds_element object mark)))
+    ≡ on_object (exec_resolved orders code) guards (views_at line kind object at) (guarded_at (under guards e) object) e
+view_comes orders code guards more e line object count kind at mark h other there is many mark_is none =
+    ap (λ m. inside count (exec_resolved orders code (m ++ guards) (with_name e (binds_element object mark)))) is
+    ∙ (ap (λ n. inside n (exec_resolved orders code (guards_of_view kind h ++ guards) (with_name e (binds_element object mark)))) many
+    ∙ (sym (view_on_comes (exec_resolved orders code) guards e line object kind mark h other none)
+    ∙ (ap (λ m. view_on (exec_resolved orders code) guards line kind object m h e) mark_is
+    ∙ ap (λ o. on_object (exec_resolved orders code) guards (views_at line kind object at) o e) (sym there))))
 
 refused_on : (body : Guards → State → Outcome) (guards : Guards) (e : State) (line object : ℕ) (kind : ViewKind) (at : Mark) (h : Held) (reason : Reason) →
     head_reason kind h at ≡ Some reason → view_on body guards line kind object at h e ≡ one_line line (answers_raised reason) e
 refused_on body guards e line object kind at h reason some = rw (some, view_on) refl
 
-pub view_refused : (code : ResolvedCode) (guards : Guards) (e : State) (line object : ℕ) (kind : ViewKind) (at : Option ℕ) (mark : Mark) (h : Held) (reason : Reason) →
-    object_at (under guards e) object ≡ Some h → mark ≡ mark_at e at → head_reason kind h mark ≡ Some reason →
-    one_line line (answers_raised reason) e ≡ on_object (exec_resolved code) guards (views_at line kind object at) (object_at (under guards e) object) e
-view_refused code guards e line object kind at mark h reason there mark_is some =
-    sym (refused_on (exec_resolved code) guards e line object kind mark h reason some)
-    ∙ (ap (λ m. view_on (exec_resolved code) guards line kind object m h e) mark_is
-    ∙ ap (λ o. on_object (exec_resolved code) guards (views_at line kind object at) o e) (sym there))
+pub view_refused : (orders : Orders) (code : ResolvedCode) (guards : Guards) (e : State) (line object : ℕ) (kind : ViewKind) (at : Option ℕ) (mark : Mark) (h : Held) (reason : Reason) →
+    guarded_at (under guards e) object ≡ Some h → mark ≡ mark_at e at → head_reason kind h mark ≡ Some reason →
+    one_line line (answers_raised reason) e ≡ on_object (exec_resolved orders code) guards (views_at line kind object at) (guarded_at (under guards e) object) e
+view_refused orders code guards e line object kind at mark h reason there mark_is some =
+    sym (refused_on (exec_resolved orders code) guards e line object kind mark h reason some)
+    ∙ (ap (λ m. view_on (exec_resolved orders code) guards line kind object m h e) mark_is
+    ∙ ap (λ o. on_object (exec_resolved orders code) guards (views_at line kind object at) o e) (sym there))
 
-many_turns : (code : ResolvedCode) (elements : Bool) (guards : Guards) (object : ℕ) (h : Held) (names : List ℕ) (e : State) →
-    length (turns (exec_resolved code) guards elements object h names e).after.bounds ≡ length e.bounds
-many_turns code elements guards object h [] e = refl
-many_turns code elements guards object h (name ∷ names) e =
+many_turns : (orders : Orders) (code : ResolvedCode) (elements : Bool) (guards : Guards) (object : ℕ) (h : Held) (names : List ℕ) (e : State) →
+    length (turns (exec_resolved orders code) guards elements object h names e).after.bounds ≡ length e.bounds
+many_turns orders code elements guards object h [] e = refl
+many_turns orders code elements guards object h (name ∷ names) e =
     let b = turn_bound elements object (mark_of_name (number_of h) name) in
     let held = guards_of_loop elements h ++ guards in
     let start = with_name e b in
-    let now = scoped e (exec_resolved code held) start in
-    many_turns code elements guards object h names now.after
-    ∙ many_kept held e now.after (kept_back held e (exec_resolved code held start).after (b ∷ []) (resolved_keeps code held start))
+    let now = scoped e (exec_resolved orders code held) start in
+    many_turns orders code elements guards object h names now.after
+    ∙ many_kept held e now.after (kept_back held e (exec_resolved orders code held start).after (b ∷ []) (resolved_keeps orders code held start))
 
-pub loop_comes : (code : ResolvedCode) (guards : Guards) (e : State) (line count : ℕ) (elements backward : Bool) (object place : ℕ) (h : Held) →
-    object_at (under guards e) object ≡ Some h → place ≡ object → count ≡ length e.bounds →
-    inside count (turns (exec_resolved code) guards elements place h (in_order backward (names_of h)) e)
-    ≡ on_object (exec_resolved code) guards (loops_at line elements backward object) (object_at (under guards e) object) e
-loop_comes code guards e line count elements backward object place h there is many =
-    let r = turns (exec_resolved code) guards elements object h (in_order backward (names_of h)) e in
-    let all : length r.after.bounds ≤ count = omega (arith, many, many_turns code elements guards object h (in_order backward (names_of h)) e) in
-    ap (λ p. inside count (turns (exec_resolved code) guards elements p h (in_order backward (names_of h)) e)) is
+pub loop_comes : (orders : Orders) (code : ResolvedCode) (guards : Guards) (e : State) (line count : ℕ) (elements backward : Bool) (object place : ℕ) (h : Held) →
+    guarded_at (under guards e) object ≡ Some h → place ≡ object → count ≡ length e.bounds →
+    inside count (turns (exec_resolved orders code) guards elements place h (in_order backward (names_of h)) e)
+    ≡ on_object (exec_resolved orders code) guards (loops_at line elements backward object) (guarded_at (under guards e) object) e
+loop_comes orders code guards e line count elements backward object place h there is many =
+    let r = turns (exec_resolved orders code) guards elements object h (in_order backward (names_of h)) e in
+    let all : length r.after.bounds ≤ count = omega (arith, many, many_turns orders code elements guards object h (in_order backward (names_of h)) e) in
+    ap (λ p. inside count (turns (exec_resolved orders code) guards elements p h (in_order backward (names_of h)) e)) is
     ∙ (ap (λ s. outcome r.lines s) (whole_left r.after count all)
-    ∙ ap (λ o. on_object (exec_resolved code) guards (loops_at line elements backward object) o e) (sym there))
+    ∙ ap (λ o. on_object (exec_resolved orders code) guards (loops_at line elements backward object) o e) (sym there))
 
 -- Declarations
 

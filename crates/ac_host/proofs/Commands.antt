@@ -1,5 +1,6 @@
 -- Commands, and the lines that blocks begin with.
 use Rattle.std.proofs.Common.{◌≡◌, ◌≢◌, ℕ, Bool, List, [], ◌∷◌, refl, sym, subst, ◌∙◌, Option, Result, Ok, Err, OnOk}
+use Rattle.std.proofs.lemmas.Result.{on_ok_weaker}
 use Rattle.ac_base.specs.declared.fault.Fault.{Fault}
 use Rattle.ac_base.specs.declared.fault.Fault.TheVariants as fault
 use Rattle.ac_check.specs.Resolved.{ResolvedSimple}
@@ -24,10 +25,6 @@ came_to p object old now said (Ok made) some performs = performs.0
 came_to p object old now said (Err (fault.Raised reason)) some performs = performs.1
 came_to p object old now said (Err fault.NoMemory) some performs = absurd (some refl)
 
-on_ok_of : {T E P Q : Type 0} (r : Result T E) → (P → Q) → OnOk r P → OnOk r Q
-on_ok_of (Ok x) f p = f p
-on_ok_of (Err e) f p = tt
-
 rested : (guards : Guards) (e : State) (simple : ResolvedSimple) → under guards (at_rest (performed (under guards e) simple).after) ≡ (performed (under guards e) simple).after
 rested guards e simple = (commands_keep_counts guards (under guards e) simple (counts_are_the_guards.anew guards guards e)).rested
 
@@ -43,5 +40,5 @@ module _ {K T : Type 0} (held : K → Option (List ℕ)) (faults : K → ℕ) (r
       let here : Performs p object old now (answered said done) = subst (λ (s : State). Performs (performed s simple) object old now (answered said done)) u.is performs in
       record {
         writes = writes p old here;
-        after = on_ok_of result (λ is. came_to p object old now said done is here ∙ sym (rested guards e simple)) some;
+        after = on_ok_weaker result (λ is. came_to p object old now said done is here ∙ sym (rested guards e simple)) some;
       }

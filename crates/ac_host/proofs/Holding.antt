@@ -9,12 +9,12 @@ use Rattle.ac_base.specs.Guards.{HeldGuard, GuardCounts, count_of, one_more, one
 use Rattle.ac_model.specs.Objects.{Object}
 use Rattle.ac_model.specs.Holders.{Holder}
 use Rattle.ac_model.specs.Common.{hold_call, release_call, guards_on}
-use Rattle.ac_meaning.specs.Holdings.{Held, of_rows, of_holder, as_object, counted_as, Guards, number_of}
+use Rattle.ac_meaning.specs.Holdings.{Held, of_rows, of_holder, of_queue, takes_guards, as_object, counted_as, Guards, number_of}
 use Rattle.ac_meaning.specs.Environment.{Bound, binds_type, binds_object, binds_cursor, binds_value, binds_element, bound_by, bound_in, object_in, State, objects_by, under, bound_at, object_at, leaving}
 use Rattle.ac_meaning.specs.UnderGuards.{held_with, held_without}
 use Rattle.ac_meaning.proofs.CountsStay.{guards_come_and_go, release_hold, objects_twice, objects_alike, bound_under}
 use Rattle.ac_objects.specs.Blocks.{holding, releasing, IsHeldAt}
-use Rattle.ac_objects.specs.Standing.{counts_in_held, counts_in, counts_of}
+use Rattle.ac_objects.specs.Standing.{HeldCounts, counts_in_held, held_counts, counts_in, counts_of}
 
 pub holding_under : (more guards : Guards) (e : State) → holding more (under guards e) ≡ under (more ++ guards) e
 holding_under [] guards e = refl
@@ -37,6 +37,7 @@ holder_back k false h = refl
 held_back : (g : HeldGuard) (h : Held) → held_without g (held_with g h) ≡ h
 held_back g (of_rows kind o) = ap (of_rows kind) (release_hold g o)
 held_back g (of_holder e h) = ap (of_holder e) (holder_back g.kind (g.object == h.number) h)
+held_back g (of_queue number q) = refl
 
 bound_self : (b : Bound) → bound_by (λ h. h) b ≡ b
 bound_self binds_type = refl
@@ -61,11 +62,25 @@ released_again (g ∷ more) e =
 
 -- Counts
 
-counts_with : HeldGuard → GuardCounts → GuardCounts
-counts_with g c = if g.object == c.number then one_more g.kind c else c
+-- on a queue none is held
+on_taking : (GuardCounts → GuardCounts) → (takes : Bool) → GuardCounts → GuardCounts
+on_taking count true c = count c
+on_taking count false c = c
 
-counts_without : HeldGuard → GuardCounts → GuardCounts
-counts_without g c = if g.object == c.number then one_less g.kind c else c
+counts_with : HeldGuard → HeldCounts → HeldCounts
+counts_with g c = record {
+  guards = on_taking (λ (x : GuardCounts). if g.object == x.number then one_more g.kind x else x) c.takes c.guards;
+  takes = c.takes;
+}
+
+counts_without : HeldGuard → HeldCounts → HeldCounts
+counts_without g c = record {
+  guards = on_taking (λ (x : GuardCounts). if g.object == x.number then one_less g.kind x else x) c.takes c.guards;
+  takes = c.takes;
+}
+
+taking : GuardCounts → HeldCounts
+taking c = record { guards = c; takes = true }
 
 object_with : {V : Type 0} (k : GuardKind) (b : Bool) (o : Object ℕ V) →
     guards_on (if b then hold_call false k o else o) ≡ (if b then one_more k (guards_on o) else guards_on o)
@@ -95,17 +110,19 @@ holder_without guard.Cursors true h = refl
 holder_without guard.Elements true h = refl
 holder_without k false h = refl
 
-held_with_counts : (g : HeldGuard) (h : Held) → counts_in_held (held_with g h) ≡ counts_with g (counts_in_held h)
-unfolding counts_with
-held_with_counts g (of_rows kind o) = object_with g.kind (g.object == o.number) o
-held_with_counts g (of_holder e h) = holder_with g.kind (g.object == h.number) h
+held_with_counts : (g : HeldGuard) (h : Held) → held_counts (held_with g h) ≡ counts_with g (held_counts h)
+unfolding counts_with on_taking taking
+held_with_counts g (of_rows kind o) = ap taking (object_with g.kind (g.object == o.number) o)
+held_with_counts g (of_holder e h) = ap taking (holder_with g.kind (g.object == h.number) h)
+held_with_counts g (of_queue number q) = refl
 
-held_without_counts : (g : HeldGuard) (h : Held) → counts_in_held (held_without g h) ≡ counts_without g (counts_in_held h)
-unfolding counts_without
-held_without_counts g (of_rows kind o) = object_without g.kind (g.object == o.number) o
-held_without_counts g (of_holder e h) = holder_without g.kind (g.object == h.number) h
+held_without_counts : (g : HeldGuard) (h : Held) → held_counts (held_without g h) ≡ counts_without g (held_counts h)
+unfolding counts_without on_taking taking
+held_without_counts g (of_rows kind o) = ap taking (object_without g.kind (g.object == o.number) o)
+held_without_counts g (of_holder e h) = ap taking (holder_without g.kind (g.object == h.number) h)
+held_without_counts g (of_queue number q) = refl
 
-bound_counts : (f : Held → Held) (count : GuardCounts → GuardCounts) → ((h : Held) → counts_in_held (f h) ≡ count (counts_in_held h)) →
+bound_counts : (f : Held → Held) (count : HeldCounts → HeldCounts) → ((h : Held) → held_counts (f h) ≡ count (held_counts h)) →
     (b : Bound) → counts_in (bound_by f b) ≡ option_map count (counts_in b)
 bound_counts f count each binds_type = refl
 bound_counts f count each (binds_object h) = ap Some (each h)
@@ -113,13 +130,13 @@ bound_counts f count each (binds_cursor mark) = refl
 bound_counts f count each (binds_value v) = refl
 bound_counts f count each (binds_element object at) = refl
 
-bounds_counts : (f : Held → Held) (count : GuardCounts → GuardCounts) → ((h : Held) → counts_in_held (f h) ≡ count (counts_in_held h)) →
+bounds_counts : (f : Held → Held) (count : HeldCounts → HeldCounts) → ((h : Held) → held_counts (f h) ≡ count (held_counts h)) →
     (bs : List Bound) → map counts_in (map (bound_by f) bs) ≡ map (option_map count) (map counts_in bs)
 bounds_counts f count each [] = refl
 bounds_counts f count each (b ∷ bs) = λ i. bound_counts f count each b i ∷ bounds_counts f count each bs i
 
 -- what is held and released changes the counts by the counts alone
-counts_alike : (f : Held → Held) (count : GuardCounts → GuardCounts) → ((h : Held) → counts_in_held (f h) ≡ count (counts_in_held h)) →
+counts_alike : (f : Held → Held) (count : HeldCounts → HeldCounts) → ((h : Held) → held_counts (f h) ≡ count (held_counts h)) →
     (a b : State) → counts_of a ≡ counts_of b → counts_of (objects_by f a) ≡ counts_of (objects_by f b)
 counts_alike f count each a b same =
     bounds_counts f count each a.bounds ∙ (ap (map (option_map count)) same ∙ sym (bounds_counts f count each b.bounds))
@@ -142,9 +159,9 @@ counts_back more count a b same =
 -- A guard that is held
 
 counted_there : (bs : List Bound) (place : ℕ) (h : Held) → object_in (bound_in (slice_get bs place)) ≡ Some h →
-    slice_get (map counts_in bs) place ≡ Some (Some (counts_in_held h))
+    slice_get (map counts_in bs) place ≡ Some (Some (held_counts h))
 counted_there [] place h e = absurd (none-some h e)
-counted_there (binds_object k ∷ bs) zero h e = ap (λ (x : Held). Some (Some (counts_in_held x))) (same_Some k h e)
+counted_there (binds_object k ∷ bs) zero h e = ap (λ (x : Held). Some (Some (held_counts x))) (same_Some k h e)
 counted_there (binds_type ∷ bs) zero h e = absurd (none-some h e)
 counted_there (binds_cursor mark ∷ bs) zero h e = absurd (none-some h e)
 counted_there (binds_value v ∷ bs) zero h e = absurd (none-some h e)
@@ -152,14 +169,14 @@ counted_there (binds_element object at ∷ bs) zero h e = absurd (none-some h e)
 counted_there (b ∷ bs) (suc place) h e = counted_there bs place h e
 
 -- an object with these counts
-record CountsAt (bs : List Bound) (place : ℕ) (c : GuardCounts) : Type 0 where
+record CountsAt (bs : List Bound) (place : ℕ) (c : HeldCounts) : Type 0 where
   held : Held
   there : object_in (bound_in (slice_get bs place)) ≡ Some held
-  is : counts_in_held held ≡ c
+  is : held_counts held ≡ c
 
-found_by_counts : (bs : List Bound) (place : ℕ) (c : GuardCounts) → slice_get (map counts_in bs) place ≡ Some (Some c) → CountsAt bs place c
+found_by_counts : (bs : List Bound) (place : ℕ) (c : HeldCounts) → slice_get (map counts_in bs) place ≡ Some (Some c) → CountsAt bs place c
 found_by_counts [] place c e = absurd (none-some (Some c) e)
-found_by_counts (binds_object h ∷ bs) zero c e = record { held = h; there = refl; is = same_Some (counts_in_held h) c (same_Some (Some (counts_in_held h)) (Some c) e) }
+found_by_counts (binds_object h ∷ bs) zero c e = record { held = h; there = refl; is = same_Some (held_counts h) c (same_Some (Some (held_counts h)) (Some c) e) }
 found_by_counts (binds_type ∷ bs) zero c e = absurd (none-some c (same_Some None (Some c) e))
 found_by_counts (binds_cursor mark ∷ bs) zero c e = absurd (none-some c (same_Some None (Some c) e))
 found_by_counts (binds_value v ∷ bs) zero c e = absurd (none-some c (same_Some None (Some c) e))
@@ -176,22 +193,24 @@ within_take (x ∷ xs) (suc place) (suc count) h = within_take xs place count (o
 number_counted : (h : Held) → (counts_in_held h).number ≡ number_of h
 number_counted (of_rows kind o) = refl
 number_counted (of_holder e h) = refl
+number_counted (of_queue number q) = refl
 
 -- it is, where the counts of so many names are as they were
 pub held_still : (e now : State) (place count : ℕ) (g : HeldGuard) → place < count → take count (counts_of now) ≡ take count (counts_of e) →
     IsHeldAt e place g → IsHeldAt now place g
 held_still e now place count g within same is =
-    let c = counts_in_held is.held in
+    let c = held_counts is.held in
     let here : slice_get (counts_of now) place ≡ Some (Some c) =
     sym (within_take (counts_of now) place count within)
     ∙ (ap (λ l. slice_get l place) same
     ∙ (within_take (counts_of e) place count within ∙ counted_there e.bounds place is.held is.there)) in
     let r = found_by_counts now.bounds place c here in
+    let same_guards : counts_in_held r.held ≡ counts_in_held is.held = ap (λ (x : HeldCounts). x.guards) r.is in
     record {
       held = r.held;
       there = r.there;
-      own = is.own ∙ (sym (number_counted is.held) ∙ (ap (λ (x : GuardCounts). x.number) (sym r.is) ∙ number_counted r.held));
-      counted = subst (λ x. 0 < count_of g.kind x) (sym r.is) is.counted;
+      own = is.own ∙ (sym (number_counted is.held) ∙ (ap (λ (x : GuardCounts). x.number) (sym same_guards) ∙ number_counted r.held));
+      counted = subst (λ x. 0 < count_of g.kind x) (sym same_guards) is.counted;
     }
 
 -- so too behind a guard that is released first
@@ -215,6 +234,12 @@ counted_once : (g : HeldGuard) (c : GuardCounts) (b : Bool) → b ≡ true → 0
 counted_once g c true e = more_counted g.kind c
 counted_once g c false e = absurd (cc)
 
+taken_once : (g : HeldGuard) (c : GuardCounts) (takes : Bool) → takes ≡ true → (g.object == c.number) ≡ true →
+    0 < count_of g.kind (on_taking (λ (x : GuardCounts). if g.object == x.number then one_more g.kind x else x) takes c)
+unfolding on_taking
+taken_once g c true e own = counted_once g c (g.object == c.number) own
+taken_once g c false e own = absurd (cc)
+
 pub number_stays : (g : HeldGuard) (h : Held) → number_of (held_with g h) ≡ number_of h
 number_stays g (of_rows kind o) = go (g.object == o.number)
   where
@@ -222,6 +247,7 @@ number_stays g (of_rows kind o) = go (g.object == o.number)
     go true = refl
     go false = refl
 number_stays g (of_holder e h) = refl
+number_stays g (of_queue number q) = refl
 
 pub object_by_there : (f : Held → Held) (e : State) (place : ℕ) (h : Held) → object_at e place ≡ Some h → object_at (objects_by f e) place ≡ Some (f h)
 object_by_there f e place h there =
@@ -235,15 +261,15 @@ object_by_there f e place h there =
     go (binds_element object at) is = absurd (none-some h is)
 
 -- from the time on when it is held
-pub held_now : (g : HeldGuard) (e : State) (place : ℕ) (h : Held) → object_at e place ≡ Some h → g.object ≡ number_of h →
+pub held_now : (g : HeldGuard) (e : State) (place : ℕ) (h : Held) → takes_guards h ≡ true → object_at e place ≡ Some h → g.object ≡ number_of h →
     IsHeldAt (objects_by (held_with g) e) place g
 unfolding counts_with
-held_now g e place h there own = record {
+held_now g e place h takes there own = record {
   held = held_with g h;
   there = object_by_there (held_with g) e place h there;
   own = own ∙ sym (number_stays g h);
   counted =
-      subst (λ x. 0 < count_of g.kind x) (sym (held_with_counts g h))
-      (counted_once g (counts_in_held h) (g.object == (counts_in_held h).number)
+      subst (λ (x : HeldCounts). 0 < count_of g.kind x.guards) (sym (held_with_counts g h))
+      (taken_once g (counts_in_held h) (takes_guards h) takes
       (ap (λ n. n == (counts_in_held h).number) (own ∙ sym (number_counted h)) ∙ own_number (counts_in_held h).number));
 }

@@ -1,3 +1,11 @@
+mod ByOrders
+mod ByWorkers
+mod Counting
+mod Gathering
+mod LentQueues
+mod LinesOfTasks
+mod Rounds
+mod StepsFit
 mod Telling
 mod Holding
 mod Standing
@@ -9,3 +17,4 @@ mod Blocks
 mod Updating
 mod Scripts
 mod OneLine
+mod TasksRun

@@ -7,7 +7,7 @@ use Rattle.ac_io.proofs.Telling.{adds_broken, written_whole, written_room}
 use Rattle.ac_meaning.specs.Answers.{Line, Answer, line, line_text, lines_text, answer_text, answers_list}
 use Rattle.ac_meaning.specs.Environment.{State}
 use Rattle.ac_objects.specs.declared.reply.Said.{Said}
-use Rattle.ac_objects.specs.declared.reply.Said.TheVariants.{Done, Value, Truth, Place, Listing}
+use Rattle.ac_objects.specs.declared.reply.Said.TheVariants.{Done, Value, Truth, Place, Listing, Stalled}
 use Rattle.ac_objects.specs.Shown.{Shows}
 use Rattle.ac_host.specs.declared.end.HostEnd.{HostEnd}
 use Rattle.ac_host.specs.declared.end.HostEnd.TheVariants.{WriteFault, NoMemory}
@@ -90,6 +90,7 @@ shown_is e object (Truth is_true) answered short s = rw s refl
 shown_is e object (Place cursor.NoElement) answered short s = rw s refl
 shown_is e object (Place (cursor.At it name)) answered short s = rw s refl
 shown_is e object Listing answered short s = absurd (true≢false short)
+shown_is e object Stalled answered short s = rw s refl
 
 pub shown_line : (number : ℕ) (e : State) (object : ℕ) (said : Said) (answered : Answer) → is_listing said ≡ false → Shows e object said answered →
     decimal number ++ (codes ": " ++ (shown_text said ++ 10 ∷ [])) ≡ lines_text (line number answered ∷ [])

@@ -16,7 +16,8 @@ use Rattle.ac_model.proofs.Depths.{both_true}
 use Rattle.ac_model.proofs.Reasons.{none_others}
 use Rattle.ac_syntax.specs.declared.view_kind.ViewKind.{ViewKind}
 use Rattle.ac_syntax.specs.declared.view_kind.ViewKind.TheVariants.{Query, Update, Reference, UpdateKey}
-use Rattle.ac_meaning.specs.Holdings.{RowKind, RowOf, a_sequence, a_map, a_set, a_keyed_set, a_tree, have_root, Held, of_rows, of_holder, Guards, number_of, names_of, has_root, holds_element, held_under, guard_on, element_value}
+use Rattle.ac_history.specs.States.{TaskQueue}
+use Rattle.ac_meaning.specs.Holdings.{RowKind, RowOf, a_sequence, a_map, a_set, a_keyed_set, a_tree, have_root, Held, of_rows, of_holder, of_queue, Guards, number_of, names_of, has_root, holds_element, held_under, guard_on, element_value}
 use Rattle.ac_meaning.specs.Environment.{Bound, binds_value, binds_element, bound_by, State, under, object_at, with_name, leaving}
 use Rattle.ac_meaning.specs.Execution.{guards_of_loop, guards_of_stable, guards_of_view, head_reason, in_order}
 use Rattle.ac_meaning.specs.GuardedNames.{is_guarded, is_element_guarded, of_object, frame, kept}
@@ -65,6 +66,13 @@ viewed_designates Update kind o at none = designated kind o at none
 viewed_designates Reference kind o at none = designated kind o at none
 viewed_designates UpdateKey kind o at none = updates_designate kind o at none
 
+-- and no view of a queue begins
+no_view : (view : ViewKind) (number : ℕ) (q : TaskQueue) (at : Mark) → head_reason view (of_queue number q) at ≡ None → ⊥
+no_view Query number q at none = none-some NoElement (sym none)
+no_view Update number q at none = none-some NoElement (sym none)
+no_view Reference number q at none = none-some NoElement (sym none)
+no_view UpdateKey number q at none = none-some NoElement (sym none)
+
 -- what a view stands for is kept by its guard
 viewed_stands : (view : ViewKind) (h : Held) (at : Mark) (guards : Guards) → head_reason view h at ≡ None →
     let held = guards_of_view view h ++ guards in IsNamed held (number_of h) (has_root h) (names_of h) at ⊎ (keeps_element held h ≡ true)
@@ -83,6 +91,7 @@ viewed_stands view (of_rows kind o) at guards none =
 viewed_stands view (of_holder e h) at guards none =
     let v = views_guard_elements view e h at guards none in
     inr (both_true (holds_element (of_holder e h)) (is_element_guarded (guards_of_view view (of_holder e h) ++ guards) h.number) v.has_element v.guarded)
+viewed_stands view (of_queue number q) at guards none = absurd (no_view view number q at none)
 
 -- Objects that are found while guards are held
 

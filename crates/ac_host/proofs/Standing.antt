@@ -11,9 +11,9 @@ use Rattle.ac_model.specs.Letters.{Mark, mark_at}
 use Rattle.ac_check.specs.Resolved.{ResolvedCode}
 use Rattle.ac_check.proofs.Apart.{and_parts}
 use Rattle.ac_model.proofs.Depths.{both_true}
-use Rattle.ac_meaning.specs.Holdings.{Held, of_rows, of_holder, Guards, is_on, held_on, number_of, names_of, holds_element, has_root, have_root, held_under, element_value, guard_on}
+use Rattle.ac_meaning.specs.Holdings.{Held, of_rows, of_holder, of_queue, Guards, is_on, held_on, number_of, names_of, holds_element, has_root, have_root, held_under, element_value, guard_on}
 use Rattle.ac_meaning.specs.Environment.{Bound, binds_type, binds_object, binds_cursor, binds_value, binds_element, bound_by, bound_in, object_in, State, under, bound_at, object_at, with_name, leaving}
-use Rattle.ac_meaning.specs.Execution.{exec_resolved, in_order}
+use Rattle.ac_meaning.specs.Execution.{Orders, exec_resolved, in_order}
 use Rattle.ac_meaning.specs.GuardedNames.{is_guarded, is_element_guarded, Frame, of_type, of_object, of_cursor, of_value, of_element, names_if, frame, kept}
 use Rattle.ac_meaning.specs.Numbers.{NumbersDiffer, GuardsBelow}
 use Rattle.ac_meaning.proofs.BoundsStay.{object_there}
@@ -46,27 +46,33 @@ element_there (of_rows kind o) before name after e other =
     ∙ designated (have_root kind) o (mark_at o.number name)
     (record { name = name; named = named_there o.rows before name after e; no_root = other; is = refl })
 element_there (of_holder e h) before name after is other = absurd (no_row before name after is)
+element_there (of_queue number q) before name after is other = absurd (no_row before name after is)
 
 pub number_under : (guards : Guards) (h : Held) → number_of (held_under guards h) ≡ number_of h
 number_under guards (of_rows kind o) = refl
 number_under guards (of_holder e h) = refl
+number_under guards (of_queue number q) = refl
 
 pub names_under : (guards : Guards) (h : Held) → names_of (held_under guards h) ≡ names_of h
 names_under guards (of_rows kind o) = refl
 names_under guards (of_holder e h) = refl
+names_under guards (of_queue number q) = refl
 
 pub root_under : (guards : Guards) (h : Held) → has_root (held_under guards h) ≡ has_root h
 root_under guards (of_rows kind o) = refl
 root_under guards (of_holder e h) = refl
+root_under guards (of_queue number q) = refl
 
 pub has_under : (guards : Guards) (h : Held) → holds_element (held_under guards h) ≡ holds_element h
 has_under guards (of_rows kind o) = refl
 has_under guards (of_holder e h) = refl
+has_under guards (of_queue number q) = refl
 
 guarded_counts : (guards : Guards) (h : Held) (before : List ℕ) (name : ℕ) (after : List ℕ) → is_guarded guards (number_of h) ≡ true →
     names_of h ≡ before ++ name ∷ after → 0 < keeping_guards (held_under guards h)
 guarded_counts guards (of_rows kind o) before name after g e = held_some guards o.number g
 guarded_counts guards (of_holder e h) before name after g is = absurd (no_row before name after is)
+guarded_counts guards (of_queue number q) before name after g is = absurd (no_row before name after is)
 
 -- an element that is kept, as those of holders are
 
@@ -95,9 +101,11 @@ element_some : (guards : Guards) (n : ℕ) → is_element_guarded guards n ≡ t
 element_some [] n h = absurd (cc)
 element_some (g ∷ guards) n h = element_step g guards n (is_on g n guard.Elements) refl h (element_some guards n)
 
-element_counts : (guards : Guards) (h : Held) → is_element_guarded guards (number_of h) ≡ true → 0 < keeping_guards (held_under guards h)
-element_counts guards (of_rows kind o) g = let some = element_some guards o.number g in omega (arith, some)
-element_counts guards (of_holder e h) g = element_some guards h.number g
+element_counts : (guards : Guards) (h : Held) → holds_element h ≡ true → is_element_guarded guards (number_of h) ≡ true →
+    0 < keeping_guards (held_under guards h)
+element_counts guards (of_rows kind o) has g = let some = element_some guards o.number g in omega (arith, some)
+element_counts guards (of_holder e h) has g = element_some guards h.number g
+element_counts guards (of_queue number q) has g = absurd (cc)
 
 -- What stays of a name, and what it holds
 
@@ -247,7 +255,7 @@ module _ (guards : Guards) (e : State) (object : ℕ) (at : Mark) (number : ℕ)
         held = held_under guards o.held;
         there = object_by_there (held_under guards) e object o.held o.there;
         stands = element_stands (held_under guards o.held) at (has_under guards o.held ∙ keeps.0);
-        guarded = element_counts guards o.held keeps.1;
+        guarded = element_counts guards o.held keeps.0 keeps.1;
       }
 
 pub kept_stands : (guards : Guards) (e : State) (object : ℕ) (at : Mark) → IsKept guards (kept guards e) object at → ElementStands (under guards e) object at
@@ -270,13 +278,13 @@ ready_stand w r = subst ElementsStand (sym r.stands.is) (elements_stand r.guards
 
 -- What stays ready
 
-pub ready_exec : (code : ResolvedCode) (guards : Guards) (e : State) → Ready guards e → Ready guards (exec_resolved code guards e).after
-ready_exec code guards e r =
-    let now = (exec_resolved code guards e).after in
+pub ready_exec : (orders : Orders) (code : ResolvedCode) (guards : Guards) (e : State) → Ready guards e → Ready guards (exec_resolved orders code guards e).after
+ready_exec orders code guards e r =
+    let now = (exec_resolved orders code guards e).after in
     record {
-      below = new_objects_are_unguarded.later guards e now (next_rises.resolved code guards e) r.below;
-      differ = numbers_go_on.resolved code guards e r.differ;
-      elements = subst (ElementsKept guards) (sym (resolved_keeps code guards e)) r.elements;
+      below = new_objects_are_unguarded.later guards e now (next_rises.resolved orders code guards e) r.below;
+      differ = numbers_go_on.resolved orders code guards e r.differ;
+      elements = subst (ElementsKept guards) (sym (resolved_keeps orders code guards e)) r.elements;
     }
 
 guarded_more : (more guards : Guards) (number : ℕ) → is_guarded guards number ≡ true → is_guarded (more ++ guards) number ≡ true

@@ -6,7 +6,7 @@ use Rattle.ac_model.specs.Letters.{Mark, no_mark, mark_at}
 use Rattle.ac_check.specs.Resolved.{ResolvedCode}
 use Rattle.ac_meaning.specs.Holdings.{Held, Guards, number_of, names_of, held_under, element_value}
 use Rattle.ac_meaning.specs.Environment.{Bound, bound_by, bound_in, object_in, State, under, object_at, with_name, leaving}
-use Rattle.ac_meaning.specs.Execution.{exec_resolved, in_order, turn_bound}
+use Rattle.ac_meaning.specs.Execution.{Orders, exec_resolved, in_order, turn_bound}
 use Rattle.ac_meaning.specs.GuardedNames.{Frame, of_object, of_element, frame, kept}
 use Rattle.ac_meaning.specs.Walks.{first_mark}
 use Rattle.ac_meaning.proofs.CountsStay.{parts_under}
@@ -126,17 +126,17 @@ module _ {w : World} {count object : ℕ} {backward : Bool} {coming : Mark} {gua
           (subst (λ x. IsKept guards (kept guards e) x mark) p
           (kept_at guards (kept guards e) object number t.rooted all t.has_element name t.there t.guarded (next_among name rest is) t.no_root))
 
-  pub turn_ends : (code : ResolvedCode) (b : Bound) (name : ℕ) (rest : List ℕ) (now : World) (next : Mark) → names ≡ name ∷ rest →
-      Ready guards (with_name e b) → state_of now ≡ under guards (exec_resolved code guards (with_name e b)).after → next ≡ first_mark number rest →
-      Turning now count object backward next guards (leaving (length e.bounds) (exec_resolved code guards (with_name e b)).after) number all rest
-  turn_ends code b name rest now next is begun ended next_is =
-      let after = (exec_resolved code guards (with_name e b)).after in
+  pub turn_ends : (orders : Orders) (code : ResolvedCode) (b : Bound) (name : ℕ) (rest : List ℕ) (now : World) (next : Mark) → names ≡ name ∷ rest →
+      Ready guards (with_name e b) → state_of now ≡ under guards (exec_resolved orders code guards (with_name e b)).after → next ≡ first_mark number rest →
+      Turning now count object backward next guards (leaving (length e.bounds) (exec_resolved orders code guards (with_name e b)).after) number all rest
+  turn_ends orders code b name rest now next is begun ended next_is =
+      let after = (exec_resolved orders code guards (with_name e b)).after in
       let left = leaving (length e.bounds) after in
-      let same = resolved_keeps code guards (with_name e b) in
+      let same = resolved_keeps orders code guards (with_name e b) in
       let back : kept guards left ≡ kept guards e = kept_back guards e after (b ∷ []) same in
       record {
         is = ap (leaving count) ended ∙ (ap (λ n. leaving n (under guards after)) t.as_many ∙ sym (parts_under.left guards (length e.bounds) after));
-        ready = ready_back guards e after b same t.ready (ready_exec code guards (with_name e b) begun);
+        ready = ready_back guards e after b same t.ready (ready_exec orders code guards (with_name e b) begun);
         as_many = t.as_many ∙ sym (many_kept guards e left back);
         rooted = t.rooted;
         has_element = t.has_element;

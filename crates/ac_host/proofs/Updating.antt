@@ -1,5 +1,5 @@
 -- Updates of a key.
-use Rattle.std.proofs.Common.{◌≡◌, ◌<◌, ◌++◌, ℕ, Bool, List, [], ◌∷◌, take, length, refl, sym, ap, subst, ◌∙◌, Option, Some, None, Result, Ok, Err, OnOk}
+use Rattle.std.proofs.Common.{◌≡◌, ◌<◌, ◌++◌, ℕ, Bool, true, List, [], ◌∷◌, take, length, refl, sym, ap, subst, ◌∙◌, Option, Some, None, Result, Ok, Err, OnOk}
 use Rattle.ac_base.specs.declared.guard.GuardKind.TheVariants as guard
 use Rattle.ac_base.specs.declared.reason.Reason.{Reason}
 use Rattle.ac_base.specs.declared.value.Value.{Value}
@@ -8,9 +8,9 @@ use Rattle.ac_model.specs.Letters.{Mark}
 use Rattle.ac_syntax.specs.declared.view_kind.ViewKind.TheVariants.{UpdateKey}
 use Rattle.ac_check.specs.Resolved.{ResolvedCode, views_at}
 use Rattle.ac_meaning.specs.Answers.{lines_text, line as line_of, answers_raised}
-use Rattle.ac_meaning.specs.Holdings.{Held, Guards, element_value}
-use Rattle.ac_meaning.specs.Environment.{State, under, object_at, mark_at, value_at, value_or_zero, with_name, leaving, binds_value}
-use Rattle.ac_meaning.specs.Execution.{Outcome, followed, exec_resolved, guards_of_view, head_reason, key_end, key_body, view_on, on_object}
+use Rattle.ac_meaning.specs.Holdings.{Held, takes_guards, Guards, element_value}
+use Rattle.ac_meaning.specs.Environment.{State, under, object_at, guarded_at, mark_at, value_at, value_or_zero, with_name, leaving, binds_value}
+use Rattle.ac_meaning.specs.Execution.{Outcome, Orders, followed, exec_resolved, guards_of_view, head_reason, key_end, key_body, view_on, on_object}
 use Rattle.ac_meaning.specs.GuardedNames.{kept}
 use Rattle.ac_meaning.proofs.ExecKeeps.{resolved_keeps}
 use Rattle.ac_objects.specs.declared.blocks.UpdateKey.{UpdateKey as KeyOfUpdate}
@@ -42,12 +42,13 @@ pub updating_under : (w now : World) (guards : Guards) (e : State) → IsUnder w
 updating_under w now guards e u place h there key copy own is =
     subst (λ m. IsUnder now (m ++ guards) (with_name e (binds_value copy))) (sym own) (update_begins w guards e u place h there copy now is)
 
-pub updating_begins : (w now : World) (guards : Guards) (e : State) → IsUnder w guards e → (place : ℕ) (h : Held) → object_at (state_of w) place ≡ Some h →
+pub updating_begins : (w now : World) (guards : Guards) (e : State) → IsUnder w guards e → (place : ℕ) (h : Held) → takes_guards h ≡ true →
+    object_at (state_of w) place ≡ Some h →
     (key : KeyOfUpdate) (at : Mark) (copy : Value) → head_reason UpdateKey h at ≡ None → guards_of_update_key key ≡ guards_of_view UpdateKey h →
     state_of now ≡ with_name (holding (guards_of_view UpdateKey h) (state_of w)) (binds_value copy) →
     key.object ≡ place → key.names ≡ length w.bounds → plain_mark key.at ≡ at → IsKnown now key.at → key.guard.kind ≡ guard.Cursors →
     IsUpdating now key
-updating_begins w now guards e u place h there key at copy none own is object names mark known kind =
+updating_begins w now guards e u place h takes there key at copy none own is object names mark known kind =
     let env = with_name e (binds_value copy) in
     record {
       guards = guards;
@@ -64,7 +65,7 @@ updating_begins w now guards e u place h there key at copy none own is object na
           (subst (λ n. place < n) (many_names w ∙ sym names) (there_within (state_of w) place h there));
       guard =
           subst (λ p. IsHeldAt (state_of now) p key.guard) (sym object)
-          (subst (λ s. IsHeldAt s place key.guard) (sym is) (view_held (state_of w) (binds_value copy) place UpdateKey h key.guard there own));
+          (subst (λ s. IsHeldAt s place key.guard) (sym is) (view_held (state_of w) (binds_value copy) place UpdateKey h takes key.guard there own));
       cursors = kind;
     }
 
@@ -79,16 +80,16 @@ pub updating_held : (w now : World) (key : KeyOfUpdate) → IsUpdating w key →
     IsHeldAt (state_of now) key.object key.guard
 updating_held w now key k same = held_still (state_of w) (state_of now) key.object key.names key.guard k.inner (ap (take key.names) same) k.guard
 
-pub updating_goes_on : (code : ResolvedCode) (w now : World) (key : KeyOfUpdate) (k : IsUpdating w key) →
-    state_of now ≡ under (guards_of_update_key key ++ k.guards) (exec_resolved code (guards_of_update_key key ++ k.guards) k.env).after →
+pub updating_goes_on : (orders : Orders) (code : ResolvedCode) (w now : World) (key : KeyOfUpdate) (k : IsUpdating w key) →
+    state_of now ≡ under (guards_of_update_key key ++ k.guards) (exec_resolved orders code (guards_of_update_key key ++ k.guards) k.env).after →
     counts_of (state_of now) ≡ counts_of (state_of w) → IsKnown now key.at → IsUpdating now key
-updating_goes_on code w now key k is same known =
+updating_goes_on orders code w now key k is same known =
     let held = guards_of_update_key key ++ k.guards in
     record {
       guards = k.guards;
-      env = (exec_resolved code held k.env).after;
-      stands = record { is = is; ready = ready_exec code held k.env k.stands.ready };
-      element = subst (λ l. IsKept held l key.object (plain_mark key.at)) (sym (resolved_keeps code held k.env)) k.element;
+      env = (exec_resolved orders code held k.env).after;
+      stands = record { is = is; ready = ready_exec orders code held k.env k.stands.ready };
+      element = subst (λ l. IsKept held l key.object (plain_mark key.at)) (sym (resolved_keeps orders code held k.env)) k.element;
       known = known;
       inner = k.inner;
       guard = updating_held w now key k same;
@@ -97,13 +98,13 @@ updating_goes_on code w now key k is same known =
 
 -- What it comes to
 
-pub update_comes : (code : ResolvedCode) (guards : Guards) (e : State) (line object : ℕ) (at : Option ℕ) (s : State) (h : Held) (key : KeyOfUpdate) →
-    object_at (under guards e) object ≡ Some h → s ≡ under guards e → head_reason UpdateKey h (mark_at s at) ≡ None →
+pub update_comes : (orders : Orders) (code : ResolvedCode) (guards : Guards) (e : State) (line object : ℕ) (at : Option ℕ) (s : State) (h : Held) (key : KeyOfUpdate) →
+    guarded_at (under guards e) object ≡ Some h → s ≡ under guards e → head_reason UpdateKey h (mark_at s at) ≡ None →
     guards_of_update_key key ≡ guards_of_view UpdateKey h → key.object ≡ object → key.names ≡ length e.bounds → plain_mark key.at ≡ mark_at s at →
-    followed (exec_resolved code (guards_of_update_key key ++ guards) (with_name e (binds_value (copied s at h)))) (key_ending line key guards)
-    ≡ on_object (exec_resolved code) guards (views_at line UpdateKey object at) (object_at (under guards e) object) e
-update_comes code guards e line object at s h key there s_is none own place names mark_is =
-    let body = exec_resolved code in
+    followed (exec_resolved orders code (guards_of_update_key key ++ guards) (with_name e (binds_value (copied s at h)))) (key_ending line key guards)
+    ≡ on_object (exec_resolved orders code) guards (views_at line UpdateKey object at) (guarded_at (under guards e) object) e
+update_comes orders code guards e line object at s h key there s_is none own place names mark_is =
+    let body = exec_resolved orders code in
     let mark : mark_at s at ≡ mark_at e at = ap (λ x. mark_at x at) s_is ∙ mark_under guards e at in
     let same = mark_is ∙ mark in
     (λ i. followed (body (own i ++ guards) (with_name e (binds_value (value_or_zero (element_value h (mark i)).answer))))

@@ -4,7 +4,7 @@ use Rattle.ac_base.specs.declared.cursor.Cursor.TheVariants as cursor
 use Rattle.ac_syntax.specs.Canonical.{literal_text}
 use Rattle.ac_meaning.specs.Answers.{truth_text}
 use Rattle.ac_objects.specs.declared.reply.Said.{Said}
-use Rattle.ac_objects.specs.declared.reply.Said.TheVariants.{Done, Value, Truth, Place, Listing}
+use Rattle.ac_objects.specs.declared.reply.Said.TheVariants.{Done, Value, Truth, Place, Listing, Stalled}
 
 -- the answer is an object's listing
 abbrev pub is_listing : Said → Bool
@@ -13,6 +13,7 @@ is_listing (Value v) = false
 is_listing (Truth is_true) = false
 is_listing (Place c) = false
 is_listing Listing = true
+is_listing Stalled = false
 
 -- a listing isn't told here
 abbrev pub shown_text : Said → List ℕ
@@ -22,3 +23,4 @@ shown_text (Truth is_true) = truth_text is_true
 shown_text (Place cursor.NoElement) = codes "no_element"
 shown_text (Place (cursor.At object name)) = codes "cursor"
 shown_text Listing = []
+shown_text Stalled = codes "stalled"

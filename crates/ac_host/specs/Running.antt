@@ -3,12 +3,12 @@ use Rattle.std.specs.Prelude.{◌≡◌, ◌<◌, ℕ, Bool, true, List, ◌++�
 use Rattle.ac_base.specs.declared.guard.GuardKind.TheVariants.{Cursors}
 use Rattle.ac_model.specs.Cursors.{plain_mark}
 use Rattle.ac_model.specs.Letters.{Mark}
-use Rattle.ac_check.specs.Resolved.{calls_at, sets_at, sums_at, loops_at, views_at, stables_at, declares_at}
+use Rattle.ac_check.specs.Resolved.{ResolvedCode, ResolvedHead, calls_at, sets_at, sums_at, loops_at, views_at, stables_at, declares_at}
 use Rattle.ac_check.specs.declared.resolved.ResolvedStmt.{ResolvedStmt}
-use Rattle.ac_check.specs.declared.resolved.ResolvedStmt.TheVariants.{Call, Set, Sum, Loop, View, Stable, Declare}
+use Rattle.ac_check.specs.declared.resolved.ResolvedStmt.TheVariants.{Call, Set, Sum, Loop, View, Stable, Declare, Tasks}
 use Rattle.ac_meaning.specs.Holdings.{Held, Guards, number_of, names_of}
 use Rattle.ac_meaning.specs.Environment.{State, under, value_at, leaving}
-use Rattle.ac_meaning.specs.Execution.{Outcome, outcome, commanded, block_on, exec_resolved, in_order, guards_of_loop, key_end}
+use Rattle.ac_meaning.specs.Execution.{Outcome, outcome, Orders, commanded, gathered, block_on, exec_resolved, in_order, guards_of_loop, key_end}
 use Rattle.ac_meaning.specs.GuardedNames.{is_guarded, of_object, kept}
 use Rattle.ac_meaning.specs.Walks.{first_mark}
 use Rattle.ac_objects.specs.declared.blocks.UpdateKey.{UpdateKey}
@@ -18,17 +18,23 @@ use Rattle.ac_objects.specs.Standing.{counts_of}
 use Rattle.ac_objects.specs.World.{World, state_of, IsKnown, Persists}
 use Rattle.ac_host.specs.declared.end.HostEnd.{HostEnd}
 use Rattle.ac_host.specs.Ready.{IsKept, Ready, IsUnder}
+use Rattle.ac_host.specs.Told.{Tells}
 use Rattle.ac_host.specs.Writing.{Ran, WroteSoFar}
 
+-- a block, with its body
+abbrev pub block_of : Orders → (body : ResolvedCode) → Guards → State → ResolvedHead → Outcome
+block_of orders body guards e head = block_on (exec_resolved orders body) guards orders body e head
+
 -- one statement, without what follows it
-abbrev pub statement_outcome : ResolvedStmt → Guards → State → Outcome
-statement_outcome (Call line target object operation args) guards e = commanded guards e (calls_at line target object operation args)
-statement_outcome (Set line target from) guards e = commanded guards e (sets_at line target from)
-statement_outcome (Sum line target from minus number) guards e = commanded guards e (sums_at line target from minus number)
-statement_outcome (Loop line elements backward object body) guards e = block_on (exec_resolved body) guards e (loops_at line elements backward object)
-statement_outcome (View line kind object at body) guards e = block_on (exec_resolved body) guards e (views_at line kind object at)
-statement_outcome (Stable line object body) guards e = block_on (exec_resolved body) guards e (stables_at line object)
-statement_outcome (Declare line decls body) guards e = block_on (exec_resolved body) guards e (declares_at line decls)
+abbrev pub statement_outcome : ResolvedStmt → Orders → Guards → State → Outcome
+statement_outcome (Call line target object operation args) orders guards e = commanded guards e (calls_at line target object operation args)
+statement_outcome (Set line target from) orders guards e = commanded guards e (sets_at line target from)
+statement_outcome (Sum line target from minus number) orders guards e = commanded guards e (sums_at line target from minus number)
+statement_outcome (Loop line elements backward object body) orders guards e = block_of orders body guards e (loops_at line elements backward object)
+statement_outcome (View line kind object at body) orders guards e = block_of orders body guards e (views_at line kind object at)
+statement_outcome (Stable line object body) orders guards e = block_of orders body guards e (stables_at line object)
+statement_outcome (Declare line decls body) orders guards e = block_of orders body guards e (declares_at line decls)
+statement_outcome (Tasks line tasks) orders guards e = gathered (orders e.blocks) tasks e
 
 -- with no more than so many names left behind it
 abbrev pub inside : ℕ → Outcome → Outcome
@@ -44,6 +50,12 @@ abbrev pub Runs : {K T : Type 0} → (K → Option (List ℕ)) → (K → ℕ) �
     (Guards → State → Outcome) → Result T HostEnd → Type 0
 Runs held faults room counts_failures sink_old sink_new old new comes_to result =
     (guards : Guards) (e : State) → IsUnder old guards e → Ran held faults room counts_failures sink_old sink_new new guards (comes_to guards e) result
+
+-- the same by orders, told by those of the blocks of tasks that began
+abbrev pub RunsByOrders : {K T : Type 0} → (allows : List ℕ → Type 0) → (K → Option (List ℕ)) → (K → ℕ) → (K → Option ℕ) → (K → Bool) →
+    (sink_old sink_new : K) → (old new : World) → (Orders → Guards → State → Outcome) → Result T HostEnd → Type 0
+RunsByOrders allows held faults room counts_failures sink_old sink_new old new comes_to result =
+    Tells allows old new result (λ orders. Runs held faults room counts_failures sink_old sink_new old new (comes_to orders) result)
 
 -- whatever it comes to, cursors that were known are known, and the names in scope hold objects as they did, with their counts of guards
 pub record Leaves (old new : World) : Type 0 where

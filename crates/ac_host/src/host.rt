@@ -7,15 +7,17 @@ ghost use Rattle.ac_check.specs.Resolved.{calls_at, sets_at, sums_at, loops_at, 
 ghost use Rattle.ac_meaning.specs.Answers.{line as line_of, lines_text, answers_raised};
 ghost use Rattle.ac_meaning.specs.Holdings.{Held, Guards, number_of, names_of};
 ghost use Rattle.ac_meaning.specs.Environment.{State, leaving};
-ghost use Rattle.ac_meaning.specs.Execution.{commanded, block_on, exec_resolved, followed, turns, guards_of_loop};
+ghost use Rattle.ac_meaning.specs.Execution.{commanded, exec_resolved, followed, gathered, turns, guards_of_loop};
 ghost use Rattle.ac_objects.specs.Blocks.{releasing, guards_of_loop_key, guards_of_update_key, guards_of_view_key, IsHeldAt};
-ghost use Rattle.ac_objects.specs.Standing.{IsObject, counts_of};
+ghost use Rattle.ac_objects.specs.Standing.{TakesGuards, counts_of};
 ghost use Rattle.ac_objects.specs.World.{state_of, IsKnown, Persists};
 ghost use Rattle.ac_host.specs.Ready.{IsReady, IsUnder};
-ghost use Rattle.ac_host.specs.Running.{statement_outcome, inside, key_ending, Runs, Leaves, Turning, IsTurning, IsUpdating};
+ghost use Rattle.ac_host.specs.Running.{block_of, statement_outcome, inside, key_ending, Runs, RunsByOrders, Leaves, Turning, IsTurning, IsUpdating};
+ghost use Rattle.ac_host.specs.Told.{Tells};
 ghost use Rattle.ac_host.specs.Writing.{Ran};
 
 use crate::end::HostEnd;
+use crate::runner::BlockRunner;
 use crate::written::{write_line, write_refusal};
 use ac_base::{Fault, Reason};
 use ac_check::{Operation, ResolvedArg, ResolvedDecl, ResolvedStmt, ResolvedStmts};
@@ -114,20 +116,23 @@ impl Host {
 
     /// Runs the body of a loop once for each element still to come.
     #[cycle(statements)]
-    fn run_turns<K: Sink>(
+    fn run_turns<K: Sink, B: BlockRunner>(
         &mut self,
         elements: bool,
         key: &mut LoopKey,
         body: &ResolvedStmts,
         sink: &mut K,
+        runner: &B,
     ) -> Result<(), HostEnd>
+        requires sound { B.is_sound runner.now }
         requires turning { IsTurning elements self.old.objects key.old.names key.old.object key.old.backward (plain_mark key.old.coming) }
         requires known { IsKnown self.old.objects key.old.coming }
-        ensures runs { (guards : Guards) (h : Held) (e : State) (names : List ℕ) →
+        ensures runs { Tells B.allows self.old.objects self.new.objects result (λ orders.
+            (guards : Guards) (h : Held) (e : State) (names : List ℕ) →
             Turning self.old.objects key.old.names key.old.object key.old.backward (plain_mark key.old.coming)
             (guards_of_loop elements h ++ guards) e (number_of h) (names_of h) names →
             Ran K.held K.faults K.room K.counts_failures sink.old sink.new self.new.objects (guards_of_loop elements h ++ guards)
-            (turns (exec_resolved body.now) guards elements key.old.object h names e) result }
+            (turns (exec_resolved orders body.now) guards elements key.old.object h names e) result) }
         ensures key { (key.new.object ≡ key.old.object) × (key.new.names ≡ key.old.names)
             × (guards_of_loop_key key.new ≡ guards_of_loop_key key.old) }
         ensures persists { Persists self.old.objects self.new.objects }
@@ -138,13 +143,13 @@ impl Host {
             if !self.objects.step_loop(elements, key)? {
                 return Ok(());
             }
-            self.run_statements(body, sink)?;
+            self.run_statements(body, sink, runner)?;
         }
         Err(HostEnd::NoMemory)
     }
 
     #[cycle(statements)]
-    fn run_loop<K: Sink>(
+    fn run_loop<K: Sink, B: BlockRunner>(
         &mut self,
         line: u64,
         elements: bool,
@@ -152,47 +157,53 @@ impl Host {
         object: usize,
         body: &ResolvedStmts,
         sink: &mut K,
+        runner: &B,
     ) -> Result<(), HostEnd>
+        requires sound { B.is_sound runner.now }
         requires ready { IsReady self.old.objects }
-        ensures runs { Runs K.held K.faults K.room K.counts_failures sink.old sink.new self.old.objects self.new.objects
-            (λ guards e. block_on (exec_resolved body.now) guards e (loops_at line elements backward object)) result }
+        ensures runs { RunsByOrders B.allows K.held K.faults K.room K.counts_failures sink.old sink.new
+            self.old.objects self.new.objects
+            (λ orders guards e. block_of orders body.now guards e (loops_at line elements backward object)) result }
         ensures leaves { Leaves self.old.objects self.new.objects }
     {
-        if !self.objects.is_object(object) {
+        if !self.objects.takes_guards(object) {
             return Ok(());
         }
         let mut key = self.objects.enter_loop(elements, backward, object)?;
-        let ended = self.run_turns(elements, &mut key, body, sink);
+        let ended = self.run_turns(elements, &mut key, body, sink, runner);
         self.objects.leave_loop(key);
         ended
     }
 
     /// Runs the body of a view or `stable` that was begun, and ends it.
     #[cycle(statements)]
-    fn run_viewed<K: Sink>(
+    fn run_viewed<K: Sink, B: BlockRunner>(
         &mut self,
         key: ViewKey,
         body: &ResolvedStmts,
         sink: &mut K,
+        runner: &B,
     ) -> Result<(), HostEnd>
+        requires sound { B.is_sound runner.now }
         requires ready { IsReady self.old.objects }
         requires inner { key.object < key.names }
         requires guard { IsHeldAt (state_of self.old.objects) key.object key.guard }
-        ensures runs { (guards : Guards) (e : State) → IsUnder self.old.objects (guards_of_view_key key ++ guards) e →
+        ensures runs { Tells B.allows self.old.objects self.new.objects result (λ orders.
+            (guards : Guards) (e : State) → IsUnder self.old.objects (guards_of_view_key key ++ guards) e →
             Ran K.held K.faults K.room K.counts_failures sink.old sink.new self.new.objects guards
-            (inside key.names (exec_resolved body.now (guards_of_view_key key ++ guards) e)) result }
+            (inside key.names (exec_resolved orders body.now (guards_of_view_key key ++ guards) e)) result) }
         ensures persists { Persists self.old.objects self.new.objects }
         ensures counts { counts_of (state_of self.new.objects)
             ≡ counts_of (releasing (guards_of_view_key key) (leaving key.names (state_of self.old.objects))) }
     {
-        let ended = self.run_statements(body, sink);
+        let ended = self.run_statements(body, sink, runner);
         self.objects.leave_view(key);
         ended
     }
 
     /// Runs a view of an element itself.
     #[cycle(statements)]
-    fn run_element_view<K: Sink>(
+    fn run_element_view<K: Sink, B: BlockRunner>(
         &mut self,
         line: u64,
         kind: ViewKind,
@@ -200,23 +211,26 @@ impl Host {
         at: Option<usize>,
         body: &ResolvedStmts,
         sink: &mut K,
+        runner: &B,
     ) -> Result<(), HostEnd>
+        requires sound { B.is_sound runner.now }
         requires ready { IsReady self.old.objects }
         requires view { kind ≡ ViewKind.UpdateKey → ⊥ }
-        requires object { IsObject (state_of self.old.objects) object }
-        ensures runs { Runs K.held K.faults K.room K.counts_failures sink.old sink.new self.old.objects self.new.objects
-            (λ guards e. block_on (exec_resolved body.now) guards e (views_at line kind object at)) result }
+        requires object { TakesGuards (state_of self.old.objects) object }
+        ensures runs { RunsByOrders B.allows K.held K.faults K.room K.counts_failures sink.old sink.new
+            self.old.objects self.new.objects
+            (λ orders guards e. block_of orders body.now guards e (views_at line kind object at)) result }
         ensures leaves { Leaves self.old.objects self.new.objects }
     {
         match self.objects.enter_view(kind, object, at) {
-            Ok(key) => self.run_viewed(key, body, sink),
+            Ok(key) => self.run_viewed(key, body, sink, runner),
             Err(Fault::Raised(reason)) => write_refusal(line, reason, &mut self.text, sink),
             Err(Fault::NoMemory) => Err(HostEnd::NoMemory),
         }
     }
 
     #[cycle(statements)]
-    fn run_view<K: Sink>(
+    fn run_view<K: Sink, B: BlockRunner>(
         &mut self,
         line: u64,
         kind: ViewKind,
@@ -224,18 +238,21 @@ impl Host {
         at: Option<usize>,
         body: &ResolvedStmts,
         sink: &mut K,
+        runner: &B,
     ) -> Result<(), HostEnd>
+        requires sound { B.is_sound runner.now }
         requires ready { IsReady self.old.objects }
-        ensures runs { Runs K.held K.faults K.room K.counts_failures sink.old sink.new self.old.objects self.new.objects
-            (λ guards e. block_on (exec_resolved body.now) guards e (views_at line kind object at)) result }
+        ensures runs { RunsByOrders B.allows K.held K.faults K.room K.counts_failures sink.old sink.new
+            self.old.objects self.new.objects
+            (λ orders guards e. block_of orders body.now guards e (views_at line kind object at)) result }
         ensures leaves { Leaves self.old.objects self.new.objects }
     {
-        if !self.objects.is_object(object) {
+        if !self.objects.takes_guards(object) {
             return Ok(());
         }
         match kind {
-            ViewKind::UpdateKey => self.run_update(line, object, at, body, sink),
-            _ => self.run_element_view(line, kind, object, at, body, sink),
+            ViewKind::UpdateKey => self.run_update(line, object, at, body, sink, runner),
+            _ => self.run_element_view(line, kind, object, at, body, sink, runner),
         }
     }
 
@@ -261,22 +278,25 @@ impl Host {
 
     /// Runs the body of an update of a key that was begun, and ends it.
     #[cycle(statements)]
-    fn run_updated<K: Sink>(
+    fn run_updated<K: Sink, B: BlockRunner>(
         &mut self,
         line: u64,
         key: UpdateKey,
         body: &ResolvedStmts,
         sink: &mut K,
+        runner: &B,
     ) -> Result<(), HostEnd>
+        requires sound { B.is_sound runner.now }
         requires updating { IsUpdating self.old.objects key }
-        ensures runs { (guards : Guards) (e : State) → IsUnder self.old.objects (guards_of_update_key key ++ guards) e →
+        ensures runs { Tells B.allows self.old.objects self.new.objects result (λ orders.
+            (guards : Guards) (e : State) → IsUnder self.old.objects (guards_of_update_key key ++ guards) e →
             Ran K.held K.faults K.room K.counts_failures sink.old sink.new self.new.objects guards
-            (followed (exec_resolved body.now (guards_of_update_key key ++ guards) e) (key_ending line key guards)) result }
+            (followed (exec_resolved orders body.now (guards_of_update_key key ++ guards) e) (key_ending line key guards)) result) }
         ensures persists { Persists self.old.objects self.new.objects }
         ensures counts { counts_of (state_of self.new.objects)
             ≡ counts_of (releasing (guards_of_update_key key) (leaving key.names (state_of self.old.objects))) }
     {
-        match self.run_statements(body, sink) {
+        match self.run_statements(body, sink, runner) {
             Ok(()) => self.end_update(line, key, sink),
             Err(end) => {
                 self.objects.abandon_update(key);
@@ -286,81 +306,93 @@ impl Host {
     }
 
     #[cycle(statements)]
-    fn run_update<K: Sink>(
+    fn run_update<K: Sink, B: BlockRunner>(
         &mut self,
         line: u64,
         object: usize,
         at: Option<usize>,
         body: &ResolvedStmts,
         sink: &mut K,
+        runner: &B,
     ) -> Result<(), HostEnd>
+        requires sound { B.is_sound runner.now }
         requires ready { IsReady self.old.objects }
-        requires object { IsObject (state_of self.old.objects) object }
-        ensures runs { Runs K.held K.faults K.room K.counts_failures sink.old sink.new self.old.objects self.new.objects
-            (λ guards e. block_on (exec_resolved body.now) guards e (views_at line ViewKind.UpdateKey object at)) result }
+        requires object { TakesGuards (state_of self.old.objects) object }
+        ensures runs { RunsByOrders B.allows K.held K.faults K.room K.counts_failures sink.old sink.new
+            self.old.objects self.new.objects
+            (λ orders guards e. block_of orders body.now guards e (views_at line ViewKind.UpdateKey object at)) result }
         ensures leaves { Leaves self.old.objects self.new.objects }
     {
         match self.objects.enter_update(object, at) {
-            Ok(key) => self.run_updated(line, key, body, sink),
+            Ok(key) => self.run_updated(line, key, body, sink, runner),
             Err(Fault::Raised(reason)) => write_refusal(line, reason, &mut self.text, sink),
             Err(Fault::NoMemory) => Err(HostEnd::NoMemory),
         }
     }
 
     #[cycle(statements)]
-    fn run_stable<K: Sink>(
+    fn run_stable<K: Sink, B: BlockRunner>(
         &mut self,
         line: u64,
         object: usize,
         body: &ResolvedStmts,
         sink: &mut K,
+        runner: &B,
     ) -> Result<(), HostEnd>
+        requires sound { B.is_sound runner.now }
         requires ready { IsReady self.old.objects }
-        ensures runs { Runs K.held K.faults K.room K.counts_failures sink.old sink.new self.old.objects self.new.objects
-            (λ guards e. block_on (exec_resolved body.now) guards e (stables_at line object)) result }
+        ensures runs { RunsByOrders B.allows K.held K.faults K.room K.counts_failures sink.old sink.new
+            self.old.objects self.new.objects
+            (λ orders guards e. block_of orders body.now guards e (stables_at line object)) result }
         ensures leaves { Leaves self.old.objects self.new.objects }
     {
-        if !self.objects.is_object(object) {
+        if !self.objects.takes_guards(object) {
             return Ok(());
         }
         let key = self.objects.enter_stable(object)?;
-        self.run_viewed(key, body, sink)
+        self.run_viewed(key, body, sink, runner)
     }
 
     /// Runs what stands behind declarations, and then has so many names again.
     #[cycle(statements)]
-    fn run_scope<K: Sink>(
+    fn run_scope<K: Sink, B: BlockRunner>(
         &mut self,
         names: usize,
         body: &ResolvedStmts,
         sink: &mut K,
+        runner: &B,
     ) -> Result<(), HostEnd>
+        requires sound { B.is_sound runner.now }
         requires ready { IsReady self.old.objects }
-        ensures runs { Runs K.held K.faults K.room K.counts_failures sink.old sink.new self.old.objects self.new.objects
-            (λ guards e. inside names (exec_resolved body.now guards e)) result }
+        ensures runs { RunsByOrders B.allows K.held K.faults K.room K.counts_failures sink.old sink.new
+            self.old.objects self.new.objects
+            (λ orders guards e. inside names (exec_resolved orders body.now guards e)) result }
         ensures persists { Persists self.old.objects self.new.objects }
         ensures counts { counts_of (state_of self.new.objects) ≡ take names (counts_of (state_of self.old.objects)) }
     {
-        let ended = self.run_statements(body, sink);
+        let ended = self.run_statements(body, sink, runner);
         self.objects.leave_scope(names);
         ended
     }
 
     #[cycle(statements)]
-    fn run_declare<K: Sink>(
+    fn run_declare<K: Sink, B: BlockRunner>(
         &mut self,
         line: u64,
         decls: &[ResolvedDecl],
         body: &ResolvedStmts,
         sink: &mut K,
+        runner: &B,
     ) -> Result<(), HostEnd>
+        requires sound { B.is_sound runner.now }
         requires ready { IsReady self.old.objects }
-        ensures runs { Runs K.held K.faults K.room K.counts_failures sink.old sink.new self.old.objects self.new.objects
-            (λ guards e. block_on (exec_resolved body.now) guards e (declares_at line decls.now)) result }
+        ensures runs { RunsByOrders B.allows K.held K.faults K.room K.counts_failures sink.old sink.new
+            self.old.objects self.new.objects
+            (λ orders guards e. block_of orders body.now guards e (declares_at line decls.now)) result }
         ensures leaves { Leaves self.old.objects self.new.objects }
     {
         match self.objects.enter_scope(decls) {
-            Ok(names) => self.run_scope(names, body, sink),
+            Ok(names) => self.run_scope(names, body, sink, runner),
             Err(DeclareFault::Spent { line }) => {
                 write_refusal(line, Reason::NamesSpent, &mut self.text, sink)
             }
@@ -369,10 +401,16 @@ impl Host {
     }
 
     #[cycle(statements)]
-    fn run_statement<K: Sink>(&mut self, stmt: &ResolvedStmt, sink: &mut K) -> Result<(), HostEnd>
+    fn run_statement<K: Sink, B: BlockRunner>(
+        &mut self,
+        stmt: &ResolvedStmt,
+        sink: &mut K,
+        runner: &B,
+    ) -> Result<(), HostEnd>
+        requires sound { B.is_sound runner.now }
         requires ready { IsReady self.old.objects }
-        ensures runs { Runs K.held K.faults K.room K.counts_failures sink.old sink.new self.old.objects self.new.objects
-            (statement_outcome stmt.now) result }
+        ensures runs { RunsByOrders B.allows K.held K.faults K.room K.counts_failures sink.old sink.new
+            self.old.objects self.new.objects (statement_outcome stmt.now) result }
         ensures leaves { Leaves self.old.objects self.new.objects }
     {
         match stmt {
@@ -397,37 +435,40 @@ impl Host {
                 backward,
                 object,
                 body,
-            } => self.run_loop(*line, *elements, *backward, *object, body, sink),
+            } => self.run_loop(*line, *elements, *backward, *object, body, sink, runner),
             ResolvedStmt::View {
                 line,
                 kind,
                 object,
                 at,
                 body,
-            } => self.run_view(*line, *kind, *object, *at, body, sink),
+            } => self.run_view(*line, *kind, *object, *at, body, sink, runner),
             ResolvedStmt::Stable { line, object, body } => {
-                self.run_stable(*line, *object, body, sink)
+                self.run_stable(*line, *object, body, sink, runner)
             }
             ResolvedStmt::Declare { line, decls, body } => {
-                self.run_declare(*line, decls.items(), body, sink)
+                self.run_declare(*line, decls.items(), body, sink, runner)
             }
+            ResolvedStmt::Tasks { tasks, .. } => self.run_tasks(tasks, sink, runner),
         }
     }
 
     /// Runs statements in order.
     #[cycle(statements)]
-    pub(crate) fn run_statements<K: Sink>(
+    pub(crate) fn run_statements<K: Sink, B: BlockRunner>(
         &mut self,
         stmts: &ResolvedStmts,
         sink: &mut K,
+        runner: &B,
     ) -> Result<(), HostEnd>
+        requires sound { B.is_sound runner.now }
         requires ready { IsReady self.old.objects }
-        ensures runs { Runs K.held K.faults K.room K.counts_failures sink.old sink.new self.old.objects self.new.objects
-            (exec_resolved stmts.now) result }
+        ensures runs { RunsByOrders B.allows K.held K.faults K.room K.counts_failures sink.old sink.new
+            self.old.objects self.new.objects (λ orders. exec_resolved orders stmts.now) result }
         ensures leaves { Leaves self.old.objects self.new.objects }
     {
         for stmt in stmts.items() {
-            self.run_statement(stmt, sink)?;
+            self.run_statement(stmt, sink, runner)?;
         }
         Ok(())
     }

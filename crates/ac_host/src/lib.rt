@@ -2,10 +2,19 @@
 #![tactic(auto)]
 
 mod end;
+mod fitting;
 mod host;
 mod line;
+mod named_task;
+mod places;
+mod prepared;
+mod runner;
 mod serial;
 mod short;
+mod task_code;
+mod task_lines;
+mod tasks;
+mod workers;
 mod written;
 
 pub use end::HostEnd;

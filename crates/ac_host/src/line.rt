@@ -8,7 +8,7 @@ use ac_script::append_literal;
 use itoa::Buffer;
 
 #[inline(always)]
-fn append(text: &mut Vec<u8>, words: &str) -> Result<(), NoMemory>
+pub fn append(text: &mut Vec<u8>, words: &str) -> Result<(), NoMemory>
     ensures { OnOk result (text.new.items ≡ text.old.items ++ words.now) }
 {
     Ok(text.extend_from_slice(words.as_bytes())?)

@@ -1,22 +1,29 @@
 //! A script that runs from its beginning to its end.
 ghost use Rattle.std.specs.Prelude.{◌≡◌, [], IfOk, OnOk};
 ghost use Rattle.ac_meaning.specs.Environment.{after_decls, nodes};
-ghost use Rattle.ac_meaning.specs.Execution.{run, text_of};
-ghost use Rattle.ac_objects.specs.World.{world, state_of};
+ghost use Rattle.ac_meaning.specs.Execution.{Orders, run, run_with, text_of, text_with};
+ghost use Rattle.ac_objects.specs.World.{counted_from, world, state_of};
+ghost use Rattle.ac_host.specs.Told.{TellsAll};
 ghost use Rattle.ac_host.specs.Writing.{Writes};
 
 use crate::end::HostEnd;
 use crate::host::Host;
+use crate::runner::{BlockRunner, InTurn};
+use crate::workers::{ByCall, run_in_threads};
 use ac_base::NoMemory;
+use ac_book::Book;
 use ac_check::{Checked, ResolvedDecl};
 use ac_io::Sink;
 use ac_objects::{Frame, Objects};
+use ac_tasks::Gate;
 use std::alloc::Global;
+use std::sync::Wait;
+use std::thread::Threads;
 
 impl Host {
     /// No names yet, and objects whose numbers run from 1.
     fn new(alloc: Global) -> Host
-        ensures { result.objects ≡ world [] 1 }
+        ensures { result.objects ≡ world [] (counted_from 1) }
     {
         Host {
             objects: Objects::starting_at(alloc, 1),
@@ -35,7 +42,25 @@ impl Host {
         }
     }
 
-    /// Runs a script, and says how many elements its objects have at the end.
+    /// Runs a script, with its blocks of tasks by a runner.
+    fn run_by<K: Sink, B: BlockRunner>(
+        alloc: Global,
+        script: &Checked,
+        sink: &mut K,
+        runner: &B,
+    ) -> Result<u64, HostEnd>
+        requires { B.is_sound runner.now }
+        ensures { TellsAll B.allows (λ orders.
+            Writes K.held K.faults K.room K.counts_failures sink.old sink.new (text_with orders script.now) result
+            × IfOk result (λ count. count ≡ nodes (run_with orders script.now).after)) }
+    {
+        let mut host = Host::new(alloc);
+        host.declare(script.decls())?;
+        host.run_statements(script.statements(), sink, runner)?;
+        Ok(host.objects.live_nodes()?)
+    }
+
+    /// Runs a script, and says how many elements its objects have at the end. Tasks have turns in rounds.
     pub fn run_serial<K: Sink>(
         alloc: Global,
         script: &Checked,
@@ -44,9 +69,24 @@ impl Host {
         ensures writes { Writes K.held K.faults K.room K.counts_failures sink.old sink.new (text_of script.now) result }
         ensures nodes { IfOk result (λ count. count ≡ nodes (run script.now).after) }
     {
-        let mut host = Host::new(alloc);
-        host.declare(script.decls())?;
-        host.run_statements(script.statements(), sink)?;
-        Ok(host.objects.live_nodes()?)
+        Host::run_by(alloc, script, sink, &InTurn)
+    }
+
+    /// Runs a script as well, and each task of its blocks by a worker in a thread of its own, with a gate that looks on.
+    pub fn run<R: Threads + Wait + Sync, K: Sink, G: Gate + Sync>(
+        rt: &R,
+        alloc: Global,
+        script: &Checked,
+        sink: &mut K,
+        gate: &G,
+    ) -> Result<u64, HostEnd>
+        ensures { (orders : Orders)
+            × Writes K.held K.faults K.room K.counts_failures sink.old sink.new (text_with orders script.now) result
+            × IfOk result (λ count. count ≡ nodes (run_with orders script.now).after) }
+    {
+        let runner = ByCall {
+            run: |book: Book| run_in_threads(rt, alloc, gate, book),
+        };
+        Host::run_by(alloc, script, sink, &runner)
     }
 }

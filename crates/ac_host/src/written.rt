@@ -115,6 +115,7 @@ fn write_shown<K: Sink>(
         Said::Place(Cursor::NoElement) => {
             write_words(*b"                    : no_element\n", number, sink)
         }
+        Said::Stalled => write_words(*b"                    : stalled\n", number, sink),
         Said::Listing => unreachable!(),
     }
 }

@@ -1,9 +1,10 @@
 use Rattle.std.proofs.Common.{◌≡◌, ◌+◌, ◌<◌, ◌++◌, ◌∷◌, [], take, drop, length, get_or, refl, sym, ap, subst, ◌∙◌, arith, Ok, Err}
-use Rattle.ac_check.specs.Resolved.{resolved_size, no_statement}
+use Rattle.ac_check.specs.Resolved.{resolved_size, no_statement, calls_at, sets_at, sums_at, loops_at, views_at, stables_at}
 use Rattle.ac_check.specs.ResolvedStatements.{resolved_before, resolved_of}
 use Rattle.ac_check.specs.declared.resolved.ResolvedStmt.{ResolvedStmt}
+use Rattle.ac_check.specs.declared.resolved.ResolvedStmt.TheVariants.{Call}
 use Rattle.ac_meaning.specs.Holdings.{number_of, names_of}
-use Rattle.ac_meaning.specs.Environment.{objects_by, leaving, object_at, mark_at, with_name, binds_element, binds_value, after_decls}
+use Rattle.ac_meaning.specs.Environment.{objects_by, leaving, guarded_at, mark_at, with_name, binds_element, binds_value, after_decls}
 use Rattle.ac_meaning.specs.Execution.{exec_resolved, guards_of_loop, guards_of_view, guards_of_stable, in_order, turns, turn_bound, scoped}
 use Rattle.ac_base.specs.declared.reason.Reason.TheVariants.{NamesSpent}
 use Rattle.ac_syntax.specs.declared.view_kind.ViewKind.TheVariants.{UpdateKey}
@@ -14,15 +15,18 @@ use Rattle.ac_objects.specs.Standing.{counts_of}
 use Rattle.ac_objects.specs.World.{state_of}
 use Rattle.ac_model.specs.Cursors.{plain_mark}
 use Rattle.ac_model.specs.Letters.{mark_at as mark_of_name}
-use Rattle.ac_host.proofs.Blocks.{ran_inside, ran_as, ran_broke, ran_all, ran_line, there_within, many_names, many_under, leaving_held, leaving_named, counts_before, stable_held, view_held, loop_cursors_held, loop_elements_held, stable_comes, view_comes, view_refused, mark_under, loop_comes, decls_begin, declare_comes, declare_spent, declare_back, inner_by, loop_left}
-use Rattle.ac_host.specs.Running.{statement_outcome, key_ending}
+use Rattle.ac_host.proofs.ByOrders.{on_exit, on_ok_always, told_by_some, tells_none, tells_as, tells_behind, tells_on, tells_off, tells_before, tells_then, tells_stopped}
+use Rattle.ac_host.proofs.Counting.{same_blocks, same_count, holding_count, releasing_count, decls_count, commanded_blocks, ending_blocks}
+use Rattle.ac_host.proofs.Blocks.{taken, ran_inside, ran_as, ran_broke, ran_nowhere, ran_all, ran_line, there_within, many_names, many_under, leaving_held, leaving_named, counts_before, stable_held, view_held, loop_cursors_held, loop_elements_held, stable_comes, view_comes, view_refused, mark_under, loop_comes, decls_begin, declare_comes, declare_spent, declare_back, inner_by, loop_left}
+use Rattle.ac_host.specs.Running.{block_of, statement_outcome, key_ending}
 use Rattle.ac_host.specs.Writing.{WroteSoFar}
 use Rattle.ac_meaning.specs.UnderGuards.{held_without}
 use Rattle.ac_host.proofs.Holding.{counts_back, leaving_counts, held_still, held_behind}
 use Rattle.ac_host.proofs.Opening.{stable_begins, view_begins, loop_begins}
-use Rattle.ac_host.proofs.Steps.{size_among, statements_next, statements_none, ready_statement}
+use Rattle.ac_check.proofs.SizesAmong.{size_among}
+use Rattle.ac_host.proofs.Steps.{statement_told, statements_next, statements_none, ready_statement}
 use Rattle.ac_host.proofs.Standing.{ready_exec}
-use Rattle.ac_host.proofs.Telling.{so_far_none, so_far_more, so_far_broke, so_far_stopped}
+use Rattle.ac_host.proofs.Telling.{broke_nothing, so_far_none, so_far_more, so_far_broke, so_far_stopped}
 use Rattle.ac_host.proofs.Turns.{held, turning_inner, turning_names, turning_there, turning_stands, turning_none, turning_next, turn_begins, turn_ends, turn_goes, turning_at}
 use Rattle.ac_host.proofs.Updating.{copied, updating_under, updating_begins, updating_held, updating_goes_on, update_comes, ran_then, ran_stopped}
 use Rattle.ac_host.proofs.host.Host.+statements.Goals as goal
@@ -36,11 +40,17 @@ run_statements-run_statement-requires g t c κs within =
     let same : resolved_size (resolved_before stmt no_statement) ≡ resolved_size (resolved_before (get_or stmts c.loop-stmt.stmt-index stmt) no_statement) =
     ap (λ (s : ResolvedStmt). resolved_size (resolved_before s no_statement)) c.stmt-item.is in
     let r = c.requires.ready in
-    let now = c.loop-stmt.invariant.each r.guards r.env r.stands in (
+    let now = (told_by_some c.loop-stmt.invariant.told).1 r.guards r.env r.stands in (
       omega (arith, same, size_among stmts c.loop-stmt.stmt-index stmt c.loop-stmt-test.true, ap resolved_size c.items-stmt-items.ensures),
       (
-        within,
-        record { guards = r.guards; env = now.env; stands = now.under_guards },
+        within.0,
+        (
+          within.1,
+          (
+            c.requires.sound,
+            record { guards = r.guards; env = now.env; stands = now.under_guards },
+          ),
+        ),
       ),
     )
 
@@ -48,14 +58,14 @@ pub run_statements-loop-stmt-init : goal.run_statements-loop-stmt-init
 run_statements-loop-stmt-init g t c =
     let sink = g.K.Sink in
     record {
-      each = λ guards e u. record {
+      told = tells_none refl (λ orders guards e u. record {
         env = e;
         under_guards = u;
         so_far =
-            subst (λ code. WroteSoFar sink.held sink.faults sink.room sink.counts_failures c.args.sink.now c.args.sink.now (exec_resolved code guards e)
-            (exec_resolved c.args.stmts.now guards e)) (sym c.items-stmt-items.ensures)
-            (so_far_none sink.held sink.faults sink.room sink.counts_failures c.args.sink.now (exec_resolved c.args.stmts.now guards e));
-      };
+            subst (λ code. WroteSoFar sink.held sink.faults sink.room sink.counts_failures c.args.sink.now c.args.sink.now (exec_resolved orders code guards e)
+            (exec_resolved orders c.args.stmts.now guards e)) (sym c.items-stmt-items.ensures)
+            (so_far_none sink.held sink.faults sink.room sink.counts_failures c.args.sink.now (exec_resolved orders c.args.stmts.now guards e));
+      });
       leaves = record { persists = λ x known. known; counts = refl };
     }
 
@@ -68,18 +78,18 @@ run_statements-loop-stmt-preserved g t c =
     let before = c.loop-stmt.invariant in
     let ok = c.in_ok-run_statement.ensures in
     record {
-      each = λ guards e u.
-          let now = before.each guards e u in
-          let ran = ok.runs guards now.env now.under_guards in
+      told = tells_then before.told ok.runs (λ orders so_far runs guards e u.
+          let now = so_far guards e u in
+          let ran = runs guards now.env now.under_guards in
           record {
-            env = (statement_outcome stmt guards now.env).after;
-            under_guards = record { is = ran.after; ready = ready_statement stmt guards now.env now.under_guards.ready };
+            env = (statement_outcome stmt orders guards now.env).after;
+            under_guards = record { is = ran.after; ready = ready_statement orders stmt guards now.env now.under_guards.ready };
             so_far =
                 so_far_more sink.held sink.faults sink.room sink.counts_failures c.args.sink.now c.loop-stmt.sink c.run_statement.new.sink
-                (exec_resolved (resolved_of (drop i stmts)) guards now.env) (exec_resolved c.args.stmts.now guards e) (statement_outcome stmt guards now.env)
-                (exec_resolved (resolved_of (drop (i + 1) stmts)) guards)
-                (statements_next stmts i stmt c.loop-stmt-test.true c.stmt-item.is guards now.env) now.so_far ran.writes;
-          };
+                (exec_resolved orders (resolved_of (drop i stmts)) guards now.env) (exec_resolved orders c.args.stmts.now guards e)
+                (statement_outcome stmt orders guards now.env) (exec_resolved orders (resolved_of (drop (i + 1) stmts)) guards)
+                (statements_next orders stmts i stmt c.loop-stmt-test.true c.stmt-item.is guards now.env) now.so_far ran.writes;
+          });
       leaves = record {
         persists = λ x known. ok.leaves.persists x (before.leaves.persists x known);
         counts = ok.leaves.counts ∙ before.leaves.counts;
@@ -87,39 +97,84 @@ run_statements-loop-stmt-preserved g t c =
     }
 
 pub run_statements-returns-in_err-run_statement-clause-runs : goal.run_statements-returns-in_err-run_statement-clause-runs
-run_statements-returns-in_err-run_statement-clause-runs g t c guards e u =
+run_statements-returns-in_err-run_statement-clause-runs g t c =
     let sink = g.K.Sink in
     let stmts = c.items-stmt-items.result.now in
     let i = c.loop-stmt.stmt-index in
     let stmt = c.stmt-item.result in
-    let now = c.loop-stmt.invariant.each guards e u in
-    let ran = c.in_err-run_statement.ensures.runs guards now.env now.under_guards in
+    tells_stopped _ _ c.loop-stmt.invariant.told c.in_err-run_statement.ensures.runs c.from_residual.ensures.1 (λ orders so_far runs guards e u.
+    let now = so_far guards e u in
+    let ran = runs guards now.env now.under_guards in
     ran_broke sink.held sink.faults sink.room sink.counts_failures c.args.sink.now c.run_statement.new.sink c.run_statement.new.self.objects guards
-    (exec_resolved c.args.stmts.now guards e) c.in_err-run_statement.field-0.0 c.from_residual.result c.from_residual.ensures.1
+    (exec_resolved orders c.args.stmts.now guards e) c.in_err-run_statement.field-0.0 c.from_residual.result c.from_residual.ensures.1
     (so_far_broke sink.held sink.faults sink.room sink.counts_failures c.args.sink.now c.loop-stmt.sink c.run_statement.new.sink
-    (exec_resolved (resolved_of (drop i stmts)) guards now.env) (exec_resolved c.args.stmts.now guards e) (statement_outcome stmt guards now.env)
-    (exec_resolved (resolved_of (drop (i + 1) stmts)) guards) _ (statements_next stmts i stmt c.loop-stmt-test.true c.stmt-item.is guards now.env) now.so_far ran.writes)
+    (exec_resolved orders (resolved_of (drop i stmts)) guards now.env) (exec_resolved orders c.args.stmts.now guards e)
+    (statement_outcome stmt orders guards now.env) (exec_resolved orders (resolved_of (drop (i + 1) stmts)) guards) _
+    (statements_next orders stmts i stmt c.loop-stmt-test.true c.stmt-item.is guards now.env) now.so_far ran.writes))
 
 pub run_statements-returns-clause-runs : goal.run_statements-returns-clause-runs
-run_statements-returns-clause-runs g t c guards e u =
+run_statements-returns-clause-runs g t c =
     let sink = g.K.Sink in
     let stmts = c.items-stmt-items.result.now in
     let i = c.loop-stmt.stmt-index in
-    let now = c.loop-stmt.invariant.each guards e u in
-    let none = statements_none stmts i c.loop-stmt-test.false guards now.env in
-    let so_far = subst (λ left. WroteSoFar sink.held sink.faults sink.room sink.counts_failures c.args.sink.now c.loop-stmt.sink left
-    (exec_resolved c.args.stmts.now guards e)) none now.so_far in
+    tells_behind c.loop-stmt.invariant.told refl (λ orders so_far guards e u.
+    let now = so_far guards e u in
+    let none = statements_none orders stmts i c.loop-stmt-test.false guards now.env in
+    let all = subst (λ left. WroteSoFar sink.held sink.faults sink.room sink.counts_failures c.args.sink.now c.loop-stmt.sink left
+    (exec_resolved orders c.args.stmts.now guards e)) none now.so_far in
     ran_all sink.held sink.faults sink.room sink.counts_failures c.args.sink.now c.loop-stmt.sink c.loop-stmt.self.objects guards now.env
-    (exec_resolved c.args.stmts.now guards e) tt now.under_guards.is so_far
+    (exec_resolved orders c.args.stmts.now guards e) tt now.under_guards.is all)
+
+-- Commands begin no block of tasks
+
+pub run_statement-returns-in-Call-clause-runs : goal.run_statement-returns-in-Call-clause-runs
+run_statement-returns-in-Call-clause-runs g t c =
+    let sink = g.K.Sink in
+    let r = c.requires.ready in
+    let here = c.in-Call in
+    let runs = c.run_call.ensures.runs in
+    statement_told sink.held sink.faults sink.room sink.counts_failures (ap (Call here.line here.target here.object here.operation) c.items.ensures ∙ sym here.is)
+    (tells_none
+    (commanded_blocks sink.held sink.faults sink.room sink.counts_failures (calls_at here.line here.target here.object here.operation c.items.result.now)
+    r.guards r.env r.stands (runs r.guards r.env r.stands)) (λ orders. runs))
+
+pub run_statement-returns-in-Set-clause-runs : goal.run_statement-returns-in-Set-clause-runs
+run_statement-returns-in-Set-clause-runs g t c =
+    let sink = g.K.Sink in
+    let r = c.requires.ready in
+    let here = c.in-Set in
+    let runs = c.run_set.ensures.runs in
+    statement_told sink.held sink.faults sink.room sink.counts_failures (sym here.is)
+    (tells_none
+    (commanded_blocks sink.held sink.faults sink.room sink.counts_failures (sets_at here.line here.target here.from) r.guards r.env r.stands
+    (runs r.guards r.env r.stands)) (λ orders. runs))
+
+pub run_statement-returns-in-Sum-clause-runs : goal.run_statement-returns-in-Sum-clause-runs
+run_statement-returns-in-Sum-clause-runs g t c =
+    let sink = g.K.Sink in
+    let r = c.requires.ready in
+    let here = c.in-Sum in
+    let runs = c.run_sum.ensures.runs in
+    statement_told sink.held sink.faults sink.room sink.counts_failures (sym here.is)
+    (tells_none
+    (commanded_blocks sink.held sink.faults sink.room sink.counts_failures (sums_at here.line here.target here.from here.minus here.number) r.guards r.env
+    r.stands (runs r.guards r.env r.stands)) (λ orders. runs))
+
+pub run_statement-returns-in-Tasks-clause-runs : goal.run_statement-returns-in-Tasks-clause-runs
+run_statement-returns-in-Tasks-clause-runs g t c =
+    let sink = g.K.Sink in
+    statement_told sink.held sink.faults sink.room sink.counts_failures (sym c.in-Tasks.is) c.run_tasks.ensures.runs
 
 -- Behind the body of a scope and of a view
 
 pub run_scope-returns-clause-runs : goal.run_scope-returns-clause-runs
-run_scope-returns-clause-runs g t c guards e u =
+run_scope-returns-clause-runs g t c =
     let sink = g.K.Sink in
+    let now = c.run_statements-ended.new.self.objects in
+    tells_behind c.run_statements-ended.ensures.runs (same_count c.leave_scope.ensures.left) (λ orders runs guards e u.
     ran_inside sink.held sink.faults sink.room sink.counts_failures [] guards c.args.names c.args.sink.now c.run_statements-ended.new.sink
-    c.run_statements-ended.new.self.objects c.leave_scope.new.self (exec_resolved c.args.body.now guards e) c.run_statements-ended.result
-    c.leave_scope.ensures.left (c.run_statements-ended.ensures.runs guards e u)
+    now c.leave_scope.new.self (exec_resolved orders c.args.body.now guards e) c.run_statements-ended.result
+    c.leave_scope.ensures.left (runs guards e u))
 
 pub run_scope-returns-clause-counts : goal.run_scope-returns-clause-counts
 run_scope-returns-clause-counts g t c =
@@ -132,12 +187,14 @@ run_viewed-leave_view-requires-clause-guard g t c =
     c.requires.inner (ap (take c.args.key.names) c.run_statements-ended.ensures.leaves.counts) c.requires.guard
 
 pub run_viewed-returns-clause-runs : goal.run_viewed-returns-clause-runs
-run_viewed-returns-clause-runs g t c guards e u =
+run_viewed-returns-clause-runs g t c =
     let sink = g.K.Sink in
     let more = guards_of_view_key c.args.key in
+    let now = c.run_statements-ended.new.self.objects in
+    tells_behind c.run_statements-ended.ensures.runs (same_count c.leave_view.ensures.left ∙ releasing_count more (leaving c.args.key.names (state_of now))) (λ orders runs guards e u.
     ran_inside sink.held sink.faults sink.room sink.counts_failures more guards c.args.key.names c.args.sink.now c.run_statements-ended.new.sink
-    c.run_statements-ended.new.self.objects c.leave_view.new.self (exec_resolved c.args.body.now (more ++ guards) e) c.run_statements-ended.result
-    c.leave_view.ensures.left (c.run_statements-ended.ensures.runs (more ++ guards) e u)
+    now c.leave_view.new.self (exec_resolved orders c.args.body.now (more ++ guards) e) c.run_statements-ended.result
+    c.leave_view.ensures.left (runs (more ++ guards) e u))
 
 pub run_viewed-returns-clause-counts : goal.run_viewed-returns-clause-counts
 run_viewed-returns-clause-counts g t c =
@@ -151,43 +208,67 @@ pub run_stable-run_viewed-requires : goal.run_stable-run_viewed-requires
 run_stable-run_viewed-requires g t c κs within =
     let old = c.args.self.now.objects in
     let r = c.requires.ready in
-    let o = c.is_object.ensures.yes c.if-not-is_object.false in
+    let o = taken (state_of old) c.args.object (c.takes_guards.ensures.yes c.if-not-takes_guards.false) in
     let is = c.in_ok-key.ensures.opened o.held o.there in
     let key = c.in_ok-key.ensures.key in (
       omega arith,
       (
-        within,
+        within.0,
         (
-          record { guards = guards_of_stable o.held ++ r.guards; env = r.env; stands = stable_begins old r.guards r.env r.stands c.args.object o.held o.there c.enter_stable.new.self is.1 },
+          within.1,
           (
-            subst (λ p. p < c.in_ok-key.key.names) (sym key.0)
-                (subst (λ n. c.args.object < n) (many_names old ∙ sym key.1) (there_within (state_of old) c.args.object o.held o.there)),
-            subst (λ p. IsHeldAt (state_of c.enter_stable.new.self) p c.in_ok-key.key.guard) (sym key.0)
-                (subst (λ s. IsHeldAt s c.args.object c.in_ok-key.key.guard) (sym is.1) (stable_held (state_of old) c.args.object o.held c.in_ok-key.key.guard o.there is.0)),
+            c.requires.sound,
+            (
+              record { guards = guards_of_stable o.held ++ r.guards; env = r.env; stands = stable_begins old r.guards r.env r.stands c.args.object o.held o.there c.enter_stable.new.self is.1 },
+              (
+                subst (λ p. p < c.in_ok-key.key.names) (sym key.0)
+                    (subst (λ n. c.args.object < n) (many_names old ∙ sym key.1) (there_within (state_of old) c.args.object o.held o.there)),
+                subst (λ p. IsHeldAt (state_of c.enter_stable.new.self) p c.in_ok-key.key.guard) (sym key.0)
+                    (subst (λ s. IsHeldAt s c.args.object c.in_ok-key.key.guard) (sym is.1)
+                    (stable_held (state_of old) c.args.object o.held o.takes c.in_ok-key.key.guard o.there is.0)),
+              ),
+            ),
           ),
         ),
       ),
     )
 
 pub run_stable-returns-clause-runs : goal.run_stable-returns-clause-runs
-run_stable-returns-clause-runs g t c guards e u =
+run_stable-returns-clause-runs g t c =
     let sink = g.K.Sink in
     let old = c.args.self.now.objects in
-    let o = c.is_object.ensures.yes c.if-not-is_object.false in
+    let o = taken (state_of old) c.args.object (c.takes_guards.ensures.yes c.if-not-takes_guards.false) in
     let is = c.in_ok-key.ensures.opened o.held o.there in
     let key = c.in_ok-key.ensures.key in
     let more = guards_of_view_key c.in_ok-key.key in
+    tells_before (same_count is.1 ∙ holding_count (guards_of_stable o.held) (state_of old)) c.run_viewed.ensures.runs (λ orders runs guards e u.
     let begun = subst (λ m. IsUnder c.enter_stable.new.self (m ++ guards) e) (sym is.0)
     (stable_begins old guards e u c.args.object o.held o.there c.enter_stable.new.self is.1) in
     ran_as sink.held sink.faults sink.room sink.counts_failures c.args.sink.now c.run_viewed.new.sink c.run_viewed.new.self.objects guards _ _ c.run_viewed.result
-    (stable_comes c.args.body.now guards more e c.args.line c.args.object c.in_ok-key.key.names o.held (ap (λ s. object_at s c.args.object) (sym u.is) ∙ o.there)
-    is.0 (key.1 ∙ many_under old guards e u))
-    (c.run_viewed.ensures.runs guards e begun)
+    (stable_comes orders c.args.body.now guards more e c.args.line c.args.object c.in_ok-key.key.names o.held
+    (ap (λ s. guarded_at s c.args.object) (sym u.is) ∙ o.guarded) is.0 (key.1 ∙ many_under old guards e u))
+    (runs guards e begun))
+
+pub run_stable-returns-then-not-takes_guards-clause-runs : goal.run_stable-returns-then-not-takes_guards-clause-runs
+run_stable-returns-then-not-takes_guards-clause-runs g t c =
+    let sink = g.K.Sink in
+    let none = c.takes_guards.ensures.no c.if-not-takes_guards.true in
+    tells_none refl (λ orders guards e u.
+    ran_nowhere sink.held sink.faults sink.room sink.counts_failures c.args.sink.now c.args.self.now.objects guards e u (exec_resolved orders c.args.body.now)
+    (stables_at c.args.line c.args.object) c.args.object none tt)
+
+pub run_stable-returns-in_err-key-clause-runs : goal.run_stable-returns-in_err-key-clause-runs
+run_stable-returns-in_err-key-clause-runs g t c =
+    let sink = g.K.Sink in
+    tells_none (on_exit _ _ c.from_residual.result c.from_residual.ensures.1) (λ orders guards e u.
+    ran_broke sink.held sink.faults sink.room sink.counts_failures c.args.sink.now c.args.sink.now _ guards
+    (block_of orders c.args.body.now guards e (stables_at c.args.line c.args.object)) NoMemory c.from_residual.result c.from_residual.ensures.1
+    (broke_nothing sink.held sink.faults sink.room sink.counts_failures c.args.sink.now _))
 
 pub run_stable-returns-clause-leaves : goal.run_stable-returns-clause-leaves
 run_stable-returns-clause-leaves g t c =
     let old = c.args.self.now.objects in
-    let o = c.is_object.ensures.yes c.if-not-is_object.false in
+    let o = taken (state_of old) c.args.object (c.takes_guards.ensures.yes c.if-not-takes_guards.false) in
     let is = c.in_ok-key.ensures.opened o.held o.there in
     let key = c.in_ok-key.ensures.key in
     let names = c.in_ok-key.key.names in
@@ -207,53 +288,61 @@ run_element_view-run_viewed-requires g t c κs within =
     let old = c.args.self.now.objects in
     let now = c.enter_view.new.self in
     let r = c.requires.ready in
-    let o = c.requires.object in
+    let o = taken (state_of old) c.args.object c.requires.object in
     let is = c.in-Ok.ensures.opened o.held o.there in
     let key = c.in-Ok.ensures.key in
     let at = mark_at (state_of old) c.args.at in (
       omega arith,
       (
-        within,
+        within.0,
         (
-          record {
-            guards = guards_of_view c.args.kind o.held ++ r.guards;
-            env = with_name r.env (binds_element c.args.object at);
-            stands = view_begins old r.guards r.env r.stands c.args.object o.held o.there c.args.kind at now is.0 is.2;
-          },
+          within.1,
           (
-            subst (λ p. p < c.in-Ok.key.names) (sym key.0)
-                (subst (λ n. c.args.object < n) (many_names old ∙ sym key.1) (there_within (state_of old) c.args.object o.held o.there)),
-            subst (λ p. IsHeldAt (state_of now) p c.in-Ok.key.guard) (sym key.0)
-                (subst (λ s. IsHeldAt s c.args.object c.in-Ok.key.guard) (sym is.2)
-                (view_held (state_of old) (binds_element c.args.object at) c.args.object c.args.kind o.held c.in-Ok.key.guard o.there is.1)),
+            c.requires.sound,
+            (
+              record {
+                guards = guards_of_view c.args.kind o.held ++ r.guards;
+                env = with_name r.env (binds_element c.args.object at);
+                stands = view_begins old r.guards r.env r.stands c.args.object o.held o.there c.args.kind at now is.0 is.2;
+              },
+              (
+                subst (λ p. p < c.in-Ok.key.names) (sym key.0)
+                    (subst (λ n. c.args.object < n) (many_names old ∙ sym key.1) (there_within (state_of old) c.args.object o.held o.there)),
+                subst (λ p. IsHeldAt (state_of now) p c.in-Ok.key.guard) (sym key.0)
+                    (subst (λ s. IsHeldAt s c.args.object c.in-Ok.key.guard) (sym is.2)
+                    (view_held (state_of old) (binds_element c.args.object at) c.args.object c.args.kind o.held o.takes
+                    c.in-Ok.key.guard o.there is.1)),
+              ),
+            ),
           ),
         ),
       ),
     )
 
 pub run_element_view-returns-in-Ok-clause-runs : goal.run_element_view-returns-in-Ok-clause-runs
-run_element_view-returns-in-Ok-clause-runs g t c guards e u =
+run_element_view-returns-in-Ok-clause-runs g t c =
     let sink = g.K.Sink in
     let old = c.args.self.now.objects in
     let now = c.enter_view.new.self in
-    let o = c.requires.object in
+    let o = taken (state_of old) c.args.object c.requires.object in
     let is = c.in-Ok.ensures.opened o.held o.there in
     let key = c.in-Ok.ensures.key in
     let at = mark_at (state_of old) c.args.at in
     let more = guards_of_view_key c.in-Ok.key in
+    tells_before (same_count is.2 ∙ holding_count (guards_of_view c.args.kind o.held) (state_of old)) c.run_viewed.ensures.runs (λ orders runs guards e u.
     let begun = subst (λ m. IsUnder now (m ++ guards) (with_name e (binds_element c.args.object at))) (sym is.1)
     (view_begins old guards e u c.args.object o.held o.there c.args.kind at now is.0 is.2) in
     ran_as sink.held sink.faults sink.room sink.counts_failures c.args.sink.now c.run_viewed.new.sink c.run_viewed.new.self.objects guards _ _ c.run_viewed.result
-    (view_comes c.args.body.now guards more e c.args.line c.args.object c.in-Ok.key.names c.args.kind c.args.at at o.held c.requires.view
-    (ap (λ s. object_at s c.args.object) (sym u.is) ∙ o.there) is.1 (key.1 ∙ many_under old guards e u)
+    (view_comes orders c.args.body.now guards more e c.args.line c.args.object c.in-Ok.key.names c.args.kind c.args.at at o.held c.requires.view
+    (ap (λ s. guarded_at s c.args.object) (sym u.is) ∙ o.guarded) is.1 (key.1 ∙ many_under old guards e u)
     (ap (λ s. mark_at s c.args.at) u.is ∙ mark_under guards e c.args.at) is.0)
-    (c.run_viewed.ensures.runs guards (with_name e (binds_element c.args.object at)) begun)
+    (runs guards (with_name e (binds_element c.args.object at)) begun))
 
 pub run_element_view-returns-in-Ok-clause-leaves : goal.run_element_view-returns-in-Ok-clause-leaves
 run_element_view-returns-in-Ok-clause-leaves g t c =
     let old = c.args.self.now.objects in
     let now = c.enter_view.new.self in
-    let o = c.requires.object in
+    let o = taken (state_of old) c.args.object c.requires.object in
     let is = c.in-Ok.ensures.opened o.held o.there in
     let key = c.in-Ok.ensures.key in
     let names = c.in-Ok.key.names in
@@ -269,19 +358,28 @@ run_element_view-returns-in-Ok-clause-leaves g t c =
     }
 
 pub run_element_view-returns-in-Err-Raised-clause-runs : goal.run_element_view-returns-in-Err-Raised-clause-runs
-run_element_view-returns-in-Err-Raised-clause-runs g t c guards e u =
+run_element_view-returns-in-Err-Raised-clause-runs g t c =
     let sink = g.K.Sink in
     let old = c.args.self.now.objects in
     let now = c.enter_view.new.self in
     let here = c.in-Err-Raised in
-    let o = c.requires.object in
+    let o = taken (state_of old) c.args.object c.requires.object in
     let at = mark_at (state_of old) c.args.at in
     let some = here.ensures.refused o.held here.reason o.there (ap Err here.field-0-is) in
+    tells_none (on_ok_always c.write_refusal.result (same_blocks here.ensures.fault)) (λ orders guards e u.
     ran_line sink.held sink.faults sink.room sink.counts_failures c.args.sink.now c.write_refusal.new.sink now guards c.args.line here.reason e _ c.write_refusal.result
-    (view_refused c.args.body.now guards e c.args.line c.args.object c.args.kind c.args.at at o.held here.reason
-    (ap (λ s. object_at s c.args.object) (sym u.is) ∙ o.there) (ap (λ s. mark_at s c.args.at) u.is ∙ mark_under guards e c.args.at) some)
+    (view_refused orders c.args.body.now guards e c.args.line c.args.object c.args.kind c.args.at at o.held here.reason
+    (ap (λ s. guarded_at s c.args.object) (sym u.is) ∙ o.guarded) (ap (λ s. mark_at s c.args.at) u.is ∙ mark_under guards e c.args.at) some)
     (ap state_of here.ensures.fault ∙ u.is)
-    c.write_refusal.ensures
+    c.write_refusal.ensures)
+
+pub run_element_view-returns-in-Err-NoMemory-clause-runs : goal.run_element_view-returns-in-Err-NoMemory-clause-runs
+run_element_view-returns-in-Err-NoMemory-clause-runs g t c =
+    let sink = g.K.Sink in
+    tells_none tt (λ orders guards e u. record {
+      writes = broke_nothing sink.held sink.faults sink.room sink.counts_failures c.args.sink.now _;
+      after = tt;
+    })
 
 -- Updates of a key
 
@@ -289,36 +387,43 @@ pub run_update-run_updated-requires : goal.run_update-run_updated-requires
 run_update-run_updated-requires g t c κs within =
     let old = c.args.self.now.objects in
     let r = c.requires.ready in
-    let o = c.requires.object in
+    let o = taken (state_of old) c.args.object c.requires.object in
     let is = c.in-Ok.ensures.opened o.held o.there in
     let key = c.in-Ok.ensures.key in (
       omega arith,
       (
-        within,
-        updating_begins old c.enter_update.new.self r.guards r.env r.stands c.args.object o.held o.there c.in-Ok.key (mark_at (state_of old) c.args.at)
-            (copied (state_of old) c.args.at o.held) is.0 is.1 is.2 key.0 key.1 key.2 key.3 c.in-Ok.ensures.guard,
+        within.0,
+        (
+          within.1,
+          (
+            c.requires.sound,
+            updating_begins old c.enter_update.new.self r.guards r.env r.stands c.args.object o.held o.takes o.there c.in-Ok.key
+                (mark_at (state_of old) c.args.at) (copied (state_of old) c.args.at o.held) is.0 is.1 is.2 key.0 key.1 key.2 key.3 c.in-Ok.ensures.guard,
+          ),
+        ),
       ),
     )
 
 pub run_update-returns-in-Ok-clause-runs : goal.run_update-returns-in-Ok-clause-runs
-run_update-returns-in-Ok-clause-runs g t c guards e u =
+run_update-returns-in-Ok-clause-runs g t c =
     let sink = g.K.Sink in
     let old = c.args.self.now.objects in
-    let o = c.requires.object in
+    let o = taken (state_of old) c.args.object c.requires.object in
     let is = c.in-Ok.ensures.opened o.held o.there in
     let key = c.in-Ok.ensures.key in
     let copy = copied (state_of old) c.args.at o.held in
+    tells_before (same_count is.2 ∙ holding_count (guards_of_view UpdateKey o.held) (state_of old)) c.run_updated.ensures.runs (λ orders runs guards e u.
     let begun = updating_under old c.enter_update.new.self guards e u c.args.object o.held o.there c.in-Ok.key copy is.1 is.2 in
     ran_as sink.held sink.faults sink.room sink.counts_failures c.args.sink.now c.run_updated.new.sink c.run_updated.new.self.objects guards _ _ c.run_updated.result
-    (update_comes c.args.body.now guards e c.args.line c.args.object c.args.at (state_of old) o.held c.in-Ok.key
-    (ap (λ s. object_at s c.args.object) (sym u.is) ∙ o.there) u.is is.0 is.1 key.0 (key.1 ∙ many_under old guards e u) key.2)
-    (c.run_updated.ensures.runs guards (with_name e (binds_value copy)) begun)
+    (update_comes orders c.args.body.now guards e c.args.line c.args.object c.args.at (state_of old) o.held c.in-Ok.key
+    (ap (λ s. guarded_at s c.args.object) (sym u.is) ∙ o.guarded) u.is is.0 is.1 key.0 (key.1 ∙ many_under old guards e u) key.2)
+    (runs guards (with_name e (binds_value copy)) begun))
 
 pub run_update-returns-in-Ok-clause-leaves : goal.run_update-returns-in-Ok-clause-leaves
 run_update-returns-in-Ok-clause-leaves g t c =
     let old = c.args.self.now.objects in
     let now = c.enter_update.new.self in
-    let o = c.requires.object in
+    let o = taken (state_of old) c.args.object c.requires.object in
     let is = c.in-Ok.ensures.opened o.held o.there in
     let key = c.in-Ok.ensures.key in
     let names = c.in-Ok.key.names in
@@ -334,28 +439,38 @@ run_update-returns-in-Ok-clause-leaves g t c =
     }
 
 pub run_update-returns-in-Err-Raised-clause-runs : goal.run_update-returns-in-Err-Raised-clause-runs
-run_update-returns-in-Err-Raised-clause-runs g t c guards e u =
+run_update-returns-in-Err-Raised-clause-runs g t c =
     let sink = g.K.Sink in
     let old = c.args.self.now.objects in
     let now = c.enter_update.new.self in
     let here = c.in-Err-Raised in
-    let o = c.requires.object in
+    let o = taken (state_of old) c.args.object c.requires.object in
     let at = mark_at (state_of old) c.args.at in
     let some = here.ensures.refused o.held here.reason o.there (ap Err here.field-0-is) in
+    tells_none (on_ok_always c.write_refusal.result (same_blocks here.ensures.fault)) (λ orders guards e u.
     ran_line sink.held sink.faults sink.room sink.counts_failures c.args.sink.now c.write_refusal.new.sink now guards c.args.line here.reason e _ c.write_refusal.result
-    (view_refused c.args.body.now guards e c.args.line c.args.object UpdateKey c.args.at at o.held here.reason
-    (ap (λ s. object_at s c.args.object) (sym u.is) ∙ o.there) (ap (λ s. mark_at s c.args.at) u.is ∙ mark_under guards e c.args.at) some)
+    (view_refused orders c.args.body.now guards e c.args.line c.args.object UpdateKey c.args.at at o.held here.reason
+    (ap (λ s. guarded_at s c.args.object) (sym u.is) ∙ o.guarded) (ap (λ s. mark_at s c.args.at) u.is ∙ mark_under guards e c.args.at) some)
     (ap state_of here.ensures.fault ∙ u.is)
-    c.write_refusal.ensures
+    c.write_refusal.ensures)
+
+pub run_update-returns-in-Err-NoMemory-clause-runs : goal.run_update-returns-in-Err-NoMemory-clause-runs
+run_update-returns-in-Err-NoMemory-clause-runs g t c =
+    let sink = g.K.Sink in
+    tells_none tt (λ orders guards e u. record {
+      writes = broke_nothing sink.held sink.faults sink.room sink.counts_failures c.args.sink.now _;
+      after = tt;
+    })
 
 pub run_updated-end_update-requires : goal.run_updated-end_update-requires
 run_updated-end_update-requires g t c =
     let k = c.requires.updating in
-    let ran = c.in-Ok.ensures.runs (guards_of_update_key c.args.key ++ k.guards) k.env k.stands in
+    let some = told_by_some c.in-Ok.ensures.runs in
+    let ran = some.1 (guards_of_update_key c.args.key ++ k.guards) k.env k.stands in
     let leaves = c.in-Ok.ensures.leaves in
     record {
       updating =
-          updating_goes_on c.args.body.now c.args.self.now.objects c.run_statements.new.self.objects c.args.key k ran.after leaves.counts
+          updating_goes_on some.0 c.args.body.now c.args.self.now.objects c.run_statements.new.self.objects c.args.key k ran.after leaves.counts
           (leaves.persists c.args.key.at k.known);
     }
 
@@ -368,14 +483,23 @@ run_updated-abandon_update-requires g t c =
     }
 
 pub run_updated-returns-in-Ok-clause-runs : goal.run_updated-returns-in-Ok-clause-runs
-run_updated-returns-in-Ok-clause-runs g t c guards e u =
+run_updated-returns-in-Ok-clause-runs g t c =
     let sink = g.K.Sink in
+    let k = c.requires.updating in
+    let all = guards_of_update_key c.args.key ++ k.guards in
+    let some = told_by_some c.in-Ok.ensures.runs in
+    let left = (exec_resolved some.0 c.args.body.now all k.env).after in
+    let so_far = some.1 all k.env k.stands in
+    let stands : IsUnder c.run_statements.new.self.objects all left = record { is = so_far.after; ready = ready_exec some.0 c.args.body.now all k.env k.stands.ready } in
+    tells_on c.in-Ok.ensures.runs
+    (ending_blocks sink.held sink.faults sink.room sink.counts_failures c.args.line c.args.key k.guards left stands
+    (c.end_update.ensures.runs k.guards left stands)) (λ orders runs guards e u.
     let held = guards_of_update_key c.args.key ++ guards in
-    let first = exec_resolved c.args.body.now held e in
-    let ran = c.in-Ok.ensures.runs held e u in
+    let first = exec_resolved orders c.args.body.now held e in
+    let ran = runs held e u in
     ran_then sink.held sink.faults sink.room sink.counts_failures c.args.sink.now c.run_statements.new.sink c.end_update.new.sink
     c.end_update.new.self.objects guards first (key_ending c.args.line c.args.key guards) c.end_update.result ran.writes
-    (c.end_update.ensures.runs guards first.after (record { is = ran.after; ready = ready_exec c.args.body.now held e u.ready }))
+    (c.end_update.ensures.runs guards first.after (record { is = ran.after; ready = ready_exec orders c.args.body.now held e u.ready })))
 
 pub run_updated-returns-in-Ok-clause-counts : goal.run_updated-returns-in-Ok-clause-counts
 run_updated-returns-in-Ok-clause-counts g t c =
@@ -384,12 +508,13 @@ run_updated-returns-in-Ok-clause-counts g t c =
     (ap (take c.args.key.names) c.in-Ok.ensures.leaves.counts)
 
 pub run_updated-returns-in-Err-clause-runs : goal.run_updated-returns-in-Err-clause-runs
-run_updated-returns-in-Err-clause-runs g t c guards e u =
+run_updated-returns-in-Err-clause-runs g t c =
     let sink = g.K.Sink in
+    tells_as c.in-Err.ensures.runs tt (λ orders runs guards e u.
     let held = guards_of_update_key c.args.key ++ guards in
-    let ran = c.in-Err.ensures.runs held e u in
+    let ran = runs held e u in
     ran_stopped sink.held sink.faults sink.room sink.counts_failures c.args.sink.now c.run_statements.new.sink c.abandon_update.new.self guards
-    (exec_resolved c.args.body.now held e) (key_ending c.args.line c.args.key guards) c.in-Err.end ran.writes
+    (exec_resolved orders c.args.body.now held e) (key_ending c.args.line c.args.key guards) c.in-Err.end ran.writes)
 
 pub run_updated-returns-in-Err-clause-counts : goal.run_updated-returns-in-Err-clause-counts
 run_updated-returns-in-Err-clause-counts g t c =
@@ -405,36 +530,52 @@ run_declare-run_scope-requires g t c κs within =
     let is = c.in-Ok.ensures.declared in (
       omega arith,
       (
-        within,
-        record {
-          guards = r.guards;
-          env = (after_decls c.args.decls.now r.env).after;
-          stands = decls_begin c.args.self.now.objects c.enter_scope.new.self r.guards r.env c.args.decls.now r.stands is.2;
-        },
+        within.0,
+        (
+          within.1,
+          (
+            c.requires.sound,
+            record {
+              guards = r.guards;
+              env = (after_decls c.args.decls.now r.env).after;
+              stands = decls_begin c.args.self.now.objects c.enter_scope.new.self r.guards r.env c.args.decls.now r.stands is.2;
+            },
+          ),
+        ),
       ),
     )
 
 pub run_declare-returns-in-Ok-clause-runs : goal.run_declare-returns-in-Ok-clause-runs
-run_declare-returns-in-Ok-clause-runs g t c guards e u =
+run_declare-returns-in-Ok-clause-runs g t c =
     let sink = g.K.Sink in
     let old = c.args.self.now.objects in
     let is = c.in-Ok.ensures.declared in
+    tells_before (same_count is.2 ∙ decls_count c.args.decls.now (state_of c.args.self.now.objects)) c.run_scope.ensures.runs (λ orders runs guards e u.
     ran_as sink.held sink.faults sink.room sink.counts_failures c.args.sink.now c.run_scope.new.sink c.run_scope.new.self.objects guards _ _ c.run_scope.result
-    (declare_comes (exec_resolved c.args.body.now) old guards e c.args.decls.now c.in-Ok.names u is.1 is.0)
-    (c.run_scope.ensures.runs guards (after_decls c.args.decls.now e).after (decls_begin old c.enter_scope.new.self guards e c.args.decls.now u is.2))
+    (declare_comes (exec_resolved orders c.args.body.now) old guards e c.args.decls.now c.in-Ok.names u is.1 is.0)
+    (runs guards (after_decls c.args.decls.now e).after (decls_begin old c.enter_scope.new.self guards e c.args.decls.now u is.2)))
 
 pub run_declare-returns-in-Err-Spent-clause-runs : goal.run_declare-returns-in-Err-Spent-clause-runs
-run_declare-returns-in-Err-Spent-clause-runs g t c guards e u =
+run_declare-returns-in-Err-Spent-clause-runs g t c =
     let sink = g.K.Sink in
     let old = c.args.self.now.objects in
     let now = c.enter_scope.new.self in
     let here = c.in-Err-Spent in
     let is = here.ensures.spent here.line (ap Err here.field-0-is) in
+    tells_none (on_ok_always c.write_refusal.result (same_count is.1 ∙ decls_count c.args.decls.now (state_of c.args.self.now.objects))) (λ orders guards e u.
     ran_line sink.held sink.faults sink.room sink.counts_failures c.args.sink.now c.write_refusal.new.sink now guards here.line NamesSpent
     (leaving (length e.bounds) (after_decls c.args.decls.now e).after) _ c.write_refusal.result
-    (declare_spent (exec_resolved c.args.body.now) old guards e c.args.decls.now here.line u is.0)
+    (declare_spent (exec_resolved orders c.args.body.now) old guards e c.args.decls.now here.line u is.0)
     (declare_back old now guards e c.args.decls.now u is.1)
-    c.write_refusal.ensures
+    c.write_refusal.ensures)
+
+pub run_declare-returns-in-Err-NoMemory-clause-runs : goal.run_declare-returns-in-Err-NoMemory-clause-runs
+run_declare-returns-in-Err-NoMemory-clause-runs g t c =
+    let sink = g.K.Sink in
+    tells_none tt (λ orders guards e u. record {
+      writes = broke_nothing sink.held sink.faults sink.room sink.counts_failures c.args.sink.now _;
+      after = tt;
+    })
 
 -- Loops
 
@@ -443,25 +584,31 @@ run_loop-run_turns-ended-requires g t c κs within =
     let old = c.args.self.now.objects in
     let now = c.enter_loop.new.self in
     let r = c.requires.ready in
-    let o = c.is_object.ensures.yes c.if-not-is_object.false in
+    let o = taken (state_of old) c.args.object (c.takes_guards.ensures.yes c.if-not-takes_guards.false) in
     let is = c.in_ok-key.ensures.opened o.held o.there in
     let key = c.in_ok-key.ensures.key in
     let k = c.in_ok-key.key in (
       omega arith,
       (
-        within,
+        within.0,
         (
-          record {
-            guards = r.guards;
-            held = o.held;
-            env = r.env;
-            names = in_order c.args.backward (names_of o.held);
-            turning =
-                turning_at refl key.0 key.2
-                (loop_begins old r.guards r.env r.stands c.args.object o.held o.there c.args.elements c.args.backward (plain_mark k.coming) now k.names
-                (key.1 ∙ sym (many_names old)) is.0 (c.in_ok-key.ensures.named o.held o.there) is.2);
-          },
-          key.3,
+          within.1,
+          (
+            c.requires.sound,
+            (
+              record {
+                guards = r.guards;
+                held = o.held;
+                env = r.env;
+                names = in_order c.args.backward (names_of o.held);
+                turning =
+                    turning_at refl key.0 key.2
+                    (loop_begins old r.guards r.env r.stands c.args.object o.held o.there c.args.elements c.args.backward (plain_mark k.coming) now k.names
+                    (key.1 ∙ sym (many_names old)) is.0 (c.in_ok-key.ensures.named o.held o.there) is.2);
+              },
+              key.3,
+            ),
+          ),
         ),
       ),
     )
@@ -469,7 +616,7 @@ run_loop-run_turns-ended-requires g t c κs within =
 pub run_loop-leave_loop-requires-clause-inner : goal.run_loop-leave_loop-requires-clause-inner
 run_loop-leave_loop-requires-clause-inner g t c =
     let old = c.args.self.now.objects in
-    let o = c.is_object.ensures.yes c.if-not-is_object.false in
+    let o = taken (state_of old) c.args.object (c.takes_guards.ensures.yes c.if-not-takes_guards.false) in
     let key = c.in_ok-key.ensures.key in
     let ended = c.run_turns-ended.ensures.key in
     inner_by (ended.0 ∙ key.0) (ended.1 ∙ (key.1 ∙ sym (many_names old))) (there_within (state_of old) c.args.object o.held o.there)
@@ -478,7 +625,7 @@ pub run_loop-leave_loop-requires-clause-cursors : goal.run_loop-leave_loop-requi
 run_loop-leave_loop-requires-clause-cursors g t c =
     let old = c.args.self.now.objects in
     let mid = state_of c.enter_loop.new.self in
-    let o = c.is_object.ensures.yes c.if-not-is_object.false in
+    let o = taken (state_of old) c.args.object (c.takes_guards.ensures.yes c.if-not-takes_guards.false) in
     let is = c.in_ok-key.ensures.opened o.held o.there in
     let key = c.in_ok-key.ensures.key in
     let ended = c.run_turns-ended.ensures.key in
@@ -487,13 +634,13 @@ run_loop-leave_loop-requires-clause-cursors g t c =
     subst (λ p. IsHeldAt (state_of c.run_turns-ended.new.self.objects) p k.cursors) (sym (ended.0 ∙ key.0))
     (held_still mid (state_of c.run_turns-ended.new.self.objects) c.args.object c.in_ok-key.key.names k.cursors within c.run_turns-ended.ensures.counts
     (subst (λ s. IsHeldAt s c.args.object k.cursors) (sym is.2)
-    (loop_cursors_held (state_of old) c.args.object c.args.elements o.held k.cursors (guard_if k.elements) o.there (ended.2 ∙ is.1))))
+    (loop_cursors_held (state_of old) c.args.object c.args.elements o.held o.takes k.cursors (guard_if k.elements) o.there (ended.2 ∙ is.1))))
 
 pub run_loop-leave_loop-requires-clause-elements : goal.run_loop-leave_loop-requires-clause-elements
 run_loop-leave_loop-requires-clause-elements g t c x some =
     let old = c.args.self.now.objects in
     let mid = state_of c.enter_loop.new.self in
-    let o = c.is_object.ensures.yes c.if-not-is_object.false in
+    let o = taken (state_of old) c.args.object (c.takes_guards.ensures.yes c.if-not-takes_guards.false) in
     let is = c.in_ok-key.ensures.opened o.held o.there in
     let key = c.in_ok-key.ensures.key in
     let ended = c.run_turns-ended.ensures.key in
@@ -503,39 +650,64 @@ run_loop-leave_loop-requires-clause-elements g t c x some =
     subst (λ p. IsHeldAt (objects_by (held_without k.cursors) now) p x) (sym (ended.0 ∙ key.0))
     (held_behind mid now c.args.object c.in_ok-key.key.names k.cursors x within c.run_turns-ended.ensures.counts
     (subst (λ s. IsHeldAt (objects_by (held_without k.cursors) s) c.args.object x) (sym is.2)
-    (loop_elements_held (state_of old) c.args.object c.args.elements o.held k.cursors x o.there
+    (loop_elements_held (state_of old) c.args.object c.args.elements o.held o.takes k.cursors x o.there
     (sym (ap (λ l. k.cursors ∷ guard_if l) some) ∙ (ended.2 ∙ is.1)))))
 
 pub run_loop-returns-clause-runs : goal.run_loop-returns-clause-runs
-run_loop-returns-clause-runs g t c guards e u =
+run_loop-returns-clause-runs g t c =
     let sink = g.K.Sink in
     let old = c.args.self.now.objects in
     let now = c.enter_loop.new.self in
     let then = c.run_turns-ended.new.self.objects in
-    let o = c.is_object.ensures.yes c.if-not-is_object.false in
+    let o = taken (state_of old) c.args.object (c.takes_guards.ensures.yes c.if-not-takes_guards.false) in
     let is = c.in_ok-key.ensures.opened o.held o.there in
     let key = c.in_ok-key.ensures.key in
     let k = c.in_ok-key.key in
     let ended = c.run_turns-ended.ensures.key in
     let more = guards_of_loop c.args.elements o.held in
     let names = in_order c.args.backward (names_of o.held) in
+    let left = loop_left (state_of then) (state_of c.leave_loop.new.self) (guards_of_loop_key c.run_turns-ended.new.key) more c.run_turns-ended.new.key.names k.names c.leave_loop.ensures.left (ended.2 ∙ is.1) ended.1 in
+    tells_before (same_count is.2 ∙ holding_count more (state_of old)) (tells_behind c.run_turns-ended.ensures.runs (same_count left ∙ releasing_count more (leaving k.names (state_of then))) (λ orders runs. runs)) (λ orders runs guards e u.
     let begun =
     turning_at refl key.0 key.2
     (loop_begins old guards e u c.args.object o.held o.there c.args.elements c.args.backward (plain_mark k.coming) now k.names
     (key.1 ∙ sym (many_names old)) is.0 (c.in_ok-key.ensures.named o.held o.there) is.2) in
     ran_as sink.held sink.faults sink.room sink.counts_failures c.args.sink.now c.run_turns-ended.new.sink c.leave_loop.new.self guards _ _ c.run_turns-ended.result
-    (loop_comes c.args.body.now guards e c.args.line k.names c.args.elements c.args.backward c.args.object k.object o.held
-    (ap (λ s. object_at s c.args.object) (sym u.is) ∙ o.there) key.0 (key.1 ∙ many_under old guards e u))
+    (loop_comes orders c.args.body.now guards e c.args.line k.names c.args.elements c.args.backward c.args.object k.object o.held
+    (ap (λ s. guarded_at s c.args.object) (sym u.is) ∙ o.guarded) key.0 (key.1 ∙ many_under old guards e u))
     (ran_inside sink.held sink.faults sink.room sink.counts_failures more guards k.names c.args.sink.now c.run_turns-ended.new.sink then c.leave_loop.new.self _
-    c.run_turns-ended.result (loop_left (state_of then) (state_of c.leave_loop.new.self) (guards_of_loop_key c.run_turns-ended.new.key) more c.run_turns-ended.new.key.names k.names c.leave_loop.ensures.left (ended.2 ∙ is.1) ended.1)
-    (c.run_turns-ended.ensures.runs guards o.held e names begun))
+    c.run_turns-ended.result left (runs guards o.held e names begun)))
+
+pub run_loop-returns-then-not-takes_guards-clause-runs : goal.run_loop-returns-then-not-takes_guards-clause-runs
+run_loop-returns-then-not-takes_guards-clause-runs g t c =
+    let sink = g.K.Sink in
+    let none = c.takes_guards.ensures.no c.if-not-takes_guards.true in
+    tells_none refl (λ orders guards e u.
+    ran_nowhere sink.held sink.faults sink.room sink.counts_failures c.args.sink.now c.args.self.now.objects guards e u (exec_resolved orders c.args.body.now)
+    (loops_at c.args.line c.args.elements c.args.backward c.args.object) c.args.object none tt)
+
+pub run_loop-returns-in_err-key-clause-runs : goal.run_loop-returns-in_err-key-clause-runs
+run_loop-returns-in_err-key-clause-runs g t c =
+    let sink = g.K.Sink in
+    tells_none (on_exit _ _ c.from_residual.result c.from_residual.ensures.1) (λ orders guards e u.
+    ran_broke sink.held sink.faults sink.room sink.counts_failures c.args.sink.now c.args.sink.now _ guards
+    (block_of orders c.args.body.now guards e (loops_at c.args.line c.args.elements c.args.backward c.args.object)) NoMemory c.from_residual.result c.from_residual.ensures.1
+    (broke_nothing sink.held sink.faults sink.room sink.counts_failures c.args.sink.now _))
+
+pub run_view-returns-then-not-takes_guards-clause-runs : goal.run_view-returns-then-not-takes_guards-clause-runs
+run_view-returns-then-not-takes_guards-clause-runs g t c =
+    let sink = g.K.Sink in
+    let none = c.takes_guards.ensures.no c.if-not-takes_guards.true in
+    tells_none refl (λ orders guards e u.
+    ran_nowhere sink.held sink.faults sink.room sink.counts_failures c.args.sink.now c.args.self.now.objects guards e u (exec_resolved orders c.args.body.now)
+    (views_at c.args.line c.args.kind c.args.object c.args.at) c.args.object none tt)
 
 pub run_loop-returns-clause-leaves : goal.run_loop-returns-clause-leaves
 run_loop-returns-clause-leaves g t c =
     let old = c.args.self.now.objects in
     let now = c.enter_loop.new.self in
     let then = c.run_turns-ended.new.self.objects in
-    let o = c.is_object.ensures.yes c.if-not-is_object.false in
+    let o = taken (state_of old) c.args.object (c.takes_guards.ensures.yes c.if-not-takes_guards.false) in
     let is = c.in_ok-key.ensures.opened o.held o.there in
     let key = c.in_ok-key.ensures.key in
     let k = c.in_ok-key.key in
@@ -552,82 +724,112 @@ run_loop-returns-clause-leaves g t c =
 
 -- The turns of a loop
 
+pub run_turns-loop-init : goal.run_turns-loop-init
+run_turns-loop-init g t c =
+    let sink = g.K.Sink in
+    record {
+      told = tells_none refl (λ orders guards h e names begun. record {
+        env = e;
+        names = names;
+        turning = begun;
+        so_far =
+            so_far_none sink.held sink.faults sink.room sink.counts_failures c.args.sink.now
+            (turns (exec_resolved orders c.args.body.now) guards c.args.elements c.args.key.now.object h names e);
+      });
+      key = (refl, refl, refl, refl);
+      known = c.requires.known;
+      persists = λ x known. known;
+      counts = refl;
+    }
+
 pub run_turns-step_loop-requires-clause-object : goal.run_turns-step_loop-requires-clause-object
 run_turns-step_loop-requires-clause-object g t c =
     let r = c.requires.turning in
-    let now = (c.loop.invariant.each r.guards r.held r.env r.names r.turning).turning in
+    let now = ((told_by_some c.loop.invariant.told).1 r.guards r.held r.env r.names r.turning).turning in
     record { held = held now; there = turning_there now }
 
 pub run_turns-step_loop-requires-clause-inner : goal.run_turns-step_loop-requires-clause-inner
 run_turns-step_loop-requires-clause-inner g t c =
-    let r = c.requires.turning in turning_inner (c.loop.invariant.each r.guards r.held r.env r.names r.turning).turning
+    let r = c.requires.turning in turning_inner ((told_by_some c.loop.invariant.told).1 r.guards r.held r.env r.names r.turning).turning
 
 pub run_turns-step_loop-requires-clause-names : goal.run_turns-step_loop-requires-clause-names
 run_turns-step_loop-requires-clause-names g t c =
     let r = c.requires.turning in
-    let many = turning_names (c.loop.invariant.each r.guards r.held r.env r.names r.turning).turning in
+    let many = turning_names ((told_by_some c.loop.invariant.told).1 r.guards r.held r.env r.names r.turning).turning in
     omega (arith, many, many_names c.loop.self.objects)
 
 pub run_turns-step_loop-requires-clause-coming : goal.run_turns-step_loop-requires-clause-coming
 run_turns-step_loop-requires-clause-coming g t c =
-    let r = c.requires.turning in turning_stands (c.loop.invariant.each r.guards r.held r.env r.names r.turning).turning
+    let r = c.requires.turning in turning_stands ((told_by_some c.loop.invariant.told).1 r.guards r.held r.env r.names r.turning).turning
 
 pub run_turns-returns-in_err-step_loop-clause-runs : goal.run_turns-returns-in_err-step_loop-clause-runs
-run_turns-returns-in_err-step_loop-clause-runs g t c guards h e names begun =
+run_turns-returns-in_err-step_loop-clause-runs g t c =
     let sink = g.K.Sink in
-    let now = c.loop.invariant.each guards h e names begun in
+    tells_off _ _ c.loop.invariant.told c.from_residual.ensures.1 (λ orders so_far guards h e names begun.
+    let now = so_far guards h e names begun in
     ran_broke sink.held sink.faults sink.room sink.counts_failures c.args.sink.now c.loop.sink c.step_loop.new.self (guards_of_loop c.args.elements h ++ guards)
-    (turns (exec_resolved c.args.body.now) guards c.args.elements c.args.key.now.object h names e) NoMemory c.from_residual.result
+    (turns (exec_resolved orders c.args.body.now) guards c.args.elements c.args.key.now.object h names e) NoMemory c.from_residual.result
     c.from_residual.ensures.1
     (so_far_stopped sink.held sink.faults sink.room sink.counts_failures c.args.sink.now c.loop.sink _
-    (turns (exec_resolved c.args.body.now) guards c.args.elements c.args.key.now.object h names e) now.so_far)
+    (turns (exec_resolved orders c.args.body.now) guards c.args.elements c.args.key.now.object h names e) now.so_far))
 
 pub run_turns-returns-then-not-branch-clause-runs : goal.run_turns-returns-then-not-branch-clause-runs
-run_turns-returns-then-not-branch-clause-runs g t c guards h e names begun =
+run_turns-returns-then-not-branch-clause-runs g t c =
     let sink = g.K.Sink in
-    let now = c.loop.invariant.each guards h e names begun in
     let end = c.in_ok-step_loop.ensures.end (ap Ok c.if-not-branch.true) in
+    tells_behind c.loop.invariant.told (same_count end.1) (λ orders so_far guards h e names begun.
+    let now = so_far guards h e names begun in
     let none = turning_none now.turning end.0 in
-    let whole = turns (exec_resolved c.args.body.now) guards c.args.elements c.args.key.now.object h names e in
+    let whole = turns (exec_resolved orders c.args.body.now) guards c.args.elements c.args.key.now.object h names e in
     ran_all sink.held sink.faults sink.room sink.counts_failures c.args.sink.now c.loop.sink c.step_loop.new.self (guards_of_loop c.args.elements h ++ guards)
     now.env whole tt (end.1 ∙ now.turning.is)
     (subst (λ l. WroteSoFar sink.held sink.faults sink.room sink.counts_failures c.args.sink.now c.loop.sink
-    (turns (exec_resolved c.args.body.now) guards c.args.elements c.args.key.now.object h l now.env) whole) none now.so_far)
+    (turns (exec_resolved orders c.args.body.now) guards c.args.elements c.args.key.now.object h l now.env) whole) none now.so_far))
 
 pub run_turns-returns-clause-runs : goal.run_turns-returns-clause-runs
-run_turns-returns-clause-runs g t c guards h e names begun =
+run_turns-returns-clause-runs g t c =
     let sink = g.K.Sink in
-    let now = c.loop.invariant.each guards h e names begun in
+    tells_as c.loop.invariant.told tt (λ orders so_far guards h e names begun.
+    let now = so_far guards h e names begun in
     record {
       writes =
           so_far_stopped sink.held sink.faults sink.room sink.counts_failures c.args.sink.now c.loop.sink _
-          (turns (exec_resolved c.args.body.now) guards c.args.elements c.args.key.now.object h names e) now.so_far;
+          (turns (exec_resolved orders c.args.body.now) guards c.args.elements c.args.key.now.object h names e) now.so_far;
       after = tt;
-    }
+    })
 
 pub run_turns-run_statements-requires : goal.run_turns-run_statements-requires
 run_turns-run_statements-requires g t c κs within =
     let r = c.requires.turning in
-    let now = (c.loop.invariant.each r.guards r.held r.env r.names r.turning).turning in
+    let now = ((told_by_some c.loop.invariant.told).1 r.guards r.held r.env r.names r.turning).turning in
     let next = turning_next now (c.in_ok-step_loop.ensures.more (ap Ok c.if-not-branch.false)) in (
       omega arith,
       (
-        within,
-        record {
-          guards = guards_of_loop c.args.elements r.held ++ r.guards;
-          env = _;
-          stands = turn_begins now c.args.elements next.name next.rest c.step_loop.new.self next.is (c.in_ok-step_loop.ensures.turn (ap Ok c.if-not-branch.false));
-        },
+        within.0,
+        (
+          within.1,
+          (
+            c.requires.sound,
+            record {
+              guards = guards_of_loop c.args.elements r.held ++ r.guards;
+              env = _;
+              stands = turn_begins now c.args.elements next.name next.rest c.step_loop.new.self next.is (c.in_ok-step_loop.ensures.turn (ap Ok c.if-not-branch.false));
+            },
+          ),
+        ),
       ),
     )
 
 pub run_turns-returns-in_err-run_statements-clause-runs : goal.run_turns-returns-in_err-run_statements-clause-runs
-run_turns-returns-in_err-run_statements-clause-runs g t c guards h e names begun =
+run_turns-returns-in_err-run_statements-clause-runs g t c =
     let sink = g.K.Sink in
-    let body = exec_resolved c.args.body.now in
-    let held_guards = guards_of_loop c.args.elements h ++ guards in
     let object = c.args.key.now.object in
-    let now = c.loop.invariant.each guards h e names begun in
+    let turned_on = c.in_ok-step_loop.ensures.turn (ap Ok c.if-not-branch.false) in
+    tells_stopped _ _ c.loop.invariant.told (tells_before (same_count turned_on) c.in_err-run_statements.ensures.runs (λ orders runs. runs))
+    c.from_residual-in_err-run_statements.ensures.1 (λ orders so_far runs guards h e names begun.
+    let body = exec_resolved orders c.args.body.now in
+    let held_guards = guards_of_loop c.args.elements h ++ guards in
+    let now = so_far guards h e names begun in
     let at = turning_at refl (sym c.loop.invariant.key.0) refl now.turning in
     let next = turning_next at (c.in_ok-step_loop.ensures.more (ap Ok c.if-not-branch.false)) in
     let start = with_name now.env (turn_bound c.args.elements object (mark_of_name (number_of h) next.name)) in
@@ -641,21 +843,22 @@ run_turns-returns-in_err-run_statements-clause-runs g t c guards h e names begun
     (turns body guards c.args.elements object h now.names now.env) (turns body guards c.args.elements object h names e)
     (scoped now.env (body held_guards) start) (turns body guards c.args.elements object h next.rest) _
     (ap (λ l. turns body guards c.args.elements object h l now.env) next.is) now.so_far
-    (c.in_err-run_statements.ensures.runs held_guards start turned).writes)
+    (runs held_guards start turned).writes))
 
 pub run_turns-loop-preserved : goal.run_turns-loop-preserved
 run_turns-loop-preserved g t c =
     let sink = g.K.Sink in
-    let body = exec_resolved c.args.body.now in
     let object = c.args.key.now.object in
     let before = c.loop.invariant in
     let step = c.in_ok-step_loop.ensures in
     let ok = c.in_ok-run_statements.ensures in
     let key = step.key in
+    let turned_on = step.turn (ap Ok c.if-not-branch.false) in
     record {
-      each = λ guards h e names begun.
+      told = tells_then before.told (tells_before (same_count turned_on) ok.runs (λ orders runs. runs)) (λ orders so_far runs guards h e names begun.
+          let body = exec_resolved orders c.args.body.now in
           let held_guards = guards_of_loop c.args.elements h ++ guards in
-          let now = before.each guards h e names begun in
+          let now = so_far guards h e names begun in
           let at = turning_at refl (sym before.key.0) refl now.turning in
           let next = turning_next at (step.more (ap Ok c.if-not-branch.false)) in
           let b = turn_bound c.args.elements object (mark_of_name (number_of h) next.name) in
@@ -663,20 +866,20 @@ run_turns-loop-preserved g t c =
           let turned = turn_begins at c.args.elements next.name next.rest c.step_loop.new.self next.is
           (step.turn (ap Ok c.if-not-branch.false)
           ∙ ap (λ p. with_name (leaving c.loop.key.names (state_of c.loop.self.objects)) (turn_bound c.args.elements p (plain_mark c.loop.key.coming))) before.key.0) in
-          let ran = ok.runs held_guards start turned in
+          let ran = runs held_guards start turned in
           record {
             env = leaving (length now.env.bounds) (body held_guards start).after;
             names = next.rest;
             turning =
                 turning_at key.1 (key.0 ∙ before.key.0) key.2
-                (turn_ends at c.args.body.now b next.name next.rest c.run_statements.new.self.objects (plain_mark c.step_loop.new.key.coming) next.is turned.ready ran.after
+                (turn_ends at orders c.args.body.now b next.name next.rest c.run_statements.new.self.objects (plain_mark c.step_loop.new.key.coming) next.is turned.ready ran.after
                 (turn_goes now.turning next.name next.rest (plain_mark c.step_loop.new.key.coming) next.is (step.goes (ap Ok c.if-not-branch.false))));
             so_far =
                 so_far_more sink.held sink.faults sink.room sink.counts_failures c.args.sink.now c.loop.sink c.run_statements.new.sink
                 (turns body guards c.args.elements object h now.names now.env) (turns body guards c.args.elements object h names e)
                 (scoped now.env (body held_guards) start) (turns body guards c.args.elements object h next.rest)
                 (ap (λ l. turns body guards c.args.elements object h l now.env) next.is) now.so_far ran.writes;
-          };
+          });
       key = (key.0 ∙ before.key.0, key.1 ∙ before.key.1, key.2 ∙ before.key.2, key.3 ∙ before.key.3);
       known = ok.leaves.persists c.step_loop.new.key.coming step.known;
       persists = λ x known. ok.leaves.persists x (step.persists x (before.persists x known));

@@ -10,6 +10,8 @@ use Rattle.ac_objects.specs.Standing.{counts_of}
 use Rattle.ac_objects.specs.World.{state_of, IsKnown, Persists}
 use Rattle.ac_host.specs.Ready.{IsUnder}
 use Rattle.ac_host.specs.Running.{Leaves, Turning, GoesOn, TurnsOn}
+use Rattle.ac_host.specs.Told.{Tells}
+use Rattle.ac_host.proofs.ByOrders.{going_on}
 use Rattle.ac_host.proofs.host.Host.+statements.Given as goal
 
 abbrev pub decreases-run_statement : goal.decreases-run_statement
@@ -52,9 +54,9 @@ abbrev pub invariant-run_statements-loop-stmt : goal.invariant-run_statements-lo
 invariant-run_statements-loop-stmt g l =
     let sink = g.K.Sink in
     record {
-      each : (guards : Guards) (e : State) → IsUnder l.fn.self.objects guards e →
+      told : Tells g.B.BlockRunner.allows l.fn.self.objects l.self.objects going_on (λ orders. (guards : Guards) (e : State) → IsUnder l.fn.self.objects guards e →
           GoesOn sink.held sink.faults sink.room sink.counts_failures l.fn.sink l.sink l.self.objects guards
-          (exec_resolved (resolved_of (drop l.stmt-index l.stmt-items)) guards) (exec_resolved l.stmts guards e);
+          (exec_resolved orders (resolved_of (drop l.stmt-index l.stmt-items)) guards) (exec_resolved orders l.stmts guards e));
       leaves : Leaves l.fn.self.objects l.self.objects;
     }
 
@@ -62,12 +64,12 @@ abbrev pub invariant-run_turns-loop : goal.invariant-run_turns-loop
 invariant-run_turns-loop g l =
     let sink = g.K.Sink in
     record {
-      each : (guards : Guards) (h : Held) (e : State) (names : List ℕ) →
+      told : Tells g.B.BlockRunner.allows l.fn.self.objects l.self.objects going_on (λ orders. (guards : Guards) (h : Held) (e : State) (names : List ℕ) →
           Turning l.fn.self.objects l.fn.key.names l.fn.key.object l.fn.key.backward (plain_mark l.fn.key.coming) (guards_of_loop l.elements h ++ guards) e
           (number_of h) (names_of h) names →
           TurnsOn sink.held sink.faults sink.room sink.counts_failures l.fn.sink l.sink l.self.objects l.key.names l.key.object l.key.backward
           (plain_mark l.key.coming) (guards_of_loop l.elements h ++ guards) (number_of h) (names_of h)
-          (turns (exec_resolved l.body) guards l.elements l.fn.key.object h) (turns (exec_resolved l.body) guards l.elements l.fn.key.object h names e);
+          (turns (exec_resolved orders l.body) guards l.elements l.fn.key.object h) (turns (exec_resolved orders l.body) guards l.elements l.fn.key.object h names e));
       key : (l.key.object ≡ l.fn.key.object) × (l.key.names ≡ l.fn.key.names) × (l.key.backward ≡ l.fn.key.backward)
           × (guards_of_loop_key l.key ≡ guards_of_loop_key l.fn.key);
       known : IsKnown l.self.objects l.key.coming;

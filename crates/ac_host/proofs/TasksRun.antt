@@ -1,0 +1,48 @@
+-- What is told of a block of tasks: nothing where it doesn't begin, and else its order.
+use Rattle.std.proofs.Common.{◌≡◌, ◌+◌, ℕ, Bool, List, [], ◌∷◌, refl, subst, Option, Result, Ok, OnOk, IsErrAnd}
+use Rattle.std.proofs.lemmas.List.Elements.{All-nil, All-cons}
+use Rattle.ac_check.specs.Resolved.{ResolvedCode}
+use Rattle.ac_meaning.specs.Answers.{lines_text}
+use Rattle.ac_meaning.specs.Environment.{State}
+use Rattle.ac_meaning.specs.Execution.{Orders, outcome, gathered}
+use Rattle.ac_meaning.specs.Holdings.{Guards}
+use Rattle.ac_objects.specs.World.{World}
+use Rattle.ac_host.specs.declared.end.HostEnd.{HostEnd}
+use Rattle.ac_host.specs.declared.end.HostEnd.TheVariants.{NoMemory}
+use Rattle.ac_host.specs.Ready.{IsUnder}
+use Rattle.ac_host.specs.Running.{Runs, RunsByOrders}
+use Rattle.ac_host.specs.Told.{GoBy}
+use Rattle.ac_host.specs.Writing.{Ran}
+use Rattle.ac_host.proofs.Blocks.{ran_broke}
+use Rattle.ac_host.proofs.ByOrders.{on_exit, tells_none}
+use Rattle.ac_host.proofs.Telling.{broke_nothing, wrote_nothing}
+
+module _ {K T : Type 0} (held : K → Option (List ℕ)) (faults : K → ℕ) (room : K → Option ℕ) (counts : K → Bool) {allows : List ℕ → Type 0} (tasks : ResolvedCode) where
+  -- without memory nothing was written
+  pub nothing_run : {old now : World} (a : K) (result : Result T HostEnd) → IsErrAnd result (λ y. y ≡ NoMemory) →
+      RunsByOrders allows held faults room counts a a old now (λ orders guards e. gathered (orders e.blocks) tasks e) result
+  nothing_run {now = now} a result exit =
+      tells_none (on_exit _ _ result exit) (λ orders guards e u.
+      let r = gathered (orders e.blocks) tasks e in
+      ran_broke held faults room counts a a now guards r NoMemory result exit (broke_nothing held faults room counts a (lines_text r.lines)))
+
+  -- and of a block whose numbers don't fit no line is written
+  pub none_run : {old : World} (a : K) (x : T) →
+      ((order : List ℕ) (guards : Guards) (e : State) → IsUnder old guards e → outcome [] e ≡ gathered order tasks e) →
+      RunsByOrders allows held faults room counts a a old old (λ orders guards e. gathered (orders e.blocks) tasks e) (Ok x)
+  none_run {old = old} a x same =
+      tells_none refl (λ orders guards e u.
+      subst (λ r. Ran held faults room counts a a old guards r (Ok x)) (same (orders e.blocks) guards e u)
+      (record { writes = wrote_nothing held faults room counts a; after = u.is }))
+
+  pub told_one : {old now : World} {a b : K} {result : Result T HostEnd} (order : List ℕ) → allows order →
+      OnOk result (now.counters.blocks ≡ old.counters.blocks + 1) →
+      ((orders : Orders) → GoBy (order ∷ []) old.counters.blocks orders →
+      Runs held faults room counts a b old now (λ guards e. gathered (orders e.blocks) tasks e) result) →
+      RunsByOrders allows held faults room counts a b old now (λ orders guards e. gathered (orders e.blocks) tasks e) result
+  told_one order allowed counted runs = record {
+    told = order ∷ [];
+    allowed = All-cons allows order [] allowed (All-nil allows);
+    counted = counted;
+    holds = runs;
+  }
