@@ -1,9 +1,13 @@
 -- How an input is answered, where nothing is written of it and where something is.
-use Rattle.std.proofs.Common.{◌≡◌, ◌≢◌, ◌<◌, ℕ, List, [], length, Option, Some, None, refl, sym, inl, inr, append-nil, ap}
+use Rattle.std.proofs.Common.{◌≡◌, ◌≢◌, ◌<◌, ◌≤◌, ℕ, List, [], length, Option, Some, None, refl, sym, inl, inr, append-nil, ap}
 use Rattle.std.specs.Prelude.{◌⊎◌, IfSome}
 use Rattle.ac_io.specs.Outside.{GrewByFront}
+use Rattle.ac_syntax.specs.declared.refusal.RefusalKind.{RefusalKind}
+use Rattle.ac_syntax.specs.declared.script.Script.{Script}
+use Rattle.ac_syntax.specs.Refusals.{IsFirstRefusal}
 use Rattle.ac_meaning.specs.declared.limits.TheConstants.{INPUT_LIMIT}
-use Rattle.ac_meaning.specs.Meanings.{Meaning, too_long, is_too_long}
+use Rattle.ac_meaning.specs.Execution.{no_orders}
+use Rattle.ac_meaning.specs.Meanings.{Meaning, IsMeaningBy, too_long, refused_at, is_too_long, is_refused, is_faulty}
 use Rattle.ac_top.specs.declared.status.Status.{Status}
 use Rattle.ac_top.specs.declared.status.Status.TheVariants.{Done, Refused, Usage, ReadFault, WriteFault, NoMemory}
 use Rattle.ac_top.specs.declared.mode.Mode.{Mode}
@@ -11,34 +15,42 @@ use Rattle.ac_top.specs.declared.mode.Mode.TheVariants.{Read}
 use Rattle.ac_top.specs.declared.mode.Task.{Task}
 use Rattle.ac_top.specs.Modes.{Means, read_by}
 use Rattle.ac_top.specs.Status.{IsAnswer}
-use Rattle.ac_top.specs.Answers.{Answers, HasRoom, IfAsked}
+use Rattle.ac_top.specs.Answers.{Answers, HasRoom, IfAsked, IsFaulty, Tells}
 use Rattle.ac_top.proofs.Meant.{each_meaning}
 
 pub if_some_of : {T : Type 0} {P : T → Type 0} (o : Option T) → ((x : T) → P x) → IfSome o P
 if_some_of None p = tt
 if_some_of (Some x) p = p x
 
+-- a text that is no script, or a faulty one
+pub refused_means : (means : Script → Meaning) (input : List ℕ) (line : ℕ) (kind : RefusalKind) → length input ≤ INPUT_LIMIT →
+    IsFirstRefusal input line kind ⊎ IsFaulty input line kind → IsMeaningBy means input (refused_at line kind)
+refused_means means input line kind short (inl h) = is_refused line kind short h refl
+refused_means means input line kind short (inr h) = is_faulty h.script line kind short h.spelled h.first refl
+
 pub long_means : (task : Task) (input : List ℕ) → INPUT_LIMIT < length input → Means (Read task) input too_long
-long_means task input long = is_too_long long refl
+long_means task input long = (no_orders, is_too_long long refl)
 
 nothing_written : (held : Option (List ℕ)) (text : List ℕ) → GrewByFront held held text
 nothing_written None text = tt
 nothing_written (Some h) text = ([], record { rest = text; whole = refl }, ap Some (sym (append-nil h)))
 
--- an end without an answer, with nothing written
+-- an end without an answer, with nothing written of a meaning
+pub untold_of : {IsOne : Meaning → Type 0} (m : Meaning) → IsOne m → (held : Option (List ℕ)) (room : Option ℕ) (s : Status) → (IsAnswer s → ⊥) → s ≢ WriteFault →
+    Tells IsOne held held room s
+untold_of m means held room s none wrote = record {
+  meaning = m;
+  means = means;
+  writes = record {
+    whole = λ a. absurd (none a);
+    number = λ a. absurd (none a);
+    front = nothing_written held m.text;
+    within = if_some_of room (λ n fits. wrote);
+  };
+}
+
 pub unanswered : (mode : Mode) (input : List ℕ) (held : Option (List ℕ)) (room : Option ℕ) (s : Status) → (IsAnswer s → ⊥) → s ≢ WriteFault → Answers mode input held held room s
-unanswered mode input held room s none wrote =
-    let m = each_meaning mode input in
-    record {
-      meaning = m.0;
-      means = m.1;
-      writes = record {
-        whole = λ a. absurd (none a);
-        number = λ a. absurd (none a);
-        front = nothing_written held m.0.text;
-        within = if_some_of room (λ n fits. wrote);
-      };
-    }
+unanswered mode input held room s none wrote = let m = each_meaning mode input in untold_of m.0 m.1 held room s none wrote
 
 ends : (t : Status) → t ≢ Usage → t ≢ ReadFault → t ≢ WriteFault → IsAnswer t ⊎ (t ≡ NoMemory)
 ends Done u r w = inl tt

@@ -1,4 +1,5 @@
 pub mod Checked
+pub mod WithoutTasks
 pub mod Meant
 pub mod Answered
 pub mod Hosted

@@ -3,11 +3,10 @@ use Rattle.std.proofs.Common.{◌≡◌, ℕ, List, [], ◌++◌, Option, Some, 
 use Rattle.std.specs.Prelude.{◌⊎◌}
 use Rattle.std.proofs.lemmas.Option.{same_Some}
 use Rattle.ac_meaning.specs.Meanings.{Meaning, IsMeaningBy, ran, written}
-use Rattle.ac_top.specs.declared.mode.Mode.TheVariants.{Read, Generate}
-use Rattle.ac_top.specs.declared.mode.Task.TheVariants.{Run}
+use Rattle.ac_top.specs.declared.mode.Mode.TheVariants.{Generate}
 use Rattle.ac_top.specs.declared.status.Status.{Status}
 use Rattle.ac_top.specs.declared.status.Status.TheVariants.{Done, Refused}
-use Rattle.ac_top.specs.Answers.{Answers}
+use Rattle.ac_top.specs.Answers.{Answers, Tells}
 use Rattle.ac_top.specs.Generator.{generated}
 use Rattle.ac_top.specs.Status.{IsAnswer, Writes}
 use Rattle.ac_top.specs.Summary.{summary_text}
@@ -18,7 +17,7 @@ is_answer s (inr e) = rw e tt
 
 -- what was told of it is the whole of its meaning
 pub told_whole : (script : List ℕ) (size : ℕ) (before after : List ℕ) (room : Option ℕ) (s : Status) → (s ≡ Done) ⊎ (s ≡ Refused) → script ≡ generated size → before ≡ []
-    → Answers (Read Run) script (Some before) (Some after) room s → (m : Meaning) × IsMeaningBy ran (generated size) m × (after ≡ m.text)
+    → Tells (IsMeaningBy ran script) (Some before) (Some after) room s → (m : Meaning) × IsMeaningBy ran (generated size) m × (after ≡ m.text)
 told_whole script size before after room s is same none a = (
   a.meaning,
   subst (λ t. IsMeaningBy ran t a.meaning) same a.means,

@@ -18,11 +18,15 @@ IfAsked asked left Said = IfSome asked (λ mode. IfSome (read_by mode left) (λ 
 abbrev pub HasRoom : Mode → List ℕ → (room : ℕ) → Type 0
 HasRoom mode input room = (m : Meaning) → Means mode input m → length m.text ≤ room
 
--- what was written is of one of the input's meanings
-pub record Answers (mode : Mode) (input : List ℕ) (held held' : Option (List ℕ)) (room : Option ℕ) (status : Status) : Type 0 where
+-- what was written is of a meaning that is one of these
+pub record Tells (IsOne : Meaning → Type 0) (held held' : Option (List ℕ)) (room : Option ℕ) (status : Status) : Type 0 where
   pub meaning : Meaning
-  pub means : Means mode input meaning
+  pub means : IsOne meaning
   pub writes : Writes meaning held held' room status
+
+-- one of the input's
+abbrev pub Answers : (mode : Mode) (input : List ℕ) (held held' : Option (List ℕ)) (room : Option ℕ) (status : Status) → Type 0
+Answers mode input held held' room status = Tells (Means mode input) held held' room status
 
 -- a text spells a script that has its first faulty item on this line
 pub record IsFaulty (text : List ℕ) (line : ℕ) (kind : RefusalKind) : Type 0 where

@@ -4,9 +4,12 @@ ghost use Rattle.ac_syntax.specs.declared.refusal.RefusalKind.{RefusalKind};
 ghost use Rattle.ac_syntax.specs.declared.fault.ScriptFault.TheVariants.{Refused as RefusedAt};
 ghost use Rattle.ac_syntax.specs.Refusals.{Spells, IsFirstRefusal};
 ghost use Rattle.ac_check.specs.Faults.{IsChecked};
-ghost use Rattle.ac_meaning.specs.Meanings.{ran, canonical, refused_at, written};
+ghost use Rattle.ac_host.specs.Writing.{Writes as HostWrites};
+ghost use Rattle.ac_meaning.specs.Environment.{nodes};
+ghost use Rattle.ac_meaning.specs.Execution.{Orders, run_with, text_with};
+ghost use Rattle.ac_meaning.specs.Meanings.{IsMeaningBy, ran, ran_with, canonical, refused_at, written};
 ghost use Rattle.ac_meaning.specs.declared.limits.TheConstants.{INPUT_LIMIT};
-ghost use Rattle.ac_top.specs.Answers.{Answers, IsFaulty};
+ghost use Rattle.ac_top.specs.Answers.{Answers, IsFaulty, Tells};
 ghost use Rattle.ac_top.specs.Modes.{meant_by, audited, nodes_line};
 ghost use Rattle.ac_top.specs.Status.{Writes, Counted};
 
@@ -18,7 +21,10 @@ use ac_host::{Host, HostEnd};
 use ac_io::Sink;
 use ac_script::{parse, print};
 use ac_syntax::{RefusalKind, Script, ScriptFault};
+use ac_tasks::Gate;
 use std::alloc::Global;
+use std::sync::Wait;
+use std::thread::Threads;
 
 /// The script that an input spells, where it can run.
 fn checked(alloc: Global, input: &[u8]) -> Result<Checked, ScriptFault>
@@ -31,8 +37,45 @@ fn checked(alloc: Global, input: &[u8]) -> Result<Checked, ScriptFault>
     check(alloc, script)
 }
 
+/// Runs a script, with each task of its blocks in a thread of its own where it has any.
+fn run_host<R: Threads + Wait + Sync, K: Sink, G: Gate + Sync>(
+    rt: &R,
+    alloc: Global,
+    script: &Checked,
+    sink: &mut K,
+    gate: &G,
+) -> Result<u64, HostEnd>
+    ensures { (orders : Orders)
+        × HostWrites K.held K.faults K.room K.counts_failures sink.old sink.new (text_with orders script.now) result
+        × IfOk result (λ count. count ≡ nodes (run_with orders script.now).after) }
+{
+    if script.has_tasks() {
+        return Host::run(rt, alloc, script, sink, gate);
+    }
+    Host::run_serial(alloc, script, sink)
+}
+
 /// Runs a script.
-fn run_script<K: Sink>(alloc: Global, script: &Checked, sink: &mut K) -> Status
+fn run_script<R: Threads + Wait + Sync, K: Sink, G: Gate + Sync>(
+    rt: &R,
+    alloc: Global,
+    script: &Checked,
+    sink: &mut K,
+    gate: &G,
+) -> Status
+    ensures writes { (orders : Orders) × Writes (ran_with orders script.now) (K.held sink.old) (K.held sink.new) (K.room sink.old) result }
+    ensures counted { Counted (K.counts_failures sink.old) (K.faults sink.old) (K.faults sink.new) result }
+    ensures kind { (result ≢ Status.Usage) × (result ≢ Status.ReadFault) }
+{
+    match run_host(rt, alloc, script, sink, gate) {
+        Ok(_) => Status::Done,
+        Err(HostEnd::WriteFault) => Status::WriteFault,
+        Err(HostEnd::NoMemory) => Status::NoMemory,
+    }
+}
+
+/// Runs a script by one task.
+fn run_serially<K: Sink>(alloc: Global, script: &Checked, sink: &mut K) -> Status
     ensures writes { Writes (ran script.now) (K.held sink.old) (K.held sink.new) (K.room sink.old) result }
     ensures counted { Counted (K.counts_failures sink.old) (K.faults sink.old) (K.faults sink.new) result }
     ensures kind { (result ≢ Status.Usage) × (result ≢ Status.ReadFault) }
@@ -57,12 +100,18 @@ fn write_nodes<K: Sink>(alloc: Global, count: u64, sink: &mut K) -> Status
 }
 
 /// Runs a script, and then writes how many elements its outermost objects have.
-fn audit_script<K: Sink>(alloc: Global, script: &Checked, sink: &mut K) -> Status
-    ensures writes { Writes (audited script.now) (K.held sink.old) (K.held sink.new) (K.room sink.old) result }
+fn audit_script<R: Threads + Wait + Sync, K: Sink, G: Gate + Sync>(
+    rt: &R,
+    alloc: Global,
+    script: &Checked,
+    sink: &mut K,
+    gate: &G,
+) -> Status
+    ensures writes { (orders : Orders) × Writes (audited orders script.now) (K.held sink.old) (K.held sink.new) (K.room sink.old) result }
     ensures counted { Counted (K.counts_failures sink.old) (K.faults sink.old) (K.faults sink.new) result }
     ensures kind { (result ≢ Status.Usage) × (result ≢ Status.ReadFault) }
 {
-    match Host::run_serial(alloc, script, sink) {
+    match run_host(rt, alloc, script, sink, gate) {
         Ok(count) => write_nodes(alloc, count, sink),
         Err(HostEnd::WriteFault) => Status::WriteFault,
         Err(HostEnd::NoMemory) => Status::NoMemory,
@@ -82,14 +131,22 @@ fn write_canonical<K: Sink>(alloc: Global, script: &Script, sink: &mut K) -> Sta
 }
 
 /// Answers a script that can run.
-fn answer_script<K: Sink>(alloc: Global, task: Task, script: &Checked, sink: &mut K) -> Status
-    ensures writes { Writes (meant_by task script.now) (K.held sink.old) (K.held sink.new) (K.room sink.old) result }
+fn answer_script<R: Threads + Wait + Sync, K: Sink, G: Gate + Sync>(
+    rt: &R,
+    alloc: Global,
+    task: Task,
+    script: &Checked,
+    sink: &mut K,
+    gate: &G,
+) -> Status
+    ensures writes { (orders : Orders)
+        × Writes (meant_by orders task script.now) (K.held sink.old) (K.held sink.new) (K.room sink.old) result }
     ensures counted { Counted (K.counts_failures sink.old) (K.faults sink.old) (K.faults sink.new) result }
     ensures kind { (result ≢ Status.Usage) × (result ≢ Status.ReadFault) }
 {
     match task {
-        Task::Run => run_script(alloc, script, sink),
-        Task::Audit => audit_script(alloc, script, sink),
+        Task::Run => run_script(rt, alloc, script, sink, gate),
+        Task::Audit => audit_script(rt, alloc, script, sink, gate),
         Task::Check => write_canonical(alloc, script.script(), sink),
     }
 }
@@ -107,14 +164,33 @@ fn refuse_at<K: Sink>(alloc: Global, line: u64, kind: RefusalKind, sink: &mut K)
 }
 
 /// Answers the script that an input spells, or refuses it.
-pub fn answer_input<K: Sink>(alloc: Global, task: Task, input: &[u8], sink: &mut K) -> Status
+pub fn answer_input<R: Threads + Wait + Sync, K: Sink, G: Gate + Sync>(
+    rt: &R,
+    alloc: Global,
+    task: Task,
+    input: &[u8],
+    sink: &mut K,
+    gate: &G,
+) -> Status
     requires { length input.now ≤ INPUT_LIMIT }
     ensures answers { Answers (Mode.Read task) input.now (K.held sink.old) (K.held sink.new) (K.room sink.old) result }
     ensures counted { Counted (K.counts_failures sink.old) (K.faults sink.old) (K.faults sink.new) result }
     ensures kind { (result ≢ Status.Usage) × (result ≢ Status.ReadFault) }
 {
     match checked(alloc, input) {
-        Ok(script) => answer_script(alloc, task, &script, sink),
+        Ok(script) => answer_script(rt, alloc, task, &script, sink, gate),
+        Err(ScriptFault::Refused { line, kind }) => refuse_at(alloc, line, kind, sink),
+        Err(ScriptFault::NoMemory) => Status::NoMemory,
+    }
+}
+
+/// Runs the script that an input spells by one task, or refuses it.
+pub fn run_input<K: Sink>(alloc: Global, input: &[u8], sink: &mut K) -> Status
+    requires { length input.now ≤ INPUT_LIMIT }
+    ensures { Tells (IsMeaningBy ran input.now) (K.held sink.old) (K.held sink.new) (K.room sink.old) result }
+{
+    match checked(alloc, input) {
+        Ok(script) => run_serially(alloc, &script, sink),
         Err(ScriptFault::Refused { line, kind }) => refuse_at(alloc, line, kind, sink),
         Err(ScriptFault::NoMemory) => Status::NoMemory,
     }

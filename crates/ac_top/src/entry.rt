@@ -21,11 +21,13 @@ use std::sync::Wait;
 use std::thread::Threads;
 
 /// Reads the source to its end, and answers what it held.
-fn answer_source<S: Source, K: Sink>(
+fn answer_source<R: Threads + Wait + Sync, S: Source, K: Sink, G: Gate + Sync>(
+    rt: &R,
     alloc: Global,
     task: Task,
     source: &mut S,
     sink: &mut K,
+    gate: &G,
 ) -> Status
     ensures answers { IfSome (S.left source.old) (λ input.
         Answers (Mode.Read task) input (K.held sink.old) (K.held sink.new) (K.room sink.old) result) }
@@ -39,7 +41,7 @@ fn answer_source<S: Source, K: Sink>(
     ensures kind { result ≢ Status.Usage }
 {
     match read_all(alloc, source, INPUT_LIMIT) {
-        Ok(input) => answer_input(alloc, task, &input, sink),
+        Ok(input) => answer_input(rt, alloc, task, &input, sink, gate),
         Err(ReadEnd::TooLong) => refuse(sink, b"input: limit\n"),
         Err(ReadEnd::ReadFault) => Status::ReadFault,
         Err(ReadEnd::NoMemory) => Status::NoMemory,
@@ -51,14 +53,15 @@ fn answer_source<S: Source, K: Sink>(
 /// outermost objects have. With `--check` nothing is run, and the script's canonical text is written. With `--generate N` nothing
 /// is read: a script of that size is run in memory, and the number of its lines and the last four are written; it goes before
 /// `--check`, and `--audit` adds nothing to either. An input that isn't a script that can run gets one line, which says where and
-/// why, as `line 3: wrong type`, and one of more than 1,048,576 bytes gets `input: limit`.
+/// why, as `line 3: wrong type`, and one of more than 1,048,576 bytes gets `input: limit`. Each task of a block runs in a thread of its
+/// own, and the gate looks on: it is called before each round of a task's worker.
 pub fn run<R: Threads + Wait + Sync, S: Source, K: Sink, G: Gate + Sync>(
-    _rt: &R,
+    rt: &R,
     alloc: Global,
     words: &[String],
     source: &mut S,
     sink: &mut K,
-    _gate: &G,
+    gate: &G,
 ) -> Status
     // Words that aren't the command's, by clap's definition of it: nothing is read or written.
     ensures usage { result ≡ Status.Usage → mode_of words.now ≡ None }
@@ -66,7 +69,8 @@ pub fn run<R: Threads + Wait + Sync, S: Source, K: Sink, G: Gate + Sync>(
     ensures untouched { mode_of words.now ≡ None → (source.new ≡ source.old) × (sink.new ≡ sink.old) }
 
     // An answer is the whole of a meaning of all the bytes: what the script writes as it runs, that and the number of nodes, or its
-    // canonical text, or its refusal; or, where nothing is read, the summary of what the script of a size writes.
+    // canonical text, or its refusal; or, where nothing is read, the summary of what the script of a size writes. What a script with
+    // blocks of tasks writes is what it does by some orders of their turns.
     ensures written { IsAnswer result → IfAsked (mode_of words.now) (S.left source.old) (λ mode input.
         (m : Meaning) × Means mode input m × GrewBy (K.held sink.old) (K.held sink.new) m.text × (number_of result ≡ m.status)) }
     ensures drained { IsAnswer result → asks_to_read (mode_of words.now) ≡ true → IfSome (S.left source.old) (λ input.
@@ -94,7 +98,7 @@ pub fn run<R: Threads + Wait + Sync, S: Source, K: Sink, G: Gate + Sync>(
         IfSome (K.room sink.old) (λ room. HasRoom mode input room → IsAnswer result ⊎ (result ≡ Status.NoMemory))) }
 {
     match asked_for(alloc, words) {
-        Ok(Mode::Read(task)) => answer_source(alloc, task, source, sink),
+        Ok(Mode::Read(task)) => answer_source(rt, alloc, task, source, sink, gate),
         Ok(Mode::Generate(size)) => answer_size(alloc, size, sink),
         Err(status) => status,
     }

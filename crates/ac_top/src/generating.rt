@@ -6,23 +6,23 @@ ghost use Rattle.ac_top.specs.Generator.{generated};
 ghost use Rattle.ac_top.specs.Status.{Writes, Counted};
 ghost use Rattle.ac_top.specs.Summary.{summary_text};
 
-use crate::answering::answer_input;
+use crate::answering::run_input;
 use crate::generator::generated;
 use crate::line::tell;
-use crate::mode::{Mode, Task};
+use crate::mode::Mode;
 use crate::status::Status;
 use crate::summary::summary_of;
 use ac_base::NoMemory;
 use ac_io::{GrowSink, Sink};
 use std::alloc::Global;
 
-/// Runs the script of a size, as one that is read is run, and keeps its lines in memory.
+/// Runs the script of a size, as one that is read is run by one task, and keeps its lines in memory.
 fn run_generated(alloc: Global, size: u64) -> Result<GrowSink, NoMemory>
     ensures { IfOk result (λ told. (m : Meaning) × IsMeaningBy ran (generated size) m × (told.held ≡ m.text)) }
 {
     let script = generated(alloc, size)?;
     let mut told = GrowSink::new(alloc);
-    match answer_input(alloc, Task::Run, &script, &mut told) {
+    match run_input(alloc, &script, &mut told) {
         Status::Done | Status::Refused => Ok(told),
         _ => Err(NoMemory),
     }

@@ -1,16 +1,24 @@
 //! What holds of the meanings that inputs have, and what some words ask for.
 ghost use Rattle.std.specs.Prelude.{◌≡◌, ℕ, List, [], ◌∷◌, Some, None, codes};
-ghost use Rattle.ac_meaning.specs.Meanings.{Meaning};
+ghost use Rattle.ac_meaning.specs.Execution.{Orders};
+ghost use Rattle.ac_meaning.specs.Meanings.{IsMeaningBy, Meaning, ran};
 ghost use Rattle.ac_top.specs.declared.mode.Mode.{Mode};
 ghost use Rattle.ac_top.specs.declared.mode.Mode.TheVariants.{Read, Generate};
+ghost use Rattle.ac_top.specs.declared.mode.Task.{Task};
 ghost use Rattle.ac_top.specs.declared.mode.Task.TheVariants.{Run, Audit, Check};
-ghost use Rattle.ac_top.specs.Modes.{Means};
+ghost use Rattle.ac_top.specs.Modes.{Means, meant_by};
+ghost use Rattle.ac_top.specs.Settled.{HasNoTasks, IsSettled};
 ghost use Rattle.ac_top.specs.Words.{asked_by};
 
-/// Each input means something, and one thing only, whatever is done with it; where nothing is read, that is the same for all.
+/// Each input means something, whatever is done with it: one thing only, but for the orders of blocks of tasks. Where no block of tasks
+/// is run, that is what it means by one task, and where nothing is read, it is the same for all.
 pub fn one_meaning()
     ensures some { (mode : Mode) (input : List ℕ) → (m : Meaning) × Means mode input m }
-    ensures one { (mode : Mode) (input : List ℕ) (m other : Meaning) → Means mode input m → Means mode input other → m ≡ other }
+    ensures one { (mode : Mode) (input : List ℕ) (m other : Meaning) → IsSettled mode input →
+        Means mode input m → Means mode input other → m ≡ other }
+    ensures by_orders { (orders : Orders) (task : Task) (input : List ℕ) (m other : Meaning) →
+        IsMeaningBy (meant_by orders task) input m → IsMeaningBy (meant_by orders task) input other → m ≡ other }
+    ensures serial { (input : List ℕ) (m : Meaning) → HasNoTasks input → Means (Read Run) input m → IsMeaningBy ran input m }
 {}
 
 /// What some words ask for, as clap takes them.

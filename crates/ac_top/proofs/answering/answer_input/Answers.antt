@@ -1,25 +1,27 @@
-use Rattle.std.proofs.Common.{ap, Err, inl, inr, refl}
-use Rattle.ac_meaning.specs.Meanings.{is_refused, is_faulty, is_sound, refused_at}
+use Rattle.std.proofs.Common.{ap, Err, refl}
+use Rattle.ac_meaning.specs.Execution.{no_orders}
+use Rattle.ac_meaning.specs.Meanings.{is_sound, refused_at}
 use Rattle.ac_top.specs.declared.status.Status.TheVariants.{NoMemory}
 use Rattle.ac_top.specs.Modes.{meant_by}
 use Rattle.ac_top.specs.declared.mode.Mode.TheVariants.{Read}
-use Rattle.ac_top.proofs.Answered.{unanswered}
+use Rattle.ac_top.proofs.Answered.{refused_means, unanswered}
 use Rattle.ac_top.proofs.answering.answer_input.Goals as goal
 
 pub returns-in-Ok-clause-answers : goal.returns-in-Ok-clause-answers
 returns-in-Ok-clause-answers g c = record {
-  meaning = meant_by c.args.task c.in-Ok.script;
-  means = is_sound c.in-Ok.script c.requires c.in-Ok.ensures.spelled c.in-Ok.ensures.checked refl;
-  writes = c.answer_script.ensures.writes;
+  meaning = meant_by c.answer_script.ensures.writes.0 c.args.task c.in-Ok.script;
+  means = (c.answer_script.ensures.writes.0, is_sound c.in-Ok.script c.requires c.in-Ok.ensures.spelled c.in-Ok.ensures.checked refl);
+  writes = c.answer_script.ensures.writes.1;
 }
 
 pub returns-in-Err-Refused-clause-answers : goal.returns-in-Err-Refused-clause-answers
 returns-in-Err-Refused-clause-answers g c = record {
   meaning = refused_at c.in-Err-Refused.line c.in-Err-Refused.kind;
-  means = elim (c.in-Err-Refused.ensures.refused c.in-Err-Refused.line c.in-Err-Refused.kind (ap Err c.in-Err-Refused.field-0-is)) [
-    | inl h ↦ is_refused c.in-Err-Refused.line c.in-Err-Refused.kind c.requires h refl
-    | inr h ↦ is_faulty h.script c.in-Err-Refused.line c.in-Err-Refused.kind c.requires h.spelled h.first refl
-  ];
+  means = (
+    no_orders,
+    refused_means _ c.args.input.now c.in-Err-Refused.line c.in-Err-Refused.kind c.requires
+        (c.in-Err-Refused.ensures.refused c.in-Err-Refused.line c.in-Err-Refused.kind (ap Err c.in-Err-Refused.field-0-is)),
+  );
   writes = rw c.in-Err-Refused.field-0-is at c.refuse_at.ensures.writes;
 }
 

@@ -5,6 +5,10 @@ use Rattle.ac_top.specs.declared.mode.Mode.TheVariants.{Read}
 use Rattle.ac_top.proofs.Answered.{if_some_of, long_means, unanswered}
 use Rattle.ac_top.proofs.entry.answer_source.Goals as goal
 
+pub returns-in-Ok-clause-drained : goal.returns-in-Ok-clause-drained
+returns-in-Ok-clause-drained g c answer =
+    IfSome_then (g.S.Source.left c.args.source.now) c.in-Ok.ensures.all (λ input came short. came.1)
+
 pub returns-in-Err-TooLong-clause-answers : goal.returns-in-Err-TooLong-clause-answers
 returns-in-Err-TooLong-clause-answers g c =
     IfSome_then (g.S.Source.left c.args.source.now) (c.in-Err-TooLong.ensures.too_long (ap Err c.in-Err-TooLong.field-0-is)) (λ input long.

@@ -1,0 +1,88 @@
+-- A script without tasks runs the same by all orders.
+use Rattle.std.proofs.Common.{◌≡◌, ◌||◌, ◌++◌, ℕ, Bool, true, false, List, [], refl, sym, ap, ◌∙◌}
+use Rattle.ac_syntax.specs.declared.script.Script.{Script}
+use Rattle.ac_check.specs.HasTasks.{begins_tasks, has_tasks}
+use Rattle.ac_check.specs.Resolved.{ResolvedHead, loops_at, views_at, stables_at, declares_at, gathers_at, works_at, ResolvedCode, no_statement, a_command, a_block, resolve, resolve_script}
+use Rattle.ac_check.specs.Scopes.{with_decls}
+use Rattle.ac_meaning.specs.Answers.{lines_text}
+use Rattle.ac_meaning.specs.Holdings.{Guards}
+use Rattle.ac_meaning.specs.Environment.{State, first_state, after_decls, guarded_at, nodes, under}
+use Rattle.ac_meaning.specs.Execution.{Outcome, Orders, after_declared, block_on, commanded, exec_resolved, followed, no_orders, on_object, run, run_with, text_of, text_with}
+use Rattle.ac_meaning.specs.Meanings.{Meaning, IsMeaningBy, is_too_long, is_refused, is_faulty, is_sound, ran, written}
+use Rattle.ac_meaning.proofs.Resolved.{script_runs_resolved}
+use Rattle.ac_top.specs.declared.mode.Task.{Task}
+use Rattle.ac_top.specs.declared.mode.Task.TheVariants.{Run, Audit, Check}
+use Rattle.ac_top.specs.Modes.{meant_by, nodes_line}
+use Rattle.ac_top.specs.Settled.{HasNoTasks}
+
+both_none : (a b : Bool) → (a || b) ≡ false → (a ≡ false) × (b ≡ false)
+both_none true b e = absurd (cc)
+both_none false b e = (refl, e)
+
+module _ (orders others : Orders) where
+  block_same : (f h : Guards → State → Outcome) → f ≡ h → (guards : Guards) (tasks : ResolvedCode) (e : State) (head : ResolvedHead) → begins_tasks head ≡ false →
+      block_on f guards orders tasks e head ≡ block_on h guards others tasks e head
+  block_same f h same guards tasks e (loops_at line elements backward object) none =
+      ap (λ b. on_object b guards (loops_at line elements backward object) (guarded_at (under guards e) object) e) same
+  block_same f h same guards tasks e (views_at line kind object at) none =
+      ap (λ b. on_object b guards (views_at line kind object at) (guarded_at (under guards e) object) e) same
+  block_same f h same guards tasks e (stables_at line object) none =
+      ap (λ b. on_object b guards (stables_at line object) (guarded_at (under guards e) object) e) same
+  block_same f h same guards tasks e (declares_at line decls) none = ap (λ b. after_declared b guards e (after_decls decls e)) same
+  block_same f h same guards tasks e (gathers_at line) none = absurd (cc)
+  block_same f h same guards tasks e (works_at line name locals) none = refl
+
+  exec_same : (code : ResolvedCode) → has_tasks code ≡ false → exec_resolved orders code ≡ exec_resolved others code
+  exec_same no_statement none = refl
+  exec_same (a_command simple rest) none = λ i guards e. followed (commanded guards e simple) (exec_same rest none i guards)
+  exec_same (a_block head body rest) none =
+      let later = both_none (begins_tasks head || has_tasks body) (has_tasks rest) none in
+      let here = both_none (begins_tasks head) (has_tasks body) later.0 in
+      λ i guards e. followed
+      (block_same (exec_resolved orders body) (exec_resolved others body) (exec_same body here.1) guards body e head here.0 i)
+      (exec_same rest later.1 i guards)
+
+  pub run_same : (script : Script) → has_tasks (resolve (with_decls [] script.decls) script.stmts) ≡ false → run_with orders script ≡ run_with others script
+  run_same script none =
+      let r = resolve_script script in
+      sym (script_runs_resolved orders script)
+      ∙ (ap (λ (f : Guards → State → Outcome). f [] (after_decls r.decls first_state).after) (exec_same r.stmts none) ∙ script_runs_resolved others script)
+
+-- so what it means is what it means by no orders
+
+text_of_run : (orders : Orders) (script : Script) → text_with orders script ≡ lines_text (run_with orders script).lines
+unfolding text_with
+text_of_run orders script = refl
+
+meant_same : (orders others : Orders) (task : Task) (script : Script) → run_with orders script ≡ run_with others script →
+    meant_by orders task script ≡ meant_by others task script
+meant_same orders others Run script same =
+    ap written (text_of_run orders script ∙ (ap (λ (r : Outcome). lines_text r.lines) same ∙ sym (text_of_run others script)))
+meant_same orders others Audit script same =
+    let text = text_of_run orders script ∙ (ap (λ (r : Outcome). lines_text r.lines) same ∙ sym (text_of_run others script)) in
+    λ i. written (text i ++ nodes_line (nodes (same i).after))
+meant_same orders others Check script same = refl
+
+pub means_same : (orders others : Orders) (task : Task) (input : List ℕ) (m : Meaning) → HasNoTasks input → IsMeaningBy (meant_by orders task) input m →
+    IsMeaningBy (meant_by others task) input m
+means_same orders others task input m none (is_too_long long e) = is_too_long long e
+means_same orders others task input m none (is_refused line kind short h e) = is_refused line kind short h e
+means_same orders others task input m none (is_faulty script line kind short s h e) = is_faulty script line kind short s h e
+means_same orders others task input m none (is_sound script short s h e) =
+    is_sound script short s h (e ∙ meant_same orders others task script (run_same orders others script (none script s)))
+
+-- by one task
+
+pub serial_text : (script : Script) → text_with no_orders script ≡ text_of script
+unfolding text_with text_of run
+serial_text script = refl
+
+pub serial_run : (script : Script) → run_with no_orders script ≡ run script
+unfolding run
+serial_run script = refl
+
+pub means_serial : (input : List ℕ) (m : Meaning) → IsMeaningBy (meant_by no_orders Run) input m → IsMeaningBy ran input m
+means_serial input m (is_too_long long e) = is_too_long long e
+means_serial input m (is_refused line kind short h e) = is_refused line kind short h e
+means_serial input m (is_faulty script line kind short s h e) = is_faulty script line kind short s h e
+means_serial input m (is_sound script short s h e) = is_sound script short s h (e ∙ ap written (serial_text script))

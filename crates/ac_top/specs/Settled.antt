@@ -1,0 +1,21 @@
+-- Inputs that have one meaning, whatever the orders of tasks are.
+use Rattle.std.specs.Prelude.{◌≡◌, ⊤, ℕ, false, [], List}
+use Rattle.ac_syntax.specs.declared.script.Script.{Script}
+use Rattle.ac_syntax.specs.Refusals.{Spells}
+use Rattle.ac_check.specs.HasTasks.{has_tasks}
+use Rattle.ac_check.specs.Resolved.{resolve}
+use Rattle.ac_check.specs.Scopes.{with_decls}
+use Rattle.ac_top.specs.declared.mode.Mode.{Mode}
+use Rattle.ac_top.specs.declared.mode.Mode.TheVariants.{Read, Generate}
+use Rattle.ac_top.specs.declared.mode.Task.TheVariants.{Run, Audit, Check}
+
+-- no script that it spells has a block of tasks
+abbrev pub HasNoTasks : List ℕ → Type 0
+HasNoTasks input = (script : Script) → Spells script input → has_tasks (resolve (with_decls [] script.decls) script.stmts) ≡ false
+
+-- nothing is run of it, or no block of tasks is
+abbrev pub IsSettled : Mode → List ℕ → Type 0
+IsSettled (Read Run) input = HasNoTasks input
+IsSettled (Read Audit) input = HasNoTasks input
+IsSettled (Read Check) input = ⊤
+IsSettled (Generate size) input = ⊤
