@@ -15,6 +15,8 @@ mod long;
 #[cfg(test)]
 mod maps;
 #[cfg(test)]
+mod queues;
+#[cfg(test)]
 mod refusals;
 #[cfg(test)]
 mod rows;
@@ -22,6 +24,8 @@ mod rows;
 mod runs;
 #[cfg(test)]
 mod sets;
+#[cfg(test)]
+mod tasks;
 #[cfg(test)]
 mod trees;
 #[cfg(test)]

@@ -71,12 +71,9 @@ tasks
 type Q is bounded queue (integer);
 A : Q (1);
 tasks
-task P is
-begin
 A.Enqueue (1);
-end;
 end tasks;
-==> line 3: syntax
+==> line 4: syntax
 ====
 end;
 ==> line 1: syntax
@@ -283,7 +280,7 @@ fn names_that_are_not_in_scope(rt: HostRuntime) -> Result<(), Fail> {
     each_row_is_met(&rt, rt.alloc(), NAMES_THAT_ARE_NOT_IN_SCOPE)
 }
 
-const RULES_OF_TYPES: &str = r#"type W is queue (integer);
+const RULES_OF_TYPES: &str = r#"type W is queue (string);
 ==> line 1: wrong type
 ====
 type T is vector (integer);

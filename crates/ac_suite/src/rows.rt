@@ -341,7 +341,7 @@ A.Append (1);
 4: raised PROGRAM_ERROR (element tampering)
 6: ok
 ====
-type T is queue (integer);
+type T is queue (string);
 ==> 1
 line 1: wrong type
 ";
