@@ -229,7 +229,7 @@ def prove_and_build(folder, *words):
 
 def workload(program, *words, rounds):
     """Seconds for each round of a workload, without what a program takes to start."""
-    command = [PROGRAM, *words]
+    command = [program, *words]
     return (seconds(command + [str(rounds)]) - seconds(command + ["0"])) / rounds
 
 
