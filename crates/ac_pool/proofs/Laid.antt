@@ -1,9 +1,10 @@
 -- A slot is found in its chunk, and a write there is a write to the list of all cells.
-use Rattle.std.proofs.Common.{◌≡◌, ℕ, zero, suc, ◌+◌, ◌-◌, ◌*◌, ◌<◌, ◌≤◌, ◌^◌, List, [], ◌∷◌, ◌++◌, length, set, get_or, take, replicate, Option, None, refl, sym, ap, ◌∙◌, inl, inr, arith, length-append, length-set}
+use Rattle.std.proofs.Common.{◌≡◌, ℕ, zero, suc, ◌+◌, ◌-◌, ◌*◌, ◌<◌, ◌≤◌, ◌^◌, List, [], ◌∷◌, ◌++◌, length, set, get_or, take, drop, replicate, Option, None, refl, sym, ap, ◌∙◌, inl, inr, arith, length-append, length-set, length-drop}
 use Rattle.std.proofs.Math.Seq.{take-set-lt}
 use Rattle.std.proofs.lemmas.Bool.{cases_lt, cases_eq}
 use Rattle.std.proofs.lemmas.Grind.{flat_map-append}
-use Rattle.std.proofs.lemmas.List.{length-replicate, length-take-le, take-append-le, replicate-append-replicate, get_or_append_left, get_or-append-add, get_or-replicate, get_or-take, get_or-set_other, get_or-set_same, ext_get_or, set-append_left, set-append_right, get_or_default}
+use Rattle.std.proofs.lemmas.List.{length-replicate, length-take-le, take-append-le, replicate-append-replicate, get_or_append_left, get_or-append-add, get_or-replicate, get_or-take, get_or-set_other, get_or-set_same, ext_get_or, set-append_left, set-append_right, get_or_default, get_or_past, get_or-drop}
+use Rattle.ac_pool.specs.Runs.{LiesFrom}
 use Rattle.ac_pool.specs.Slots.{all_cells, cells_in, AreFull, IsSlots}
 
 -- an empty cell, or none
@@ -69,6 +70,16 @@ module _ {X : Type 0} (chunks : List (List (Option X))) (n : ℕ) (h : IsSlots c
   pub slot_within : (i : ℕ) → i < length (cells_in chunks n) → i < n
   slot_within i lt = omega (arith, length-cells_in)
 
+  -- the cells past the last slot are as none
+  any_cell : (i : ℕ) → get_or (cells_in chunks n) i None ≡ get_or (all_cells chunks) i None
+  any_cell i = elim (cases_lt i n) [
+    | inl less ↦ get_or-take n (all_cells chunks) i None less
+    | inr past ↦ get_or_past (cells_in chunks n) i None (omega (arith, length-cells_in)) ∙ sym (h.blank i past)
+  ]
+
+  pub none_past : (i : ℕ) → n ≤ i → LiesFrom (λ m. get_or (cells_in chunks n) m None) i []
+  none_past i past = record { first = any_cell i ∙ h.blank i past; each = λ k less. absurd (omega arith) }
+
   -- the slot i is the j-th of the chunk k, which is cs
   module _ (i k j : ℕ) (lt : i < n) (at : i ≡ 32 * k + j) (within : j < 32) where
     chunk_within : k < length chunks
@@ -80,6 +91,17 @@ module _ {X : Type 0} (chunks : List (List (Option X))) (n : ℕ) (h : IsSlots c
 
       pub cell_in : get_or (cells_in chunks n) i None ≡ get_or cs j None
       cell_in = get_or-take n (all_cells chunks) i None lt ∙ ap (λ m. get_or (all_cells chunks) m None) at ∙ get_in chunks k j None h.full chunk_within within ∙ ap (λ l. get_or l j None) (sym chunk_is)
+
+      -- the slots from there on to the chunk's end
+      pub cells_from : LiesFrom (λ m. get_or (cells_in chunks n) m None) i (drop j cs)
+      cells_from = record {
+        first = cell_in ∙ (let start : j ≡ j + 0 = omega arith in ap (λ m. get_or cs m None) start) ∙ sym (get_or-drop j cs 0 None);
+        each = λ m less.
+            let long : length cs ≡ 32 = ap length chunk_is ∙ h.full k chunk_within in
+            let there : i + m ≡ 32 * k + (j + m) = omega arith in
+            any_cell (i + m) ∙ ap (λ q. get_or (all_cells chunks) q None) there
+            ∙ get_in chunks k (j + m) None h.full chunk_within (omega (arith, long, length-drop j cs)) ∙ ap (λ l. get_or l (j + m) None) (sym chunk_is) ∙ sym (get_or-drop j cs m None);
+      }
 
       written : (c : Option X) → all_cells (set chunks k (set cs j c)) ≡ set (all_cells chunks) i c
       written c = ap (λ l. all_cells (set chunks k (set l j c))) chunk_is ∙ set_in chunks k j c h.full chunk_within within ∙ ap (λ m. set (all_cells chunks) m c) (sym at)

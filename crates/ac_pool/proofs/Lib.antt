@@ -5,4 +5,5 @@ pub mod Entries
 pub mod Laid
 pub mod NameLaws
 pub mod Pooled
+pub mod Runs
 pub mod SlotNames

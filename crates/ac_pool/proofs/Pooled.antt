@@ -1,7 +1,7 @@
 -- What holds of a pool's fields is kept by each change, and gives what holds of its contents.
 use Rattle.std.proofs.Common.{◌≡◌, ◌≢◌, ℕ, zero, suc, ◌+◌, ◌-◌, ◌<◌, ◌≤◌, ◌^◌, ◌⊎◌, List, [], ◌∷◌, ◌++◌, length, set, get_or, replicate, Option, Some, None, is_some, IsSome, IfSome, IfNone, option_map, refl, sym, ap, ◌∙◌, subst, inl, inr, arith, length-append, length-set, get_or-set_same, get_or-set_other}
 use Rattle.std.proofs.lemmas.Bool.{cases_eq, cases_lt}
-use Rattle.std.proofs.lemmas.List.{length-replicate, get_or_past, get_or_read, set-set, set_comm}
+use Rattle.std.proofs.lemmas.List.{length-map, length-replicate, get_or_past, get_or_read, set-set, set_comm}
 use Rattle.std.proofs.lemmas.Option.{same_Some}
 use Rattle.std.specs.FinMap as map
 use Rattle.ac_base.specs.declared.name.Name.{Name}
@@ -9,8 +9,10 @@ use Rattle.ac_pool.specs.Cell.{serial_of, serial_at}
 use Rattle.ac_pool.specs.Contents.{contents, IsLive, live_count, slot_count, IsFresh, IsSound}
 use Rattle.ac_pool.specs.Link.{name_in, value_at, value_in as linked_value}
 use Rattle.ac_pool.specs.PoolFields.{name_at, entries_in, empty_count, IsPool}
+use Rattle.ac_pool.specs.Runs.{kept_in, values_in, LiesFrom}
 use Rattle.ac_pool.proofs.Cells.{within}
 use Rattle.ac_pool.proofs.NameLaws.{same_name}
+use Rattle.ac_pool.proofs.Runs.{get_kept}
 use Rattle.ac_pool.proofs.SlotNames.{name_in_live, name_in_none}
 use Rattle.ac_pool.proofs.Entries.{value_in, value_in_same, kept_of_value, get-entries_in, len-entries_in, entries_in-some, get_grown}
 
@@ -189,11 +191,11 @@ module _ {X : Type 0} where
         }
 
         pub IsPool-grow : (news : List ℕ) (m : ℕ) → length cells + m ≤ 2 ^ 30 → length cells + m ≤ length news → ((k : ℕ) → k < n → get_or news k 0 ≡ get_or free k 0)
-            → ((k : ℕ) → k < m → get_or news (n + k) 0 ≡ length cells + k) → IsPool (cells ++ replicate m None) news (n + m) next
+            → ((k : ℕ) → k < m → get_or news (n + k) 0 ≡ length cells + (m - 1 - k)) → IsPool (cells ++ replicate m None) news (n + m) next
         IsPool-grow news m fits room below listed =
             let long : length (cells ++ replicate m None) ≡ length cells + m = length-append cells (replicate m None) ∙ ap (λ k. length cells + k) (length-replicate m None) in
             let old : (k : ℕ) (d : ℕ × X) → get_or (cells ++ replicate m None) k None ≡ Some d → get_or cells k None ≡ Some d = λ k d p. sym (get_grown cells m k) ∙ p in
-            let late : (k : ℕ) → n ≤ k → k < n + m → get_or news k 0 ≡ length cells + (k - n) = λ k le less. let at : n + (k - n) ≡ k = omega arith in ap (λ j. get_or news j 0) (sym at) ∙ listed (k - n) (omega arith) in record {
+            let late : (k : ℕ) → n ≤ k → k < n + m → get_or news k 0 ≡ length cells + (m - 1 - (k - n)) = λ k le less. let at : n + (k - n) ≡ k = omega arith in ap (λ j. get_or news j 0) (sym at) ∙ listed (k - n) (omega arith) in record {
               issued = λ k d p. h.issued k d (old k d p);
               serials = λ j k c d p q same. h.serials j k c d (old j c p) (old k d q) same;
               next = h.next;
@@ -267,6 +269,17 @@ module _ {X : Type 0} where
         pub value_is : {A : Type 0} (now : A → X) (o : Option A) (i : ℕ) → IfSome o (λ v. get_or cells i None ≡ Some (serial_at cells i, now v)) → IfNone o (get_or cells i None ≡ None) → option_map now o ≡ linked_value (contents (entries_in cells) next n) i
         value_is now None i found none = sym (no_value i none)
         value_is now (Some v) i found none = sym (value_found (serial_at cells i) i (now v) found)
+
+        value_kept : (i : ℕ) (o : Option (ℕ × X)) → get_or cells i None ≡ o → linked_value (contents (entries_in cells) next n) i ≡ kept_in o
+        value_kept i None is = no_value i is
+        value_kept i (Some e) is = value_found e.0 i e.1 is
+
+        -- cells that lie together are a run of the values under live names
+        pub run_is : (slot : ℕ) (part : List (Option (ℕ × X))) → LiesFrom (λ i. get_or cells i None) slot part → LiesFrom (linked_value (contents (entries_in cells) next n)) slot (values_in part)
+        run_is slot part h = record {
+          first = value_kept slot (get_or cells slot None) refl ∙ (ap kept_in h.first ∙ get_kept part 0);
+          each = λ k less. value_kept (slot + k) (get_or cells (slot + k) None) refl ∙ (ap kept_in (h.each k (omega (arith, length-map part kept_in))) ∙ get_kept part k);
+        }
 
         -- a slot that keeps nothing has no live name
         pub fresh : (i : ℕ) → get_or cells i None ≡ None → IsFresh (contents (entries_in cells) next n) (name_at i next)

@@ -8,5 +8,6 @@ pub mod Names
 pub mod PoolFields
 pub mod PoolLends
 pub mod Put
+pub mod Runs
 pub mod Slots
 pub mod SlotsLends

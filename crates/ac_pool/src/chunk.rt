@@ -1,5 +1,5 @@
 //! A fixed row of cells. Its vector is made with its full length and never grows, so that no cell moves.
-ghost use Rattle.std.specs.Prelude.{◌≡◌, ℕ, ◌<◌, get_or, None, length, replicate, slice_set, IfOk};
+ghost use Rattle.std.specs.Prelude.{◌≡◌, ℕ, ◌<◌, ◌≤◌, drop, get_or, None, length, replicate, slice_set, IfOk};
 ghost use Rattle.std.specs.Borrow.{sem};
 
 use std::alloc::{AllocError, Global};
@@ -46,6 +46,15 @@ impl<T> Chunk<T> {
         ensures { result.now ≡ get_or self.now index None }
     {
         &self.cells[index]
+    }
+
+    /// The cells from this one to the end.
+    #[inline(always)]
+    pub(crate) fn cells_from(&self, index: usize) -> &[Option<(u64, T)>]
+        requires { index ≤ length self.now }
+        ensures { result.now ≡ drop index self.now }
+    {
+        &self.cells[index..]
     }
 
     pub(crate) fn cell_mut(&mut self, index: usize) -> &mut Option<(u64, T)>

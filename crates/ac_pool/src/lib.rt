@@ -5,11 +5,13 @@ mod chunk;
 mod growth;
 mod link;
 mod pool;
+mod run;
 mod slots;
 
 #[doc(hidden)]
 pub use chunk::Chunk;
 pub use link::{NO_SLOT, link_to};
 pub use pool::{Pool, PutFault};
+pub use run::Run;
 #[doc(hidden)]
 pub use slots::Slots;

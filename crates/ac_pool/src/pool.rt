@@ -4,9 +4,11 @@ ghost use Rattle.std.specs.Option.{option_copied_mut};
 ghost use Rattle.std.specs.Borrow.{sem};
 ghost use Rattle.ac_pool.specs.Contents.{contents, value_of, IsLive, live_count, slot_count, no_values, added, taken, swapped, reserved, cleared, IsFresh, IsSound, Vacates};
 ghost use Rattle.ac_pool.specs.Link.{name_in, value_in};
+ghost use Rattle.ac_pool.specs.Runs.{LiesFrom};
 ghost use Rattle.ac_base.specs.declared.name.Name.{Name};
 
 use crate::growth::{least_slots, list_free};
+use crate::run::Run;
 use crate::slots::Slots;
 use ac_base::{Name, NoMemory};
 use std::alloc::Global;
@@ -166,6 +168,14 @@ impl<T> Pool<T> {
         ensures { option_copied result ≡ value_in self.now slot }
     {
         self.slots.value(slot as usize)
+    }
+
+    /// The slots from this one to the end of its chunk, each with the value under its live name, or none where there is no such slot.
+    #[inline(always)]
+    pub fn run_at(&self, slot: u32) -> Run<'_, T>
+        ensures { LiesFrom (value_in self.now) slot result }
+    {
+        Run::over(self.slots.cells_from(slot as usize))
     }
 
     /// The value under the name, or `None` where the name is not live.

@@ -3,6 +3,7 @@ ghost use Rattle.std.specs.Prelude.{◌≡◌, ℕ, ◌+◌, ◌*◌, ◌^◌, �
 ghost use Rattle.std.specs.Borrow.{sem};
 ghost use Rattle.ac_pool.specs.Cell.{serial_in, serial_of, serial_at, IsFull, IsKept};
 ghost use Rattle.ac_pool.specs.CellLends.{lends_kept};
+ghost use Rattle.ac_pool.specs.Runs.{LiesFrom};
 
 use crate::chunk::Chunk;
 use std::alloc::{AllocError, Global};
@@ -145,6 +146,18 @@ impl<T> Slots<T> {
             Some((_, value)) => Some(value),
             None => None,
         }
+    }
+
+    /// The cells from the slot to the end of its chunk, or none where there is no such slot.
+    #[inline(always)]
+    pub(crate) fn cells_from(&self, slot: usize) -> &[Option<(u64, T)>]
+        ensures { LiesFrom (λ i. get_or self.now i None) slot result.now }
+    {
+        if slot >= self.len() {
+            return &[];
+        }
+        let chunk = &self.chunks[chunk_of(slot)];
+        chunk.cells_from(slot % CELLS)
     }
 
     /// The serial of the value in the slot, if there is such a slot and it keeps one.

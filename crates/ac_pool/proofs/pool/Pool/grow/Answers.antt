@@ -1,4 +1,4 @@
-use Rattle.std.proofs.Common.{◌≡◌, ◌≤◌, ◌^◌, ◌+◌, ◌++◌, length, get_or, replicate, None, sym, ap, ◌∙◌, subst, arith}
+use Rattle.std.proofs.Common.{◌≡◌, ◌≤◌, ◌^◌, ◌+◌, ◌-◌, ◌++◌, length, get_or, replicate, None, sym, ap, ◌∙◌, subst, arith}
 use Rattle.std.proofs.lemmas.List.{with_items_is}
 use Rattle.ac_pool.specs.Contents.{contents, slot_count, IsSound}
 use Rattle.ac_pool.specs.PoolFields.{entries_in, IsPool}
@@ -32,7 +32,7 @@ invariant_of-self-2 g c =
     (omega (arith, slot_count-cells a.slots a.free.items a.spare a.next_serial h)) (omega (arith, e.len, c.len-len.ensures.count, c.list_free.auto.free, l.len))
     (λ k less. f.below k less ∙ ap (λ l. get_or l k 0) l.value
     ∙ e.by_index.0 k 0 (omega (arith, c.len-len.ensures.count, h.count, empty_count_within a.slots)) (omega (arith, h.room, h.count, empty_count_within a.slots)))
-    (λ k less. f.listed k less ∙ ap (λ n. n + k) c.len-len.ensures.count) in
+    (λ k less. f.listed k less ∙ ap (λ n. n + (c.args.by - 1 - k)) c.len-len.ensures.count) in
     let long : length ws ≡ v.len = omega (arith, c.list_free.auto.free, l.len) in
     subst (λ l. IsPool c.grow.new.self l (a.spare + c.args.by) a.next_serial) (sym (with_items_is v ws long)) (rw c.in_ok-grow.ensures.ok grown)
 
@@ -58,5 +58,5 @@ returns-clause-sound g c =
     (omega (arith, slot_count-cells a.slots a.free.items a.spare a.next_serial h)) (omega (arith, e.len, c.len-len.ensures.count, c.list_free.auto.free, l.len))
     (λ k less. f.below k less ∙ ap (λ l. get_or l k 0) l.value
     ∙ e.by_index.0 k 0 (omega (arith, c.len-len.ensures.count, h.count, empty_count_within a.slots)) (omega (arith, h.room, h.count, empty_count_within a.slots)))
-    (λ k less. f.listed k less ∙ ap (λ n. n + k) c.len-len.ensures.count) in
+    (λ k less. f.listed k less ∙ ap (λ n. n + (c.args.by - 1 - k)) c.len-len.ensures.count) in
     subst (λ cells. IsSound (contents (entries_in cells) a.next_serial (a.spare + c.args.by))) (sym c.in_ok-grow.ensures.ok) (sound _ ws (a.spare + c.args.by) a.next_serial grown)

@@ -1,0 +1,16 @@
+-- What a run of slots that lie together has of what all slots keep.
+use Rattle.std.specs.Prelude.{◌≡◌, ℕ, ◌+◌, ◌<◌, List, length, get_or, map, Option, None}
+use Rattle.std.specs.Option.{option_map}
+
+module _ {X : Type 0} where
+  -- the value in a cell
+  abbrev pub kept_in : Option (ℕ × X) → Option X
+  kept_in cell = option_map (λ (e : ℕ × X). e.1) cell
+
+  abbrev pub values_in : List (Option (ℕ × X)) → List (Option X)
+  values_in cells = map kept_in cells
+
+  -- the run has what is at the slot, and what is at each of the slots behind it, to its own end
+  pub record LiesFrom (at : ℕ → Option X) (slot : ℕ) (run : List (Option X)) : Type 0 where
+    pub first : at slot ≡ get_or run 0 None
+    pub each : (k : ℕ) → k < length run → at (slot + k) ≡ get_or run k None
