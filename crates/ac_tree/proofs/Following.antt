@@ -6,7 +6,7 @@ use Rattle.std.proofs.lemmas.List.{length-append}
 use Rattle.std.proofs.Math.Seq.{drop-append_seam}
 use Rattle.ac_base.specs.declared.name.Name.{Name}
 use Rattle.ac_base.specs.Rows.{Row, row}
-use Rattle.ac_pool.specs.Contents.{value_of, IsLive, live_count}
+use Rattle.ac_pool.specs.Contents.{Contents, value_of, IsLive, live_count}
 use Rattle.ac_pool.specs.Link.{link_of, name_in, value_at, value_in}
 use Rattle.ac_pool.specs.NamedRows as pool
 use Rattle.ac_chain.specs.Rows as chain
@@ -229,6 +229,17 @@ module _ {X : Type 0} where
   pub passes_named : (l : Links X) (top : Option Name) (link : ℕ) (name : Name) (result : Option Name) → name_in l.nodes link ≡ Some name → Passes l top name result →
       ForSome (name_in l.nodes link) (λ a. Passes l top a result)
   passes_named l top link name result is p = λ a named. subst (λ b. Passes l top b result) (some_name name a (sym is ∙ named)) p
+
+  linked_some : (c : Contents (TreeNode X)) (o : Option Name) → is_some (value_at c o) ≡ true → is_some o ≡ true
+  linked_some c None found = found
+  linked_some c (Some a) found = refl
+
+  pub follows_beside : (l : Links X) → IsForest l → (top : Option Name) (link beside : ℕ) (n : TreeNode X) → value_in l.nodes link ≡ Some n → n.first ≡ link_of None → n.next ≡ beside → is_some (value_in l.nodes beside) ≡ true →
+      ForSome (name_in l.nodes link) (λ a. Follows l top a (name_in l.nodes beside))
+  follows_beside l s top link beside n is alone next found =
+      let leads : is_some (name_in l.nodes n.next) ≡ true = subst (λ b. is_some (name_in l.nodes b) ≡ true) (sym next) (linked_some l.nodes (name_in l.nodes beside) found) in
+      subst (λ b. ForSome (name_in l.nodes link) (λ a. Follows l top a (name_in l.nodes b))) next
+      (follows_behind l top link n (name_in l.nodes n.next) is (ap (λ b. is_some (name_in l.nodes b)) alone ∙ ap is_some (no_link l s)) (passes_next l top link n is leads))
 
   -- a list is cut in one way before a name
   pub record Cut_same (xs ys us vs : List (Row Name (Node X))) (r q : Row Name (Node X)) : Type 0 where

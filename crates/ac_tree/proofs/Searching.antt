@@ -1,5 +1,5 @@
 -- What a search among the nodes of a subtree has found so far, and what its calls answer.
-use Rattle.std.proofs.Common.{◌≡◌, ℕ, suc, ◌+◌, ◌-◌, ◌<◌, Bool, true, false, true≢false, List, [], ◌∷◌, ◌++◌, length, take, drop, filter, reverse, Option, Some, None, is_some, Ok, refl, sym, ap, ◌∙◌, subst, inl, inr, arith, cond, one-add, ne_eqb}
+use Rattle.std.proofs.Common.{◌≡◌, ℕ, suc, ◌+◌, ◌-◌, ◌^◌, ◌<◌, Bool, true, false, true≢false, List, [], ◌∷◌, ◌++◌, length, take, drop, filter, reverse, Option, Some, None, is_some, Ok, refl, sym, ap, ◌∙◌, subst, inl, inr, arith, cond, one-add, ne_eqb}
 use Rattle.std.specs.Prelude.{◌==◌, find, if◌then◌else◌}
 use Rattle.std.specs.Option.{ForSome, option_map}
 use Rattle.std.proofs.lemmas.Bool.{cond-false}
@@ -14,7 +14,9 @@ use Rattle.ac_pool.specs.Link.{link_of, name_in, value_at, value_in}
 use Rattle.ac_chain.specs.Rows as chain
 use Rattle.ac_chain.specs.ChainFields.{first_or}
 use Rattle.ac_pool.specs.NamedRows.{HasName}
-use Rattle.ac_pool.proofs.SlotNames.{linked_name}
+use Rattle.ac_pool.specs.Runs.{LiesFrom}
+use Rattle.ac_pool.proofs.Runs.{lies_beside}
+use Rattle.ac_pool.proofs.SlotNames.{linked_name, value_within}
 use Rattle.ac_chain.proofs.Finds.{any_found, take_had, drop_had}
 use Rattle.ac_chain.proofs.Grows.{reverse_has}
 use Rattle.ac_chain.proofs.Searches.{some_value, first_found, first_passed}
@@ -33,14 +35,14 @@ use Rattle.ac_tree.specs.Forests.{Forest, bare, grove, outline, plugged, depth_i
 use Rattle.ac_tree.specs.TreeFields.{forest_in, IsForest, first_of}
 use Rattle.ac_tree.specs.TreeCursors.{node_in, serial_in, NodeMarks}
 use Rattle.ac_tree.specs.Searching.{found_in, rows_below, rows_on, rows_up}
-use Rattle.ac_tree.specs.Walking.{Follows}
+use Rattle.ac_tree.specs.Walking.{Follows, IsBeside}
 use Rattle.ac_tree.proofs.Places.{outline_plugged, size_is, has}
 use Rattle.ac_tree.proofs.Forests.{live_of, forest-is}
 use Rattle.ac_tree.proofs.Outlines.{position_run, node_start, serial_of, spot_name}
 use Rattle.ac_tree.proofs.Holes.{Under, under_of, under_root, length_seen}
 use Rattle.ac_tree.proofs.Judging.{at_node, mark_named, spot_mark, named_mark}
 use Rattle.ac_tree.proofs.Looking.{at_place}
-use Rattle.ac_tree.proofs.Following.{Subtree_counted, counted_start, subtree_live, turned, moved_on, further}
+use Rattle.ac_tree.proofs.Following.{Subtree_counted, counted_start, subtree_live, turned, moved_on, further, follows_beside}
 
 -- the first of two that is found
 abbrev either : Option Name → Option Name → Option Name
@@ -187,6 +189,23 @@ module _ {X : Type 0} where
           → length (outline 2 (forest_in l)) - chain.place_of next (outline 2 (forest_in l))
           < length (outline 2 (forest_in l)) - chain.place_of (name_in l.nodes link) (outline 2 (forest_in l))
       link_less s next f = seek_less l top same e wanted (name_in l.nodes link) k at.name at.named s next (f at.name at.named)
+
+  -- The same with the slots that lie together from the place on
+
+  pub record Running (l : Links X) (top : Option Name) (same : X → X → Bool) (e : X) (wanted : Option Name) (place : ℕ) (run : List (Option (TreeNode X))) : Type 0 where
+    pub seeking : Seeking l top same e wanted (name_in l.nodes place)
+    pub lies : LiesFrom (value_in l.nodes) place run
+
+  module _ (l : Links X) (s : IsForest l) (top : Option Name) (place : ℕ) (run : List (Option (TreeNode X))) (lies : LiesFrom (value_in l.nodes) place run) (n : TreeNode X) (is : value_in l.nodes place ≡ Some n) where
+    pub place_few : place < 2 ^ 30
+    place_few = omega (arith, value_within l.nodes s.sound place n is, s.sound.few)
+
+    module _ (b : IsBeside place n (drop 1 run)) where
+      pub runs_beside : LiesFrom (value_in l.nodes) (place + 1) (drop 1 run)
+      runs_beside = lies_beside (value_in l.nodes) place run lies b.kept
+
+      pub follows_run : ForSome (name_in l.nodes place) (λ a. Follows l top a (name_in l.nodes (place + 1)))
+      follows_run = follows_beside l s top place (place + 1) n is b.alone b.next (ap is_some runs_beside.first ∙ b.kept)
 
   -- the node itself stands before all that is below it
   record Met_first (l : Links X) (a : Name) : Type 0 where

@@ -1,5 +1,5 @@
 //! Searches among the nodes of a subtree, and among those above a node.
-ghost use Rattle.std.specs.Prelude.{◌≡◌};
+ghost use Rattle.std.specs.Prelude.{◌≡◌, ◌^◌, ◌<◌, IsTrue};
 ghost use Rattle.std.specs.Option.{ForSome};
 ghost use Rattle.ac_model.specs.Objects.{plains};
 ghost use Rattle.ac_model.specs.Outline.{is_in, is_in_subtree, run_of};
@@ -8,11 +8,21 @@ ghost use Rattle.ac_tree.specs.Searching.{found_in, rows_below, rows_on, rows_up
 ghost use Rattle.ac_tree.specs.TreeCursors.{serial_in};
 ghost use Rattle.ac_tree.specs.TreeFields.{IsForest};
 ghost use Rattle.ac_tree.specs.TreeRows.{rows_of};
+ghost use Rattle.ac_tree.specs.Walking.{IsBeside};
 
-use crate::links::{Links, is_same};
+use crate::links::{Links, TreeNode, is_same};
 use crate::preorder::following_link;
 use ac_base::{Elem, Name};
-use ac_pool::link_to;
+use ac_pool::{NO_SLOT, Run, link_to};
+
+/// Whether the node after this one lies in the slot beside it: it is the next sibling of a node without children.
+#[inline(always)]
+fn is_beside<T>(place: u32, node: &TreeNode<T>, beside: &Run<'_, TreeNode<T>>) -> bool
+    requires { place < 2 ^ 30 }
+    ensures { IsTrue result → IsBeside place node.now beside.now }
+{
+    node.first == NO_SLOT && node.next == place + 1 && beside.first().is_some()
+}
 
 /// The first node in preorder with an equal value among those below a node, or below the root at none.
 fn found_below<T: Elem>(links: &Links<T>, top: Option<Name>, e: &T) -> Option<Name>
@@ -21,11 +31,19 @@ fn found_below<T: Elem>(links: &Links<T>, top: Option<Name>, e: &T) -> Option<Na
     ensures { result ≡ found_in T.is_same e.now (rows_below (rows_of links.now).rows (serial_in top)) }
 {
     let mut place = link_to(links.first_child(top));
-    while let Some(node) = links.node_in(place) {
+    let mut run = links.run_at(place);
+    while let Some(node) = run.first() {
         if node.value.same(e) {
             return links.name_in(place);
         }
-        place = following_link(links, top, place, node);
+        let beside = run.rest();
+        if is_beside(place, node, &beside) {
+            place += 1;
+            run = beside;
+        } else {
+            place = following_link(links, top, place, node);
+            run = links.run_at(place);
+        }
     }
     None
 }

@@ -1,18 +1,19 @@
 //! Nodes in a pool, each with links to its parent, to its first and last child, and to the siblings on both sides.
 //! A link is a slot, and leads to the live name of the slot: the serial stands in the pool alone. The root has no node.
-ghost use Rattle.std.specs.Prelude.{◌≡◌, ◌+◌, ◌-◌, ◌^◌, ◌<◌, ◌≤◌, ◌↔◌, Some, is_some, IfOk, IsOk, IsTrue, OnOk, OnErr, option_copied};
+ghost use Rattle.std.specs.Prelude.{◌≡◌, ◌+◌, ◌-◌, ◌^◌, ◌<◌, ◌≤◌, ◌↔◌, Some, is_some, IfOk, IsOk, IsTrue, OnOk, OnErr};
 ghost use Rattle.std.specs.Option.{option_map};
 ghost use Rattle.ac_pool.specs.Contents.{value_of, IsLive, live_count};
 ghost use Rattle.ac_base.specs.Limits.{IsLimit};
 ghost use Rattle.ac_model.specs.Containers.{first_spare};
 ghost use Rattle.ac_pool.specs.Link.{link_of, name_in, value_in};
+ghost use Rattle.ac_pool.specs.Runs.{LiesFrom};
 ghost use Rattle.ac_tree.specs.Inserting.{Inserts, Reserves};
 ghost use Rattle.ac_tree.specs.Removing.{Removes};
 ghost use Rattle.ac_tree.specs.Splicing.{Moves};
 ghost use Rattle.ac_tree.specs.TreeFields.{parent_link, first_link, last_link, prev_link, next_link, parent_of, first_of, last_of, prev_of, next_of, prev_before, first_put, last_put, prev_put, next_put, written_at, with_next, with_prev, tied, closed, links, parent_put, place_put, value_put, links_in, links_put, exchanged_in, IsEmptied};
 
 use ac_base::{Limit, Name, NoMemory};
-use ac_pool::{NO_SLOT, Pool, link_to};
+use ac_pool::{NO_SLOT, Pool, Run, link_to};
 use std::alloc::Global;
 
 #[derive(Drop)]
@@ -100,12 +101,12 @@ impl<T> Links<T> {
         self.nodes.name_in(slot)
     }
 
-    /// The node to which a link leads.
+    /// The node to which a link leads, with those in the slots behind it that lie together.
     #[inline(always)]
-    pub(crate) fn node_in(&self, slot: u32) -> Option<&TreeNode<T>>
-        ensures { option_copied result ≡ value_in self.now.nodes slot }
+    pub(crate) fn run_at(&self, slot: u32) -> Run<'_, TreeNode<T>>
+        ensures { LiesFrom (value_in self.now.nodes) slot result }
     {
-        self.nodes.value_in(slot)
+        self.nodes.run_at(slot)
     }
 
     /// Whether a link leads to a node.
@@ -145,6 +146,7 @@ impl<T> Links<T> {
         }
     }
 
+    #[inline(always)]
     pub fn last_child(&self, parent: Option<Name>) -> Option<Name>
         ensures { result ≡ last_of self.now parent }
     {
@@ -171,6 +173,7 @@ impl<T> Links<T> {
 
     /// Links a node, or a parent where there is none before, with the one that follows.
     #[tactic(auto, unfolding(crate::specs::TreeFields::with_next))]
+    #[inline(always)]
     fn set_next(&mut self, parent: Option<Name>, prev: Option<Name>, to: Option<Name>)
         ensures { self.new ≡ with_next self.old parent prev to }
     {
@@ -192,6 +195,7 @@ impl<T> Links<T> {
 
     /// Links a node, or a parent where there is none behind, with the one before it.
     #[tactic(auto, unfolding(crate::specs::TreeFields::with_prev))]
+    #[inline(always)]
     fn set_prev(&mut self, parent: Option<Name>, next: Option<Name>, to: Option<Name>)
         ensures { self.new ≡ with_prev self.old parent next to }
     {
@@ -212,6 +216,7 @@ impl<T> Links<T> {
     }
 
     /// Links the nodes on both sides of one, or its parent, with it.
+    #[inline(always)]
     pub fn tie(&mut self, parent: Option<Name>, prev: Option<Name>, next: Option<Name>, name: Name)
         ensures { self.new ≡ tied self.old parent prev next name }
     {
@@ -220,6 +225,7 @@ impl<T> Links<T> {
     }
 
     /// The node after which one before a child of the parent, or behind the last, is linked.
+    #[inline(always)]
     fn prev_before(&self, parent: Option<Name>, before: Option<Name>) -> Option<Name>
         ensures { result ≡ prev_before self.now parent before }
     {
@@ -230,6 +236,7 @@ impl<T> Links<T> {
     }
 
     /// Puts a value as a new child of the parent before one of its children, or behind the last.
+    #[inline(always)]
     pub fn insert(&mut self, parent: Option<Name>, before: Option<Name>, value: T) -> Name
         requires spare { 0 < self.old.nodes.spare }
         requires unspent { self.old.nodes.next_serial < 2 ^ 64 - 1 }

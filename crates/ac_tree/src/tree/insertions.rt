@@ -62,6 +62,7 @@ impl<T> Tree<T> {
     }
 
     /// Why so many new elements are refused.
+    #[inline(always)]
     fn refuses_count(&self, n: i64) -> Option<Reason>
         ensures { result ≡ first_reason (room_for_copies (plain self.now.object) n) }
     {
@@ -89,6 +90,7 @@ impl<T> Tree<T> {
     }
 
     /// Why so many children at one end are refused.
+    #[inline(always)]
     fn refuses_more(&self, parent: Cursor, n: i64) -> Option<Reason>
         ensures { result ≡ first_reason (tampers_cursors (plain self.now.object)
             ∷ trees.needs_node (plain self.now.object) (seen_by self.now parent)
@@ -104,6 +106,7 @@ impl<T> Tree<T> {
 
 impl<T: Elem> Tree<T> {
     /// Puts so many copies as children of the node. The answer is the first one's cursor.
+    #[inline(always)]
     fn put(
         &mut self,
         parent: Option<Name>,
