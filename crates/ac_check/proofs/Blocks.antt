@@ -134,12 +134,6 @@ outside_tasks scope tasks =
     let p = code_longer scope tasks in
     ap (λ (l : Scope). take (length scope) l) p.1 ∙ take_front scope p.0
 
--- a block of tasks, behind its first word
-pub tasks_on : (room : ℕ) (scope : Scope) (line : ℕ) (tasks : Code) → fault_with room (standing (opens (tasks_at line)) scope) ≡ None
-    → outcome room (standings_from scope (block (tasks_at line) tasks stop)) ≡ outcome room (standings_from scope tasks)
-tasks_on room scope line tasks judged =
-    head_on room (tasks_at line) scope (standings_from scope tasks ++ []) judged ∙ ap (outcome room) (append-nil (standings_from scope tasks))
-
 -- a task's locals as the walk has them
 pub same_decls : (room : ℕ) (scope now : Scope) (decls locals : List Decl) → scope ≡ now → decls ≡ locals → outcome room (standing_decls now locals) ≡ outcome room (standing_decls scope decls)
 same_decls room scope now decls locals moved same =

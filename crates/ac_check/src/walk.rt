@@ -274,7 +274,8 @@ impl Walk {
     #[cycle(statements)]
     fn walk_task(&mut self, first: usize, task: &TaskText) -> Result<ResolvedTask, ScriptFault>
         requires { first ≡ unwrap_or (first_task self.old.scope) (length self.old.scope) }
-        ensures ok { OnOk result (outcome self.old.room (standings_from self.old.scope (task_before task.now stop)) ≡ goes_on self.new.room) }
+        ensures ok { OnOk result
+            (outcome self.old.room (standings_from self.old.scope (task_before task.now stop)) ≡ goes_on self.new.room) }
         ensures refused { StopsAs result (outcome self.old.room (standings_from self.old.scope (task_before task.now stop))) }
         ensures scope { OnOk result (self.new.scope ≡ self.old.scope ++ entry task.now.name a_task ∷ []) }
         ensures resolved { IfOk result (λ made. resolved_task_before made no_statement

@@ -1,5 +1,5 @@
 -- A call on a queue as a call on an object.
-use Rattle.std.proofs.Common.{◌≡◌, inl, inr, ℕ, List, refl, sym, ap, subst, ◌∙◌, Option, Some, None, Result, Ok, Err, option_map}
+use Rattle.std.proofs.Common.{◌≡◌, inl, inr, ℕ, refl, sym, ap, subst, ◌∙◌, Option, Some, None, Result, Ok, Err, option_map}
 use Rattle.ac_base.specs.declared.fault.Fault.{Fault}
 use Rattle.ac_base.specs.declared.fault.Fault.TheVariants as fault
 use Rattle.ac_base.specs.declared.cursor.Cursor.{Cursor}
@@ -9,7 +9,6 @@ use Rattle.ac_queue.specs.declared.any_queue.AnyQueue.TheVariants.{Plain, Ranked
 use Rattle.ac_queue.specs.Kinds.{discipline_of, state_of}
 use Rattle.ac_book.specs.Shared.{shared}
 use Rattle.ac_check.specs.declared.operation.Operation.{Operation}
-use Rattle.ac_model.specs.Queues.{by_arrival, by_priority}
 use Rattle.ac_meaning.specs.Answers.{Answer, answers_list}
 use Rattle.ac_meaning.specs.QueueReplies.{queue_reply}
 use Rattle.ac_meaning.specs.Holdings.{Held, of_queue, number_of, names_of, listing_of, reply_of}

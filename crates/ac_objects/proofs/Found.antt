@@ -1,5 +1,5 @@
 -- What is found at a place.
-use Rattle.std.proofs.Common.{◌≡◌, ◌≤◌, ℕ, true, false, List, length, is_some, refl, sym, ap, subst, ◌∙◌, option_map, Option, Some, None}
+use Rattle.std.proofs.Common.{◌≡◌, ℕ, true, false, List, is_some, refl, sym, ap, subst, ◌∙◌, option_map, Option, Some, None}
 use Rattle.std.specs.Prelude.{slice_get}
 use Rattle.std.proofs.lemmas.Option.{slice_get-map, same_Some}
 use Rattle.std.specs.Borrow.{Bor}

@@ -1,5 +1,5 @@
 -- Operations on holders.
-use Rattle.std.proofs.Common.{◌≡◌, Bool, refl}
+use Rattle.std.proofs.Common.{◌≡◌, Bool}
 use Rattle.ac_meaning.specs.Elements.{Tools}
 use Rattle.ac_objects.specs.HolderCalls.{own_tools}
 

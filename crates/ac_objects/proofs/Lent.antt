@@ -1,6 +1,5 @@
 -- Queues that leave their places, and others that come there.
-use Rattle.std.proofs.Common.{◌≡◌, ◌⊎◌, inl, inr, ◌==◌, ◌||◌, ◌+◌, ◌<◌, ◌≤◌, ℕ, zero, suc, Bool, true, false, List, [], ◌∷◌, ◌++◌, append_assoc, drop, map, take, length, replicate, slice_get, slice_set, refl, sym, ap, subst, ◌∙◌, arith, if◌then◌else◌, Option, Some, None}
-use Rattle.std.specs.Prelude.{⊤}
+use Rattle.std.proofs.Common.{◌≡◌, ◌⊎◌, inl, inr, ◌==◌, ◌||◌, ◌+◌, ◌≤◌, ℕ, zero, suc, Bool, true, false, List, [], ◌∷◌, ◌++◌, append_assoc, drop, map, take, length, replicate, slice_get, slice_set, refl, sym, ap, subst, ◌∙◌, arith, if◌then◌else◌, Option, Some, None}
 use Rattle.std.specs.List.{list_any}
 use Rattle.std.specs.Ordering.{nat_cmp, is_lt, ord_min}
 use Rattle.std.proofs.lemmas.Bool.Decides.{nat_tests}
@@ -437,18 +436,6 @@ module _ (places : List ℕ) (queues : List AnyQueue) (bs : List Bound) (i : ℕ
     step_out is leaves =
         let more : i + 1 ≡ suc i = omega arith in
         ap (λ k. take k (slice_set queues i out) ++ queues_out (drop k places) (drop k (slice_set queues i out)) now) more ∙ next_out is leaves
-
--- plain queues without items
-
-pub one_more_plain : (made : List AnyQueue) (q : AnyQueue) (count : ℕ) → map shared made ≡ replicate count no_queue → shared q ≡ no_queue →
-    map shared (made ++ q ∷ []) ≡ replicate (count + 1) no_queue
-one_more_plain made q count is plain = map_push shared made q ∙ ((λ i. is i ++ plain i ∷ []) ∙ go count)
-  where
-    go : (count : ℕ) → replicate count no_queue ++ no_queue ∷ [] ≡ replicate (count + 1) no_queue
-    go zero = refl
-    go (suc count) =
-        let more : suc (count + 1) ≡ suc count + 1 = omega arith in
-        ap (λ qs. no_queue ∷ qs) (go count) ∙ ap (λ n. replicate n no_queue) more
 
 -- one block more
 

@@ -1,5 +1,5 @@
 -- What a name holds, read and set.
-use Rattle.std.proofs.Common.{◌≡◌, ◌==◌, ◌<◌, ℕ, ℤ, false, List, [], ◌∷◌, get_or, slice_get, slice_set, refl, sym, ap, subst, ◌∙◌, arith, is_none, Option, Some, None, Result, Ok, Err, IfOk}
+use Rattle.std.proofs.Common.{◌≡◌, ℕ, ℤ, false, List, [], ◌∷◌, get_or, slice_get, slice_set, refl, sym, ap, subst, ◌∙◌, arith, is_none, Option, Some, None, Result, Ok, Err, IfOk}
 use Rattle.std.proofs.lemmas.Bool.Decides.{nat_tests}
 use Rattle.std.specs.Borrow.{Bor}
 use Rattle.ac_base.specs.declared.cursor.Cursor.{Cursor}

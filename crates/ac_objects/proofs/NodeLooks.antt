@@ -10,7 +10,6 @@ use Rattle.ac_base.specs.declared.reason.Reason.{Reason}
 use Rattle.ac_base.specs.Rows.{Row, names}
 use Rattle.ac_model.specs.Cursors.{mark}
 use Rattle.ac_model.specs.Objects.{Object, IsValid, plain}
-use Rattle.ac_model.specs.Objects as model
 use Rattle.ac_model.specs.Rows.{is_named}
 use Rattle.ac_model.specs.Letters.{Mark, no_mark, mark_at, stale_mark, is_among, is_same_name, may, mark_for, mark_in, judged_in}
 use Rattle.ac_base.specs.FirstReason.{first_reason}

@@ -1,5 +1,5 @@
 -- What a call by key comes to in the code, where its arguments are as the object sees them.
-use Rattle.std.specs.Prelude.{ℕ, Result}
+use Rattle.std.specs.Prelude.{Result}
 use Rattle.ac_base.specs.declared.fault.Fault.{Fault}
 use Rattle.ac_model.specs.Containers.{Container}
 use Rattle.ac_check.specs.declared.operation.KeyedCall.{KeyedCall}

@@ -102,7 +102,8 @@ fn dequeue(queue: &mut AnyQueue, reply: &mut Reply) -> Result<(), Fault>
 
 /// Dequeue_Only_High_Priority. A plain queue hasn't it.
 fn high_only(queue: &mut AnyQueue, at_least: i64, reply: &mut Reply) -> Result<(), Fault>
-    ensures { QueueReplied (high_reply (shared queue.old).discipline (shared queue.old) at_least) queue.old queue.new (told reply.new result) }
+    ensures { QueueReplied (high_reply (shared queue.old).discipline (shared queue.old) at_least)
+        queue.old queue.new (told reply.new result) }
 {
     if !queue.is_ranked() {
         *reply = Reply::says(Said::Done);

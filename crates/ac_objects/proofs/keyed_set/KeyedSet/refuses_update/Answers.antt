@@ -1,4 +1,4 @@
-use Rattle.std.proofs.Common.{[], ◌∷◌, ap, ◌∙◌}
+use Rattle.std.proofs.Common.{[], ◌∷◌, ◌∙◌}
 use Rattle.ac_base.specs.FirstReason.{first_reason}
 use Rattle.ac_model.specs.Cursors.{mark}
 use Rattle.ac_model.specs.Letters.{needs, tampers_cursors}

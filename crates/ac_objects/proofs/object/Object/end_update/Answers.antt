@@ -1,4 +1,4 @@
-use Rattle.std.proofs.Common.{◌<◌, sym, ap, subst, ◌∙◌}
+use Rattle.std.proofs.Common.{◌<◌, sym, ap, subst}
 use Rattle.ac_base.specs.Guards.{HeldGuard, count_of}
 use Rattle.ac_base.specs.declared.guard.GuardKind.{GuardKind}
 use Rattle.ac_model.specs.Cursors.{plain_mark}

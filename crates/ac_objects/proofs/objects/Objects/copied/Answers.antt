@@ -1,5 +1,4 @@
 use Rattle.std.proofs.Common.{ap, ◌∙◌}
-use Rattle.ac_meaning.specs.Elements.{text_in}
 use Rattle.ac_meaning.specs.Environment.{bound_at}
 use Rattle.ac_meaning.specs.Replies.{Argument}
 use Rattle.ac_objects.specs.World.{state_of}

@@ -1,4 +1,3 @@
-use Rattle.std.proofs.Common.{ap, ◌∙◌}
 use Rattle.ac_model.specs.Cursors.{plain_mark}
 use Rattle.ac_objects.specs.World.{counted}
 use Rattle.ac_objects.proofs.Updating.{can_copy, copied_there}

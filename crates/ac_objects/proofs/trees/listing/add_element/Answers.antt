@@ -1,6 +1,5 @@
 use Rattle.std.proofs.Common.{◌≡◌, sym, ap, ◌∙◌}
 use Rattle.std.proofs.lemmas.Option.{same_Some}
-use Rattle.ac_base.specs.declared.fault.Fault.TheVariants as fault
 use Rattle.ac_model.specs.Objects.{plain}
 use Rattle.ac_model.specs.Trees.{element_call, tree_mark}
 use Rattle.ac_io.proofs.Telling.{adds_text}
