@@ -1,35 +1,33 @@
-use Rattle.std.proofs.Common.{◌≡◌, ◌+◌, ◌<◌, ◌++◌, ◌∷◌, [], take, drop, length, get_or, refl, sym, ap, subst, ◌∙◌, arith, Ok, Err}
-use Rattle.ac_check.specs.Resolved.{resolved_size, no_statement, calls_at, sets_at, sums_at, loops_at, views_at, stables_at}
+use Rattle.std.proofs.Common.{◌≡◌, ◌+◌, ◌<◌, ◌++◌, [], take, drop, length, get_or, refl, sym, ap, subst, ◌∙◌, arith, Err}
+use Rattle.ac_check.specs.Resolved.{resolved_size, no_statement, calls_at, sets_at, sums_at, stables_at}
 use Rattle.ac_check.specs.ResolvedStatements.{resolved_before, resolved_of}
 use Rattle.ac_check.specs.declared.resolved.ResolvedStmt.{ResolvedStmt}
 use Rattle.ac_check.specs.declared.resolved.ResolvedStmt.TheVariants.{Call}
-use Rattle.ac_meaning.specs.Holdings.{number_of, names_of}
-use Rattle.ac_meaning.specs.Environment.{objects_by, leaving, guarded_at, mark_at, with_name, binds_element, binds_value, after_decls}
-use Rattle.ac_meaning.specs.Execution.{exec_resolved, guards_of_loop, guards_of_view, guards_of_stable, in_order, turns, turn_bound, scoped}
+use Rattle.ac_meaning.specs.Environment.{leaving, guarded_at, mark_at, with_name, binds_element, binds_value, after_decls}
+use Rattle.ac_meaning.specs.Execution.{exec_resolved, guards_of_view, guards_of_stable, turns}
 use Rattle.ac_base.specs.declared.reason.Reason.TheVariants.{NamesSpent}
 use Rattle.ac_syntax.specs.declared.view_kind.ViewKind.TheVariants.{UpdateKey}
 use Rattle.ac_host.specs.declared.end.HostEnd.TheVariants.{NoMemory}
 use Rattle.ac_host.specs.Ready.{IsUnder}
-use Rattle.ac_objects.specs.Blocks.{releasing, guard_if, guards_of_loop_key, guards_of_update_key, guards_of_view_key, IsHeldAt}
+use Rattle.ac_objects.specs.Blocks.{releasing, guards_of_update_key, guards_of_view_key, IsHeldAt}
 use Rattle.ac_objects.specs.Standing.{counts_of}
 use Rattle.ac_objects.specs.World.{state_of}
-use Rattle.ac_model.specs.Cursors.{plain_mark}
-use Rattle.ac_model.specs.Letters.{mark_at as mark_of_name}
-use Rattle.ac_host.proofs.ByOrders.{on_exit, on_ok_always, told_by_some, tells_none, tells_as, tells_behind, tells_on, tells_off, tells_before, tells_then, tells_stopped}
+use Rattle.ac_host.proofs.ByOrders.{on_exit, on_ok_always, told_by_some, tells_none, tells_as, tells_behind, tells_on, tells_before, tells_then, tells_stopped}
 use Rattle.ac_host.proofs.Counting.{same_blocks, same_count, holding_count, releasing_count, decls_count, commanded_blocks, ending_blocks}
-use Rattle.ac_host.proofs.Blocks.{taken, ran_inside, ran_as, ran_broke, ran_nowhere, ran_all, ran_line, there_within, many_names, many_under, leaving_held, leaving_named, counts_before, stable_held, view_held, loop_cursors_held, loop_elements_held, stable_comes, view_comes, view_refused, mark_under, loop_comes, decls_begin, declare_comes, declare_spent, declare_back, inner_by, loop_left}
+use Rattle.ac_host.proofs.Blocks.{taken, ran_inside, ran_as, ran_broke, ran_nowhere, ran_all, ran_line, there_within, many_names, many_under, leaving_held, leaving_named, counts_before, stable_held, view_held, stable_comes, view_comes, view_refused, mark_under, decls_begin, declare_comes, declare_spent, declare_back}
 use Rattle.ac_host.specs.Running.{block_of, statement_outcome, key_ending}
 use Rattle.ac_host.specs.Writing.{WroteSoFar}
-use Rattle.ac_meaning.specs.UnderGuards.{held_without}
-use Rattle.ac_host.proofs.Holding.{counts_back, leaving_counts, held_still, held_behind}
-use Rattle.ac_host.proofs.Opening.{stable_begins, view_begins, loop_begins}
+use Rattle.ac_host.proofs.Holding.{counts_back, leaving_counts, held_still}
+use Rattle.ac_host.proofs.Opening.{stable_begins, view_begins}
 use Rattle.ac_check.proofs.SizesAmong.{size_among}
 use Rattle.ac_host.proofs.Steps.{statement_told, statements_next, statements_none, ready_statement}
 use Rattle.ac_host.proofs.Standing.{ready_exec}
-use Rattle.ac_host.proofs.Telling.{broke_nothing, so_far_none, so_far_more, so_far_broke, so_far_stopped}
-use Rattle.ac_host.proofs.Turns.{held, turning_inner, turning_names, turning_there, turning_stands, turning_none, turning_next, turn_begins, turn_ends, turn_goes, turning_at}
+use Rattle.ac_host.proofs.Telling.{broke_nothing, so_far_none, so_far_more, so_far_broke}
+use Rattle.ac_host.proofs.Turns.{held}
 use Rattle.ac_host.proofs.Updating.{copied, updating_under, updating_begins, updating_held, updating_goes_on, update_comes, ran_then, ran_stopped}
 use Rattle.ac_host.proofs.host.Host.+statements.Goals as goal
+use Rattle.ac_host.proofs.host.Host.+statements.Answers.Loops as loops
+mod Loops
 
 -- Statements
 
@@ -577,315 +575,64 @@ run_declare-returns-in-Err-NoMemory-clause-runs g t c =
       after = tt;
     })
 
--- Loops
+-- Loops, and their turns
 
 pub run_loop-run_turns-ended-requires : goal.run_loop-run_turns-ended-requires
-run_loop-run_turns-ended-requires g t c κs within =
-    let old = c.args.self.now.objects in
-    let now = c.enter_loop.new.self in
-    let r = c.requires.ready in
-    let o = taken (state_of old) c.args.object (c.takes_guards.ensures.yes c.if-not-takes_guards.false) in
-    let is = c.in_ok-key.ensures.opened o.held o.there in
-    let key = c.in_ok-key.ensures.key in
-    let k = c.in_ok-key.key in (
-      omega arith,
-      (
-        within.0,
-        (
-          within.1,
-          (
-            c.requires.sound,
-            (
-              record {
-                guards = r.guards;
-                held = o.held;
-                env = r.env;
-                names = in_order c.args.backward (names_of o.held);
-                turning =
-                    turning_at refl key.0 key.2
-                    (loop_begins old r.guards r.env r.stands c.args.object o.held o.there c.args.elements c.args.backward (plain_mark k.coming) now k.names
-                    (key.1 ∙ sym (many_names old)) is.0 (c.in_ok-key.ensures.named o.held o.there) is.2);
-              },
-              key.3,
-            ),
-          ),
-        ),
-      ),
-    )
+run_loop-run_turns-ended-requires = loops.run_loop-run_turns-ended-requires
 
 pub run_loop-leave_loop-requires-clause-inner : goal.run_loop-leave_loop-requires-clause-inner
-run_loop-leave_loop-requires-clause-inner g t c =
-    let old = c.args.self.now.objects in
-    let o = taken (state_of old) c.args.object (c.takes_guards.ensures.yes c.if-not-takes_guards.false) in
-    let key = c.in_ok-key.ensures.key in
-    let ended = c.run_turns-ended.ensures.key in
-    inner_by (ended.0 ∙ key.0) (ended.1 ∙ (key.1 ∙ sym (many_names old))) (there_within (state_of old) c.args.object o.held o.there)
+run_loop-leave_loop-requires-clause-inner = loops.run_loop-leave_loop-requires-clause-inner
 
 pub run_loop-leave_loop-requires-clause-cursors : goal.run_loop-leave_loop-requires-clause-cursors
-run_loop-leave_loop-requires-clause-cursors g t c =
-    let old = c.args.self.now.objects in
-    let mid = state_of c.enter_loop.new.self in
-    let o = taken (state_of old) c.args.object (c.takes_guards.ensures.yes c.if-not-takes_guards.false) in
-    let is = c.in_ok-key.ensures.opened o.held o.there in
-    let key = c.in_ok-key.ensures.key in
-    let ended = c.run_turns-ended.ensures.key in
-    let k = c.run_turns-ended.new.key in
-    let within = inner_by refl (key.1 ∙ sym (many_names old)) (there_within (state_of old) c.args.object o.held o.there) in
-    subst (λ p. IsHeldAt (state_of c.run_turns-ended.new.self.objects) p k.cursors) (sym (ended.0 ∙ key.0))
-    (held_still mid (state_of c.run_turns-ended.new.self.objects) c.args.object c.in_ok-key.key.names k.cursors within c.run_turns-ended.ensures.counts
-    (subst (λ s. IsHeldAt s c.args.object k.cursors) (sym is.2)
-    (loop_cursors_held (state_of old) c.args.object c.args.elements o.held o.takes k.cursors (guard_if k.elements) o.there (ended.2 ∙ is.1))))
+run_loop-leave_loop-requires-clause-cursors = loops.run_loop-leave_loop-requires-clause-cursors
 
 pub run_loop-leave_loop-requires-clause-elements : goal.run_loop-leave_loop-requires-clause-elements
-run_loop-leave_loop-requires-clause-elements g t c x some =
-    let old = c.args.self.now.objects in
-    let mid = state_of c.enter_loop.new.self in
-    let o = taken (state_of old) c.args.object (c.takes_guards.ensures.yes c.if-not-takes_guards.false) in
-    let is = c.in_ok-key.ensures.opened o.held o.there in
-    let key = c.in_ok-key.ensures.key in
-    let ended = c.run_turns-ended.ensures.key in
-    let k = c.run_turns-ended.new.key in
-    let within = inner_by refl (key.1 ∙ sym (many_names old)) (there_within (state_of old) c.args.object o.held o.there) in
-    let now = state_of c.run_turns-ended.new.self.objects in
-    subst (λ p. IsHeldAt (objects_by (held_without k.cursors) now) p x) (sym (ended.0 ∙ key.0))
-    (held_behind mid now c.args.object c.in_ok-key.key.names k.cursors x within c.run_turns-ended.ensures.counts
-    (subst (λ s. IsHeldAt (objects_by (held_without k.cursors) s) c.args.object x) (sym is.2)
-    (loop_elements_held (state_of old) c.args.object c.args.elements o.held o.takes k.cursors x o.there
-    (sym (ap (λ l. k.cursors ∷ guard_if l) some) ∙ (ended.2 ∙ is.1)))))
+run_loop-leave_loop-requires-clause-elements = loops.run_loop-leave_loop-requires-clause-elements
 
 pub run_loop-returns-clause-runs : goal.run_loop-returns-clause-runs
-run_loop-returns-clause-runs g t c =
-    let sink = g.K.Sink in
-    let old = c.args.self.now.objects in
-    let now = c.enter_loop.new.self in
-    let then = c.run_turns-ended.new.self.objects in
-    let o = taken (state_of old) c.args.object (c.takes_guards.ensures.yes c.if-not-takes_guards.false) in
-    let is = c.in_ok-key.ensures.opened o.held o.there in
-    let key = c.in_ok-key.ensures.key in
-    let k = c.in_ok-key.key in
-    let ended = c.run_turns-ended.ensures.key in
-    let more = guards_of_loop c.args.elements o.held in
-    let names = in_order c.args.backward (names_of o.held) in
-    let left = loop_left (state_of then) (state_of c.leave_loop.new.self) (guards_of_loop_key c.run_turns-ended.new.key) more c.run_turns-ended.new.key.names k.names c.leave_loop.ensures.left (ended.2 ∙ is.1) ended.1 in
-    tells_before (same_count is.2 ∙ holding_count more (state_of old)) (tells_behind c.run_turns-ended.ensures.runs (same_count left ∙ releasing_count more (leaving k.names (state_of then))) (λ orders runs. runs)) (λ orders runs guards e u.
-    let begun =
-    turning_at refl key.0 key.2
-    (loop_begins old guards e u c.args.object o.held o.there c.args.elements c.args.backward (plain_mark k.coming) now k.names
-    (key.1 ∙ sym (many_names old)) is.0 (c.in_ok-key.ensures.named o.held o.there) is.2) in
-    ran_as sink.held sink.faults sink.room sink.counts_failures c.args.sink.now c.run_turns-ended.new.sink c.leave_loop.new.self guards _ _ c.run_turns-ended.result
-    (loop_comes orders c.args.body.now guards e c.args.line k.names c.args.elements c.args.backward c.args.object k.object o.held
-    (ap (λ s. guarded_at s c.args.object) (sym u.is) ∙ o.guarded) key.0 (key.1 ∙ many_under old guards e u))
-    (ran_inside sink.held sink.faults sink.room sink.counts_failures more guards k.names c.args.sink.now c.run_turns-ended.new.sink then c.leave_loop.new.self _
-    c.run_turns-ended.result left (runs guards o.held e names begun)))
+run_loop-returns-clause-runs = loops.run_loop-returns-clause-runs
 
 pub run_loop-returns-then-not-takes_guards-clause-runs : goal.run_loop-returns-then-not-takes_guards-clause-runs
-run_loop-returns-then-not-takes_guards-clause-runs g t c =
-    let sink = g.K.Sink in
-    let none = c.takes_guards.ensures.no c.if-not-takes_guards.true in
-    tells_none refl (λ orders guards e u.
-    ran_nowhere sink.held sink.faults sink.room sink.counts_failures c.args.sink.now c.args.self.now.objects guards e u (exec_resolved orders c.args.body.now)
-    (loops_at c.args.line c.args.elements c.args.backward c.args.object) c.args.object none tt)
+run_loop-returns-then-not-takes_guards-clause-runs = loops.run_loop-returns-then-not-takes_guards-clause-runs
 
 pub run_loop-returns-in_err-key-clause-runs : goal.run_loop-returns-in_err-key-clause-runs
-run_loop-returns-in_err-key-clause-runs g t c =
-    let sink = g.K.Sink in
-    tells_none (on_exit _ _ c.from_residual.result c.from_residual.ensures.1) (λ orders guards e u.
-    ran_broke sink.held sink.faults sink.room sink.counts_failures c.args.sink.now c.args.sink.now _ guards
-    (block_of orders c.args.body.now guards e (loops_at c.args.line c.args.elements c.args.backward c.args.object)) NoMemory c.from_residual.result c.from_residual.ensures.1
-    (broke_nothing sink.held sink.faults sink.room sink.counts_failures c.args.sink.now _))
+run_loop-returns-in_err-key-clause-runs = loops.run_loop-returns-in_err-key-clause-runs
 
 pub run_view-returns-then-not-takes_guards-clause-runs : goal.run_view-returns-then-not-takes_guards-clause-runs
-run_view-returns-then-not-takes_guards-clause-runs g t c =
-    let sink = g.K.Sink in
-    let none = c.takes_guards.ensures.no c.if-not-takes_guards.true in
-    tells_none refl (λ orders guards e u.
-    ran_nowhere sink.held sink.faults sink.room sink.counts_failures c.args.sink.now c.args.self.now.objects guards e u (exec_resolved orders c.args.body.now)
-    (views_at c.args.line c.args.kind c.args.object c.args.at) c.args.object none tt)
+run_view-returns-then-not-takes_guards-clause-runs = loops.run_view-returns-then-not-takes_guards-clause-runs
 
 pub run_loop-returns-clause-leaves : goal.run_loop-returns-clause-leaves
-run_loop-returns-clause-leaves g t c =
-    let old = c.args.self.now.objects in
-    let now = c.enter_loop.new.self in
-    let then = c.run_turns-ended.new.self.objects in
-    let o = taken (state_of old) c.args.object (c.takes_guards.ensures.yes c.if-not-takes_guards.false) in
-    let is = c.in_ok-key.ensures.opened o.held o.there in
-    let key = c.in_ok-key.ensures.key in
-    let k = c.in_ok-key.key in
-    let ended = c.run_turns-ended.ensures.key in
-    let more = guards_of_loop c.args.elements o.held in
-    record {
-      persists = λ x known. c.leave_loop.ensures.persists x (c.run_turns-ended.ensures.persists x (c.enter_loop.ensures.persists x known));
-      counts =
-          ap counts_of (loop_left (state_of then) (state_of c.leave_loop.new.self) (guards_of_loop_key c.run_turns-ended.new.key) more c.run_turns-ended.new.key.names k.names c.leave_loop.ensures.left (ended.2 ∙ is.1) ended.1)
-          ∙ (counts_back more k.names (state_of then) (state_of now) c.run_turns-ended.ensures.counts
-          ∙ counts_before more k.names (state_of old) (state_of now)
-          (ap (leaving k.names) is.2 ∙ leaving_held more (state_of old) k.names (key.1 ∙ sym (many_names old))));
-    }
-
--- The turns of a loop
+run_loop-returns-clause-leaves = loops.run_loop-returns-clause-leaves
 
 pub run_turns-loop-init : goal.run_turns-loop-init
-run_turns-loop-init g t c =
-    let sink = g.K.Sink in
-    record {
-      told = tells_none refl (λ orders guards h e names begun. record {
-        env = e;
-        names = names;
-        turning = begun;
-        so_far =
-            so_far_none sink.held sink.faults sink.room sink.counts_failures c.args.sink.now
-            (turns (exec_resolved orders c.args.body.now) guards c.args.elements c.args.key.now.object h names e);
-      });
-      key = (refl, refl, refl, refl);
-      known = c.requires.known;
-      persists = λ x known. known;
-      counts = refl;
-    }
+run_turns-loop-init = loops.run_turns-loop-init
 
 pub run_turns-step_loop-requires-clause-object : goal.run_turns-step_loop-requires-clause-object
-run_turns-step_loop-requires-clause-object g t c =
-    let r = c.requires.turning in
-    let now = ((told_by_some c.loop.invariant.told).1 r.guards r.held r.env r.names r.turning).turning in
-    record { held = held now; there = turning_there now }
+run_turns-step_loop-requires-clause-object = loops.run_turns-step_loop-requires-clause-object
 
 pub run_turns-step_loop-requires-clause-inner : goal.run_turns-step_loop-requires-clause-inner
-run_turns-step_loop-requires-clause-inner g t c =
-    let r = c.requires.turning in turning_inner ((told_by_some c.loop.invariant.told).1 r.guards r.held r.env r.names r.turning).turning
+run_turns-step_loop-requires-clause-inner = loops.run_turns-step_loop-requires-clause-inner
 
 pub run_turns-step_loop-requires-clause-names : goal.run_turns-step_loop-requires-clause-names
-run_turns-step_loop-requires-clause-names g t c =
-    let r = c.requires.turning in
-    let many = turning_names ((told_by_some c.loop.invariant.told).1 r.guards r.held r.env r.names r.turning).turning in
-    omega (arith, many, many_names c.loop.self.objects)
+run_turns-step_loop-requires-clause-names = loops.run_turns-step_loop-requires-clause-names
 
 pub run_turns-step_loop-requires-clause-coming : goal.run_turns-step_loop-requires-clause-coming
-run_turns-step_loop-requires-clause-coming g t c =
-    let r = c.requires.turning in turning_stands ((told_by_some c.loop.invariant.told).1 r.guards r.held r.env r.names r.turning).turning
+run_turns-step_loop-requires-clause-coming = loops.run_turns-step_loop-requires-clause-coming
 
 pub run_turns-returns-in_err-step_loop-clause-runs : goal.run_turns-returns-in_err-step_loop-clause-runs
-run_turns-returns-in_err-step_loop-clause-runs g t c =
-    let sink = g.K.Sink in
-    tells_off _ _ c.loop.invariant.told c.from_residual.ensures.1 (λ orders so_far guards h e names begun.
-    let now = so_far guards h e names begun in
-    ran_broke sink.held sink.faults sink.room sink.counts_failures c.args.sink.now c.loop.sink c.step_loop.new.self (guards_of_loop c.args.elements h ++ guards)
-    (turns (exec_resolved orders c.args.body.now) guards c.args.elements c.args.key.now.object h names e) NoMemory c.from_residual.result
-    c.from_residual.ensures.1
-    (so_far_stopped sink.held sink.faults sink.room sink.counts_failures c.args.sink.now c.loop.sink _
-    (turns (exec_resolved orders c.args.body.now) guards c.args.elements c.args.key.now.object h names e) now.so_far))
+run_turns-returns-in_err-step_loop-clause-runs = loops.run_turns-returns-in_err-step_loop-clause-runs
 
 pub run_turns-returns-then-not-branch-clause-runs : goal.run_turns-returns-then-not-branch-clause-runs
-run_turns-returns-then-not-branch-clause-runs g t c =
-    let sink = g.K.Sink in
-    let end = c.in_ok-step_loop.ensures.end (ap Ok c.if-not-branch.true) in
-    tells_behind c.loop.invariant.told (same_count end.1) (λ orders so_far guards h e names begun.
-    let now = so_far guards h e names begun in
-    let none = turning_none now.turning end.0 in
-    let whole = turns (exec_resolved orders c.args.body.now) guards c.args.elements c.args.key.now.object h names e in
-    ran_all sink.held sink.faults sink.room sink.counts_failures c.args.sink.now c.loop.sink c.step_loop.new.self (guards_of_loop c.args.elements h ++ guards)
-    now.env whole tt (end.1 ∙ now.turning.is)
-    (subst (λ l. WroteSoFar sink.held sink.faults sink.room sink.counts_failures c.args.sink.now c.loop.sink
-    (turns (exec_resolved orders c.args.body.now) guards c.args.elements c.args.key.now.object h l now.env) whole) none now.so_far))
+run_turns-returns-then-not-branch-clause-runs = loops.run_turns-returns-then-not-branch-clause-runs
 
 pub run_turns-returns-clause-runs : goal.run_turns-returns-clause-runs
-run_turns-returns-clause-runs g t c =
-    let sink = g.K.Sink in
-    tells_as c.loop.invariant.told tt (λ orders so_far guards h e names begun.
-    let now = so_far guards h e names begun in
-    record {
-      writes =
-          so_far_stopped sink.held sink.faults sink.room sink.counts_failures c.args.sink.now c.loop.sink _
-          (turns (exec_resolved orders c.args.body.now) guards c.args.elements c.args.key.now.object h names e) now.so_far;
-      after = tt;
-    })
+run_turns-returns-clause-runs = loops.run_turns-returns-clause-runs
 
 pub run_turns-run_statements-requires : goal.run_turns-run_statements-requires
-run_turns-run_statements-requires g t c κs within =
-    let r = c.requires.turning in
-    let now = ((told_by_some c.loop.invariant.told).1 r.guards r.held r.env r.names r.turning).turning in
-    let next = turning_next now (c.in_ok-step_loop.ensures.more (ap Ok c.if-not-branch.false)) in (
-      omega arith,
-      (
-        within.0,
-        (
-          within.1,
-          (
-            c.requires.sound,
-            record {
-              guards = guards_of_loop c.args.elements r.held ++ r.guards;
-              env = _;
-              stands = turn_begins now c.args.elements next.name next.rest c.step_loop.new.self next.is (c.in_ok-step_loop.ensures.turn (ap Ok c.if-not-branch.false));
-            },
-          ),
-        ),
-      ),
-    )
+run_turns-run_statements-requires = loops.run_turns-run_statements-requires
 
 pub run_turns-returns-in_err-run_statements-clause-runs : goal.run_turns-returns-in_err-run_statements-clause-runs
-run_turns-returns-in_err-run_statements-clause-runs g t c =
-    let sink = g.K.Sink in
-    let object = c.args.key.now.object in
-    let turned_on = c.in_ok-step_loop.ensures.turn (ap Ok c.if-not-branch.false) in
-    tells_stopped _ _ c.loop.invariant.told (tells_before (same_count turned_on) c.in_err-run_statements.ensures.runs (λ orders runs. runs))
-    c.from_residual-in_err-run_statements.ensures.1 (λ orders so_far runs guards h e names begun.
-    let body = exec_resolved orders c.args.body.now in
-    let held_guards = guards_of_loop c.args.elements h ++ guards in
-    let now = so_far guards h e names begun in
-    let at = turning_at refl (sym c.loop.invariant.key.0) refl now.turning in
-    let next = turning_next at (c.in_ok-step_loop.ensures.more (ap Ok c.if-not-branch.false)) in
-    let start = with_name now.env (turn_bound c.args.elements object (mark_of_name (number_of h) next.name)) in
-    let turned = turn_begins at c.args.elements next.name next.rest c.step_loop.new.self next.is
-    (c.in_ok-step_loop.ensures.turn (ap Ok c.if-not-branch.false)
-    ∙ ap (λ p. with_name (leaving c.loop.key.names (state_of c.loop.self.objects)) (turn_bound c.args.elements p (plain_mark c.loop.key.coming))) c.loop.invariant.key.0) in
-    ran_broke sink.held sink.faults sink.room sink.counts_failures c.args.sink.now c.run_statements.new.sink c.run_statements.new.self.objects held_guards
-    (turns body guards c.args.elements object h names e) c.in_err-run_statements.field-0.0 c.from_residual-in_err-run_statements.result
-    c.from_residual-in_err-run_statements.ensures.1
-    (so_far_broke sink.held sink.faults sink.room sink.counts_failures c.args.sink.now c.loop.sink c.run_statements.new.sink
-    (turns body guards c.args.elements object h now.names now.env) (turns body guards c.args.elements object h names e)
-    (scoped now.env (body held_guards) start) (turns body guards c.args.elements object h next.rest) _
-    (ap (λ l. turns body guards c.args.elements object h l now.env) next.is) now.so_far
-    (runs held_guards start turned).writes))
+run_turns-returns-in_err-run_statements-clause-runs = loops.run_turns-returns-in_err-run_statements-clause-runs
 
 pub run_turns-loop-preserved : goal.run_turns-loop-preserved
-run_turns-loop-preserved g t c =
-    let sink = g.K.Sink in
-    let object = c.args.key.now.object in
-    let before = c.loop.invariant in
-    let step = c.in_ok-step_loop.ensures in
-    let ok = c.in_ok-run_statements.ensures in
-    let key = step.key in
-    let turned_on = step.turn (ap Ok c.if-not-branch.false) in
-    record {
-      told = tells_then before.told (tells_before (same_count turned_on) ok.runs (λ orders runs. runs)) (λ orders so_far runs guards h e names begun.
-          let body = exec_resolved orders c.args.body.now in
-          let held_guards = guards_of_loop c.args.elements h ++ guards in
-          let now = so_far guards h e names begun in
-          let at = turning_at refl (sym before.key.0) refl now.turning in
-          let next = turning_next at (step.more (ap Ok c.if-not-branch.false)) in
-          let b = turn_bound c.args.elements object (mark_of_name (number_of h) next.name) in
-          let start = with_name now.env b in
-          let turned = turn_begins at c.args.elements next.name next.rest c.step_loop.new.self next.is
-          (step.turn (ap Ok c.if-not-branch.false)
-          ∙ ap (λ p. with_name (leaving c.loop.key.names (state_of c.loop.self.objects)) (turn_bound c.args.elements p (plain_mark c.loop.key.coming))) before.key.0) in
-          let ran = runs held_guards start turned in
-          record {
-            env = leaving (length now.env.bounds) (body held_guards start).after;
-            names = next.rest;
-            turning =
-                turning_at key.1 (key.0 ∙ before.key.0) key.2
-                (turn_ends at orders c.args.body.now b next.name next.rest c.run_statements.new.self.objects (plain_mark c.step_loop.new.key.coming) next.is turned.ready ran.after
-                (turn_goes now.turning next.name next.rest (plain_mark c.step_loop.new.key.coming) next.is (step.goes (ap Ok c.if-not-branch.false))));
-            so_far =
-                so_far_more sink.held sink.faults sink.room sink.counts_failures c.args.sink.now c.loop.sink c.run_statements.new.sink
-                (turns body guards c.args.elements object h now.names now.env) (turns body guards c.args.elements object h names e)
-                (scoped now.env (body held_guards) start) (turns body guards c.args.elements object h next.rest)
-                (ap (λ l. turns body guards c.args.elements object h l now.env) next.is) now.so_far ran.writes;
-          });
-      key = (key.0 ∙ before.key.0, key.1 ∙ before.key.1, key.2 ∙ before.key.2, key.3 ∙ before.key.3);
-      known = ok.leaves.persists c.step_loop.new.key.coming step.known;
-      persists = λ x known. ok.leaves.persists x (step.persists x (before.persists x known));
-      counts =
-          ap (take c.args.key.now.names) ok.leaves.counts
-          ∙ (ap (λ n. take n (counts_of (state_of c.step_loop.new.self))) (sym before.key.1)
-          ∙ (step.counts
-          ∙ (ap (λ n. take n (counts_of (state_of c.loop.self.objects))) before.key.1 ∙ before.counts)));
-    }
+run_turns-loop-preserved = loops.run_turns-loop-preserved
