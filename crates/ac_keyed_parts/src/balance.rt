@@ -1,5 +1,6 @@
 ghost use Rattle.std.specs.Prelude.{◌≡◌, ◌<◌, ◌-◌, ◌^◌, true};
 
+use crate::laws::emptied;
 use ac_balance::OrderIndex;
 use ac_base::{Name, Steps};
 use std::marker::Brand;
@@ -104,6 +105,14 @@ fn an_equivalent_key_is_there_already(rt: HostRuntime) {
     assert!(rt; name.is_some());
     assert!(rt; is_present(&mut index, 5, 7, name));
     assert!(rt; index.len() == 1 && index.spare() == 7);
+}
+
+#[test]
+fn a_cleared_index_keeps_its_slots(rt: HostRuntime) {
+    let mut index = OrderIndex::new(rt.alloc());
+    assert!(rt; added(&mut index, 5).is_some() && added(&mut index, 6).is_some());
+    assert!(rt; emptied(&mut index).is_none());
+    assert!(rt; index.len() == 0 && index.spare() == 8);
 }
 
 #[test]

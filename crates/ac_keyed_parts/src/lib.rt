@@ -7,6 +7,7 @@ mod balance;
 mod hashed;
 #[cfg(test)]
 mod keyed_sets;
+pub mod laws;
 #[cfg(test)]
 mod ordered;
 #[cfg(test)]

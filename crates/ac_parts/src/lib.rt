@@ -8,6 +8,7 @@ mod chains;
 mod checks;
 #[cfg(test)]
 mod forms;
+pub mod laws;
 #[cfg(test)]
 mod lists;
 #[cfg(test)]

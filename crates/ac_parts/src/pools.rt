@@ -1,3 +1,4 @@
+use crate::laws::passed_through;
 use ac_base::Name;
 use ac_pool::{Pool, PutFault};
 use std::cell::Cell;
@@ -109,6 +110,25 @@ fn each_slot_has_its_name(rt: HostRuntime) -> Result<(), Fail> {
     Ok(())
 }
 
+#[test]
+fn a_run_goes_to_the_end_of_its_chunk(rt: HostRuntime) {
+    let mut pool = Pool::new(rt.alloc());
+    for v in 0..40u64 {
+        put(&rt, &mut pool, v);
+    }
+    let mut run = pool.run_at(0);
+    for v in 0..32u64 {
+        assert!(rt; run.first().copied() == Some(v));
+        run = run.rest();
+    }
+    assert!(rt; run.first().is_none());
+    assert!(rt; run.rest().first().is_none());
+    assert!(rt; pool.run_at(39).first().copied() == Some(39));
+    assert!(rt; pool.run_at(39).rest().first().is_none());
+    assert!(rt; pool.run_at(64).first().is_none());
+    assert!(rt; pool.run_at(u32::MAX).first().is_none());
+}
+
 struct Counted<'a> {
     drops: &'a Cell<u64>,
 }
@@ -188,4 +208,12 @@ fn a_failed_growth_changes_nothing(rt: HostRuntime) {
     }
     assert!(rt; pool.slots() == 32);
     assert!(rt; pool.next_serial() == 21);
+}
+
+#[test]
+fn what_is_put_is_taken(rt: HostRuntime) {
+    let mut pool = Pool::new(rt.alloc());
+    assert!(rt; passed_through(&mut pool, 7) == Some(7));
+    assert!(rt; passed_through(&mut pool, 8) == Some(8));
+    assert!(rt; pool.live() == 0 && pool.next_serial() == 3);
 }
