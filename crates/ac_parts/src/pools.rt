@@ -95,11 +95,11 @@ fn reserved_slots_take_values(rt: HostRuntime) -> Result<(), Fail> {
 fn each_slot_has_its_name(rt: HostRuntime) -> Result<(), Fail> {
     let mut pool = Pool::with_slots(rt.alloc(), 5).ok().ok_or("no memory")?;
     assert!(rt; pool.name_in(0).is_none());
-    for v in 0..100u64 {
+    for v in 0..600u64 {
         put(&rt, &mut pool, v);
     }
-    assert!(rt; pool.slots() == 128);
-    for slot in 0..130 {
+    assert!(rt; pool.slots() == 1024);
+    for slot in 0..1030 {
         if let Some(name) = pool.name_in(slot) {
             assert!(rt; name.slot == slot);
             assert!(rt; pool.take(name) == Some(name.serial.wrapping_sub(1)));
@@ -111,21 +111,21 @@ fn each_slot_has_its_name(rt: HostRuntime) -> Result<(), Fail> {
 }
 
 #[test]
-fn a_run_goes_to_the_end_of_its_chunk(rt: HostRuntime) {
+fn a_run_has_the_values_of_its_chunk(rt: HostRuntime) {
     let mut pool = Pool::new(rt.alloc());
-    for v in 0..40u64 {
+    for v in 0..520u64 {
         put(&rt, &mut pool, v);
     }
-    let mut run = pool.run_at(0);
-    for v in 0..32u64 {
+    let mut run = pool.run_at(500);
+    for v in 500..512u64 {
         assert!(rt; run.first().copied() == Some(v));
         run = run.rest();
     }
     assert!(rt; run.first().is_none());
     assert!(rt; run.rest().first().is_none());
-    assert!(rt; pool.run_at(39).first().copied() == Some(39));
-    assert!(rt; pool.run_at(39).rest().first().is_none());
-    assert!(rt; pool.run_at(64).first().is_none());
+    assert!(rt; pool.run_at(519).first().copied() == Some(519));
+    assert!(rt; pool.run_at(519).rest().first().is_none());
+    assert!(rt; pool.run_at(1024).first().is_none());
     assert!(rt; pool.run_at(u32::MAX).first().is_none());
 }
 

@@ -1,54 +1,49 @@
 -- A slot is found in its chunk, and a write there is a write to the list of all cells.
-use Rattle.std.proofs.Common.{◌≡◌, ℕ, zero, suc, ◌+◌, ◌-◌, ◌*◌, ◌<◌, ◌≤◌, ◌^◌, List, [], ◌∷◌, ◌++◌, length, set, get_or, take, drop, replicate, Option, None, refl, sym, ap, ◌∙◌, inl, inr, arith, length-append, length-set, length-drop}
+use Rattle.std.proofs.Common.{◌≡◌, ℕ, zero, suc, ◌+◌, ◌-◌, ◌*◌, ◌%◌, ◌<◌, ◌≤◌, ◌^◌, List, [], ◌∷◌, ◌++◌, length, set, get_or, take, replicate, Option, None, refl, sym, ap, ◌∙◌, inl, inr, arith, length-append, length-set}
 use Rattle.std.proofs.Math.Seq.{take-set-lt}
 use Rattle.std.proofs.lemmas.Bool.{cases_lt, cases_eq}
 use Rattle.std.proofs.lemmas.Grind.{flat_map-append}
-use Rattle.std.proofs.lemmas.List.{length-replicate, length-take-le, take-append-le, replicate-append-replicate, get_or_append_left, get_or-append-add, get_or-replicate, get_or-take, get_or-set_other, get_or-set_same, ext_get_or, set-append_left, set-append_right, get_or_default, get_or_past, get_or-drop}
-use Rattle.ac_pool.specs.Runs.{LiesFrom}
+use Rattle.std.proofs.lemmas.List.{length-replicate, length-take-le, take-append-le, replicate-append-replicate, get_or_append_left, get_or-append-add, get_or-replicate, get_or-take, get_or-set_other, get_or-set_same, ext_get_or, set-append_left, set-append_right, get_or_default, get_or_past}
+use Rattle.ac_pool.specs.Runs.{LiesFrom, IsRunOf}
 use Rattle.ac_pool.specs.Slots.{all_cells, cells_in, AreFull, IsSlots}
-
--- an empty cell, or none
-blank_at : {X : Type 0} (m i : ℕ) → get_or (replicate {A = Option X} m None) i None ≡ None
-blank_at zero i = refl
-blank_at (suc m) zero = refl
-blank_at (suc m) (suc i) = blank_at m i
+use Rattle.ac_pool.proofs.Cells.{blank_at}
 
 module _ {X : Type 0} where
   rest_full : (cs : List X) (chunks : List (List X)) → AreFull (cs ∷ chunks) → AreFull chunks
   rest_full cs chunks full k lt = full (suc k) (omega arith)
 
-  length-all_cells : (chunks : List (List X)) → AreFull chunks → length (all_cells chunks) ≡ 32 * length chunks
+  length-all_cells : (chunks : List (List X)) → AreFull chunks → length (all_cells chunks) ≡ 512 * length chunks
   length-all_cells [] full = refl
   length-all_cells (cs ∷ chunks) full = omega (arith, length-append cs (all_cells chunks), length-all_cells chunks (rest_full cs chunks full), full 0 (omega arith))
 
   -- the j-th cell of the k-th chunk
-  get_in : (chunks : List (List X)) (k j : ℕ) (d : X) → AreFull chunks → k < length chunks → j < 32 → get_or (all_cells chunks) (32 * k + j) d ≡ get_or (get_or chunks k []) j d
+  get_in : (chunks : List (List X)) (k j : ℕ) (d : X) → AreFull chunks → k < length chunks → j < 512 → get_or (all_cells chunks) (512 * k + j) d ≡ get_or (get_or chunks k []) j d
   get_in [] k j d full h within = absurd (omega arith)
   get_in (cs ∷ chunks) zero j d full h within =
-      let at : 32 * 0 + j ≡ j = omega arith in ap (λ n. get_or (cs ++ all_cells chunks) n d) at ∙ get_or_append_left cs (all_cells chunks) d j (omega (arith, full 0 h))
+      let at : 512 * 0 + j ≡ j = omega arith in ap (λ n. get_or (cs ++ all_cells chunks) n d) at ∙ get_or_append_left cs (all_cells chunks) d j (omega (arith, full 0 h))
   get_in (cs ∷ chunks) (suc k) j d full h within =
-      let at : 32 * suc k + j ≡ length cs + (32 * k + j) = omega (arith, full 0 (omega arith)) in
-      ap (λ n. get_or (cs ++ all_cells chunks) n d) at ∙ get_or-append-add cs (all_cells chunks) (32 * k + j) d ∙ get_in chunks k j d (rest_full cs chunks full) (omega arith) within
+      let at : 512 * suc k + j ≡ length cs + (512 * k + j) = omega (arith, full 0 (omega arith)) in
+      ap (λ n. get_or (cs ++ all_cells chunks) n d) at ∙ get_or-append-add cs (all_cells chunks) (512 * k + j) d ∙ get_in chunks k j d (rest_full cs chunks full) (omega arith) within
 
-  set_in : (chunks : List (List X)) (k j : ℕ) (c : X) → AreFull chunks → k < length chunks → j < 32 → all_cells (set chunks k (set (get_or chunks k []) j c)) ≡ set (all_cells chunks) (32 * k + j) c
+  set_in : (chunks : List (List X)) (k j : ℕ) (c : X) → AreFull chunks → k < length chunks → j < 512 → all_cells (set chunks k (set (get_or chunks k []) j c)) ≡ set (all_cells chunks) (512 * k + j) c
   set_in [] k j c full h within = absurd (omega arith)
   set_in (cs ∷ chunks) zero j c full h within =
-      let at : j ≡ 32 * 0 + j = omega arith in sym (set-append_left cs (all_cells chunks) j c (omega (arith, full 0 h))) ∙ ap (λ n. set (cs ++ all_cells chunks) n c) at
+      let at : j ≡ 512 * 0 + j = omega arith in sym (set-append_left cs (all_cells chunks) j c (omega (arith, full 0 h))) ∙ ap (λ n. set (cs ++ all_cells chunks) n c) at
   set_in (cs ∷ chunks) (suc k) j c full h within =
       let long = full 0 (omega arith) in
-      let at : length cs + (32 * k + j) ≡ 32 * suc k + j = omega arith in
-      let back : 32 * k + j ≡ (length cs + (32 * k + j)) - length cs = omega arith in
+      let at : length cs + (512 * k + j) ≡ 512 * suc k + j = omega arith in
+      let back : 512 * k + j ≡ (length cs + (512 * k + j)) - length cs = omega arith in
       ap (λ l. cs ++ l) (set_in chunks k j c (rest_full cs chunks full) (omega arith) within ∙ ap (λ n. set (all_cells chunks) n c) back)
-      ∙ sym (set-append_right cs (all_cells chunks) (length cs) (length cs + (32 * k + j)) c refl (omega arith)) ∙ ap (λ n. set (cs ++ all_cells chunks) n c) at
+      ∙ sym (set-append_right cs (all_cells chunks) (length cs) (length cs + (512 * k + j)) c refl (omega arith)) ∙ ap (λ n. set (cs ++ all_cells chunks) n c) at
 
-  full_set : (chunks : List (List X)) (k : ℕ) (cs : List X) → AreFull chunks → k < length chunks → length cs ≡ 32 → AreFull (set chunks k cs)
+  full_set : (chunks : List (List X)) (k : ℕ) (cs : List X) → AreFull chunks → k < length chunks → length cs ≡ 512 → AreFull (set chunks k cs)
   full_set chunks k cs full h long i lt = elim (cases_eq i k) [
     | inl same ↦ ap (λ m. length (get_or (set chunks k cs) m [])) same ∙ ap length (get_or-set_same chunks k cs [] h) ∙ long
     | inr other ↦ ap length (get_or-set_other chunks k i cs [] other) ∙ full i (omega (arith, length-set chunks k cs))
   ]
 
   -- chunks of empty cells more
-  full_more : (chunks : List (List X)) (cs : List X) (m : ℕ) → AreFull chunks → length cs ≡ 32 → AreFull (chunks ++ replicate m cs)
+  full_more : (chunks : List (List X)) (cs : List X) (m : ℕ) → AreFull chunks → length cs ≡ 512 → AreFull (chunks ++ replicate m cs)
   full_more chunks cs m full long k lt = elim (cases_lt k (length chunks)) [
     | inl less ↦ ap length (get_or_append_left chunks (replicate m cs) [] k less) ∙ full k less
     | inr past ↦ let at : length chunks + (k - length chunks) ≡ k = omega arith in
@@ -78,10 +73,15 @@ module _ {X : Type 0} (chunks : List (List (Option X))) (n : ℕ) (h : IsSlots c
   ]
 
   pub none_past : (i : ℕ) → n ≤ i → LiesFrom (λ m. get_or (cells_in chunks n) m None) i []
-  none_past i past = record { first = any_cell i ∙ h.blank i past; each = λ k less. absurd (omega arith) }
+  none_past i past = record {
+    first = any_cell i ∙ h.blank i past;
+    each = λ k less. absurd (omega arith);
+    whole = λ k _. any_cell (i + k) ∙ h.blank (i + k) (omega arith);
+    within = omega arith;
+  }
 
   -- the slot i is the j-th of the chunk k, which is cs
-  module _ (i k j : ℕ) (lt : i < n) (at : i ≡ 32 * k + j) (within : j < 32) where
+  module _ (i k j : ℕ) (lt : i < n) (at : i ≡ 512 * k + j) (within : j < 512) where
     chunk_within : k < length chunks
     chunk_within = omega (arith, h.room)
 
@@ -93,15 +93,20 @@ module _ {X : Type 0} (chunks : List (List (Option X))) (n : ℕ) (h : IsSlots c
       cell_in = get_or-take n (all_cells chunks) i None lt ∙ ap (λ m. get_or (all_cells chunks) m None) at ∙ get_in chunks k j None h.full chunk_within within ∙ ap (λ l. get_or l j None) (sym chunk_is)
 
       -- the slots from there on to the chunk's end
-      pub cells_from : LiesFrom (λ m. get_or (cells_in chunks n) m None) i (drop j cs)
-      cells_from = record {
-        first = cell_in ∙ (let start : j ≡ j + 0 = omega arith in ap (λ m. get_or cs m None) start) ∙ sym (get_or-drop j cs 0 None);
-        each = λ m less.
-            let long : length cs ≡ 32 = ap length chunk_is ∙ h.full k chunk_within in
-            let there : i + m ≡ 32 * k + (j + m) = omega arith in
-            any_cell (i + m) ∙ ap (λ q. get_or (all_cells chunks) q None) there
-            ∙ get_in chunks k (j + m) None h.full chunk_within (omega (arith, long, length-drop j cs)) ∙ ap (λ l. get_or l (j + m) None) (sym chunk_is) ∙ sym (get_or-drop j cs m None);
-      }
+      pub cells_from : (run : List (Option X)) → IsRunOf cs j run → LiesFrom (λ m. get_or (cells_in chunks n) m None) i run
+      cells_from run r =
+          let place : i % 512 ≡ j = omega (arith, at, within) in record {
+            first = let start : i ≡ i + 0 = omega arith in ap (λ m. get_or (cells_in chunks n) m None) start ∙ each 0 (omega arith);
+            each = λ m less. each m (omega (arith, r.within));
+            whole = λ m less. each m (omega (arith, place));
+            within = omega (arith, place, r.within);
+          }
+        where
+          each : (m : ℕ) → j + m < 512 → get_or (cells_in chunks n) (i + m) None ≡ get_or run m None
+          each m less =
+              let there : i + m ≡ 512 * k + (j + m) = omega arith in
+              any_cell (i + m) ∙ ap (λ q. get_or (all_cells chunks) q None) there
+              ∙ get_in chunks k (j + m) None h.full chunk_within less ∙ ap (λ l. get_or l (j + m) None) (sym chunk_is) ∙ r.each m less
 
       written : (c : Option X) → all_cells (set chunks k (set cs j c)) ≡ set (all_cells chunks) i c
       written c = ap (λ l. all_cells (set chunks k (set l j c))) chunk_is ∙ set_in chunks k j c h.full chunk_within within ∙ ap (λ m. set (all_cells chunks) m c) (sym at)
@@ -120,28 +125,28 @@ module _ {X : Type 0} (chunks : List (List (Option X))) (n : ℕ) (h : IsSlots c
   -- m chunks of empty cells more
   module _ (m : ℕ) where
     abbrev more : List (List (Option X))
-    more = chunks ++ replicate m (replicate 32 None)
+    more = chunks ++ replicate m (replicate 512 None)
 
-    cells_more : all_cells more ≡ all_cells chunks ++ replicate (m * 32) None
-    cells_more = flat_map-append (λ cells. cells) chunks (replicate m (replicate 32 None)) ∙ ap (λ l. all_cells chunks ++ l) (all_cells-replicate m 32 None)
+    cells_more : all_cells more ≡ all_cells chunks ++ replicate (m * 512) None
+    cells_more = flat_map-append (λ cells. cells) chunks (replicate m (replicate 512 None)) ∙ ap (λ l. all_cells chunks ++ l) (all_cells-replicate m 512 None)
 
-    none_after : (i : ℕ) → n ≤ i → get_or (all_cells chunks ++ replicate (m * 32) None) i None ≡ None
+    none_after : (i : ℕ) → n ≤ i → get_or (all_cells chunks ++ replicate (m * 512) None) i None ≡ None
     none_after i le = elim (cases_lt i (length (all_cells chunks))) [
-      | inl less ↦ get_or_append_left (all_cells chunks) (replicate (m * 32) None) None i less ∙ h.blank i le
+      | inl less ↦ get_or_append_left (all_cells chunks) (replicate (m * 512) None) None i less ∙ h.blank i le
       | inr past ↦ let at : length (all_cells chunks) + (i - length (all_cells chunks)) ≡ i = omega arith in
-          ap (λ k. get_or (all_cells chunks ++ replicate (m * 32) None) k None) (sym at) ∙ get_or-append-add (all_cells chunks) (replicate (m * 32) None) (i - length (all_cells chunks)) None ∙ blank_at (m * 32) (i - length (all_cells chunks))
+          ap (λ k. get_or (all_cells chunks ++ replicate (m * 512) None) k None) (sym at) ∙ get_or-append-add (all_cells chunks) (replicate (m * 512) None) (i - length (all_cells chunks)) None ∙ blank_at (m * 512) (i - length (all_cells chunks))
     ]
 
     length-more : length more ≡ length chunks + m
-    length-more = length-append chunks (replicate m (replicate 32 None)) ∙ ap (λ k. length chunks + k) (length-replicate {A = List (Option X)} m (replicate 32 None))
+    length-more = length-append chunks (replicate m (replicate 512 None)) ∙ ap (λ k. length chunks + k) (length-replicate {A = List (Option X)} m (replicate 512 None))
 
     -- of which by are slots
-    module _ (by : ℕ) (fits : n + by ≤ 32 * (length chunks + m)) where
+    module _ (by : ℕ) (fits : n + by ≤ 512 * (length chunks + m)) where
       pub IsSlots-more : n + by ≤ 2 ^ 30 → IsSlots more (n + by)
       IsSlots-more few = record {
         few = few;
         room = omega (arith, length-more);
-        full = full_more chunks (replicate 32 None) m h.full (length-replicate {A = Option X} 32 None);
+        full = full_more chunks (replicate 512 None) m h.full (length-replicate {A = Option X} 512 None);
         blank = λ i le. ap (λ l. get_or l i None) cells_more ∙ none_after i (omega arith);
       }
 
@@ -149,17 +154,17 @@ module _ {X : Type 0} (chunks : List (List (Option X))) (n : ℕ) (h : IsSlots c
       cells_in-more = ap (take (n + by)) cells_more ∙ ext_get_or None (take (n + by) all) (cells_in chunks n ++ replicate by None) lengths each
         where
           all : List (Option X)
-          all = all_cells chunks ++ replicate (m * 32) None
+          all = all_cells chunks ++ replicate (m * 512) None
 
           long : n + by ≤ length all
-          long = omega (arith, length-append (all_cells chunks) (replicate {A = Option X} (m * 32) None), length-replicate {A = Option X} (m * 32) None, length-all_cells chunks h.full)
+          long = omega (arith, length-append (all_cells chunks) (replicate {A = Option X} (m * 512) None), length-replicate {A = Option X} (m * 512) None, length-all_cells chunks h.full)
 
           lengths : length (take (n + by) all) ≡ length (cells_in chunks n ++ replicate by None)
           lengths = omega (arith, length-take-le (n + by) all long, length-append (cells_in chunks n) (replicate by None), length-replicate {A = Option X} by None, length-cells_in)
 
           each : (i : ℕ) → i < length (take (n + by) all) → get_or (take (n + by) all) i None ≡ get_or (cells_in chunks n ++ replicate by None) i None
           each i lt = get_or-take (n + by) all i None (omega (arith, length-take-le (n + by) all long)) ∙ elim (cases_lt i n) [
-            | inl less ↦ get_or_append_left (all_cells chunks) (replicate (m * 32) None) None i (omega (arith, cells_fit)) ∙ sym (get_or-take n (all_cells chunks) i None less)
+            | inl less ↦ get_or_append_left (all_cells chunks) (replicate (m * 512) None) None i (omega (arith, cells_fit)) ∙ sym (get_or-take n (all_cells chunks) i None less)
                 ∙ sym (get_or_append_left (cells_in chunks n) (replicate by None) None i (omega (arith, length-cells_in)))
             | inr past ↦ none_after i past ∙ sym (let at : length (cells_in chunks n) + (i - n) ≡ i = omega (arith, length-cells_in) in
                 ap (λ k. get_or (cells_in chunks n ++ replicate by None) k None) (sym at) ∙ get_or-append-add (cells_in chunks n) (replicate by None) (i - n) None ∙ blank_at by (i - n))
@@ -169,9 +174,9 @@ module _ {X : Type 0} (chunks : List (List (Option X))) (n : ℕ) (h : IsSlots c
     IsSlots-same = record {
       few = h.few;
       room = omega (arith, length-more, h.room);
-      full = full_more chunks (replicate 32 None) m h.full (length-replicate {A = Option X} 32 None);
+      full = full_more chunks (replicate 512 None) m h.full (length-replicate {A = Option X} 512 None);
       blank = λ i le. ap (λ l. get_or l i None) cells_more ∙ none_after i le;
     }
 
     pub cells_in-same : cells_in more n ≡ cells_in chunks n
-    cells_in-same = ap (take n) cells_more ∙ take-append-le n (all_cells chunks) (replicate (m * 32) None) cells_fit
+    cells_in-same = ap (take n) cells_more ∙ take-append-le n (all_cells chunks) (replicate (m * 512) None) cells_fit

@@ -3,6 +3,7 @@ pub mod ContentsLaws
 pub mod Cuts
 pub mod Entries
 pub mod Laid
+pub mod Made
 pub mod NameLaws
 pub mod Pooled
 pub mod Runs

@@ -279,6 +279,8 @@ module _ {X : Type 0} where
         run_is slot part h = record {
           first = value_kept slot (get_or cells slot None) refl ∙ (ap kept_in h.first ∙ get_kept part 0);
           each = λ k less. value_kept (slot + k) (get_or cells (slot + k) None) refl ∙ (ap kept_in (h.each k (omega (arith, length-map part kept_in))) ∙ get_kept part k);
+          whole = λ k less. value_kept (slot + k) (get_or cells (slot + k) None) refl ∙ (ap kept_in (h.whole k less) ∙ get_kept part k);
+          within = omega (arith, length-map part kept_in, h.within);
         }
 
         -- a slot that keeps nothing has no live name

@@ -18,4 +18,7 @@ module _ {X : Type 0} where
   lies_beside at slot (o ∷ run) h found = record {
     first = h.each 1 (omega (arith, there run found));
     each = λ k less. let further : slot + 1 + k ≡ slot + suc k = omega arith in ap at further ∙ h.each (suc k) (omega arith);
+    whole = λ k less. let further : slot + 1 + k ≡ slot + suc k = omega arith in
+        ap at further ∙ h.whole (suc k) (omega (arith, h.within, there run found));
+    within = omega (arith, h.within, there run found);
   }

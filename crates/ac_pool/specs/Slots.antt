@@ -1,6 +1,14 @@
--- How cells lie in chunks of 32, one after another.
-use Rattle.std.specs.Prelude.{◌≡◌, ℕ, ◌*◌, ◌<◌, ◌≤◌, ◌^◌, List, [], Option, None, get_or, length, take}
+-- How cells lie in chunks of 512, one after another, of which a chunk has made some.
+use Rattle.std.specs.Prelude.{◌≡◌, ℕ, ◌*◌, ◌-◌, ◌<◌, ◌≤◌, ◌^◌, List, [], ◌++◌, Option, None, get_or, length, take, replicate}
 use Rattle.std.specs.List.{flat_map}
+
+-- all cells of a chunk, of which these are made: the others keep nothing
+abbrev pub all_in : {X : Type 0} → List (Option X) → List (Option X)
+all_in made = made ++ replicate (512 - length made) None
+
+-- what holds of a chunk's cells: there is room for all of them
+abbrev pub IsChunk : {X : Type 0} → List (Option X) → ℕ → Type 0
+IsChunk made capacity = (512 ≤ capacity) × (length made ≤ 512)
 
 -- the cells of all chunks
 abbrev pub all_cells : {X : Type 0} → List (List X) → List X
@@ -10,13 +18,13 @@ all_cells chunks = flat_map (λ cells. cells) chunks
 abbrev pub cells_in : {X : Type 0} → List (List X) → ℕ → List X
 cells_in chunks n = take n (all_cells chunks)
 
--- every chunk has 32 cells
+-- every chunk has 512 cells
 abbrev pub AreFull : {X : Type 0} → List (List X) → Type 0
-AreFull chunks = (k : ℕ) → k < length chunks → length (get_or chunks k []) ≡ 32
+AreFull chunks = (k : ℕ) → k < length chunks → length (get_or chunks k []) ≡ 512
 
 -- what holds of n slots in these chunks: the cells past the last slot keep nothing
 pub record IsSlots {X : Type 0} (chunks : List (List (Option X))) (n : ℕ) : Type 0 where
   pub few : n ≤ 2 ^ 30
-  pub room : n ≤ 32 * length chunks
+  pub room : n ≤ 512 * length chunks
   pub full : AreFull chunks
   pub blank : (i : ℕ) → n ≤ i → get_or (all_cells chunks) i None ≡ None

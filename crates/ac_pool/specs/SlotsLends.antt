@@ -1,11 +1,8 @@
--- What the slots end as, once a `&mut` to a cell or a value has ended.
+-- What the slots end as, once a `&mut` to a value has ended.
 use Rattle.std.specs.Prelude.{ℕ, List, slice_set, Option, Some}
 use Rattle.std.specs.Borrow.{Fml, RattleType, MutBor, Lends}
 use Rattle.ac_pool.specs.contracts.slots.Slots.{the_row}
-use Rattle.ac_pool.specs.Cell.{serial_at, cell_row}
-
-abbrev pub lends_slot : (R : RattleType) → MutBor (List (Option (ℕ × R.Denot))) → ℕ → MutBor (Option (ℕ × R.Denot)) → Fml
-lends_slot R c i r = Lends (the_row R) (cell_row R) c r (λ w. slice_set c.now i w)
+use Rattle.ac_pool.specs.Cell.{serial_at}
 
 abbrev pub lends_slot_value : (R : RattleType) → MutBor (List (Option (ℕ × R.Denot))) → ℕ → MutBor R.Denot → Fml
 lends_slot_value R c i r = Lends (the_row R) R c r (λ w. slice_set c.now i (Some (serial_at c.now i, w)))

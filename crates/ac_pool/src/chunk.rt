@@ -1,9 +1,40 @@
-//! A fixed row of cells. Its vector is made with its full length and never grows, so that no cell moves.
-ghost use Rattle.std.specs.Prelude.{◌≡◌, ℕ, ◌<◌, ◌≤◌, drop, get_or, None, length, replicate, slice_set, IfOk};
+//! A row of cells that never move. Its vector is made with room for all of them, and has those up to the highest that was ever filled:
+//! memory that no value has reached isn't touched.
+ghost use Rattle.std.specs.Prelude.{◌≡◌, ℕ, ◌<◌, ◌≤◌, ◌++◌, get_or, Some, None, length, replicate, slice_set, vec_capacity, IfOk, option_copied};
 ghost use Rattle.std.specs.Borrow.{sem};
+ghost use Rattle.ac_pool.specs.Cell.{serial_in, serial_at, IsFull, IsKept};
+ghost use Rattle.ac_pool.specs.CellLends.{lends_kept};
+ghost use Rattle.ac_pool.specs.Runs.{IsRunOf};
 
 use std::alloc::{AllocError, Global};
 use std::marker::Model;
+
+/// Every chunk has so many cells.
+pub(crate) const CELLS: usize = 512;
+
+/// Makes the cells below the index, each empty.
+fn make_below<T>(cells: &mut Vec<Option<(u64, T)>>, index: usize)
+    requires room { index ≤ vec_capacity cells.old }
+    ensures made { (n : ℕ) × (cells.new.items ≡ cells.old.items ++ replicate n None) }
+    ensures there { index ≤ length cells.new.items }
+    ensures short { length cells.old.items ≤ 512 → index < 512 → length cells.new.items ≤ 512 }
+    ensures capacity { vec_capacity cells.new ≡ vec_capacity cells.old }
+{
+    for _ in cells.len()..index {
+        cells.push_reserved(None);
+    }
+}
+
+fn kept_mut<T>(cell: &mut Option<(u64, T)>) -> &mut T
+    requires { IsFull cell.old }
+    ensures* writes_back { sem 𝓛 (lends_kept T.row cell.entry result) }
+    ensures value { cell.old ≡ Some (serial_in cell.old, result.now) }
+{
+    match cell {
+        Some(entry) => &mut entry.1,
+        None => unreachable!(),
+    }
+}
 
 #[derive(Drop)]
 pub struct Chunk<T> {
@@ -12,56 +43,88 @@ pub struct Chunk<T> {
 }
 
 impl<T> Model for Chunk<T> {
-    ghost use Rattle.std.specs.Prelude.{ℕ, List, Option};
+    ghost use Rattle.std.specs.Prelude.{ℕ, List, Option, vec_capacity};
     ghost use Rattle.std.specs.Coded.{coded×, coded_list, coded_option, coded_ℕ};
 
     ghost Value = { List (Option (ℕ × T)) };
 
     ghost coded = { coded_list (coded_option (coded× coded_ℕ T.code)) };
 
-    ghost view = { λ c. c.cells.items };
+    ghost use Rattle.ac_pool.specs.Slots.{all_in, IsChunk};
+
+    ghost view = { λ c. all_in c.cells.items };
+
+    ghost invariant = { λ c. IsChunk c.cells.items (vec_capacity c.cells) };
 }
 
 impl<T> Chunk<T> {
-    ghost use Rattle.ac_pool.specs.ChunkLends.{lends_cell};
+    ghost use Rattle.ac_pool.specs.ChunkLends.{lends_cell_value};
 
-    pub(crate) fn new(alloc: Global, len: usize) -> Result<Chunk<T>, AllocError>
-        ensures { IfOk result (λ c. c ≡ replicate len None) }
+    pub(crate) fn new(alloc: Global) -> Result<Chunk<T>, AllocError>
+        ensures { IfOk result (λ c. c ≡ replicate 512 None) }
     {
-        let mut cells = Vec::with_capacity(alloc, len)?;
-        for _ in 0..len {
-            cells.push_reserved(None);
-        }
+        let cells = Vec::with_capacity(alloc, CELLS)?;
         Ok(Chunk { cells })
     }
 
-    pub(crate) fn len(&self) -> usize
-        ensures { result ≡ length self.now }
+    /// What the cell keeps.
+    #[inline(always)]
+    pub(crate) fn entry(&self, index: usize) -> Option<&(u64, T)>
+        ensures { option_copied result ≡ get_or self.now index None }
     {
-        self.cells.len()
+        match self.cells.get(index) {
+            Some(cell) => cell.as_ref(),
+            None => None,
+        }
     }
 
-    pub(crate) fn cell(&self, index: usize) -> &Option<(u64, T)>
-        requires { index < length self.now }
-        ensures { result.now ≡ get_or self.now index None }
-    {
-        &self.cells[index]
-    }
-
-    /// The cells from this one to the end.
+    /// The cells from this one on, but for empty ones at the end.
     #[inline(always)]
     pub(crate) fn cells_from(&self, index: usize) -> &[Option<(u64, T)>]
-        requires { index ≤ length self.now }
-        ensures { result.now ≡ drop index self.now }
+        requires { index < 512 }
+        ensures { IsRunOf self.now index result.now }
     {
+        if index >= self.cells.len() {
+            return &[];
+        }
         &self.cells[index..]
     }
 
-    pub(crate) fn cell_mut(&mut self, index: usize) -> &mut Option<(u64, T)>
-        requires { index < length self.old }
-        ensures* writes_back { sem 𝓛 (lends_cell T.row self.entry index result) }
-        ensures value { result.now ≡ get_or self.old index None }
+    #[inline(always)]
+    pub(crate) fn put(&mut self, index: usize, serial: u64, value: T)
+        requires within { index < 512 }
+        requires empty { get_or self.old index None ≡ None }
+        ensures { self.new ≡ slice_set self.old index (Some (serial, value)) }
     {
-        &mut self.cells[index]
+        make_below(&mut self.cells, index);
+        if index == self.cells.len() {
+            self.cells.push_reserved(Some((serial, value)));
+            return;
+        }
+        match self.cells[index].replace((serial, value)) {
+            None => {}
+            Some(_) => unreachable!(),
+        }
+    }
+
+    #[inline(always)]
+    pub(crate) fn take(&mut self, index: usize) -> T
+        requires { IsKept self.old index }
+        ensures value { get_or self.old index None ≡ Some (serial_at self.old index, result) }
+        ensures cells { self.new ≡ slice_set self.old index None }
+    {
+        match self.cells[index].take() {
+            Some((_, value)) => value,
+            None => unreachable!(),
+        }
+    }
+
+    #[inline(always)]
+    pub(crate) fn value_mut(&mut self, index: usize) -> &mut T
+        requires { IsKept self.old index }
+        ensures* writes_back { sem 𝓛 (lends_cell_value T.row self.entry index result) }
+        ensures value { get_or self.old index None ≡ Some (serial_at self.old index, result.now) }
+    {
+        kept_mut(&mut self.cells[index])
     }
 }

@@ -141,6 +141,7 @@ impl<T> Pool<T> {
         Name { slot, serial }
     }
 
+    #[inline(always)]
     fn is_live(&self, name: Name) -> bool
         ensures live { IsTrue result ↔ IsLive self.now name }
         ensures sound { IsSound self.now }
@@ -152,6 +153,7 @@ impl<T> Pool<T> {
     }
 
     /// The live name of the slot, or `None` where the slot keeps nothing or isn't there.
+    #[inline(always)]
     pub fn name_in(&self, slot: u32) -> Option<Name>
         ensures name { result ≡ name_in self.now slot }
         ensures sound { IsSound self.now }
@@ -170,7 +172,8 @@ impl<T> Pool<T> {
         self.slots.value(slot as usize)
     }
 
-    /// The slots from this one to the end of its chunk, each with the value under its live name, or none where there is no such slot.
+    /// The slots from this one to the end of its chunk, each with the value under its live name, but for those that keep nothing at the
+    /// end, or none where there is no such slot.
     #[inline(always)]
     pub fn run_at(&self, slot: u32) -> Run<'_, T>
         ensures { LiesFrom (value_in self.now) slot result }
@@ -179,6 +182,7 @@ impl<T> Pool<T> {
     }
 
     /// The value under the name, or `None` where the name is not live.
+    #[inline(always)]
     pub fn get(&self, name: Name) -> Option<&T>
         ensures { option_copied result ≡ value_of self.now name }
     {
@@ -190,6 +194,7 @@ impl<T> Pool<T> {
     }
 
     /// As `get`, for writing.
+    #[inline(always)]
     pub fn get_mut(&mut self, name: Name) -> Option<&mut T>
         ensures* writes_back { sem 𝓛 (lends_value T.row self.entry name result) }
         ensures value { option_copied_mut result ≡ value_of self.old name }

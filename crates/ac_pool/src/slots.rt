@@ -1,19 +1,15 @@
 //! The slots of a pool: chunks that never move, to which a growth adds more. A contract sees their cells as one list.
-ghost use Rattle.std.specs.Prelude.{◌≡◌, ℕ, ◌+◌, ◌*◌, ◌^◌, ◌<◌, ◌≤◌, get_or, List, [], ◌++◌, Option, Some, None, length, replicate, slice_set, OnOk, OnErr, IfSome, IfNone};
+ghost use Rattle.std.specs.Prelude.{◌≡◌, ℕ, ◌+◌, ◌*◌, ◌^◌, ◌<◌, ◌≤◌, get_or, List, [], ◌++◌, Option, Some, None, length, replicate, slice_set, OnOk, OnErr, IfSome, IfNone, option_copied};
 ghost use Rattle.std.specs.Borrow.{sem};
-ghost use Rattle.ac_pool.specs.Cell.{serial_in, serial_of, serial_at, IsFull, IsKept};
-ghost use Rattle.ac_pool.specs.CellLends.{lends_kept};
+ghost use Rattle.ac_pool.specs.Cell.{serial_of, serial_at, IsKept};
 ghost use Rattle.ac_pool.specs.Runs.{LiesFrom};
 
-use crate::chunk::Chunk;
+use crate::chunk::{CELLS, Chunk};
 use std::alloc::{AllocError, Global};
 use std::marker::Model;
 
-/// Every chunk has so many cells.
-const CELLS: usize = 32;
-
 fn chunk_of(slot: usize) -> usize
-    ensures { (32 * result ≤ slot) × (slot < 32 * result + 32) }
+    ensures { (512 * result ≤ slot) × (slot < 512 * result + 512) }
 {
     slot / CELLS
 }
@@ -21,44 +17,23 @@ fn chunk_of(slot: usize) -> usize
 /// How many chunks hold so many slots.
 fn chunks_for(slots: usize) -> usize
     requires { slots ≤ 2 ^ 30 }
-    ensures { slots ≤ 32 * result }
+    ensures { slots ≤ 512 * result }
 {
     (slots + (CELLS - 1)) / CELLS
 }
 
 /// Adds so many chunks of empty cells. Where it fails it may have added some.
 fn add_chunks<T>(chunks: &mut Vec<Chunk<T>>, count: usize) -> Result<(), AllocError>
-    ensures ok { OnOk result (chunks.new.items ≡ chunks.old.items ++ replicate count (replicate 32 None)) }
-    ensures err { OnErr result ((n : ℕ) × (chunks.new.items ≡ chunks.old.items ++ replicate n (replicate 32 None))) }
+    ensures ok { OnOk result (chunks.new.items ≡ chunks.old.items ++ replicate count (replicate 512 None)) }
+    ensures err { OnErr result ((n : ℕ) × (chunks.new.items ≡ chunks.old.items ++ replicate n (replicate 512 None))) }
 {
     let alloc = *chunks.allocator();
     chunks.reserve(count)?;
     for _ in 0..count {
-        let chunk = Chunk::new(alloc, CELLS)?;
+        let chunk = Chunk::new(alloc)?;
         chunks.push_reserved(chunk);
     }
     Ok(())
-}
-
-fn kept<T>(cell: &Option<(u64, T)>) -> &T
-    requires { IsFull cell.now }
-    ensures { cell.now ≡ Some (serial_in cell.now, result.now) }
-{
-    match cell {
-        Some((_, value)) => value,
-        None => unreachable!(),
-    }
-}
-
-fn kept_mut<T>(cell: &mut Option<(u64, T)>) -> &mut T
-    requires { IsFull cell.old }
-    ensures* writes_back { sem 𝓛 (lends_kept T.row cell.entry result) }
-    ensures value { cell.old ≡ Some (serial_in cell.old, result.now) }
-{
-    match cell {
-        Some(entry) => &mut entry.1,
-        None => unreachable!(),
-    }
 }
 
 #[derive(Drop)]
@@ -84,7 +59,7 @@ impl<T> Model for Slots<T> {
 }
 
 impl<T> Slots<T> {
-    ghost use Rattle.ac_pool.specs.SlotsLends.{lends_slot, lends_slot_value};
+    ghost use Rattle.ac_pool.specs.SlotsLends.{lends_slot_value};
 
     pub(crate) fn new(alloc: Global) -> Slots<T>
         ensures { result ≡ [] }
@@ -108,6 +83,7 @@ impl<T> Slots<T> {
         Ok(())
     }
 
+    #[inline(always)]
     pub(crate) fn len(&self) -> usize
         ensures count { result ≡ length self.now }
         ensures few { result ≤ 2 ^ 30 }
@@ -115,22 +91,16 @@ impl<T> Slots<T> {
         self.len
     }
 
-    // Without a branch or a table, so that several reads of one slot find its cell once.
-    fn cell(&self, slot: usize) -> &Option<(u64, T)>
-        requires { slot < length self.now }
-        ensures { result.now ≡ get_or self.now slot None }
+    // By divisions without a branch or a table, so that several reads of one slot find its cell once.
+    #[inline(always)]
+    fn entry(&self, slot: usize) -> Option<&(u64, T)>
+        ensures { option_copied result ≡ get_or self.now slot None }
     {
+        if slot >= self.len() {
+            return None;
+        }
         let chunk = &self.chunks[chunk_of(slot)];
-        chunk.cell(slot % CELLS)
-    }
-
-    fn cell_mut(&mut self, slot: usize) -> &mut Option<(u64, T)>
-        requires { slot < length self.old }
-        ensures* writes_back { sem 𝓛 (lends_slot T.row self.entry slot result) }
-        ensures value { result.now ≡ get_or self.old slot None }
-    {
-        let chunk = &mut self.chunks[chunk_of(slot)];
-        chunk.cell_mut(slot % CELLS)
+        chunk.entry(slot % CELLS)
     }
 
     /// The value in the slot, if there is such a slot and it keeps one.
@@ -139,16 +109,13 @@ impl<T> Slots<T> {
         ensures found { IfSome result (λ value. get_or self.now slot None ≡ Some (serial_at self.now slot, value.now)) }
         ensures none { IfNone result (get_or self.now slot None ≡ None) }
     {
-        if slot >= self.len() {
-            return None;
-        }
-        match self.cell(slot) {
+        match self.entry(slot) {
             Some((_, value)) => Some(value),
             None => None,
         }
     }
 
-    /// The cells from the slot to the end of its chunk, or none where there is no such slot.
+    /// The cells from the slot to the end of its chunk, but for empty ones at the end, or none where there is no such slot.
     #[inline(always)]
     pub(crate) fn cells_from(&self, slot: usize) -> &[Option<(u64, T)>]
         ensures { LiesFrom (λ i. get_or self.now i None) slot result.now }
@@ -161,52 +128,54 @@ impl<T> Slots<T> {
     }
 
     /// The serial of the value in the slot, if there is such a slot and it keeps one.
+    #[inline(always)]
     pub(crate) fn serial(&self, slot: usize) -> Option<u64>
         ensures { result ≡ serial_of (get_or self.now slot None) }
     {
-        if slot >= self.len() {
-            return None;
-        }
-        match self.cell(slot) {
+        match self.entry(slot) {
             Some((serial, _)) => Some(*serial),
             None => None,
         }
     }
 
+    #[inline(always)]
     pub(crate) fn put(&mut self, slot: usize, serial: u64, value: T)
         requires within { slot < length self.old }
         requires empty { get_or self.old slot None ≡ None }
         ensures { self.new ≡ slice_set self.old slot (Some (serial, value)) }
     {
-        match self.cell_mut(slot).replace((serial, value)) {
-            None => {}
-            Some(_) => unreachable!(),
-        }
+        let chunk = &mut self.chunks[chunk_of(slot)];
+        chunk.put(slot % CELLS, serial, value);
     }
 
+    #[inline(always)]
     pub(crate) fn take(&mut self, slot: usize) -> T
         requires { IsKept self.old slot }
         ensures value { get_or self.old slot None ≡ Some (serial_at self.old slot, result) }
         ensures cells { self.new ≡ slice_set self.old slot None }
     {
-        match self.cell_mut(slot).take() {
-            Some((_, value)) => value,
-            None => unreachable!(),
-        }
+        let chunk = &mut self.chunks[chunk_of(slot)];
+        chunk.take(slot % CELLS)
     }
 
+    #[inline(always)]
     pub(crate) fn get(&self, slot: usize) -> &T
         requires { IsKept self.now slot }
         ensures { get_or self.now slot None ≡ Some (serial_at self.now slot, result.now) }
     {
-        kept(self.cell(slot))
+        match self.value(slot) {
+            Some(value) => value,
+            None => unreachable!(),
+        }
     }
 
+    #[inline(always)]
     pub(crate) fn get_mut(&mut self, slot: usize) -> &mut T
         requires { IsKept self.old slot }
         ensures* writes_back { sem 𝓛 (lends_slot_value T.row self.entry slot result) }
         ensures value { get_or self.old slot None ≡ Some (serial_at self.old slot, result.now) }
     {
-        kept_mut(self.cell_mut(slot))
+        let chunk = &mut self.chunks[chunk_of(slot)];
+        chunk.value_mut(slot % CELLS)
     }
 }

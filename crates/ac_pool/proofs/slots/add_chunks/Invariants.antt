@@ -5,5 +5,5 @@ abbrev pub invariant-loop : goal.invariant-loop
 invariant-loop g l = record {
   room : vec_len l.initial.chunks + l.count ≤ vec_capacity l.chunks;
   long : vec_len l.chunks ≡ vec_len l.initial.chunks + l.counter;
-  added : l.chunks.items ≡ l.initial.chunks.items ++ replicate l.counter (replicate 32 None);
+  added : l.chunks.items ≡ l.initial.chunks.items ++ replicate l.counter (replicate 512 None);
 }

@@ -1,9 +1,0 @@
-use Rattle.std.proofs.Common.{◌≡◌, ◌<◌, ◌+◌, ◌*◌, ◌%◌, ◌∙◌, sym, arith}
-use Rattle.ac_pool.proofs.Laid.{slot_within, cell_in}
-use Rattle.ac_pool.proofs.slots.Slots.cell.Goals as goal
-
-pub returns : goal.returns
-returns g c =
-    let a = c.self.inside in let i = c.args.slot in let k = c.chunk_of.result in let lt : i < a.len = slot_within a.chunks.items a.len c.self.invariant i (rw c.self.view_is c.requires) in
-    let at : i ≡ 32 * k + i % 32 = omega (arith, c.chunk_of.ensures.0, c.chunk_of.ensures.1) in let within : i % 32 < 32 = omega arith in
-    rw (← c.self.view_is) (c.cell.ensures ∙ sym (cell_in a.chunks.items a.len c.self.invariant i k (i % 32) lt at within c.index-chunk.result.now c.index-chunk.ensures))
