@@ -28,6 +28,7 @@ impl<T> Links<T> {
     ghost use Rattle.ac_chain.specs.LinksLends.{lends_node_value};
     ghost use Rattle.ac_chain.specs.declared.links.Node.{Node};
 
+    #[inline(always)]
     fn next_link(&self, name: Name) -> u32
         ensures { result ≡ next_link (value_of self.now.nodes name) }
     {
@@ -47,6 +48,7 @@ impl<T> Links<T> {
     }
 
     /// The name to which a link leads.
+    #[inline(always)]
     fn name_in(&self, slot: u32) -> Option<Name>
         ensures { result ≡ name_in self.now.nodes slot }
     {

@@ -46,6 +46,7 @@ pub fn put_each<T: Drop>(
 }
 
 /// Puts so many copies of the element before the place. The answer is the first one's name.
+#[inline(always)]
 pub fn put_copies<T: Elem>(
     chain: &mut Chain<T>,
     alloc: Global,

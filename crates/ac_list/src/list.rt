@@ -149,6 +149,7 @@ impl<T> List<T> {
     }
 
     /// Next (A.18.3).
+    #[inline(always)]
     pub fn next(&self, b: Cursor) -> Result<Cursor, Fault>
         ensures { Looks (Marks self.now.object) (λ o. sequences.next_call o (seen_by self.now b)) self.now result }
     {

@@ -58,6 +58,7 @@ impl Objects {
     }
 
     /// Begins the next turn, or says that there is none. The name of the turn before goes.
+    #[inline(always)]
     pub fn step_loop(&mut self, elements: bool, key: &mut LoopKey) -> Result<bool, NoMemory>
         requires object { IsObject (state_of self.old) key.old.object }
         requires inner { key.old.object < key.old.names }

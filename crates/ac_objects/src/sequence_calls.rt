@@ -20,6 +20,7 @@ use ac_check::SequenceCall;
 use std::alloc::Global;
 
 /// A call that lists and vectors share.
+#[inline(always)]
 pub fn sequence_call<T: ScriptElement>(
     sequence: &mut Sequence<T>,
     alloc: Global,

@@ -30,6 +30,7 @@ impl<T> WithCapacity for Vector<T> {
 }
 
 /// A call of vectors alone, where the vector is its own source if the call has one.
+#[inline(always)]
 pub fn vector_call<T: ScriptElement>(
     vector: &mut Vector<T>,
     alloc: Global,

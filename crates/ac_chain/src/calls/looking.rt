@@ -31,6 +31,7 @@ pub fn last<T, S: Sequence<T>>(s: &S) -> Cursor
     named(s, s.rows().last())
 }
 
+#[inline(always)]
 pub fn next<T, S: Sequence<T>>(s: &S, b: Cursor) -> Result<Cursor, Fault>
     ensures { Looks (Marks (S.seen s.now).object) (λ o. sequences.next_call o (seen_by (S.seen s.now) b)) (S.seen s.now) result }
 {
@@ -79,6 +80,7 @@ pub fn element<T, S: Sequence<T>>(s: &S, c: Cursor) -> Result<&T, Fault>
 }
 
 /// Why a cursor that must designate an element is refused.
+#[inline(always)]
 pub fn needs<T, S: Sequence<T>>(s: &S, c: Cursor) -> Option<Reason>
     ensures { result ≡ needs_cursor (S.seen s.now).object c }
 {
