@@ -1,6 +1,6 @@
 -- Texts and integers with their hashes, keys and order.
-use Rattle.std.specs.Prelude.{◌≡◌, true, false, pos, negsuc, codes, []}
-use Rattle.ac_base.specs.Hash.{hash_of_bytes, hash_of_integer}
+use Rattle.std.specs.Prelude.{◌≡◌, ◌+◌, ◌^◌, true, false, pos, negsuc, codes, []}
+use Rattle.ac_base.specs.Hash.{hash_of_bytes, hash_of_integer, wide_hash_of_integer}
 use Rattle.ac_base.specs.Key.{key_of_text}
 use Rattle.ac_base.specs.Order.{integer_less, text_less}
 
@@ -12,6 +12,10 @@ HashOfLetter = hash_of_bytes (codes "a") ≡ 314
 
 abbrev pub HashOfZero : Type 0
 HashOfZero = hash_of_integer (pos 0) ≡ 232720647
+
+-- zero's is 217
+abbrev pub WideHashOfOne : Type 0
+WideHashOfOne = wide_hash_of_integer (pos 1) ≡ 2 ^ 32 + 218
 
 abbrev pub KeyBeforeSign : Type 0
 KeyBeforeSign = key_of_text (codes "a=1=2") ≡ codes "a"

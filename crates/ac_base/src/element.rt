@@ -1,4 +1,4 @@
-ghost use Rattle.std.specs.Prelude.{◌≡◌, ◌↔◌, ◌+◌, ◌<◌, ℕ, Bool, IsTrue, IfOk};
+ghost use Rattle.std.specs.Prelude.{◌≡◌, ◌↔◌, ◌+◌, ◌%◌, ◌^◌, ◌<◌, ℕ, Bool, IsTrue, IfOk};
 ghost use Rattle.std.specs.Cmp.{IsEquivalence};
 ghost use Rattle.ac_base.specs.Order.{IsWeakOrder, IsTied};
 
@@ -51,15 +51,25 @@ pub trait Hashed: Elem {
 
     ghost hash_of: { Self → ℕ };
 
+    ghost wide_hash_of: { Self → ℕ };
+
     fn alike(&self, other: &Self) -> bool
         ensures { result ≡ is_alike self.now other.now };
 
     fn hash(&self) -> u32
         ensures { result ≡ hash_of self.now };
 
+    /// A hash in twice as many bits. Its low half follows from `hash`, and its high half may tell elements apart whose hashes are equal.
+    fn wide_hash(&self) -> u64
+        ensures { result ≡ wide_hash_of self.now };
+
     ghost equivalence: { IsEquivalence is_alike };
 
     ghost alike_hashes: { (x y : Self) → IsTrue (is_alike x y) → hash_of x ≡ hash_of y };
+
+    ghost alike_wide_hashes: { (x y : Self) → IsTrue (is_alike x y) → wide_hash_of x ≡ wide_hash_of y };
+
+    ghost low_halves: { (x y : Self) → hash_of x ≡ hash_of y → wide_hash_of x % 2 ^ 32 ≡ wide_hash_of y % 2 ^ 32 };
 }
 
 /// Elements that are ordered, alike and hashed by their keys.

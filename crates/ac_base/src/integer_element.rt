@@ -3,12 +3,12 @@ ghost use Rattle.std.specs.Ordering.{int_eq};
 ghost use Rattle.std.proofs.lemmas.Cmp.{int_eq_equiv};
 ghost use Rattle.ac_base.specs.Order.{integer_less};
 ghost use Rattle.ac_base.specs.OrderLaws.{integer_order, integers_alike_where_tied, integers_same};
-ghost use Rattle.ac_base.specs.Hash.{hash_of_integer};
-ghost use Rattle.ac_base.specs.HashLaws.{alike_integers_hashes};
+ghost use Rattle.ac_base.specs.Hash.{hash_of_integer, wide_hash_of_integer};
+ghost use Rattle.ac_base.specs.HashLaws.{alike_integers_hashes, alike_integers_wide_hashes, integers_low_halves};
 
 use crate::element::{Elem, Hashed, KeyOf, Rank};
 use crate::fault::NoMemory;
-use crate::hash::hash_bytes;
+use crate::hash::{hash_bytes, widened};
 use crate::steps::Steps;
 use std::alloc::Global;
 use std::sync::ledger::Ledger;
@@ -61,9 +61,15 @@ impl Hashed for i64 {
 
     ghost hash_of = { hash_of_integer };
 
+    ghost wide_hash_of = { wide_hash_of_integer };
+
     ghost equivalence = { int_eq_equiv };
 
     ghost alike_hashes = { alike_integers_hashes };
+
+    ghost alike_wide_hashes = { alike_integers_wide_hashes };
+
+    ghost low_halves = { integers_low_halves };
 
     fn alike(&self, other: &i64) -> bool {
         *self == *other
@@ -71,6 +77,11 @@ impl Hashed for i64 {
 
     fn hash(&self) -> u32 {
         hash_bytes(&self.to_le_bytes())
+    }
+
+    #[inline(always)]
+    fn wide_hash(&self) -> u64 {
+        widened(self.hash(), self.cast_unsigned())
     }
 }
 

@@ -7,7 +7,7 @@ ghost use Rattle.ac_base.specs.declared.reason.Reason.{Reason};
 ghost use Rattle.ac_base.specs.declared.reason.Reason.TheVariants.{CursorTampering, ElementTampering, NoElement, ForeignCursor, DeadCursor, RootNode, NotChild, NotLeaf, LengthRange, CapacityFull, NamesSpent};
 ghost use Rattle.ac_base.specs.Growth.{pow8, IsLeastPow8};
 ghost use Rattle.ac_base.specs.Text.{IsText, first_bad_place};
-ghost use Rattle.ac_base.specs.Examples.{HashOfEmpty, HashOfLetter, HashOfZero, KeyBeforeSign, KeyWithoutSign, FrontIsLess, FirstDifferenceDecides, NegativeIsLess};
+ghost use Rattle.ac_base.specs.Examples.{HashOfEmpty, HashOfLetter, HashOfZero, WideHashOfOne, KeyBeforeSign, KeyWithoutSign, FrontIsLess, FirstDifferenceDecides, NegativeIsLess};
 
 /// Worked hashes, keys and orders.
 #[tactic(auto, unfolding(crate::specs::Hash::hash_of_bytes))]
@@ -15,6 +15,7 @@ pub fn examples()
     ensures hash_of_empty { HashOfEmpty }
     ensures hash_of_letter { HashOfLetter }
     ensures hash_of_zero { HashOfZero }
+    ensures wide_hash_of_one { WideHashOfOne }
     ensures key_before_sign { KeyBeforeSign }
     ensures key_without_sign { KeyWithoutSign }
     ensures front_is_less { FrontIsLess }

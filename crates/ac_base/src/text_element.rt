@@ -5,7 +5,7 @@ ghost use Rattle.ac_base.specs.Key.{key_of_text};
 ghost use Rattle.ac_base.specs.Order.{text_less, text_alike};
 ghost use Rattle.ac_base.specs.OrderLaws.{text_order, key_order, text_equivalence, texts_same, texts_alike_where_tied, keyed_texts_alike_where_tied};
 ghost use Rattle.ac_base.specs.Hash.{hash_of_bytes};
-ghost use Rattle.ac_base.specs.HashLaws.{alike_texts_hashes};
+ghost use Rattle.ac_base.specs.HashLaws.{alike_texts_hashes, texts_low_halves};
 
 use crate::element::{Elem, Hashed, KeyOf, Rank};
 use crate::fault::NoMemory;
@@ -61,9 +61,15 @@ impl Hashed for Text {
 
     ghost hash_of = { hash_of_bytes };
 
+    ghost wide_hash_of = { hash_of_bytes };
+
     ghost equivalence = { text_equivalence };
 
     ghost alike_hashes = { alike_texts_hashes };
+
+    ghost alike_wide_hashes = { alike_texts_hashes };
+
+    ghost low_halves = { texts_low_halves };
 
     fn alike(&self, other: &Text) -> bool {
         *self == *other
@@ -71,6 +77,10 @@ impl Hashed for Text {
 
     fn hash(&self) -> u32 {
         hash_bytes(self.bytes())
+    }
+
+    fn wide_hash(&self) -> u64 {
+        self.hash() as u64
     }
 }
 
@@ -138,9 +148,15 @@ impl Hashed for KeyedText {
 
     ghost hash_of = { λ keyed. hash_of_bytes (key_of_text keyed) };
 
+    ghost wide_hash_of = { λ keyed. hash_of_bytes (key_of_text keyed) };
+
     ghost equivalence = { on_equiv key_of_text text_equivalence };
 
     ghost alike_hashes = { λ x y. alike_texts_hashes (key_of_text x) (key_of_text y) };
+
+    ghost alike_wide_hashes = { λ x y. alike_texts_hashes (key_of_text x) (key_of_text y) };
+
+    ghost low_halves = { λ x y. texts_low_halves (key_of_text x) (key_of_text y) };
 
     fn alike(&self, other: &KeyedText) -> bool {
         self.key().alike(other.key())
@@ -148,6 +164,10 @@ impl Hashed for KeyedText {
 
     fn hash(&self) -> u32 {
         self.key().hash()
+    }
+
+    fn wide_hash(&self) -> u64 {
+        self.key().wide_hash()
     }
 }
 

@@ -13,7 +13,7 @@ use Rattle.ac_base.proofs.Powers.{pow8-unique}
 use Rattle.ac_buckets.specs.declared.linked.Node.{Node}
 use Rattle.ac_buckets.specs.Pairs.{names_in, IsOnce, IsSound}
 use Rattle.ac_buckets.specs.BucketFields.{seen_in, IsBuckets}
-use Rattle.ac_buckets.specs.Linked.{IsLastLink, AreLinked, Relinks, links_of, rows_of, marks_of, buckets_of, blank_node, blank_row, name_behind}
+use Rattle.ac_buckets.specs.Linked.{name_of, IsLastLink, AreLinked, Relinks, links_of, rows_of, marks_of, buckets_of, blank_node, blank_row, name_behind}
 use Rattle.ac_buckets.proofs.InBucket.{in_bucket, reversed, first_behind, split_from, meets}
 use Rattle.ac_buckets.proofs.Removing.{IsOnce-swap_remove, length-swap_remove, map-swap_remove}
 use Rattle.ac_buckets.proofs.Linking.{last_agree, length-marks}
@@ -68,7 +68,7 @@ first_met nodes heads capacity hash link h some is =
     ∙ ap (λ ns. slice_get ns 0) (sym (walk_names nodes heads capacity hash h some))
 
 -- the node that `find` gave, and the link behind it
-pub next_met : (nodes : List Node) (heads : List ℕ) (capacity : ℕ) (hash i : ℕ) (before rest : List Name) (name : Name) → IsBuckets nodes heads capacity → 0 < length heads → i < length nodes → (node_at nodes i).name ≡ name →
+pub next_met : (nodes : List Node) (heads : List ℕ) (capacity : ℕ) (hash i : ℕ) (before rest : List Name) (name : Name) → IsBuckets nodes heads capacity → 0 < length heads → i < length nodes → name_of (node_at nodes i) ≡ name →
     (node_at nodes i).hash % length heads ≡ hash % length heads → names_in (seen_in nodes heads) hash ≡ before ++ (name ∷ rest) → name_behind nodes (node_at nodes i).next ≡ slice_get rest 0
 next_met nodes heads capacity hash i before rest name h some less is bucket e =
     let size = length heads in let b = hash % size in
@@ -79,12 +79,12 @@ next_met nodes heads capacity hash i before rest name h some less is bucket e =
 
 -- where `find` gave none, no walk meets the name
 pub none_met : (nodes : List Node) (heads : List ℕ) (capacity : ℕ) (hash : ℕ) (before rest : List Name) (name : Name) → IsBuckets nodes heads capacity → 0 < length heads →
-    ((k : ℕ) → k < length nodes → (node_at nodes k).hash % length heads ≡ hash % length heads → (node_at nodes k).name ≢ name) → names_in (seen_in nodes heads) hash ≡ before ++ (name ∷ rest) → ⊥
+    ((k : ℕ) → k < length nodes → (node_at nodes k).hash % length heads ≡ hash % length heads → name_of (node_at nodes k) ≢ name) → names_in (seen_in nodes heads) hash ≡ before ++ (name ∷ rest) → ⊥
 none_met nodes heads capacity hash before rest name h some none e =
     let size = length heads in
     let from = split_from size (hash % size) nodes (length nodes) before name rest (sym (walk_names nodes heads capacity hash h some) ∙ e) in none from.place from.within from.bucket from.name_is
 
-pub met : (nodes : List Node) (heads : List ℕ) (capacity : ℕ) (hash i : ℕ) (name : Name) → IsBuckets nodes heads capacity → 0 < length heads → i < length nodes → (node_at nodes i).name ≡ name →
+pub met : (nodes : List Node) (heads : List ℕ) (capacity : ℕ) (hash i : ℕ) (name : Name) → IsBuckets nodes heads capacity → 0 < length heads → i < length nodes → name_of (node_at nodes i) ≡ name →
     (node_at nodes i).hash % length heads ≡ hash % length heads → Contains (names_in (seen_in nodes heads) hash) name
 met nodes heads capacity hash i name h some less is bucket =
     let size = length heads in
@@ -95,7 +95,7 @@ pub Relinks-pushed : (nodes : List Node) (heads : List ℕ) (n : Node) → AreLi
 Relinks-pushed nodes heads n h =
     let size = length heads in
     let ms = marks_of size nodes in
-    let more : marks_of size (nodes ++ n ∷ []) ≡ ms ++ n.hash % size ∷ [] = ap (buckets_of size) (map_push (λ (n : Node). row n.name n.hash) nodes n) ∙ map_push (λ (r : Row Name ℕ). r.value % size) (rows_of nodes) (row n.name n.hash) in
+    let more : marks_of size (nodes ++ n ∷ []) ≡ ms ++ n.hash % size ∷ [] = ap (buckets_of size) (map_push (λ (n : Node). row (name_of n) n.hash) nodes n) ∙ map_push (λ (r : Row Name ℕ). r.value % size) (rows_of nodes) (row (name_of n) n.hash) in
     let long = length-marks size nodes in
     let hole : set (marks_of size (nodes ++ n ∷ [])) (length nodes) size ≡ ms ++ size ∷ [] = ap (λ m. set m (length nodes) size) more ∙ set_at ms (n.hash % size) [] size (length nodes) long in
     let front : (k : ℕ) → k < length ms → get_or (ms ++ size ∷ []) k 0 ≡ get_or ms k 0 = λ k less. get_or_append_left ms (size ∷ []) 0 k less in
@@ -165,8 +165,8 @@ IsBuckets-dropped nodes after heads heads_after capacity capacity_after i h less
     let long : length after ≡ length nodes - 1 = sym (length-rows after) ∙ ap length rows ∙ length-swap_remove (rows_of nodes) i blank_row ∙ ap (λ n. n - 1) many in
     record {
       linked = linked;
-      once = subst IsOnce (sym (ap names rows ∙ map-swap_remove (λ (r : Row Name ℕ). r.name) (rows_of nodes) i blank_row blank_node.name (omega arith)))
-          (IsOnce-swap_remove (names (rows_of nodes)) i blank_node.name (omega (arith, length-names (rows_of nodes))) h.once);
+      once = subst IsOnce (sym (ap names rows ∙ map-swap_remove (λ (r : Row Name ℕ). r.name) (rows_of nodes) i blank_row (name_of blank_node) (omega arith)))
+          (IsOnce-swap_remove (names (rows_of nodes)) i (name_of blank_node) (omega (arith, length-names (rows_of nodes))) h.once);
       fits = omega (arith, h.fits);
       room = omega (arith, h.room);
       few = omega (arith, h.few);

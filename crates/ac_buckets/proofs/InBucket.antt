@@ -7,13 +7,13 @@ use Rattle.std.proofs.lemmas.List.Elements.{Contains-append_right}
 use Rattle.ac_base.specs.declared.name.Name.{Name}
 use Rattle.ac_base.specs.Rows.{Row, row, names}
 use Rattle.ac_buckets.specs.declared.linked.Node.{Node}
-use Rattle.ac_buckets.specs.Linked.{rows_of, blank_row, name_behind}
+use Rattle.ac_buckets.specs.Linked.{name_of, rows_of, blank_row, name_behind}
 use Rattle.ac_buckets.proofs.Walks.{node_at, IsLastNode, row_at, length-rows}
 
 -- the rows of the first n nodes, the last one first
 abbrev pub below : List Node → ℕ → List (Row Name ℕ)
 below nodes zero = []
-below nodes (suc n) = row (node_at nodes n).name (node_at nodes n).hash ∷ below nodes n
+below nodes (suc n) = row (name_of (node_at nodes n)) (node_at nodes n).hash ∷ below nodes n
 
 reverse_push : (rows : List (Row Name ℕ)) (r : Row Name ℕ) → reverse (rows ++ r ∷ []) ≡ r ∷ reverse rows
 reverse_push rows r = reverse-append rows (r ∷ [])
@@ -25,7 +25,7 @@ below_is nodes (suc n) fits =
     let one : suc n ≡ n + 1 = omega arith in
     let more : take (suc n) (rows_of nodes) ≡ take n (rows_of nodes) ++ get_or (rows_of nodes) n blank_row ∷ [] = ap (λ k. take k (rows_of nodes)) one ∙ take_more (rows_of nodes) n blank_row (omega arith) in
     ap reverse more ∙ reverse_push (take n (rows_of nodes)) (get_or (rows_of nodes) n blank_row) ∙ ap (λ r. r ∷ reverse (take n (rows_of nodes))) (row_at nodes n blank_row (omega arith))
-    ∙ ap (λ rows. row (node_at nodes n).name (node_at nodes n).hash ∷ rows) (below_is nodes n (omega arith))
+    ∙ ap (λ rows. row (name_of (node_at nodes n)) (node_at nodes n).hash ∷ rows) (below_is nodes n (omega arith))
 
 pub reversed : (nodes : List Node) → reverse (rows_of nodes) ≡ below nodes (length nodes)
 reversed nodes = ap reverse (sym (take_all (length nodes) (rows_of nodes) (omega (arith, length-rows nodes)))) ∙ below_is nodes (length nodes) (omega arith)
@@ -42,7 +42,7 @@ pub left_out : (t : Bool) (r : Row Name ℕ) (rows : List (Row Name ℕ)) → t 
 left_out false r rows e = refl
 left_out true r rows e = cc
 
-pub in_more : (size b : ℕ) (nodes : List Node) (n : ℕ) → (node_at nodes n).hash % size ≡ b → in_bucket size b nodes (suc n) ≡ (node_at nodes n).name ∷ in_bucket size b nodes n
+pub in_more : (size b : ℕ) (nodes : List Node) (n : ℕ) → (node_at nodes n).hash % size ≡ b → in_bucket size b nodes (suc n) ≡ name_of (node_at nodes n) ∷ in_bucket size b nodes n
 in_more size b nodes n is = filtered ((node_at nodes n).hash % size == b) _ _ (eq-eqb _ b is)
 
 in_same : (size b : ℕ) (nodes : List Node) (n : ℕ) → (node_at nodes n).hash % size ≢ b → in_bucket size b nodes (suc n) ≡ in_bucket size b nodes n
@@ -65,13 +65,13 @@ pub record IsFrom (size b : ℕ) (nodes : List Node) (n : ℕ) (name : Name) (re
   pub place : ℕ
   pub within : place < n
   pub bucket : (node_at nodes place).hash % size ≡ b
-  pub name_is : (node_at nodes place).name ≡ name
+  pub name_is : name_of (node_at nodes place) ≡ name
   pub rest_is : rest ≡ in_bucket size b nodes place
 
 further : (size b : ℕ) (nodes : List Node) (n : ℕ) (name : Name) (rest : List Name) → IsFrom size b nodes n name rest → IsFrom size b nodes (suc n) name rest
 further size b nodes n name rest h = record { place = h.place; within = omega (arith, h.within); bucket = h.bucket; name_is = h.name_is; rest_is = h.rest_is }
 
-split_more : (size b : ℕ) (nodes : List Node) (n : ℕ) (before : List Name) (name : Name) (rest : List Name) → (node_at nodes n).hash % size ≡ b → (node_at nodes n).name ∷ in_bucket size b nodes n ≡ before ++ (name ∷ rest) →
+split_more : (size b : ℕ) (nodes : List Node) (n : ℕ) (before : List Name) (name : Name) (rest : List Name) → (node_at nodes n).hash % size ≡ b → name_of (node_at nodes n) ∷ in_bucket size b nodes n ≡ before ++ (name ∷ rest) →
     ((before : List Name) → in_bucket size b nodes n ≡ before ++ (name ∷ rest) → IsFrom size b nodes n name rest) → IsFrom size b nodes (suc n) name rest
 split_more size b nodes n [] name rest is e again = record { place = n; within = omega arith; bucket = is; name_is = cc; rest_is = cc }
 split_more size b nodes n (a ∷ before) name rest is e again = further size b nodes n name rest (again before cc)
@@ -84,17 +84,17 @@ split_from size b nodes (suc n) before name rest e = elim (cases_eq ((node_at no
   | inr off ↦ further size b nodes n name rest (split_from size b nodes n before name rest (sym (in_same size b nodes n off) ∙ e))
 ]
 
-pub splits_at : (size b : ℕ) (nodes : List Node) (n i : ℕ) → i < n → (node_at nodes i).hash % size ≡ b → (before : List Name) × (in_bucket size b nodes n ≡ before ++ ((node_at nodes i).name ∷ in_bucket size b nodes i))
+pub splits_at : (size b : ℕ) (nodes : List Node) (n i : ℕ) → i < n → (node_at nodes i).hash % size ≡ b → (before : List Name) × (in_bucket size b nodes n ≡ before ++ (name_of (node_at nodes i) ∷ in_bucket size b nodes i))
 splits_at size b nodes zero i less is = absurd (omega arith)
 splits_at size b nodes (suc n) i less is = elim (cases_eq i n) [
-  | inl at ↦ ([], subst (λ k. in_bucket size b nodes (suc n) ≡ (node_at nodes k).name ∷ in_bucket size b nodes k) (sym at) (in_more size b nodes n (subst (λ k. (node_at nodes k).hash % size ≡ b) at is)))
+  | inl at ↦ ([], subst (λ k. in_bucket size b nodes (suc n) ≡ name_of (node_at nodes k) ∷ in_bucket size b nodes k) (sym at) (in_more size b nodes n (subst (λ k. (node_at nodes k).hash % size ≡ b) at is)))
   | inr off ↦ let from = splits_at size b nodes n i (omega arith) is in elim (cases_eq ((node_at nodes n).hash % size) b) [
-    | inl also ↦ ((node_at nodes n).name ∷ from.0, in_more size b nodes n also ∙ ap (λ ns. (node_at nodes n).name ∷ ns) from.1)
+    | inl also ↦ (name_of (node_at nodes n) ∷ from.0, in_more size b nodes n also ∙ ap (λ ns. name_of (node_at nodes n) ∷ ns) from.1)
     | inr other ↦ (from.0, in_same size b nodes n other ∙ from.1)
   ]
 ]
 
 -- a name of the bucket is among those that a walk meets
-pub meets : (size b : ℕ) (nodes : List Node) (n i : ℕ) → i < n → (node_at nodes i).hash % size ≡ b → Contains (in_bucket size b nodes n) (node_at nodes i).name
+pub meets : (size b : ℕ) (nodes : List Node) (n i : ℕ) → i < n → (node_at nodes i).hash % size ≡ b → Contains (in_bucket size b nodes n) (name_of (node_at nodes i))
 meets size b nodes n i less is = let from = splits_at size b nodes n i less is in
-    subst (λ ns. Contains ns (node_at nodes i).name) (sym from.1) (Contains-append_right from.0 ((node_at nodes i).name ∷ in_bucket size b nodes i) (node_at nodes i).name (0, omega arith, refl))
+    subst (λ ns. Contains ns (name_of (node_at nodes i))) (sym from.1) (Contains-append_right from.0 (name_of (node_at nodes i) ∷ in_bucket size b nodes i) (name_of (node_at nodes i)) (0, omega arith, refl))

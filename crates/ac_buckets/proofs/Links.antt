@@ -6,7 +6,7 @@ use Rattle.std.proofs.lemmas.List.{length-set, length-map, get_or-set_same, get_
 use Rattle.ac_base.specs.declared.name.Name.{Name}
 use Rattle.ac_base.specs.Rows.{Row, row}
 use Rattle.ac_buckets.specs.declared.linked.Node.{Node}
-use Rattle.ac_buckets.specs.Linked.{IsLastLink, IsLinked, IsAbove, AreLinked, Remarks, links_of, rows_of, marks_of, blank_node, end_of, link_below, heads_below, links_below}
+use Rattle.ac_buckets.specs.Linked.{name_of, IsLastLink, IsLinked, IsAbove, AreLinked, Remarks, links_of, rows_of, marks_of, blank_node, end_of, link_below, heads_below, links_below}
 
 -- the marks agree but at i
 abbrev SameBut : List ℕ → List ℕ → ℕ → Type 0
@@ -247,18 +247,18 @@ next_below nodes heads marks b i above link bucket more fits h r = let n = (reac
 
 -- the node with another link
 abbrev pub relinked : Node → ℕ → Node
-relinked n link = record { hash = n.hash; next = link; name = n.name }
+relinked n link = record { hash = n.hash; next = link; slot = n.slot; serial = n.serial }
 
 pub rows_relinked : (nodes : List Node) (i link : ℕ) → rows_of (set nodes i (relinked (get_or nodes i blank_node) link)) ≡ rows_of nodes
 rows_relinked [] i link = refl
 rows_relinked (n ∷ nodes) zero link = refl
-rows_relinked (n ∷ nodes) (suc i) link = ap (λ rows. row n.name n.hash ∷ rows) (rows_relinked nodes i link)
+rows_relinked (n ∷ nodes) (suc i) link = ap (λ rows. row (name_of n) n.hash ∷ rows) (rows_relinked nodes i link)
 
 -- the bucket of the node
 pub mark_of : (size : ℕ) (nodes : List Node) (i : ℕ) → i < length nodes → get_or (marks_of size nodes) i 0 ≡ (get_or nodes i blank_node).hash % size
 mark_of size nodes i within =
-    get_or-map (λ (r : Row Name ℕ). r.value % size) (rows_of nodes) i (row blank_node.name blank_node.hash) 0 (omega (arith, length-map nodes (λ (n : Node). row n.name n.hash)))
-    ∙ ap (λ (r : Row Name ℕ). r.value % size) (get_or-map (λ (n : Node). row n.name n.hash) nodes i blank_node (row blank_node.name blank_node.hash) within)
+    get_or-map (λ (r : Row Name ℕ). r.value % size) (rows_of nodes) i (row (name_of blank_node) blank_node.hash) 0 (omega (arith, length-map nodes (λ (n : Node). row (name_of n) n.hash)))
+    ∙ ap (λ (r : Row Name ℕ). r.value % size) (get_or-map (λ (n : Node). row (name_of n) n.hash) nodes i blank_node (row (name_of blank_node) blank_node.hash) within)
 
 length-links : (nodes : List Node) → length (links_of nodes) ≡ length nodes
 length-links nodes = length-map nodes (λ (n : Node). n.next)

@@ -7,7 +7,7 @@ use Rattle.std.proofs.lemmas.List.{length-reverse, get_or_default}
 use Rattle.ac_buckets.specs.declared.linked.Node.{Node}
 use Rattle.ac_buckets.specs.declared.walk.Place.{Place}
 use Rattle.ac_buckets.specs.BucketFields.{seen_in, IsBuckets}
-use Rattle.ac_buckets.specs.Linked.{blank_node, rows_of}
+use Rattle.ac_buckets.specs.Linked.{name_of, blank_node, rows_of}
 use Rattle.ac_buckets.specs.Pairs.{Bucketed}
 use Rattle.ac_buckets.specs.Places.{oldest, names_left, names_with, StartsIn, IsPlace, Begins}
 use Rattle.ac_buckets.proofs.InBucket.{below, reversed, filtered, left_out}
@@ -15,7 +15,7 @@ use Rattle.ac_buckets.proofs.Walks.{node_at, length-rows, IsLastNode, IsLastNode
 
 -- what the node at a place is to a walk, and where the walk goes on
 pub record Meets (b : Bucketed) (hash link : ℕ) (n : Node) : Type 0 where
-  pub has : n.hash ≡ hash → names_left b hash link ≡ n.name ∷ names_left b hash n.next
+  pub has : n.hash ≡ hash → names_left b hash link ≡ name_of n ∷ names_left b hash n.next
   pub other : n.hash ≢ hash → names_left b hash link ≡ names_left b hash n.next
   pub stands : IsPlace b hash n.next
   pub nearer : n.next < link
@@ -28,7 +28,7 @@ drop_below nodes (suc m) n le = elim (cases_eq n (suc m)) [
 ]
 
 -- the names with the hash among the first n nodes
-with_more : (hash : ℕ) (nodes : List Node) (n : ℕ) → (node_at nodes n).hash ≡ hash → names_with hash (below nodes (suc n)) ≡ (node_at nodes n).name ∷ names_with hash (below nodes n)
+with_more : (hash : ℕ) (nodes : List Node) (n : ℕ) → (node_at nodes n).hash ≡ hash → names_with hash (below nodes (suc n)) ≡ name_of (node_at nodes n) ∷ names_with hash (below nodes n)
 with_more hash nodes n is = filtered ((node_at nodes n).hash == hash) _ _ (eq-eqb _ hash is)
 
 with_same : (hash : ℕ) (nodes : List Node) (n : ℕ) → (node_at nodes n).hash ≢ hash → names_with hash (below nodes (suc n)) ≡ names_with hash (below nodes n)
@@ -88,7 +88,7 @@ module _ (nodes : List Node) (heads : List ℕ) where
       let low : (node_at nodes i).next ≤ length nodes = omega (arith, step.within) in
       let rest = with_skipped size hash nodes (node_at nodes i).next i step.within step.last ∙ sym (left_is hash (node_at nodes i).next low) in
       record {
-        has = λ is. left_is hash (suc i) fits ∙ with_more hash nodes i is ∙ ap (λ ns. (node_at nodes i).name ∷ ns) rest;
+        has = λ is. left_is hash (suc i) fits ∙ with_more hash nodes i is ∙ ap (λ ns. name_of (node_at nodes i) ∷ ns) rest;
         other = λ off. left_is hash (suc i) fits ∙ with_same hash nodes i off ∙ rest;
         stands = place_is capacity hash (node_at nodes i).next h some low step.there;
         nearer = omega (arith, step.within);

@@ -7,7 +7,7 @@ use Rattle.ac_base.specs.declared.name.Name.{Name}
 use Rattle.ac_base.specs.Rows.{Row, row, names}
 use Rattle.ac_buckets.specs.declared.linked.Node.{Node}
 use Rattle.ac_buckets.specs.Pairs.{IsOnce}
-use Rattle.ac_buckets.specs.Linked.{IsLastLink, AreLinked, links_of, rows_of, marks_of, blank_node, blank_row}
+use Rattle.ac_buckets.specs.Linked.{name_of, IsLastLink, AreLinked, links_of, rows_of, marks_of, blank_node, blank_row}
 use Rattle.ac_buckets.proofs.Links.{mark_of}
 
 abbrev pub node_at : List Node → ℕ → Node
@@ -44,12 +44,12 @@ IsLastNode-next nodes heads k h some less =
 pub record IsPassed (nodes : List Node) (size bucket : ℕ) (name : Name) (link : ℕ) : Type 0 where
   pub within : link ≤ length nodes
   pub there : 0 < link → (node_at nodes (link - 1)).hash % size ≡ bucket
-  pub passed : (k : ℕ) → link ≤ k → k < length nodes → (node_at nodes k).hash % size ≡ bucket → (node_at nodes k).name ≢ name
+  pub passed : (k : ℕ) → link ≤ k → k < length nodes → (node_at nodes k).hash % size ≡ bucket → name_of (node_at nodes k) ≢ name
 
 pub IsPassed-first : (nodes : List Node) (size b : ℕ) (name : Name) (link : ℕ) → IsLastNode size nodes b (length nodes) link → IsPassed nodes size b name link
 IsPassed-first nodes size b name link h = record { within = h.within; there = h.there; passed = λ k le lt e _. h.last k le lt e }
 
-pub IsPassed-more : (nodes : List Node) (size b : ℕ) (name : Name) (link next : ℕ) → 0 < link → (node_at nodes (link - 1)).name ≢ name → IsLastNode size nodes ((node_at nodes (link - 1)).hash % size) (link - 1) next →
+pub IsPassed-more : (nodes : List Node) (size b : ℕ) (name : Name) (link next : ℕ) → 0 < link → name_of (node_at nodes (link - 1)) ≢ name → IsLastNode size nodes ((node_at nodes (link - 1)).hash % size) (link - 1) next →
     IsPassed nodes size b name link → IsPassed nodes size b name next
 IsPassed-more nodes size b name link next some other h p =
     let is = p.there some in
@@ -59,27 +59,27 @@ IsPassed-more nodes size b name link next some other h p =
       passed = λ k le lt e. elim (cases_lt k (link - 1)) [
         | inl below ↦ absurd (h.last k le below (e ∙ sym is))
         | inr above ↦ elim (cases_eq k (link - 1)) [
-          | inl at ↦ subst (λ n. (node_at nodes n).name ≢ name) (sym at) other
+          | inl at ↦ subst (λ n. name_of (node_at nodes n) ≢ name) (sym at) other
           | inr off ↦ p.passed k (omega arith) lt e
         ]
       ];
     }
 
-pub row_at : (nodes : List Node) (k : ℕ) (d : Row Name ℕ) → k < length nodes → get_or (rows_of nodes) k d ≡ row (node_at nodes k).name (node_at nodes k).hash
-row_at nodes k d less = get_or-map (λ (n : Node). row n.name n.hash) nodes k blank_node d less
+pub row_at : (nodes : List Node) (k : ℕ) (d : Row Name ℕ) → k < length nodes → get_or (rows_of nodes) k d ≡ row (name_of (node_at nodes k)) (node_at nodes k).hash
+row_at nodes k d less = get_or-map (λ (n : Node). row (name_of n) n.hash) nodes k blank_node d less
 
 pub length-rows : (nodes : List Node) → length (rows_of nodes) ≡ length nodes
-length-rows nodes = length-map nodes (λ (n : Node). row n.name n.hash)
+length-rows nodes = length-map nodes (λ (n : Node). row (name_of n) n.hash)
 
 -- a pair that is there stands at a node
-pub pair_at : (nodes : List Node) (name : Name) (hash : ℕ) → Contains (rows_of nodes) (row name hash) → (k : ℕ) × (k < length nodes) × (row (node_at nodes k).name (node_at nodes k).hash ≡ row name hash)
+pub pair_at : (nodes : List Node) (name : Name) (hash : ℕ) → Contains (rows_of nodes) (row name hash) → (k : ℕ) × (k < length nodes) × (row (name_of (node_at nodes k)) (node_at nodes k).hash ≡ row name hash)
 pair_at nodes name hash h = let less : h.0 < length nodes = omega (arith, h.1, length-rows nodes) in (h.0, less, sym (row_at nodes h.0 (row name hash) less) ∙ h.2)
 
 -- a name stands at one node
-pub once_at : (nodes : List Node) → IsOnce (names (rows_of nodes)) → (i j : ℕ) → i < length nodes → j < length nodes → (node_at nodes i).name ≡ (node_at nodes j).name → i ≡ j
+pub once_at : (nodes : List Node) → IsOnce (names (rows_of nodes)) → (i j : ℕ) → i < length nodes → j < length nodes → name_of (node_at nodes i) ≡ name_of (node_at nodes j) → i ≡ j
 once_at nodes once i j low high e =
     let long = length-map (rows_of nodes) (λ (r : Row Name ℕ). r.name) in let all = length-rows nodes in
-    let at : (k : ℕ) → k < length nodes → get_or (names (rows_of nodes)) k blank_row.name ≡ (node_at nodes k).name = λ k less.
+    let at : (k : ℕ) → k < length nodes → get_or (names (rows_of nodes)) k blank_row.name ≡ name_of (node_at nodes k) = λ k less.
     get_or-map (λ (r : Row Name ℕ). r.name) (rows_of nodes) k blank_row blank_row.name (omega arith) ∙ ap (λ (r : Row Name ℕ). r.name) (row_at nodes k blank_row less) in
     once i j blank_row.name (omega arith) (omega arith) (at i low ∙ e ∙ sym (at j high))
 
@@ -94,7 +94,7 @@ none_then true i P h = tt
 none_then false i P h = h refl
 
 -- a name whose node has another hash isn't there with this one
-pub other_hash : (nodes : List Node) (name : Name) (hash i : ℕ) → IsOnce (names (rows_of nodes)) → i < length nodes → (node_at nodes i).name ≡ name → eqb (node_at nodes i).hash hash ≡ false → Contains (rows_of nodes) (row name hash) → ⊥
+pub other_hash : (nodes : List Node) (name : Name) (hash i : ℕ) → IsOnce (names (rows_of nodes)) → i < length nodes → name_of (node_at nodes i) ≡ name → eqb (node_at nodes i).hash hash ≡ false → Contains (rows_of nodes) (row name hash) → ⊥
 other_hash nodes name hash i once less is other h =
     let at = pair_at nodes name hash h in
     let same : at.0 ≡ i = once_at nodes once at.0 i at.1 less (ap (λ (r : Row Name ℕ). r.name) at.2 ∙ sym is) in

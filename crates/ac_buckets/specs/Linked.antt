@@ -6,13 +6,17 @@ use Rattle.ac_buckets.specs.declared.linked.Node.{Node}
 
 -- what stands for a node past the last one
 abbrev pub blank_node : Node
-blank_node = record { hash = 0; next = 0; name = record { slot = 0; serial = 0 } }
+blank_node = record { hash = 0; next = 0; slot = 0; serial = 0 }
+
+-- the name that the node keeps
+abbrev pub name_of : Node → Name
+name_of n = record { slot = n.slot; serial = n.serial }
 
 abbrev pub blank_row : Row Name ℕ
-blank_row = row blank_node.name blank_node.hash
+blank_row = row (name_of blank_node) blank_node.hash
 
 abbrev pub rows_of : List Node → List (Row Name ℕ)
-rows_of nodes = map (λ (n : Node). row n.name n.hash) nodes
+rows_of nodes = map (λ (n : Node). row (name_of n) n.hash) nodes
 
 abbrev pub links_of : List Node → List ℕ
 links_of nodes = map (λ (n : Node). n.next) nodes
@@ -74,7 +78,7 @@ Remarks index mark other nodes heads nodes_after heads_after =
 -- the name of the node to which the link leads
 abbrev pub name_behind : List Node → ℕ → Option Name
 name_behind nodes zero = None
-name_behind nodes (suc i) = Some (get_or nodes i blank_node).name
+name_behind nodes (suc i) = Some (name_of (get_or nodes i blank_node))
 
 -- the nodes are linked but for those at the two indices
 abbrev pub Unlinks : ℕ → ℕ → List Node → List Node → List ℕ → Type 0
@@ -90,7 +94,7 @@ IsInBucket size hash n = n.hash % size ≡ hash % size
 
 -- no node in the bucket of the hash has the name
 abbrev pub IsNotInBucket : ℕ → ℕ → Name → List Node → Type 0
-IsNotInBucket size hash name nodes = (k : ℕ) → k < length nodes → IsInBucket size hash (get_or nodes k blank_node) → (get_or nodes k blank_node).name ≢ name
+IsNotInBucket size hash name nodes = (k : ℕ) → k < length nodes → IsInBucket size hash (get_or nodes k blank_node) → name_of (get_or nodes k blank_node) ≢ name
 
 -- its bucket's number, as the mark of the node at the index
 abbrev pub bucket_at : ℕ → List Node → ℕ → ℕ

@@ -100,7 +100,7 @@ impl Buckets {
     }
 
     /// Adds the pair. It takes no memory.
-    pub fn add(&mut self, hash: u32, name: Name)
+    pub fn add(&mut self, hash: u64, name: Name)
         requires spare { 0 < self.old.spare }
         requires absent { Contains (names self.old.pairs) name → ⊥ }
         ensures added { self.new ≡ added self.old (row name hash) }
@@ -110,13 +110,14 @@ impl Buckets {
         self.nodes.push_reserved(Node {
             hash,
             next: 0,
-            name,
+            slot: name.slot,
+            serial: name.serial,
         });
         relink(self.heads.as_mut_slice(), self.nodes.as_mut_slice(), index);
     }
 
     /// Drops the pair. At false it isn't there. The cost is the length of its bucket, and of that of the newest pair.
-    pub fn drop_one(&mut self, hash: u32, name: Name) -> bool
+    pub fn drop_one(&mut self, hash: u64, name: Name) -> bool
         ensures there { IsTrue result ↔ Contains self.old.pairs (row name hash) }
         ensures gone { OnTrue result (IsPermutation self.old.pairs (row name hash ∷ self.new.pairs)) }
         ensures room { OnTrue result ((self.new.size ≡ self.old.size) × (self.new.spare ≡ self.old.spare + 1)) }
@@ -131,7 +132,7 @@ impl Buckets {
     }
 
     /// The first name in the bucket of the hash. A walk from it by `next_in` meets each name of the bucket once.
-    pub fn first_in(&self, hash: u32) -> Option<Name>
+    pub fn first_in(&self, hash: u64) -> Option<Name>
         ensures first { result ≡ slice_get (names_in self.now hash) 0 }
         ensures sound { IsSound self.now }
     {
@@ -143,7 +144,7 @@ impl Buckets {
     }
 
     /// The name that follows this one in the bucket of the hash.
-    pub fn next_in(&self, hash: u32, name: Name) -> Option<Name>
+    pub fn next_in(&self, hash: u64, name: Name) -> Option<Name>
         ensures next { (before rest : List Name) → names_in self.now hash ≡ before ++ (name ∷ rest) → result ≡ slice_get rest 0 }
         ensures absent { (Contains (names_in self.now hash) name → ⊥) → result ≡ None }
         ensures sound { IsSound self.now }
@@ -157,7 +158,7 @@ impl Buckets {
 
     /// Where a walk of the pairs with the hash begins. A walk by `step` reads each node of the bucket once.
     #[inline(always)]
-    pub fn walk(&self, hash: u32) -> Place
+    pub fn walk(&self, hash: u64) -> Place
         ensures { Begins self.now hash result }
     {
         if self.heads.is_empty() {
@@ -170,7 +171,7 @@ impl Buckets {
 
     /// The next name with the hash, and the place behind it.
     #[inline(always)]
-    pub fn step(&self, hash: u32, place: Place) -> Option<(Name, Place)>
+    pub fn step(&self, hash: u64, place: Place) -> Option<(Name, Place)>
         requires { IsPlace self.now hash place.left }
         ensures { Steps self.now hash place result }
     {
@@ -178,7 +179,7 @@ impl Buckets {
         while link != 0 {
             let node = &self.nodes[link as usize - 1];
             if node.hash == hash {
-                return Some((node.name, Place { left: node.next }));
+                return Some((node.name(), Place { left: node.next }));
             }
             link = node.next;
         }

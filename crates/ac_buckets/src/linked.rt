@@ -1,20 +1,33 @@
 //! Nodes in an array, linked bucket by bucket from the last node to the first. A link is the number of a node, counted from 1, or
 //! 0 where there is none.
 ghost use Rattle.std.specs.Prelude.{◌≡◌, ℕ, ◌%◌, ◌^◌, ◌<◌, ◌≤◌, List, length, IfSome};
-ghost use Rattle.ac_buckets.specs.Linked.{rows_of, links_of, bucket_at, AreLinked, IsLinkedAs, TakesOut, PutsIn, IsAbove, link_below, heads_below, links_below};
+ghost use Rattle.ac_buckets.specs.Linked.{name_of, rows_of, links_of, bucket_at, AreLinked, IsLinkedAs, TakesOut, PutsIn, IsAbove, link_below, heads_below, links_below};
 
 use ac_base::Name;
 
 /// A pair, and the link to the next one in its bucket.
 #[derive(Clone, Copy)]
 pub struct Node {
-    pub hash: u32,
+    pub hash: u64,
     pub next: u32,
-    pub name: Name,
+    pub slot: u32,
+    pub serial: u64,
+}
+
+impl Node {
+    #[inline(always)]
+    pub(crate) fn name(&self) -> Name
+        ensures { result ≡ name_of self.now }
+    {
+        Name {
+            slot: self.slot,
+            serial: self.serial,
+        }
+    }
 }
 
 #[inline(always)]
-pub(crate) fn bucket_of(hash: u32, size: usize) -> usize
+pub(crate) fn bucket_of(hash: u64, size: usize) -> usize
     requires { 0 < size }
     ensures bucket { result ≡ hash % size }
     ensures within { result < size }

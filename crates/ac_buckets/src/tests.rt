@@ -11,7 +11,7 @@ fn fill(buckets: &mut Buckets, count: u32)
 {
     for slot in 0..count {
         buckets.add(
-            slot * 64,
+            u64::from(slot) * 64,
             Name {
                 slot,
                 serial: u64::from(slot) + 1,
@@ -21,7 +21,7 @@ fn fill(buckets: &mut Buckets, count: u32)
 }
 
 // How many names a walk of the bucket meets.
-fn met(buckets: &Buckets, hash: u32) -> u64 {
+fn met(buckets: &Buckets, hash: u64) -> u64 {
     let mut at = buckets.first_in(hash);
     for count in 0..1000 {
         let Some(name) = at else {
@@ -33,7 +33,7 @@ fn met(buckets: &Buckets, hash: u32) -> u64 {
 }
 
 // How many names a walk by places meets.
-fn stepped(buckets: &Buckets, hash: u32) -> u64 {
+fn stepped(buckets: &Buckets, hash: u64) -> u64 {
     let mut place = buckets.walk(hash);
     for count in 0..1000 {
         let Some((_name, next)) = buckets.step(hash, place) else {

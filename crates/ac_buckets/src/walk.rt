@@ -2,7 +2,7 @@
 ghost use Rattle.std.specs.Prelude.{◌≡◌, ◌<◌, ◌≤◌, length, get_or, Contains, IfSome, IfNone};
 ghost use Rattle.ac_base.specs.Rows.{row, names};
 ghost use Rattle.ac_buckets.specs.Pairs.{IsOnce};
-ghost use Rattle.ac_buckets.specs.Linked.{AreLinked, marks_of, rows_of, blank_node, blank_row, name_behind, IsInBucket, IsNotInBucket};
+ghost use Rattle.ac_buckets.specs.Linked.{AreLinked, marks_of, name_of, rows_of, blank_node, blank_row, name_behind, IsInBucket, IsNotInBucket};
 
 use crate::linked::{Node, bucket_of};
 use ac_base::Name;
@@ -21,15 +21,15 @@ pub(crate) fn name_behind(nodes: &[Node], link: u32) -> Option<Name>
     if link == 0 {
         return None;
     }
-    Some(nodes[link as usize - 1].name)
+    Some(nodes[link as usize - 1].name())
 }
 
 /// Where the name's node stands, if there is one in the bucket of the hash.
-pub(crate) fn find(heads: &[u32], nodes: &[Node], hash: u32, name: Name) -> Option<usize>
+pub(crate) fn find(heads: &[u32], nodes: &[Node], hash: u64, name: Name) -> Option<usize>
     requires heads { 0 < length heads.now }
     requires linked { AreLinked (marks_of (length heads.now) nodes.now) nodes.now heads.now }
     ensures within { IfSome result (λ i. i < length nodes.now) }
-    ensures some { IfSome result (λ i. (get_or nodes.now i blank_node).name ≡ name) }
+    ensures some { IfSome result (λ i. name_of (get_or nodes.now i blank_node) ≡ name) }
     ensures bucket { IfSome result (λ i. IsInBucket (length heads.now) hash (get_or nodes.now i blank_node)) }
     ensures none { IfNone result (IsNotInBucket (length heads.now) hash name nodes.now) }
 {
@@ -37,7 +37,7 @@ pub(crate) fn find(heads: &[u32], nodes: &[Node], hash: u32, name: Name) -> Opti
     while link != 0 {
         let index = link as usize - 1;
         let node = &nodes[index];
-        if node.name == name {
+        if node.name() == name {
             return Some(index);
         }
         link = node.next;
@@ -46,7 +46,7 @@ pub(crate) fn find(heads: &[u32], nodes: &[Node], hash: u32, name: Name) -> Opti
 }
 
 /// Where the pair's node stands, if there is one.
-pub(crate) fn find_pair(heads: &[u32], nodes: &[Node], hash: u32, name: Name) -> Option<usize>
+pub(crate) fn find_pair(heads: &[u32], nodes: &[Node], hash: u64, name: Name) -> Option<usize>
     requires fits { length nodes.now ≤ length heads.now }
     requires linked { AreLinked (marks_of (length heads.now) nodes.now) nodes.now heads.now }
     requires once { IsOnce (names (rows_of nodes.now)) }

@@ -39,7 +39,7 @@ where
 
     ghost view = { λ a. a.chain };
 
-    ghost invariant = { λ a. AreTied (λ v. S.Key.hash_of (S.key_of v)) (λ v w. S.Key.is_alike (S.key_of v) (S.key_of w)) a.chain a.buckets };
+    ghost invariant = { λ a. AreTied (λ v. S.Key.wide_hash_of (S.key_of v)) (λ v w. S.Key.is_alike (S.key_of v) (S.key_of w)) a.chain a.buckets };
 }
 
 /// Another value under the name.
@@ -153,7 +153,7 @@ where
     }
 
     fn add_new(&mut self, row: S::Row) -> Name {
-        let hash = S::key(&row).hash();
+        let hash = S::key(&row).wide_hash();
         let name = self.chain.insert_before(None, row);
         self.buckets.add(hash, name);
         name
@@ -161,7 +161,7 @@ where
 
     fn remove(&mut self, name: Name) -> S::Row {
         let row = self.chain.remove(name);
-        let _dropped = self.buckets.drop_one(S::key(&row).hash(), name);
+        let _dropped = self.buckets.drop_one(S::key(&row).wide_hash(), name);
         row
     }
 
@@ -170,10 +170,10 @@ where
     }
 
     fn set_row(&mut self, name: Name, row: S::Row) {
-        let hash = S::key(&row).hash();
+        let hash = S::key(&row).wide_hash();
         let _dropped = self
             .buckets
-            .drop_one(S::key(self.chain.at(name)).hash(), name);
+            .drop_one(S::key(self.chain.at(name)).wide_hash(), name);
         self.buckets.add(hash, name);
         write(&mut self.chain, name, row);
     }

@@ -46,10 +46,11 @@ fn in_order<T: Rank>(rt: &impl Abort, smaller: &T, greater: &T) {
     assert!(rt; !precedes(greater, smaller));
 }
 
-fn hashed_as_wanted<T: KeyOf>(rt: &impl Abort, element: &T, other: &T, hash: u32) {
+fn hashed_as_wanted<T: KeyOf>(rt: &impl Abort, element: &T, other: &T, hash: u32, wide: u64) {
     assert!(rt; element.alike(element));
     assert!(rt; !element.alike(other));
     assert!(rt; element.hash() == hash);
+    assert!(rt; element.wide_hash() == wide);
     assert!(rt; element.key().alike(element.key()));
     assert!(rt; element.key().hash() == hash);
 }
@@ -58,7 +59,7 @@ fn hashed_as_wanted<T: KeyOf>(rt: &impl Abort, element: &T, other: &T, hash: u32
 fn integers(rt: HostRuntime) -> Result<(), Fail> {
     element_as_wanted(&rt, rt.alloc(), &-7i64, [8, 8])?;
     in_order(&rt, &-7i64, &5);
-    hashed_as_wanted(&rt, &0i64, &1, 232_720_647);
+    hashed_as_wanted(&rt, &0i64, &1, 232_720_647, 217);
     Ok(())
 }
 
@@ -79,8 +80,8 @@ fn texts_as_elements(rt: HostRuntime) -> Result<(), Fail> {
     let letter = Text::new(alloc, b"a")?;
     element_as_wanted(&rt, alloc, &letter, [1, 0])?;
     in_order(&rt, &empty, &letter);
-    hashed_as_wanted(&rt, &empty, &letter, 7);
-    hashed_as_wanted(&rt, &letter, &empty, 314);
+    hashed_as_wanted(&rt, &empty, &letter, 7, 7);
+    hashed_as_wanted(&rt, &letter, &empty, 314, 314);
     Ok(())
 }
 
@@ -114,7 +115,7 @@ fn keyed_texts_in_order(rt: HostRuntime) -> Result<(), Fail> {
     let second = keyed(rt.alloc(), b"a=2")?;
     let other = keyed(rt.alloc(), b"b")?;
     in_order(&rt, &second, &other);
-    hashed_as_wanted(&rt, &second, &other, 314);
+    hashed_as_wanted(&rt, &second, &other, 314, 314);
     Ok(())
 }
 

@@ -3,7 +3,7 @@ use Rattle.std.specs.List.{swap_remove}
 use Rattle.ac_base.specs.Rows.{row}
 use Rattle.std.proofs.lemmas.List.{take_at}
 use Rattle.ac_buckets.specs.declared.linked.Node.{Node}
-use Rattle.ac_buckets.specs.Linked.{marks_of, buckets_of, rows_of, blank_row, blank_node}
+use Rattle.ac_buckets.specs.Linked.{name_of, marks_of, buckets_of, rows_of, blank_row, blank_node}
 use Rattle.ac_buckets.proofs.Linking.{AreLinked-taken}
 use Rattle.ac_buckets.proofs.Removing.{map-swap_remove}
 use Rattle.ac_buckets.proofs.Walks.{node_at}
@@ -30,5 +30,5 @@ returns-clause-rows c =
     let many : length c.relink.new.nodes ≡ c.swap_remove-node.new.self.len = omega (arith, c.relink.auto.nodes, c.as_mut_slice-2.ensures.len) in
     ap rows_of (take_at c.relink.new.nodes (drop (length c.relink.new.nodes) c.swap_remove-node.new.self.items) c.swap_remove-node.new.self.len many)
     ∙ c.relink.ensures.rows ∙ ap rows_of (c.as_mut_slice-2.ensures.value ∙ c.swap_remove-node.ensures.items ∙ ap (λ ns. swap_remove ns i c.swap_remove-node.result) items)
-    ∙ map-swap_remove (λ (n : Node). row n.name n.hash) nodes i c.swap_remove-node.result blank_row (omega arith)
+    ∙ map-swap_remove (λ (n : Node). row (name_of n) n.hash) nodes i c.swap_remove-node.result blank_row (omega arith)
     ∙ ap (λ rs. swap_remove rs i blank_row) (c.unlink_both.ensures.rows ∙ ap rows_of c.as_mut_slice.ensures.value)

@@ -18,5 +18,5 @@ pub loop-link-preserved : goal.loop-link-preserved
 loop-link-preserved c =
     let a = c.args in let h = c.loop-link.invariant in
     IsPassed-more a.nodes.now (length a.heads.now) (a.hash % length a.heads.now) a.name c.loop-link.link _ (omega (arith, c.loop-link-test.true))
-    (names_apart (node_at a.nodes.now (c.loop-link.link - 1)).name a.name (sym c.if-eq.false ∙ c.eq.ensures))
+    (λ same. names_apart c.name.result a.name (sym c.if-eq.false ∙ c.eq.ensures) (c.name.ensures ∙ same))
     (IsLastNode-next a.nodes.now a.heads.now (c.loop-link.link - 1) c.requires.linked c.requires.heads (omega (arith, h.within, c.loop-link-test.true))) h

@@ -6,7 +6,7 @@ pub returns-then-node-hash : goal.returns-then-node-hash
 returns-then-node-hash c =
     let l = c.loop-link in
     let met = meets_node c.self.inside.nodes.items c.self.inside.heads.items _ c.args.hash l.link c.args.self.now c.index-node.result.now c.self.invariant c.self.view_is c.loop-link-test.true c.index-node.ensures l.invariant.stands in
-    record { names = l.invariant.names ∙ met.has c.if-node-hash.true; stands = met.stands; nearer = omega (arith, met.nearer, l.invariant.nearer) }
+    record { names = rw c.name.ensures (l.invariant.names ∙ met.has c.if-node-hash.true); stands = met.stands; nearer = omega (arith, met.nearer, l.invariant.nearer) }
 
 pub loop-link-smaller : goal.loop-link-smaller
 loop-link-smaller c =

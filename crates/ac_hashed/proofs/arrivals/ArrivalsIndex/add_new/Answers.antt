@@ -13,12 +13,12 @@ use Rattle.ac_hashed.proofs.Likes.{found_by_keys}
 use Rattle.ac_hashed.proofs.arrivals.ArrivalsIndex.add_new.Goals as goal
 
 pub add-requires-clause-absent : goal.add-requires-clause-absent
-add-requires-clause-absent g c = fresh_absent (λ v. g.S.Key.Hashed.hash_of (g.S.Keys.key_of v)) (λ v w. g.S.Key.Hashed.is_alike (g.S.Keys.key_of v) (g.S.Keys.key_of w)) c.self.inside.chain c.self.inside.buckets c.self.invariant c.insert_before-name.result c.insert_before-name.ensures.fresh
+add-requires-clause-absent g c = fresh_absent (λ v. g.S.Key.Hashed.wide_hash_of (g.S.Keys.key_of v)) (λ v w. g.S.Key.Hashed.is_alike (g.S.Keys.key_of v) (g.S.Keys.key_of w)) c.self.inside.chain c.self.inside.buckets c.self.invariant c.insert_before-name.result c.insert_before-name.ensures.fresh
 
 pub invariant_of-self : goal.invariant_of-self
 invariant_of-self g c =
-    let hash : c.hash-hash.result ≡ g.S.Key.Hashed.hash_of (g.S.Keys.key_of c.args.row) = c.hash-hash.ensures ∙ ap g.S.Key.Hashed.hash_of c.key.ensures in
-    tied_added (λ v. g.S.Key.Hashed.hash_of (g.S.Keys.key_of v)) (λ v w. g.S.Key.Hashed.is_alike (g.S.Keys.key_of v) (g.S.Keys.key_of w)) c.self.inside.chain c.self.inside.buckets
+    let hash : c.wide_hash-hash.result ≡ g.S.Key.Hashed.wide_hash_of (g.S.Keys.key_of c.args.row) = c.wide_hash-hash.ensures ∙ ap g.S.Key.Hashed.wide_hash_of c.key.ensures in
+    tied_added (λ v. g.S.Key.Hashed.wide_hash_of (g.S.Keys.key_of v)) (λ v w. g.S.Key.Hashed.is_alike (g.S.Keys.key_of v) (g.S.Keys.key_of w)) c.self.inside.chain c.self.inside.buckets
     (alike_keys g.met.S.Key.Hashed.equivalence g.S.Keys.key_of) c.self.invariant c.insert_before-name.new.self c.add.new.self c.insert_before-name.result c.args.row
     (found_by_keys g.S.Key.Hashed.is_alike g.S.Keys.key_of g.S.Alike.is_alike g.met.S.Alike.alike_by_key c.self.inside.chain.rows c.args.row ∙ ap (λ (d : Chained _). found_in (λ w. g.S.Alike.is_alike w c.args.row) d.rows) c.self.view_is ∙ c.requires.absent)
     (subst (λ (d : Chained _). 0 < d.spare) (sym c.self.view_is) c.requires.spare) c.insert_before-name.ensures.fresh c.insert_before-name.ensures.inserted c.insert_before-name.ensures.sound

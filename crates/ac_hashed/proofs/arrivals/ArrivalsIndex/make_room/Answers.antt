@@ -11,12 +11,12 @@ use Rattle.ac_hashed.proofs.arrivals.ArrivalsIndex.make_room.Goals as goal
 pub grow-requires : goal.grow-requires
 grow-requires g c =
     let few = subst (λ (d : Chained _). length d.rows + c.args.n ≤ GREATEST_LENGTH) (sym c.self.view_is) c.requires.few in
-    omega (arith, few, few_pairs c.self.inside.chain (λ v. g.S.Key.Hashed.hash_of (g.S.Keys.key_of v)) (λ v w. g.S.Key.Hashed.is_alike (g.S.Keys.key_of v) (g.S.Keys.key_of w)) c.self.inside.buckets c.self.invariant)
+    omega (arith, few, few_pairs c.self.inside.chain (λ v. g.S.Key.Hashed.wide_hash_of (g.S.Keys.key_of v)) (λ v w. g.S.Key.Hashed.is_alike (g.S.Keys.key_of v) (g.S.Keys.key_of w)) c.self.inside.buckets c.self.invariant)
 
 pub invariant_of-self-2 : goal.invariant_of-self-2
 invariant_of-self-2 g c =
     let grown = c.in_ok-grow.ensures in
-    tied_wide c.self.inside.chain (λ v. g.S.Key.Hashed.hash_of (g.S.Keys.key_of v)) (λ v w. g.S.Key.Hashed.is_alike (g.S.Keys.key_of v) (g.S.Keys.key_of w)) c.self.inside.buckets c.self.invariant c.reserve.result c.reserve.new.self c.grow.new.self c.args.n grown.room.0 grown.room.1 grown.wider grown.sound
+    tied_wide c.self.inside.chain (λ v. g.S.Key.Hashed.wide_hash_of (g.S.Keys.key_of v)) (λ v w. g.S.Key.Hashed.is_alike (g.S.Keys.key_of v) (g.S.Keys.key_of w)) c.self.inside.buckets c.self.invariant c.reserve.result c.reserve.new.self c.grow.new.self c.args.n grown.room.0 grown.room.1 grown.wider grown.sound
     c.reserve.ensures.ok c.reserve.ensures.err c.reserve.ensures.sound
 
 pub returns-clause-ok : goal.returns-clause-ok

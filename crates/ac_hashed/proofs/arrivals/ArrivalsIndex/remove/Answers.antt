@@ -15,13 +15,13 @@ remove-row-requires g c = there_live c.self.inside.chain c.args.name (subst (λ 
 pub invariant_of-self : goal.invariant_of-self
 invariant_of-self g c =
     let live = there_live c.self.inside.chain c.args.name (subst (λ (d : Chained _). IsTrue (is_there (seen_in d) c.args.name)) (sym c.self.view_is) c.requires) in
-    let hash : c.hash.result ≡ g.S.Key.Hashed.hash_of (g.S.Keys.key_of c.remove-row.result) = c.hash.ensures ∙ ap g.S.Key.Hashed.hash_of c.key.ensures in
+    let hash : c.wide_hash.result ≡ g.S.Key.Hashed.wide_hash_of (g.S.Keys.key_of c.remove-row.result) = c.wide_hash.ensures ∙ ap g.S.Key.Hashed.wide_hash_of c.key.ensures in
     let d = c.drop_one-dropped in
-    let there = pair_in (λ v. g.S.Key.Hashed.hash_of (g.S.Keys.key_of v)) (λ v w. g.S.Key.Hashed.is_alike (g.S.Keys.key_of v) (g.S.Keys.key_of w)) c.self.inside.chain c.self.inside.buckets c.self.invariant c.args.name c.remove-row.result live c.remove-row.ensures.value in
-    tied_removed (λ v. g.S.Key.Hashed.hash_of (g.S.Keys.key_of v)) (λ v w. g.S.Key.Hashed.is_alike (g.S.Keys.key_of v) (g.S.Keys.key_of w)) c.self.inside.chain c.self.inside.buckets
+    let there = pair_in (λ v. g.S.Key.Hashed.wide_hash_of (g.S.Keys.key_of v)) (λ v w. g.S.Key.Hashed.is_alike (g.S.Keys.key_of v) (g.S.Keys.key_of w)) c.self.inside.chain c.self.inside.buckets c.self.invariant c.args.name c.remove-row.result live c.remove-row.ensures.value in
+    tied_removed (λ v. g.S.Key.Hashed.wide_hash_of (g.S.Keys.key_of v)) (λ v w. g.S.Key.Hashed.is_alike (g.S.Keys.key_of v) (g.S.Keys.key_of w)) c.self.inside.chain c.self.inside.buckets
     c.self.invariant c.remove-row.new.self d.new.self c.args.name c.remove-row.result live c.remove-row.ensures.value c.remove-row.ensures.removed c.remove-row.ensures.sound
     (subst (λ h. IsDropped c.args.name h c.self.inside.buckets d.new.self) hash
-    (dropped c.args.name c.hash.result c.self.inside.buckets d.new.self d.result d.ensures.there d.ensures.gone d.ensures.room (subst (λ h. Contains c.self.inside.buckets.pairs (row c.args.name h)) (sym hash) there)))
+    (dropped c.args.name c.wide_hash.result c.self.inside.buckets d.new.self d.result d.ensures.there d.ensures.gone d.ensures.room (subst (λ h. Contains c.self.inside.buckets.pairs (row c.args.name h)) (sym hash) there)))
 
 pub returns-clause-value : goal.returns-clause-value
 returns-clause-value g c =

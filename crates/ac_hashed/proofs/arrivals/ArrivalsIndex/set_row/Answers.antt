@@ -19,22 +19,22 @@ at-requires g c = there_live c.self.inside.chain c.args.name (subst (λ (d : Cha
 pub add-requires-clause-spare : goal.add-requires-clause-spare
 add-requires-clause-spare g c =
     let live = there_live c.self.inside.chain c.args.name (subst (λ (d : Chained _). IsTrue (is_there (seen_in d) c.args.name)) (sym c.self.view_is) c.requires.there) in
-    let old : c.hash.result ≡ g.S.Key.Hashed.hash_of (g.S.Keys.key_of c.at.result.now) = c.hash.ensures ∙ ap g.S.Key.Hashed.hash_of c.key-2.ensures in
+    let old : c.wide_hash.result ≡ g.S.Key.Hashed.wide_hash_of (g.S.Keys.key_of c.at.result.now) = c.wide_hash.ensures ∙ ap g.S.Key.Hashed.wide_hash_of c.key-2.ensures in
     let d = c.drop_one-dropped in
-    let there = pair_in (λ v. g.S.Key.Hashed.hash_of (g.S.Keys.key_of v)) (λ v w. g.S.Key.Hashed.is_alike (g.S.Keys.key_of v) (g.S.Keys.key_of w)) c.self.inside.chain c.self.inside.buckets c.self.invariant c.args.name c.at.result.now live c.at.ensures.value in
+    let there = pair_in (λ v. g.S.Key.Hashed.wide_hash_of (g.S.Keys.key_of v)) (λ v w. g.S.Key.Hashed.is_alike (g.S.Keys.key_of v) (g.S.Keys.key_of w)) c.self.inside.chain c.self.inside.buckets c.self.invariant c.args.name c.at.result.now live c.at.ensures.value in
     let gone = subst (λ h. IsDropped c.args.name h c.self.inside.buckets d.new.self) old
-    (dropped c.args.name c.hash.result c.self.inside.buckets d.new.self d.result d.ensures.there d.ensures.gone d.ensures.room (subst (λ h. Contains c.self.inside.buckets.pairs (row c.args.name h)) (sym old) there)) in
+    (dropped c.args.name c.wide_hash.result c.self.inside.buckets d.new.self d.result d.ensures.there d.ensures.gone d.ensures.room (subst (λ h. Contains c.self.inside.buckets.pairs (row c.args.name h)) (sym old) there)) in
     omega (arith, gone.spare)
 
 pub add-requires-clause-absent : goal.add-requires-clause-absent
 add-requires-clause-absent g c =
     let live = there_live c.self.inside.chain c.args.name (subst (λ (d : Chained _). IsTrue (is_there (seen_in d) c.args.name)) (sym c.self.view_is) c.requires.there) in
-    let old : c.hash.result ≡ g.S.Key.Hashed.hash_of (g.S.Keys.key_of c.at.result.now) = c.hash.ensures ∙ ap g.S.Key.Hashed.hash_of c.key-2.ensures in
+    let old : c.wide_hash.result ≡ g.S.Key.Hashed.wide_hash_of (g.S.Keys.key_of c.at.result.now) = c.wide_hash.ensures ∙ ap g.S.Key.Hashed.wide_hash_of c.key-2.ensures in
     let d = c.drop_one-dropped in
-    let there = pair_in (λ v. g.S.Key.Hashed.hash_of (g.S.Keys.key_of v)) (λ v w. g.S.Key.Hashed.is_alike (g.S.Keys.key_of v) (g.S.Keys.key_of w)) c.self.inside.chain c.self.inside.buckets c.self.invariant c.args.name c.at.result.now live c.at.ensures.value in
+    let there = pair_in (λ v. g.S.Key.Hashed.wide_hash_of (g.S.Keys.key_of v)) (λ v w. g.S.Key.Hashed.is_alike (g.S.Keys.key_of v) (g.S.Keys.key_of w)) c.self.inside.chain c.self.inside.buckets c.self.invariant c.args.name c.at.result.now live c.at.ensures.value in
     let gone = subst (λ h. IsDropped c.args.name h c.self.inside.buckets d.new.self) old
-    (dropped c.args.name c.hash.result c.self.inside.buckets d.new.self d.result d.ensures.there d.ensures.gone d.ensures.room (subst (λ h. Contains c.self.inside.buckets.pairs (row c.args.name h)) (sym old) there)) in
-    gone_absent (λ v. g.S.Key.Hashed.hash_of (g.S.Keys.key_of v)) (λ v w. g.S.Key.Hashed.is_alike (g.S.Keys.key_of v) (g.S.Keys.key_of w)) c.self.inside.chain c.self.inside.buckets c.self.invariant d.new.self c.args.name c.at.result.now live c.at.ensures.value gone
+    (dropped c.args.name c.wide_hash.result c.self.inside.buckets d.new.self d.result d.ensures.there d.ensures.gone d.ensures.room (subst (λ h. Contains c.self.inside.buckets.pairs (row c.args.name h)) (sym old) there)) in
+    gone_absent (λ v. g.S.Key.Hashed.wide_hash_of (g.S.Keys.key_of v)) (λ v w. g.S.Key.Hashed.is_alike (g.S.Keys.key_of v) (g.S.Keys.key_of w)) c.self.inside.chain c.self.inside.buckets c.self.invariant d.new.self c.args.name c.at.result.now live c.at.ensures.value gone
 
 pub write-requires : goal.write-requires
 write-requires g c = there_live c.self.inside.chain c.args.name (subst (λ (d : Chained _). IsTrue (is_there (seen_in d) c.args.name)) (sym c.self.view_is) c.requires.there)
@@ -42,16 +42,16 @@ write-requires g c = there_live c.self.inside.chain c.args.name (subst (λ (d : 
 pub invariant_of-self : goal.invariant_of-self
 invariant_of-self g c =
     let live = there_live c.self.inside.chain c.args.name (subst (λ (d : Chained _). IsTrue (is_there (seen_in d) c.args.name)) (sym c.self.view_is) c.requires.there) in
-    let old : c.hash.result ≡ g.S.Key.Hashed.hash_of (g.S.Keys.key_of c.at.result.now) = c.hash.ensures ∙ ap g.S.Key.Hashed.hash_of c.key-2.ensures in
+    let old : c.wide_hash.result ≡ g.S.Key.Hashed.wide_hash_of (g.S.Keys.key_of c.at.result.now) = c.wide_hash.ensures ∙ ap g.S.Key.Hashed.wide_hash_of c.key-2.ensures in
     let d = c.drop_one-dropped in
-    let there = pair_in (λ v. g.S.Key.Hashed.hash_of (g.S.Keys.key_of v)) (λ v w. g.S.Key.Hashed.is_alike (g.S.Keys.key_of v) (g.S.Keys.key_of w)) c.self.inside.chain c.self.inside.buckets c.self.invariant c.args.name c.at.result.now live c.at.ensures.value in
+    let there = pair_in (λ v. g.S.Key.Hashed.wide_hash_of (g.S.Keys.key_of v)) (λ v w. g.S.Key.Hashed.is_alike (g.S.Keys.key_of v) (g.S.Keys.key_of w)) c.self.inside.chain c.self.inside.buckets c.self.invariant c.args.name c.at.result.now live c.at.ensures.value in
     let gone = subst (λ h. IsDropped c.args.name h c.self.inside.buckets d.new.self) old
-    (dropped c.args.name c.hash.result c.self.inside.buckets d.new.self d.result d.ensures.there d.ensures.gone d.ensures.room (subst (λ h. Contains c.self.inside.buckets.pairs (row c.args.name h)) (sym old) there)) in
-    let new : c.hash-hash.result ≡ g.S.Key.Hashed.hash_of (g.S.Keys.key_of c.args.row) = c.hash-hash.ensures ∙ ap g.S.Key.Hashed.hash_of c.key.ensures in
-    subst (λ (k : Chained _). AreTied (λ v. g.S.Key.Hashed.hash_of (g.S.Keys.key_of v)) (λ v w. g.S.Key.Hashed.is_alike (g.S.Keys.key_of v) (g.S.Keys.key_of w)) k c.add.new.self) (sym c.write.ensures.written)
-    (tied_anew (λ v. g.S.Key.Hashed.hash_of (g.S.Keys.key_of v)) (λ v w. g.S.Key.Hashed.is_alike (g.S.Keys.key_of v) (g.S.Keys.key_of w)) c.self.inside.chain c.self.inside.buckets c.self.invariant d.new.self c.add.new.self c.args.name c.at.result.now c.args.row live c.at.ensures.value gone
+    (dropped c.args.name c.wide_hash.result c.self.inside.buckets d.new.self d.result d.ensures.there d.ensures.gone d.ensures.room (subst (λ h. Contains c.self.inside.buckets.pairs (row c.args.name h)) (sym old) there)) in
+    let new : c.wide_hash-hash.result ≡ g.S.Key.Hashed.wide_hash_of (g.S.Keys.key_of c.args.row) = c.wide_hash-hash.ensures ∙ ap g.S.Key.Hashed.wide_hash_of c.key.ensures in
+    subst (λ (k : Chained _). AreTied (λ v. g.S.Key.Hashed.wide_hash_of (g.S.Keys.key_of v)) (λ v w. g.S.Key.Hashed.is_alike (g.S.Keys.key_of v) (g.S.Keys.key_of w)) k c.add.new.self) (sym c.write.ensures.written)
+    (tied_anew (λ v. g.S.Key.Hashed.wide_hash_of (g.S.Keys.key_of v)) (λ v w. g.S.Key.Hashed.is_alike (g.S.Keys.key_of v) (g.S.Keys.key_of w)) c.self.inside.chain c.self.inside.buckets c.self.invariant d.new.self c.add.new.self c.args.name c.at.result.now c.args.row live c.at.ensures.value gone
     (c.add.ensures.added ∙ ap (λ h. added d.new.self (row c.args.name h)) new) (subst IsSound c.write.ensures.written c.write.ensures.sound)
-    (reordered_differ (λ v. g.S.Key.Hashed.hash_of (g.S.Keys.key_of v)) (λ v w. g.S.Key.Hashed.is_alike (g.S.Keys.key_of v) (g.S.Keys.key_of w)) c.self.inside.chain c.self.inside.buckets (alike_keys g.met.S.Key.Hashed.equivalence g.S.Keys.key_of) c.self.invariant c.args.name c.args.row live
+    (reordered_differ (λ v. g.S.Key.Hashed.wide_hash_of (g.S.Keys.key_of v)) (λ v w. g.S.Key.Hashed.is_alike (g.S.Keys.key_of v) (g.S.Keys.key_of w)) c.self.inside.chain c.self.inside.buckets (alike_keys g.met.S.Key.Hashed.equivalence g.S.Keys.key_of) c.self.invariant c.args.name c.args.row live
     (subst (λ (alike : g.row.S-Row.Denot → g.row.S-Row.Denot → Bool). another_is_like (by_arrival alike) (plain_rows (seen_in c.self.inside.chain)) c.args.name.serial c.args.row ≡ false) (by_keys g.S.Key.Hashed.is_alike g.S.Keys.key_of g.S.Alike.is_alike g.met.S.Alike.alike_by_key)
     (subst (λ (k : Chained _). another_is_like (by_arrival g.S.Alike.is_alike) (plain_rows (seen_in k)) c.args.name.serial c.args.row ≡ false) (sym c.self.view_is) c.requires.only))))
 

@@ -20,9 +20,9 @@ invariant_of-self g c =
     let live = there_live i.chain a (subst (λ (d : Chained _). IsTrue (is_there (seen_in d) a)) (sym c.self.view_is) c.requires) in
     let key : w.key ≡ v.key = ap (λ (e : Entry g.row.K.Denot g.row.V.Denot). e.key) c.set_element.ensures in
     let like : g.K.Hashed.is_alike v.key w.key ≡ true = ap (g.K.Hashed.is_alike v.key) key ∙ g.met.K.Hashed.equivalence.refl v.key in
-    tied_written (λ (e : Entry g.row.K.Denot g.row.V.Denot). g.K.Hashed.hash_of e.key) (λ (e f : Entry g.row.K.Denot g.row.V.Denot). g.K.Hashed.is_alike e.key f.key) i.chain i.buckets c.self.invariant a v w live c.at_mut.ensures.value
-    (ap g.K.Hashed.hash_of (sym key)) c.len-sound.ensures.sound
-    (replaced_differ (λ (e : Entry g.row.K.Denot g.row.V.Denot). g.K.Hashed.hash_of e.key) (λ (e f : Entry g.row.K.Denot g.row.V.Denot). g.K.Hashed.is_alike e.key f.key) i.chain i.buckets
+    tied_written (λ (e : Entry g.row.K.Denot g.row.V.Denot). g.K.Hashed.wide_hash_of e.key) (λ (e f : Entry g.row.K.Denot g.row.V.Denot). g.K.Hashed.is_alike e.key f.key) i.chain i.buckets c.self.invariant a v w live c.at_mut.ensures.value
+    (ap g.K.Hashed.wide_hash_of (sym key)) c.len-sound.ensures.sound
+    (replaced_differ (λ (e : Entry g.row.K.Denot g.row.V.Denot). g.K.Hashed.wide_hash_of e.key) (λ (e f : Entry g.row.K.Denot g.row.V.Denot). g.K.Hashed.is_alike e.key f.key) i.chain i.buckets
     (alike_keys g.met.K.Hashed.equivalence (λ (e : Entry g.row.K.Denot g.row.V.Denot). e.key)) c.self.invariant a v w live c.at_mut.ensures.value like)
 
 pub returns : goal.returns
