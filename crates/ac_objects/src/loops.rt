@@ -144,7 +144,7 @@ fn put_cursor(held: &mut Bound, at: Cursor)
 {
     match held {
         Bound::Cursor(place) => *place = at,
-        _ => put_whole(held, Bound::Cursor(at)),
+        _ => put_cursor_anew(held, at),
     }
 }
 
@@ -160,16 +160,24 @@ fn put_element(held: &mut Bound, object: usize, at: Cursor)
             *its_object = object;
             *its_place = at;
         }
-        _ => put_whole(held, Bound::Element { object, at }),
+        _ => put_element_anew(held, object, at),
     }
 }
 
 #[cold]
 #[inline(never)]
-fn put_whole(held: &mut Bound, bound: Bound)
-    ensures { held.new ≡ bound }
+fn put_cursor_anew(held: &mut Bound, at: Cursor)
+    ensures { held.new ≡ bound.Cursor at }
 {
-    *held = bound;
+    *held = Bound::Cursor(at);
+}
+
+#[cold]
+#[inline(never)]
+fn put_element_anew(held: &mut Bound, object: usize, at: Cursor)
+    ensures { held.new ≡ bound.Element object at }
+{
+    *held = Bound::Element { object, at };
 }
 
 impl Objects {

@@ -14,6 +14,7 @@ mod order;
 mod row_object;
 mod sources;
 
+use crate::walking::answer_by_fields;
 use ac_base::{Elem, Fault, Rank};
 use ac_cursor::Cursor;
 use ac_list::List;
@@ -98,8 +99,8 @@ impl<T> Sequence<T> {
             (rows_of self.now) result }
     {
         match self {
-            Sequence::List(list) => list.next(c),
-            Sequence::Vector(vector) => vector.next(c),
+            Sequence::List(list) => answer_by_fields(list.next(c)),
+            Sequence::Vector(vector) => answer_by_fields(vector.next(c)),
         }
     }
 

@@ -74,6 +74,26 @@ fn by_fields(c: Cursor) -> Cursor
     }
 }
 
+/// The answer, its cursor copied field by field.
+#[inline(always)]
+pub(crate) fn answer_by_fields(answer: Result<Cursor, Fault>) -> Result<Cursor, Fault>
+    ensures { result ≡ answer }
+{
+    match answer {
+        Ok(
+            Cursor::At {
+                object,
+                name: Name { slot, serial },
+            },
+        ) => Ok(Cursor::At {
+            object,
+            name: Name { slot, serial },
+        }),
+        Ok(Cursor::NoElement) => Ok(Cursor::NoElement),
+        Err(fault) => Err(fault),
+    }
+}
+
 /// Next, or Previous.
 #[inline(always)]
 fn step_in<C: RowObject>(object: &C, backward: bool, at: Cursor) -> Result<Cursor, Fault>
