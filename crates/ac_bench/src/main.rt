@@ -1,6 +1,6 @@
 //! Workloads that `bench/` times. The words are a workload and a number of rounds, as `pool 1000000`, or a
 //! workload with a number of rows and one of rounds, as `chain 1000 1000000`. Those of lists are `append`, `walk`,
-//! `ends`, `sort` and `merge`; those of sets are `hashed` and `ordered`.
+//! `ends`, `sort` and `merge`; those of sets are `hashed`, `hashed_row` and `ordered`.
 #![tactic(auto)]
 
 mod chain;
@@ -39,6 +39,7 @@ fn run<R: AllocGlobal>(rt: &R, words: &[String]) -> io::Result<Option<u64>> {
         ("sort", Some(rounds)) => Ok(list::sort(rt.alloc(), first, rounds).ok()),
         ("merge", Some(rounds)) => Ok(list::merge(rt.alloc(), first, rounds).ok()),
         ("hashed", Some(rounds)) => Ok(sets::hashed(rt.alloc(), first, rounds).ok()),
+        ("hashed_row", Some(rounds)) => Ok(sets::hashed_row(rt.alloc(), first, rounds).ok()),
         ("ordered", Some(rounds)) => Ok(sets::ordered(rt.alloc(), first, rounds).ok()),
         _ => Ok(None),
     }
@@ -53,7 +54,7 @@ fn main(rt: HostRuntime) -> io::Result<ExitCode> {
         }
         None => {
             eprintln!(rt;
-                "usage: ac_bench pool ROUNDS, or ac_bench chain|append|walk|ends|sort|merge|hashed|ordered ROWS ROUNDS"
+                "usage: ac_bench pool ROUNDS, or ac_bench chain|append|walk|ends|sort|merge|hashed|hashed_row|ordered ROWS ROUNDS"
             )?;
             Ok(ExitCode::from(2))
         }

@@ -52,6 +52,22 @@ impl Integers for OrderedSet<i64> {
     }
 }
 
+/// Which numbers a workload puts into a set.
+#[derive(Clone, Copy)]
+enum Numbers {
+    Scrambled,
+    InARow,
+}
+
+impl Numbers {
+    fn at(self, place: u64) -> i64 {
+        match self {
+            Numbers::Scrambled => scrambled(place),
+            Numbers::InARow => place.cast_signed(),
+        }
+    }
+}
+
 fn tag() -> Result<Tag, Fault> {
     match TagMint::new().next() {
         Some(tag) => Ok(tag),
@@ -59,25 +75,30 @@ fn tag() -> Result<Tag, Fault> {
     }
 }
 
-fn include_all<S: Integers>(set: &mut S, rows: u64) -> Result<(), Fault> {
+fn include_all<S: Integers>(set: &mut S, numbers: Numbers, rows: u64) -> Result<(), Fault> {
     for place in 0..rows {
-        set.include(scrambled(place))?;
+        set.include(numbers.at(place))?;
     }
     Ok(())
 }
 
-fn exclude_half<S: Integers>(set: &mut S, rows: u64) -> Result<(), Fault> {
+fn exclude_half<S: Integers>(set: &mut S, numbers: Numbers, rows: u64) -> Result<(), Fault> {
     for place in 0..rows / 2 {
-        set.exclude(scrambled(place))?;
+        set.exclude(numbers.at(place))?;
     }
     Ok(())
 }
 
-fn change<S: Integers>(set: &mut S, rows: u64, rounds: u64) -> Result<u64, Fault> {
+fn change<S: Integers>(
+    set: &mut S,
+    numbers: Numbers,
+    rows: u64,
+    rounds: u64,
+) -> Result<u64, Fault> {
     for _i in 0..rounds {
         set.clear()?;
-        include_all(set, rows)?;
-        exclude_half(set, rows)?;
+        include_all(set, numbers, rows)?;
+        exclude_half(set, numbers, rows)?;
     }
     Ok(set.live_nodes())
 }
@@ -85,11 +106,17 @@ fn change<S: Integers>(set: &mut S, rows: u64, rounds: u64) -> Result<u64, Fault
 /// Clears a hashed set, includes so many elements and excludes half of them, so many times, and gives the length.
 pub fn hashed(alloc: Global, rows: u64, rounds: u64) -> Result<u64, Fault> {
     let mut set = HashedSet::new(alloc, tag()?, Limit::Unbounded)?;
-    change(&mut set, rows, rounds)
+    change(&mut set, Numbers::Scrambled, rows, rounds)
 }
 
-/// The same of an ordered set.
+/// The same with numbers in a row.
+pub fn hashed_row(alloc: Global, rows: u64, rounds: u64) -> Result<u64, Fault> {
+    let mut set = HashedSet::new(alloc, tag()?, Limit::Unbounded)?;
+    change(&mut set, Numbers::InARow, rows, rounds)
+}
+
+/// As `hashed`, of an ordered set.
 pub fn ordered(alloc: Global, rows: u64, rounds: u64) -> Result<u64, Fault> {
     let mut set = OrderedSet::new(alloc, tag()?, Limit::Unbounded)?;
-    change(&mut set, rows, rounds)
+    change(&mut set, Numbers::Scrambled, rows, rounds)
 }
