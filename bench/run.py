@@ -27,6 +27,9 @@ TOP = os.path.dirname(os.path.dirname(os.path.abspath(__file__)))
 PROGRAM = os.path.join(TOP, "crates/adacont/out/adacont")
 HEAD = "type L is list (integer);\nA : L;\n"
 RUNS = 5
+# Processor times are the least of more runs: a machine that others share is often slower for a while.
+PROCESSOR_RUNS = 25
+ALGEBRA_RUNS = 9
 SIZES = (10_000, 100_000, 1_000_000)
 
 
@@ -314,7 +317,7 @@ def beside_a_peer(peer, place):
     for name, text, words in rows:
         path = written(place, text)
         ours, theirs = [], []
-        for _ in range(RUNS):
+        for _ in range(PROCESSOR_RUNS):
             ours.append(processor([PROGRAM, *words], path))
             theirs.append(processor([*peer, *words], path))
         print(f"{name:<30}{min(ours):>12.3f}{min(theirs):>12.3f}{min(ours) / min(theirs):>8.2f}", flush=True)
@@ -337,7 +340,7 @@ def algebra(place, programs):
     """What the calls of two sets take, once each, for each element of a set, in nanoseconds and, where valgrind is there, in instructions."""
     def nanoseconds(command, kind, size):
         times = 1_000_000 // size
-        many, none = (min(processor(command, written(place, set_algebra(kind, size, count))) for _ in range(RUNS)) for count in (times, 0))
+        many, none = (min(processor(command, written(place, set_algebra(kind, size, count))) for _ in range(ALGEBRA_RUNS)) for count in (times, 0))
         return (many - none) / times / size * 1e9
 
     def counted(command, kind, size):
