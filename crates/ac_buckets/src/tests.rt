@@ -10,11 +10,12 @@ fn fill(buckets: &mut Buckets, count: u32)
     ensures { length buckets.new.pairs ≡ count }
 {
     for slot in 0..count {
+        let number = u64::from(slot);
         buckets.add(
-            u64::from(slot) * 64,
+            number * 64,
             Name {
                 slot,
-                serial: u64::from(slot) + 1,
+                serial: number + 1,
             },
         );
     }

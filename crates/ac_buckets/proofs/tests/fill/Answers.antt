@@ -17,7 +17,7 @@ only_one n a h = elim (cases_eq h.0 0) [
 pub loop-slot-preserved : goal.loop-slot-preserved
 loop-slot-preserved c =
     let h = c.loop-slot.invariant in let e = c.add.ensures.added in let old = c.loop-slot.buckets in
-    let n : Name = record { slot = c.loop-slot.slot; serial = c.from.result + 1 } in
+    let n : Name = record { slot = c.loop-slot.slot; serial = c.from-number.result + 1 } in
     record {
       room = omega (arith, ap (λ b. b.spare) e, h.room, c.loop-slot-test.true);
       many = ap (λ b. length b.pairs) e ∙ omega (arith, h.many);
