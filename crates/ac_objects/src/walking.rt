@@ -80,16 +80,7 @@ pub(crate) fn answer_by_fields(answer: Result<Cursor, Fault>) -> Result<Cursor, 
     ensures { result ≡ answer }
 {
     match answer {
-        Ok(
-            Cursor::At {
-                object,
-                name: Name { slot, serial },
-            },
-        ) => Ok(Cursor::At {
-            object,
-            name: Name { slot, serial },
-        }),
-        Ok(Cursor::NoElement) => Ok(Cursor::NoElement),
+        Ok(c) => Ok(by_fields(c)),
         Err(fault) => Err(fault),
     }
 }
