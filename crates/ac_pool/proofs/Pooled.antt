@@ -1,14 +1,14 @@
 -- What holds of a pool's fields is kept by each change, and gives what holds of its contents.
-use Rattle.std.proofs.Common.{◌≡◌, ◌≢◌, ℕ, zero, suc, ◌+◌, ◌-◌, ◌<◌, ◌≤◌, ◌^◌, ◌⊎◌, List, [], ◌∷◌, ◌++◌, length, set, get_or, replicate, Option, Some, None, is_some, IsSome, IfSome, IfNone, option_map, refl, sym, ap, ◌∙◌, subst, inl, inr, arith, length-append, length-set, get_or-set_same, get_or-set_other}
+use Rattle.std.proofs.Common.{◌≡◌, ◌≢◌, ℕ, zero, suc, ◌+◌, ◌-◌, ◌<◌, ◌≤◌, ◌^◌, ◌⊎◌, List, [], ◌∷◌, ◌++◌, length, set, get_or, replicate, Option, Some, None, is_some, IsSome, IfSome, IfNone, option_map, refl, sym, ap, ◌∙◌, inl, inr, arith, length-append, length-set, get_or-set_same, get_or-set_other}
 use Rattle.std.proofs.lemmas.Bool.{cases_eq, cases_lt}
-use Rattle.std.proofs.lemmas.List.{length-map, length-replicate, get_or_past, get_or_read, set-set, set_comm}
+use Rattle.std.proofs.lemmas.List.{length-map, length-replicate, get_or_append_left, get_or_push, get_or_past, set-set, set_comm}
 use Rattle.std.proofs.lemmas.Option.{same_Some}
 use Rattle.std.specs.FinMap as map
 use Rattle.ac_base.specs.declared.name.Name.{Name}
 use Rattle.ac_pool.specs.Cell.{serial_of, serial_at}
 use Rattle.ac_pool.specs.Contents.{contents, IsLive, live_count, slot_count, IsFresh, IsSound}
 use Rattle.ac_pool.specs.Link.{name_in, value_at, value_in as linked_value}
-use Rattle.ac_pool.specs.PoolFields.{name_at, entries_in, empty_count, IsPool}
+use Rattle.ac_pool.specs.PoolFields.{name_at, entries_in, empty_count, reached_in, GivesSlot, IsPool}
 use Rattle.ac_pool.specs.Runs.{kept_in, values_in, LiesFrom}
 use Rattle.ac_pool.proofs.Cells.{within}
 use Rattle.ac_pool.proofs.NameLaws.{same_name}
@@ -71,224 +71,239 @@ module _ {X : Type 0} where
       | inr n ↦ inr (n, sym (get_or-set_other cells i k (Some e) None n) ∙ h)
     ]
 
-  module _ (cells : List (Option (ℕ × X))) (free : List ℕ) where
-    pub IsPool-new : (serial : ℕ) → 0 < serial → serial < 2 ^ 64 → length cells ≡ 0 → IsPool cells free 0 serial
-    IsPool-new serial above small none = record {
+  module _ (cells : List (Option (ℕ × X))) (given : List ℕ) (capacity : ℕ) where
+    pub IsPool-new : (serial : ℕ) → 0 < serial → serial < 2 ^ 64 → length cells ≡ 0 → length given ≡ 0 → IsPool cells given capacity 0 serial
+    IsPool-new serial above small none no_given = record {
       issued = λ i e h. absurd (omega (arith, within cells i e h));
       serials = λ i j d e h k same. absurd (omega (arith, within cells i d h));
       next = (above, small);
       few = omega arith;
       room = omega arith;
       count = omega (arith, empty_count_within cells);
+      listed = omega arith;
       empties = λ k h. absurd (omega arith);
       once = λ j k h l same. absurd (omega arith);
+      unreached = λ i le. get_or_past cells i None (omega arith);
     }
 
-    module _ (n next : ℕ) where
-      module _ (h : IsPool cells free (n + 1) next) where
-        abbrev slot : ℕ
-        slot = get_or free n 0
+    module _ (n next : ℕ) (h : IsPool cells given capacity n next) where
+      -- a slot that keeps nothing, and the slots that were given back without it
+      pub record IsNext (slot : ℕ) (left : List ℕ) : Type 0 where
+        pub empty : (slot < length cells) × (get_or cells slot None ≡ None)
+        pub reached : slot < reached_in cells left (n - 1)
+        pub before : reached_in cells given n ≤ reached_in cells left (n - 1)
+        pub listed : length left ≤ n - 1
+        pub others : (k : ℕ) → k < length left → (k < length given) × (get_or left k 0 ≡ get_or given k 0) × (get_or left k 0 ≢ slot)
 
-        pub spare_slot : (slot < length cells) × (get_or cells slot None ≡ None)
-        spare_slot = h.empties n (omega arith)
-
-        pub IsPool-put : (v : X) → next + 1 < 2 ^ 64 → IsPool (set cells slot (Some (next, v))) free n (next + 1)
-        IsPool-put v small =
-            let e : ℕ × X = (next, v) in let lt = spare_slot.0 in let long = length-set cells slot (Some e) in record {
-              issued = λ k d p. elim (read_set cells slot e lt k d p) [
-                | inl q ↦ let is : next ≡ d.0 = ap (λ (c : ℕ × X). c.0) q.1 in omega (arith, h.next)
-                | inr q ↦ omega (arith, h.issued k d q.1)
-              ];
-              serials = λ j k c d p q same. elim (read_set cells slot e lt j c p) [
-                | inl a ↦ elim (read_set cells slot e lt k d q) [
-                  | inl b ↦ a.0 ∙ sym b.0
-                  | inr b ↦ let is : next ≡ c.0 = ap (λ (c : ℕ × X). c.0) a.1 in absurd (omega (arith, h.issued k d b.1))
-                ]
-                | inr a ↦ elim (read_set cells slot e lt k d q) [
-                  | inl b ↦ let is : next ≡ d.0 = ap (λ (c : ℕ × X). c.0) b.1 in absurd (omega (arith, h.issued j c a.1))
-                  | inr b ↦ h.serials j k c d a.1 b.1 same
-                ]
-              ];
-              next = (omega arith, small);
-              few = omega (arith, h.few);
-              room = omega (arith, h.room);
-              count = omega (arith, h.count, empty_count-fill cells slot e lt spare_slot.1);
-              empties = λ k less.
-                  let apart : get_or free k 0 ≢ slot = λ is. let same : k ≡ n = h.once k n (omega arith) (omega arith) is in omega arith in
-                  let old = h.empties k (omega arith) in
-                  (omega (arith, old.0), get_or-set_other cells slot (get_or free k 0) (Some e) None apart ∙ old.1);
-              once = λ j k a b same. h.once j k (omega arith) (omega arith) same;
+      pub is_next : 0 < n → (slot : ℕ) (left : List ℕ) → GivesSlot given (length cells - n) slot left → IsNext slot left
+      is_next some slot left gives = elim gives [
+        | inl back ↦
+            let long : length given ≡ length left + 1 = ap length back ∙ length-append left (slot ∷ []) in
+            let last : get_or given (length left) 0 ≡ slot = ap (λ l. get_or l (length left) 0) back ∙ get_or_push left slot 0 (length left) refl in
+            let old = h.empties (length left) (omega arith) in
+            let same : (k : ℕ) → k < length left → get_or left k 0 ≡ get_or given k 0 = λ k less. sym (ap (λ l. get_or l k 0) back ∙ get_or_append_left left (slot ∷ []) 0 k less) in record {
+              empty = (omega (arith, old.0, last), ap (λ j. get_or cells j None) (sym last) ∙ old.1);
+              reached = omega (arith, old.0, last, long, h.listed);
+              before = omega (arith, long, h.listed);
+              listed = omega (arith, long, h.listed);
+              others = λ k less. (omega (arith, long), same k less, λ is. let place : k ≡ length left = h.once k (length left) (omega (arith, long)) (omega (arith, long)) (sym (same k less) ∙ is ∙ sym last) in omega arith);
             }
-
-      module _ (h : IsPool cells free n next) where
-        pub room_for_slot : (i : ℕ) (e : ℕ × X) → get_or cells i None ≡ Some e → (n < length free) × (n < length cells)
-        room_for_slot i e full = (omega (arith, h.count, h.room, empty_count_below cells i e full), omega (arith, h.count, empty_count_below cells i e full))
-
-        pub IsPool-take : (i : ℕ) (e : ℕ × X) → get_or cells i None ≡ Some e → IsPool (set cells i None) (set free n i) (n + 1) next
-        IsPool-take i e full =
-            let lt = within cells i e full in let long = length-set cells i None in let long_free = length-set free n i in let room = (room_for_slot i e full).0 in
-            let here : get_or (set free n i) n 0 ≡ i = get_or-set_same free n i 0 room in
-            let there : (k : ℕ) → k ≢ n → get_or (set free n i) k 0 ≡ get_or free k 0 = λ k apart. get_or-set_other free n k i 0 apart in
-            let fresh : (k : ℕ) → k < n → get_or free k 0 ≢ i = λ k less is. let none : None ≡ Some e = sym (h.empties k less).1 ∙ (ap (λ j. get_or cells j None) is ∙ full) in cc in
-            let still : (k : ℕ) (d : ℕ × X) → get_or (set cells i None) k None ≡ Some d → get_or cells k None ≡ Some d = λ k d p. elim (cases_eq k i) [
-              | inl is ↦ let none : None ≡ Some d = sym (get_or-set_same cells i None None lt) ∙ (ap (λ j. get_or (set cells i None) j None) (sym is) ∙ p) in cc
-              | inr apart ↦ sym (get_or-set_other cells i k None None apart) ∙ p
-            ] in record {
-              issued = λ k d p. h.issued k d (still k d p);
-              serials = λ j k c d p q same. h.serials j k c d (still j c p) (still k d q) same;
-              next = h.next;
-              few = omega (arith, h.few);
-              room = omega (arith, h.room);
-              count = omega (arith, h.count, empty_count-vacate cells i e full);
-              empties = λ k less. elim (cases_eq k n) [
-                | inl is ↦ let at : get_or (set free n i) k 0 ≡ i = ap (λ j. get_or (set free n i) j 0) is ∙ here in
-                    (omega arith, ap (λ j. get_or (set cells i None) j None) at ∙ get_or-set_same cells i None None lt)
-                | inr apart ↦ let at = there k apart in let old = h.empties k (omega arith) in
-                    (omega (arith, old.0), ap (λ j. get_or (set cells i None) j None) at ∙ get_or-set_other cells i (get_or free k 0) None None (fresh k (omega arith)) ∙ old.1)
-              ];
-              once = λ j k a b same. elim (cases_eq j n) [
-                | inl jn ↦ elim (cases_eq k n) [
-                  | inl kn ↦ jn ∙ sym kn
-                  | inr kn ↦ absurd (fresh k (omega arith) (sym (there k kn) ∙ sym same ∙ ap (λ m. get_or (set free n i) m 0) jn ∙ here))
-                ]
-                | inr jn ↦ elim (cases_eq k n) [
-                  | inl kn ↦ absurd (fresh j (omega arith) (sym (there j jn) ∙ same ∙ ap (λ m. get_or (set free n i) m 0) kn ∙ here))
-                  | inr kn ↦ h.once j k (omega arith) (omega arith) (sym (there j jn) ∙ same ∙ there k kn)
-                ]
-              ];
+        | inr fresh ↦
+            let none : length given ≡ 0 = ap length fresh.0 in let none_left : length left ≡ 0 = ap length fresh.2 in let within_all = empty_count_within cells in record {
+              empty = (omega (arith, fresh.1, h.count), h.unreached slot (omega (arith, fresh.1, none)));
+              reached = omega (arith, fresh.1, none_left, h.count);
+              before = omega (arith, none, none_left);
+              listed = omega (arith, none_left);
+              others = λ k less. absurd (omega (arith, none_left));
             }
+      ]
 
-        pub IsPool-write : (i s : ℕ) (x w : X) → get_or cells i None ≡ Some (s, x) → IsPool (set cells i (Some (s, w))) free n next
-        IsPool-write i s x w full =
-            let e : ℕ × X = (s, w) in let lt = within cells i (s, x) full in let long = length-set cells i (Some e) in
-            let old : (k : ℕ) (d : ℕ × X) → get_or (set cells i (Some e)) k None ≡ Some d → (c : ℕ × X) × (get_or cells k None ≡ Some c) × (c.0 ≡ d.0) = λ k d p. elim (read_set cells i e lt k d p) [
-              | inl q ↦ ((s, x), ap (λ j. get_or cells j None) q.0 ∙ full, ap (λ (c : ℕ × X). c.0) q.1)
-              | inr q ↦ (d, q.1, refl)
-            ] in record {
-              issued = λ k d p. let o = old k d p in let is = o.2 in omega (arith, h.issued k o.0 o.1);
-              serials = λ j k c d p q same. let a = old j c p in let b = old k d q in h.serials j k a.0 b.0 a.1 b.1 (a.2 ∙ same ∙ sym b.2);
-              next = h.next;
-              few = omega (arith, h.few);
-              room = omega (arith, h.room);
-              count = omega (arith, h.count, empty_count-write cells i (s, x) e full);
-              empties = λ k less. let o = h.empties k less in
-                  let apart : get_or free k 0 ≢ i = λ is. let nothing : Option (ℕ × X) = None in let none : nothing ≡ Some (s, x) = sym o.1 ∙ (ap (λ j. get_or cells j None) is ∙ full) in cc in
-                  (omega (arith, o.0), get_or-set_other cells i (get_or free k 0) (Some e) None apart ∙ o.1);
-              once = h.once;
-            }
+      pub IsPool-put : 0 < n → (slot : ℕ) (left : List ℕ) → IsNext slot left → (v : X) → next + 1 < 2 ^ 64 → IsPool (set cells slot (Some (next, v))) left capacity (n - 1) (next + 1)
+      IsPool-put some slot left s v small =
+          let e : ℕ × X = (next, v) in let lt = s.empty.0 in let long = length-set cells slot (Some e) in record {
+            issued = λ k d p. elim (read_set cells slot e lt k d p) [
+              | inl q ↦ let is : next ≡ d.0 = ap (λ (c : ℕ × X). c.0) q.1 in omega (arith, h.next)
+              | inr q ↦ omega (arith, h.issued k d q.1)
+            ];
+            serials = λ j k c d p q same. elim (read_set cells slot e lt j c p) [
+              | inl a ↦ elim (read_set cells slot e lt k d q) [
+                | inl b ↦ a.0 ∙ sym b.0
+                | inr b ↦ let is : next ≡ c.0 = ap (λ (c : ℕ × X). c.0) a.1 in absurd (omega (arith, h.issued k d b.1))
+              ]
+              | inr a ↦ elim (read_set cells slot e lt k d q) [
+                | inl b ↦ let is : next ≡ d.0 = ap (λ (c : ℕ × X). c.0) b.1 in absurd (omega (arith, h.issued j c a.1))
+                | inr b ↦ h.serials j k c d a.1 b.1 same
+              ]
+            ];
+            next = (omega arith, small);
+            few = omega (arith, h.few);
+            room = omega (arith, h.room);
+            count = omega (arith, h.count, empty_count-fill cells slot e lt s.empty.1);
+            listed = s.listed;
+            empties = λ k less. let o = s.others k less in let old = h.empties k o.0 in
+                (omega (arith, old.0, o.1, s.before, long), get_or-set_other cells slot (get_or left k 0) (Some e) None o.2 ∙ ap (λ j. get_or cells j None) o.1 ∙ old.1);
+            once = λ j k a b same. let o = s.others j a in let p = s.others k b in h.once j k o.0 p.0 (sym o.1 ∙ same ∙ p.1);
+            unreached = λ k le. let apart : k ≢ slot = λ is. absurd (omega (arith, s.reached, long)) in
+                get_or-set_other cells slot k (Some e) None apart ∙ h.unreached k (omega (arith, s.before, long));
+          }
 
-        -- the list of free slots in another place
-        pub IsPool-relist : (news : List ℕ) → length cells ≤ length news → ((k : ℕ) → k < n → get_or news k 0 ≡ get_or free k 0) → IsPool cells news n next
-        IsPool-relist news room same = record {
-          issued = h.issued;
-          serials = h.serials;
-          next = h.next;
-          few = h.few;
-          room = room;
-          count = h.count;
-          empties = λ k less. let o = h.empties k less in let at = same k less in (omega (arith, o.0), ap (λ j. get_or cells j None) at ∙ o.1);
-          once = λ j k a b is. h.once j k a b (sym (same j a) ∙ is ∙ same k b);
-        }
+      pub entries_in-put : (slot : ℕ) (left : List ℕ) → IsNext slot left → (v : X) → entries_in (set cells slot (Some (next, v))) ≡ map.insert (entries_in cells) (name_at slot next) v
+      entries_in-put slot left s v = entries_in-some cells slot next v s.empty.0 (λ e full. let no : Option (ℕ × X) = None in let none : no ≡ Some e = sym s.empty.1 ∙ full in cc)
 
-        pub IsPool-grow : (news : List ℕ) (m : ℕ) → length cells + m ≤ 2 ^ 30 → length cells + m ≤ length news → ((k : ℕ) → k < n → get_or news k 0 ≡ get_or free k 0)
-            → ((k : ℕ) → k < m → get_or news (n + k) 0 ≡ length cells + (m - 1 - k)) → IsPool (cells ++ replicate m None) news (n + m) next
-        IsPool-grow news m fits room below listed =
-            let long : length (cells ++ replicate m None) ≡ length cells + m = length-append cells (replicate m None) ∙ ap (λ k. length cells + k) (length-replicate m None) in
-            let old : (k : ℕ) (d : ℕ × X) → get_or (cells ++ replicate m None) k None ≡ Some d → get_or cells k None ≡ Some d = λ k d p. sym (get_grown cells m k) ∙ p in
-            let late : (k : ℕ) → n ≤ k → k < n + m → get_or news k 0 ≡ length cells + (m - 1 - (k - n)) = λ k le less. let at : n + (k - n) ≡ k = omega arith in ap (λ j. get_or news j 0) (sym at) ∙ listed (k - n) (omega arith) in record {
-              issued = λ k d p. h.issued k d (old k d p);
-              serials = λ j k c d p q same. h.serials j k c d (old j c p) (old k d q) same;
-              next = h.next;
-              few = omega arith;
-              room = omega arith;
-              count = omega (arith, h.count, empty_count-grow cells m);
-              empties = λ k less. elim (cases_lt k n) [
-                | inl lower ↦ let o = h.empties k lower in let at = below k lower in
-                    (omega (arith, o.0), get_grown cells m (get_or news k 0) ∙ ap (λ j. get_or cells j None) at ∙ o.1)
-                | inr upper ↦ let at = late k upper less in
-                    (omega arith, get_grown cells m (get_or news k 0) ∙ get_or_past cells (get_or news k 0) None (omega arith))
-              ];
-              once = λ j k a b same. elim (cases_lt j n) [
-                | inl jl ↦ elim (cases_lt k n) [
-                  | inl kl ↦ h.once j k jl kl (sym (below j jl) ∙ same ∙ below k kl)
-                  | inr ku ↦ absurd (omega (arith, below j jl, (h.empties j jl).0, late k ku b))
-                ]
-                | inr ju ↦ elim (cases_lt k n) [
-                  | inl kl ↦ absurd (omega (arith, below k kl, (h.empties k kl).0, late j ju a))
-                  | inr ku ↦ omega (arith, late j ju a, late k ku b)
-                ]
-              ];
-            }
+      pub room_for_slot : (i : ℕ) (e : ℕ × X) → get_or cells i None ≡ Some e → (length given < capacity) × (n < length cells)
+      room_for_slot i e full = let fewer = empty_count_below cells i e full in (omega (arith, h.listed, h.count, h.room, fewer), omega (arith, h.count, fewer))
 
-        pub live_cell : (q : Name) → IsLive (contents (entries_in cells) next n) q → (x : X) × (get_or cells q.slot None ≡ Some (q.serial, x))
-        live_cell q live = kept_of_value (get_or cells q.slot None) q.serial (ap is_some (sym (get-entries_in cells q)) ∙ live)
+      -- a slot that keeps a value is reached
+      reached_by : (i : ℕ) (e : ℕ × X) → get_or cells i None ≡ Some e → i < reached_in cells given n
+      reached_by i e full = elim (cases_lt i (reached_in cells given n)) [
+        | inl less ↦ less
+        | inr past ↦ let no : Option (ℕ × X) = None in let none : no ≡ Some e = sym (h.unreached i past) ∙ full in cc
+      ]
 
-        pub live_serial : (q : Name) → IsLive (contents (entries_in cells) next n) q → serial_of (get_or cells q.slot None) ≡ Some q.serial
-        live_serial q live = ap serial_of (live_cell q live).1
+      pub IsPool-take : (i : ℕ) (e : ℕ × X) → get_or cells i None ≡ Some e → IsPool (set cells i None) (given ++ i ∷ []) capacity (n + 1) next
+      IsPool-take i e full =
+          let lt = within cells i e full in let long = length-set cells i None in let more : length (given ++ i ∷ []) ≡ length given + 1 = length-append given (i ∷ []) in let fewer = (room_for_slot i e full).1 in
+          let here : get_or (given ++ i ∷ []) (length given) 0 ≡ i = get_or_push given i 0 (length given) refl in
+          let there : (k : ℕ) → k < length given → get_or (given ++ i ∷ []) k 0 ≡ get_or given k 0 = λ k less. get_or_append_left given (i ∷ []) 0 k less in
+          let fresh : (k : ℕ) → k < length given → get_or given k 0 ≢ i = λ k less is. let none : None ≡ Some e = sym (h.empties k less).1 ∙ (ap (λ j. get_or cells j None) is ∙ full) in cc in
+          let still : (k : ℕ) (d : ℕ × X) → get_or (set cells i None) k None ≡ Some d → get_or cells k None ≡ Some d = λ k d p. elim (cases_eq k i) [
+            | inl is ↦ let none : None ≡ Some d = sym (get_or-set_same cells i None None lt) ∙ (ap (λ j. get_or (set cells i None) j None) (sym is) ∙ p) in cc
+            | inr apart ↦ sym (get_or-set_other cells i k None None apart) ∙ p
+          ] in record {
+            issued = λ k d p. h.issued k d (still k d p);
+            serials = λ j k c d p q same. h.serials j k c d (still j c p) (still k d q) same;
+            next = h.next;
+            few = omega (arith, h.few);
+            room = omega (arith, h.room);
+            count = omega (arith, h.count, empty_count-vacate cells i e full);
+            listed = omega (arith, h.listed, more);
+            empties = λ k less. elim (cases_eq k (length given)) [
+              | inl is ↦ let at : get_or (given ++ i ∷ []) k 0 ≡ i = ap (λ j. get_or (given ++ i ∷ []) j 0) is ∙ here in
+                  (omega (arith, reached_by i e full, more, long, h.listed), ap (λ j. get_or (set cells i None) j None) at ∙ get_or-set_same cells i None None lt)
+              | inr apart ↦ let inside : k < length given = omega (arith, more) in let at = there k inside in let old = h.empties k inside in
+                  (omega (arith, old.0, more, long, h.listed), ap (λ j. get_or (set cells i None) j None) at ∙ get_or-set_other cells i (get_or given k 0) None None (fresh k inside) ∙ old.1)
+            ];
+            once = λ j k a b same. elim (cases_eq j (length given)) [
+              | inl jn ↦ elim (cases_eq k (length given)) [
+                | inl kn ↦ jn ∙ sym kn
+                | inr kn ↦ let inside : k < length given = omega (arith, more) in absurd (fresh k inside (sym (there k inside) ∙ sym same ∙ ap (λ m. get_or (given ++ i ∷ []) m 0) jn ∙ here))
+              ]
+              | inr jn ↦ let inside : j < length given = omega (arith, more) in elim (cases_eq k (length given)) [
+                | inl kn ↦ absurd (fresh j inside (sym (there j inside) ∙ same ∙ ap (λ m. get_or (given ++ i ∷ []) m 0) kn ∙ here))
+                | inr kn ↦ let inside_too : k < length given = omega (arith, more) in h.once j k inside inside_too (sym (there j inside) ∙ same ∙ there k inside_too)
+              ]
+            ];
+            unreached = λ k le. let past : reached_in cells given n ≤ k = omega (arith, more, long, h.listed) in
+                let apart : k ≢ i = λ is. absurd (omega (arith, reached_by i e full)) in get_or-set_other cells i k None None apart ∙ h.unreached k past;
+          }
 
-        pub live_from : (q : Name) → serial_of (get_or cells q.slot None) ≡ Some q.serial → IsLive (contents (entries_in cells) next n) q
-        live_from q is = ap is_some (get-entries_in cells q) ∙ value_some (get_or cells q.slot None) q.serial is
+      pub IsPool-write : (i s : ℕ) (x w : X) → get_or cells i None ≡ Some (s, x) → IsPool (set cells i (Some (s, w))) given capacity n next
+      IsPool-write i s x w full =
+          let e : ℕ × X = (s, w) in let lt = within cells i (s, x) full in let long = length-set cells i (Some e) in
+          let old : (k : ℕ) (d : ℕ × X) → get_or (set cells i (Some e)) k None ≡ Some d → (c : ℕ × X) × (get_or cells k None ≡ Some c) × (c.0 ≡ d.0) = λ k d p. elim (read_set cells i e lt k d p) [
+            | inl q ↦ ((s, x), ap (λ j. get_or cells j None) q.0 ∙ full, ap (λ (c : ℕ × X). c.0) q.1)
+            | inr q ↦ (d, q.1, refl)
+          ] in record {
+            issued = λ k d p. let o = old k d p in let is = o.2 in omega (arith, h.issued k o.0 o.1);
+            serials = λ j k c d p q same. let a = old j c p in let b = old k d q in h.serials j k a.0 b.0 a.1 b.1 (a.2 ∙ same ∙ sym b.2);
+            next = h.next;
+            few = omega (arith, h.few);
+            room = omega (arith, h.room);
+            count = omega (arith, h.count, empty_count-write cells i (s, x) e full);
+            listed = h.listed;
+            empties = λ k less. let o = h.empties k less in
+                let apart : get_or given k 0 ≢ i = λ is. let nothing : Option (ℕ × X) = None in let none : nothing ≡ Some (s, x) = sym o.1 ∙ (ap (λ j. get_or cells j None) is ∙ full) in cc in
+                (omega (arith, o.0, long), get_or-set_other cells i (get_or given k 0) (Some e) None apart ∙ o.1);
+            once = h.once;
+            unreached = λ k le. let past : reached_in cells given n ≤ k = omega (arith, long) in
+                let apart : k ≢ i = λ is. absurd (omega (arith, reached_by i (s, x) full)) in get_or-set_other cells i k (Some e) None apart ∙ h.unreached k past;
+          }
 
-        pub none_live : (slot : ℕ) → serial_of (get_or cells slot None) ≡ None → (q : Name) → IsLive (contents (entries_in cells) next n) q → q.slot ≢ slot
-        none_live slot empty q live at = let no : None ≡ Some q.serial = sym empty ∙ (ap (λ k. serial_of (get_or cells k None)) (sym at) ∙ live_serial q live) in cc
+      pub IsPool-grow : (more m : ℕ) → length cells + m ≤ 2 ^ 30 → length cells + m ≤ more → IsPool (cells ++ replicate m None) given more (n + m) next
+      IsPool-grow more m fits room =
+          let long : length (cells ++ replicate m None) ≡ length cells + m = length-append cells (replicate m None) ∙ ap (λ k. length cells + k) (length-replicate m None) in
+          let old : (k : ℕ) (d : ℕ × X) → get_or (cells ++ replicate m None) k None ≡ Some d → get_or cells k None ≡ Some d = λ k d p. sym (get_grown cells m k) ∙ p in record {
+            issued = λ k d p. h.issued k d (old k d p);
+            serials = λ j k c d p q same. h.serials j k c d (old j c p) (old k d q) same;
+            next = h.next;
+            few = omega (arith, long);
+            room = omega (arith, long);
+            count = omega (arith, h.count, empty_count-grow cells m);
+            listed = omega (arith, h.listed);
+            empties = λ k less. let o = h.empties k less in (omega (arith, o.0, long, h.listed), get_grown cells m (get_or given k 0) ∙ o.1);
+            once = h.once;
+            unreached = λ k le. get_grown cells m k ∙ h.unreached k (omega (arith, long, h.listed));
+          }
 
-        pub live_count-cells : live_count (contents (entries_in cells) next n) + n ≡ length cells
-        live_count-cells = omega (arith, h.count, len-entries_in cells)
+      pub live_cell : (q : Name) → IsLive (contents (entries_in cells) next n) q → (x : X) × (get_or cells q.slot None ≡ Some (q.serial, x))
+      live_cell q live = kept_of_value (get_or cells q.slot None) q.serial (ap is_some (sym (get-entries_in cells q)) ∙ live)
 
-        pub slot_count-cells : slot_count (contents (entries_in cells) next n) ≡ length cells
-        slot_count-cells = omega (arith, h.count, len-entries_in cells)
+      pub live_serial : (q : Name) → IsLive (contents (entries_in cells) next n) q → serial_of (get_or cells q.slot None) ≡ Some q.serial
+      live_serial q live = ap serial_of (live_cell q live).1
 
-        pub sound : IsSound (contents (entries_in cells) next n)
-        sound = record {
-          slots = λ a b p q same. let x = live_cell a p in let y = live_cell b q in
-              let both : Some (a.serial, x.0) ≡ Some (b.serial, y.0) = sym x.1 ∙ (ap (λ j. get_or cells j None) same ∙ y.1) in
-              same_name a b same (ap (λ (e : ℕ × X). e.0) (same_Some (a.serial, x.0) (b.serial, y.0) both));
-          serials = λ a b p q same. let x = live_cell a p in let y = live_cell b q in
-              same_name a b (h.serials a.slot b.slot (a.serial, x.0) (b.serial, y.0) x.1 y.1 same) same;
-          within = λ a p. let x = live_cell a p in omega (arith, slot_count-cells, within cells a.slot (a.serial, x.0) x.1);
-          issued = λ a p. let x = live_cell a p in h.issued a.slot (a.serial, x.0) x.1;
-          next = h.next;
-          few = omega (arith, slot_count-cells, h.few);
-        }
+      pub live_from : (q : Name) → serial_of (get_or cells q.slot None) ≡ Some q.serial → IsLive (contents (entries_in cells) next n) q
+      live_from q is = ap is_some (get-entries_in cells q) ∙ value_some (get_or cells q.slot None) q.serial is
 
-        -- what the cell of a slot says of the slot's live name
-        pub name_found : (s i : ℕ) → serial_of (get_or cells i None) ≡ Some s → Some (name_at i s) ≡ name_in (contents (entries_in cells) next n) i
-        name_found s i is = sym (name_in_live (contents (entries_in cells) next n) sound (name_at i s) (live_from (name_at i s) is))
+      pub none_live : (slot : ℕ) → serial_of (get_or cells slot None) ≡ None → (q : Name) → IsLive (contents (entries_in cells) next n) q → q.slot ≢ slot
+      none_live slot empty q live at = let no : None ≡ Some q.serial = sym empty ∙ (ap (λ k. serial_of (get_or cells k None)) (sym at) ∙ live_serial q live) in cc
 
-        pub no_name : (i : ℕ) → serial_of (get_or cells i None) ≡ None → None ≡ name_in (contents (entries_in cells) next n) i
-        no_name i is = sym (name_in_none (contents (entries_in cells) next n) i (none_live i is))
+      pub live_count-cells : live_count (contents (entries_in cells) next n) + n ≡ length cells
+      live_count-cells = omega (arith, h.count, len-entries_in cells)
 
-        value_found : (s i : ℕ) (x : X) → get_or cells i None ≡ Some (s, x) → linked_value (contents (entries_in cells) next n) i ≡ Some x
-        value_found s i x is =
-            ap (value_at (contents (entries_in cells) next n)) (sym (name_found s i (ap serial_of is)))
-            ∙ (get-entries_in cells (name_at i s) ∙ ap (λ k. value_in k s) is ∙ value_in_same (s, x) s refl)
+      pub slot_count-cells : slot_count (contents (entries_in cells) next n) ≡ length cells
+      slot_count-cells = omega (arith, h.count, len-entries_in cells)
 
-        no_value : (i : ℕ) → get_or cells i None ≡ None → linked_value (contents (entries_in cells) next n) i ≡ None
-        no_value i is = ap (value_at (contents (entries_in cells) next n)) (sym (no_name i (ap serial_of is)))
+      pub sound : IsSound (contents (entries_in cells) next n)
+      sound = record {
+        slots = λ a b p q same. let x = live_cell a p in let y = live_cell b q in
+            let both : Some (a.serial, x.0) ≡ Some (b.serial, y.0) = sym x.1 ∙ (ap (λ j. get_or cells j None) same ∙ y.1) in
+            same_name a b same (ap (λ (e : ℕ × X). e.0) (same_Some (a.serial, x.0) (b.serial, y.0) both));
+        serials = λ a b p q same. let x = live_cell a p in let y = live_cell b q in
+            same_name a b (h.serials a.slot b.slot (a.serial, x.0) (b.serial, y.0) x.1 y.1 same) same;
+        within = λ a p. let x = live_cell a p in omega (arith, slot_count-cells, within cells a.slot (a.serial, x.0) x.1);
+        issued = λ a p. let x = live_cell a p in h.issued a.slot (a.serial, x.0) x.1;
+        next = h.next;
+        few = omega (arith, slot_count-cells, h.few);
+      }
 
-        pub value_is : {A : Type 0} (now : A → X) (o : Option A) (i : ℕ) → IfSome o (λ v. get_or cells i None ≡ Some (serial_at cells i, now v)) → IfNone o (get_or cells i None ≡ None) → option_map now o ≡ linked_value (contents (entries_in cells) next n) i
-        value_is now None i found none = sym (no_value i none)
-        value_is now (Some v) i found none = sym (value_found (serial_at cells i) i (now v) found)
+      -- what the cell of a slot says of the slot's live name
+      pub name_found : (s i : ℕ) → serial_of (get_or cells i None) ≡ Some s → Some (name_at i s) ≡ name_in (contents (entries_in cells) next n) i
+      name_found s i is = sym (name_in_live (contents (entries_in cells) next n) sound (name_at i s) (live_from (name_at i s) is))
 
-        value_kept : (i : ℕ) (o : Option (ℕ × X)) → get_or cells i None ≡ o → linked_value (contents (entries_in cells) next n) i ≡ kept_in o
-        value_kept i None is = no_value i is
-        value_kept i (Some e) is = value_found e.0 i e.1 is
+      pub no_name : (i : ℕ) → serial_of (get_or cells i None) ≡ None → None ≡ name_in (contents (entries_in cells) next n) i
+      no_name i is = sym (name_in_none (contents (entries_in cells) next n) i (none_live i is))
 
-        -- cells that lie together are a run of the values under live names
-        pub run_is : (slot : ℕ) (part : List (Option (ℕ × X))) → LiesFrom (λ i. get_or cells i None) slot part → LiesFrom (linked_value (contents (entries_in cells) next n)) slot (values_in part)
-        run_is slot part h = record {
-          first = value_kept slot (get_or cells slot None) refl ∙ (ap kept_in h.first ∙ get_kept part 0);
-          each = λ k less. value_kept (slot + k) (get_or cells (slot + k) None) refl ∙ (ap kept_in (h.each k (omega (arith, length-map part kept_in))) ∙ get_kept part k);
-          whole = λ k less. value_kept (slot + k) (get_or cells (slot + k) None) refl ∙ (ap kept_in (h.whole k less) ∙ get_kept part k);
-          within = omega (arith, length-map part kept_in, h.within);
-        }
+      value_found : (s i : ℕ) (x : X) → get_or cells i None ≡ Some (s, x) → linked_value (contents (entries_in cells) next n) i ≡ Some x
+      value_found s i x is =
+          ap (value_at (contents (entries_in cells) next n)) (sym (name_found s i (ap serial_of is)))
+          ∙ (get-entries_in cells (name_at i s) ∙ ap (λ k. value_in k s) is ∙ value_in_same (s, x) s refl)
 
-        -- a slot that keeps nothing has no live name
-        pub fresh : (i : ℕ) → get_or cells i None ≡ None → IsFresh (contents (entries_in cells) next n) (name_at i next)
-        fresh i none = record {
-          slot = λ q live is. let x = live_cell q live in let no : None ≡ Some (q.serial, x.0) = sym none ∙ (ap (λ j. get_or cells j None) (sym is) ∙ x.1) in cc;
-          serial = refl;
-        }
+      no_value : (i : ℕ) → get_or cells i None ≡ None → linked_value (contents (entries_in cells) next n) i ≡ None
+      no_value i is = ap (value_at (contents (entries_in cells) next n)) (sym (no_name i (ap serial_of is)))
+
+      pub value_is : {A : Type 0} (now : A → X) (o : Option A) (i : ℕ) → IfSome o (λ v. get_or cells i None ≡ Some (serial_at cells i, now v)) → IfNone o (get_or cells i None ≡ None) → option_map now o ≡ linked_value (contents (entries_in cells) next n) i
+      value_is now None i found none = sym (no_value i none)
+      value_is now (Some v) i found none = sym (value_found (serial_at cells i) i (now v) found)
+
+      value_kept : (i : ℕ) (o : Option (ℕ × X)) → get_or cells i None ≡ o → linked_value (contents (entries_in cells) next n) i ≡ kept_in o
+      value_kept i None is = no_value i is
+      value_kept i (Some e) is = value_found e.0 i e.1 is
+
+      -- cells that lie together are a run of the values under live names
+      pub run_is : (slot : ℕ) (part : List (Option (ℕ × X))) → LiesFrom (λ i. get_or cells i None) slot part → LiesFrom (linked_value (contents (entries_in cells) next n)) slot (values_in part)
+      run_is slot part h = record {
+        first = value_kept slot (get_or cells slot None) refl ∙ (ap kept_in h.first ∙ get_kept part 0);
+        each = λ k less. value_kept (slot + k) (get_or cells (slot + k) None) refl ∙ (ap kept_in (h.each k (omega (arith, length-map part kept_in))) ∙ get_kept part k);
+        whole = λ k less. value_kept (slot + k) (get_or cells (slot + k) None) refl ∙ (ap kept_in (h.whole k less) ∙ get_kept part k);
+        within = omega (arith, length-map part kept_in, h.within);
+      }
+
+      -- a slot that keeps nothing has no live name
+      pub fresh : (i : ℕ) → get_or cells i None ≡ None → IsFresh (contents (entries_in cells) next n) (name_at i next)
+      fresh i none = record {
+        slot = λ q live is. let x = live_cell q live in let no : None ≡ Some (q.serial, x.0) = sym none ∙ (ap (λ j. get_or cells j None) (sym is) ∙ x.1) in cc;
+        serial = refl;
+      }
 
 -- two values change places
 module _ {X : Type 0} (cells : List (Option (ℕ × X))) (i j s t : ℕ) (x y : X) (apart : i ≢ j) (at_i : get_or cells i None ≡ Some (s, x)) (at_j : get_or cells j None ≡ Some (t, y)) where
@@ -306,8 +321,8 @@ module _ {X : Type 0} (cells : List (Option (ℕ × X))) (i j s t : ℕ) (x y : 
   still_at_j : get_or one_written j None ≡ Some (t, y)
   still_at_j = get_or-set_other cells i j (Some (s, y)) None (λ e. apart (sym e)) ∙ at_j
 
-  pub IsPool-exchanged : (free : List ℕ) (n next : ℕ) → IsPool cells free n next → IsPool exchanged_cells free n next
-  IsPool-exchanged free n next h = IsPool-write one_written free n next (IsPool-write cells free n next h i s x y at_i) j t y x still_at_j
+  pub IsPool-exchanged : (given : List ℕ) (capacity n next : ℕ) → IsPool cells given capacity n next → IsPool exchanged_cells given capacity n next
+  IsPool-exchanged given capacity n next h = IsPool-write one_written given capacity n next (IsPool-write cells given capacity n next h i s x y at_i) j t y x still_at_j
 
   same_serial : (e : ℕ × X) (r : ℕ) (z : X) (o : Option (ℕ × X)) → o ≡ Some (r, z) → o ≡ Some e → e.0 ≡ r
   same_serial e r z o p q = ap (λ (d : ℕ × X). d.0) (same_Some e (r, z) (sym q ∙ p))
@@ -316,23 +331,3 @@ module _ {X : Type 0} (cells : List (Option (ℕ × X))) (i j s t : ℕ) (x y : 
   entries_in-exchanged =
       entries_in-some one_written j t x (within one_written j (t, y) still_at_j) (λ e q. same_serial e t y _ still_at_j q)
       ∙ ap (λ m. map.insert m (name_at j t) x) (entries_in-some cells i s y (within cells i (s, x) at_i) (λ e q. same_serial e s x _ at_i q))
-
--- the last free slot is taken for a new value
-module _ {X : Type 0} (cells : List (Option (ℕ × X))) (free : List ℕ) (n next : ℕ) (h : IsPool cells free n next) (i : ℕ) (some : 0 < n) (is : i ≡ get_or free (n - 1) i) where
-  one_more : n ≡ (n - 1) + 1
-  one_more = omega arith
-
-  last : IsPool cells free ((n - 1) + 1) next
-  last = subst (λ m. IsPool cells free m next) one_more h
-
-  last_slot : get_or free (n - 1) 0 ≡ i
-  last_slot = sym (get_or_read free (n - 1) i (omega (arith, h.room, h.count, empty_count_within cells)) is 0)
-
-  pub last_spare : (i < length cells) × (get_or cells i None ≡ None)
-  last_spare = subst (λ j. (j < length cells) × (get_or cells j None ≡ None)) last_slot (spare_slot cells free (n - 1) next last)
-
-  pub IsPool-put_last : (v : X) → next < 2 ^ 64 - 1 → IsPool (set cells i (Some (next, v))) free (n - 1) (next + 1)
-  IsPool-put_last v small = subst (λ j. IsPool (set cells j (Some (next, v))) free (n - 1) (next + 1)) last_slot (IsPool-put cells free (n - 1) next last v (omega arith))
-
-  pub entries_in-put : (v : X) → entries_in (set cells i (Some (next, v))) ≡ map.insert (entries_in cells) (name_at i next) v
-  entries_in-put v = entries_in-some cells i next v last_spare.0 (λ e full. let no : Option (ℕ × X) = None in let none : no ≡ Some e = sym last_spare.1 ∙ full in cc)

@@ -1,6 +1,7 @@
-//! How many slots a growth makes, and the free slots that it brings.
-ghost use Rattle.std.specs.Prelude.{◌≡◌, ℕ, ◌+◌, ◌-◌, ◌^◌, ◌<◌, ◌≤◌, length, slice_index};
+//! How many slots a growth makes, and which slot is the next.
+ghost use Rattle.std.specs.Prelude.{◌≡◌, ◌^◌, ◌≤◌, vec_capacity};
 ghost use Rattle.ac_base.specs.Growth.{pow8};
+ghost use Rattle.ac_pool.specs.PoolFields.{GivesSlot};
 
 /// The least `8 * 2^k` that is not below `wanted`.
 pub(crate) fn least_slots(wanted: usize) -> usize
@@ -15,14 +16,14 @@ pub(crate) fn least_slots(wanted: usize) -> usize
     slots
 }
 
-/// Writes the `count` slots from `first` on into `free`, from the index `at` on. The first stands last, since slots are taken from the end.
-pub(crate) fn list_free(free: &mut [u32], at: usize, first: usize, count: usize)
-    requires room { at + count ≤ length free.old }
-    requires small { first + count ≤ 2 ^ 30 }
-    ensures below { (k : ℕ) → k < at → slice_index free.new k ≡ slice_index free.old k }
-    ensures listed { (k : ℕ) → k < count → slice_index free.new (at + k) ≡ first + (count - 1 - k) }
+/// The slot for the next value: the last that was given back, or else the first that no value has reached.
+#[inline(always)]
+pub(crate) fn next_slot(given: &mut Vec<u32>, unreached: u32) -> u32
+    ensures slot { GivesSlot given.old.items unreached result given.new.items }
+    ensures capacity { vec_capacity given.new ≡ vec_capacity given.old }
 {
-    for k in 0..count {
-        free[at + k] = (first + (count - 1 - k)) as u32;
+    match given.pop() {
+        Some(slot) => slot,
+        None => unreached,
     }
 }

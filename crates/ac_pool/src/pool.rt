@@ -7,7 +7,7 @@ ghost use Rattle.ac_pool.specs.Link.{name_in, value_in};
 ghost use Rattle.ac_pool.specs.Runs.{LiesFrom};
 ghost use Rattle.ac_base.specs.declared.name.Name.{Name};
 
-use crate::growth::{least_slots, list_free};
+use crate::growth::{least_slots, next_slot};
 use crate::run::Run;
 use crate::slots::Slots;
 use ac_base::{Name, NoMemory};
@@ -26,8 +26,9 @@ pub enum PutFault<T> {
 #[derive(Drop)]
 pub struct Pool<T> {
     slots: Slots<T>,
-    // The first `spare` of them are the slots that keep nothing. A failed growth may leave more than there are slots.
+    // The slots that were given back, with room for every slot. No value has reached the others that keep nothing: they are the last ones.
     free: Vec<u32>,
+    // How many slots keep nothing.
     spare: usize,
     next_serial: u64,
 }
@@ -39,11 +40,12 @@ impl<T> Model for Pool<T> {
 
     ghost coded = { contents_code T.code };
 
+    ghost use Rattle.std.specs.Prelude.{vec_capacity};
     ghost use Rattle.ac_pool.specs.PoolFields.{entries_in, IsPool};
 
     ghost view = { λ p. contents (entries_in p.slots) p.next_serial p.spare };
 
-    ghost invariant = { λ p. IsPool p.slots p.free.items p.spare p.next_serial };
+    ghost invariant = { λ p. IsPool p.slots p.free.items (vec_capacity p.free) p.spare p.next_serial };
 }
 
 impl<T> Pool<T> {
@@ -80,9 +82,8 @@ impl<T> Pool<T> {
         ensures sound { IsSound self.new }
     {
         let len = self.slots.len();
-        self.free.resize(len + by, 0)?;
+        self.free.reserve_exact(len + by - self.free.len())?;
         self.slots.grow(by)?;
-        list_free(self.free.as_mut_slice(), self.spare, len, by);
         self.spare += by;
         Ok(())
     }
@@ -133,10 +134,11 @@ impl<T> Pool<T> {
         ensures added { self.new ≡ added self.old result value }
         ensures sound { IsSound self.new }
     {
-        self.spare -= 1;
-        let slot = self.free[self.spare];
+        let unreached = (self.slots.len() - self.spare) as u32;
+        let slot = next_slot(&mut self.free, unreached);
         let serial = self.next_serial;
         self.slots.put(slot as usize, serial, value);
+        self.spare -= 1;
         self.next_serial += 1;
         Name { slot, serial }
     }
@@ -216,7 +218,7 @@ impl<T> Pool<T> {
             return None;
         }
         let value = self.slots.take(name.slot as usize);
-        self.free[self.spare] = name.slot;
+        self.free.push_reserved(name.slot);
         self.spare += 1;
         Some(value)
     }

@@ -1,4 +1,4 @@
-use Rattle.std.proofs.Common.{◌≡◌, set, get_or, Some, None, refl, sym, ap, ◌∙◌, subst, get_or-set_other}
+use Rattle.std.proofs.Common.{◌≡◌, set, get_or, Some, None, refl, sym, ap, ◌∙◌, subst, get_or-set_other, vec_capacity}
 use Rattle.ac_base.specs.declared.name.Name.{Name}
 use Rattle.ac_pool.specs.Cell.{serial_in}
 use Rattle.ac_pool.specs.Contents.{contents, value_of, IsLive, swapped, IsSound}
@@ -11,19 +11,19 @@ use Rattle.ac_pool.proofs.pool.Pool.exchange.Goals as goal
 pub take-at_a-requires : goal.take-at_a-requires
 take-at_a-requires g c =
     let a = c.self.inside in let h = c.self.invariant in let la : IsLive (contents (entries_in a.slots) a.next_serial a.spare) c.args.a = subst (λ x. IsLive x c.args.a) (sym c.self.view_is) c.requires.live.0 in let lb : IsLive (contents (entries_in a.slots) a.next_serial a.spare) c.args.b = subst (λ x. IsLive x c.args.b) (sym c.self.view_is) c.requires.live.1 in
-    let ka = live_cell a.slots a.free.items a.spare a.next_serial h c.args.a la in let kb = live_cell a.slots a.free.items a.spare a.next_serial h c.args.b lb in let i = c.args.a.slot in let j = c.args.b.slot in let s = c.args.a.serial in let t = c.args.b.serial in let apart = c.requires.apart in
+    let ka = live_cell a.slots a.free.items (vec_capacity a.free) a.spare a.next_serial h c.args.a la in let kb = live_cell a.slots a.free.items (vec_capacity a.free) a.spare a.next_serial h c.args.b lb in let i = c.args.a.slot in let j = c.args.b.slot in let s = c.args.a.serial in let t = c.args.b.serial in let apart = c.requires.apart in
     ((s, ka.0), ka.1)
 
 pub take-at_b-requires : goal.take-at_b-requires
 take-at_b-requires g c =
     let a = c.self.inside in let h = c.self.invariant in let la : IsLive (contents (entries_in a.slots) a.next_serial a.spare) c.args.a = subst (λ x. IsLive x c.args.a) (sym c.self.view_is) c.requires.live.0 in let lb : IsLive (contents (entries_in a.slots) a.next_serial a.spare) c.args.b = subst (λ x. IsLive x c.args.b) (sym c.self.view_is) c.requires.live.1 in
-    let ka = live_cell a.slots a.free.items a.spare a.next_serial h c.args.a la in let kb = live_cell a.slots a.free.items a.spare a.next_serial h c.args.b lb in let i = c.args.a.slot in let j = c.args.b.slot in let s = c.args.a.serial in let t = c.args.b.serial in let apart = c.requires.apart in
+    let ka = live_cell a.slots a.free.items (vec_capacity a.free) a.spare a.next_serial h c.args.a la in let kb = live_cell a.slots a.free.items (vec_capacity a.free) a.spare a.next_serial h c.args.b lb in let i = c.args.a.slot in let j = c.args.b.slot in let s = c.args.a.serial in let t = c.args.b.serial in let apart = c.requires.apart in
     ((t, kb.0), ap (λ l. get_or l j None) c.take-at_a.ensures.cells ∙ get_or-set_other a.slots i j None None (λ e. apart (sym e)) ∙ kb.1)
 
 pub invariant_of-self : goal.invariant_of-self
 invariant_of-self g c =
     let a = c.self.inside in let h = c.self.invariant in let la : IsLive (contents (entries_in a.slots) a.next_serial a.spare) c.args.a = subst (λ x. IsLive x c.args.a) (sym c.self.view_is) c.requires.live.0 in let lb : IsLive (contents (entries_in a.slots) a.next_serial a.spare) c.args.b = subst (λ x. IsLive x c.args.b) (sym c.self.view_is) c.requires.live.1 in
-    let ka = live_cell a.slots a.free.items a.spare a.next_serial h c.args.a la in let kb = live_cell a.slots a.free.items a.spare a.next_serial h c.args.b lb in let i = c.args.a.slot in let j = c.args.b.slot in let s = c.args.a.serial in let t = c.args.b.serial in let apart = c.requires.apart in
+    let ka = live_cell a.slots a.free.items (vec_capacity a.free) a.spare a.next_serial h c.args.a la in let kb = live_cell a.slots a.free.items (vec_capacity a.free) a.spare a.next_serial h c.args.b lb in let i = c.args.a.slot in let j = c.args.b.slot in let s = c.args.a.serial in let t = c.args.b.serial in let apart = c.requires.apart in
     let x = c.take-at_a.result in let y = c.take-at_b.result in let gone = c.take-at_a.ensures.cells in
     let same_at_j = ap (λ l. get_or l j None) gone ∙ get_or-set_other a.slots i j None None (λ e. apart (sym e)) in
     let at_i : get_or a.slots i None ≡ Some (s, x) = c.take-at_a.ensures.value ∙ ap (λ r. Some (r, x)) (ap serial_in ka.1) in
@@ -31,12 +31,12 @@ invariant_of-self g c =
     let is : c.put-2.new.self ≡ exchanged_cells a.slots i j s t x y apart at_i at_j =
     c.put-2.ensures ∙ ap (λ l. set l j (Some (t, x))) (c.put.ensures ∙ ap (λ l. set l i (Some (s, y))) (c.take-at_b.ensures.cells ∙ ap (λ l. set l j None) gone))
     ∙ exchanged_is a.slots i j s t x y apart at_i at_j in
-    subst (λ cells. IsPool cells a.free.items a.spare a.next_serial) (sym is) (IsPool-exchanged a.slots i j s t x y apart at_i at_j a.free.items a.spare a.next_serial h)
+    subst (λ cells. IsPool cells a.free.items (vec_capacity a.free) a.spare a.next_serial) (sym is) (IsPool-exchanged a.slots i j s t x y apart at_i at_j a.free.items (vec_capacity a.free) a.spare a.next_serial h)
 
 pub returns-clause-swapped : goal.returns-clause-swapped
 returns-clause-swapped g c =
     let a = c.self.inside in let h = c.self.invariant in let la : IsLive (contents (entries_in a.slots) a.next_serial a.spare) c.args.a = subst (λ x. IsLive x c.args.a) (sym c.self.view_is) c.requires.live.0 in let lb : IsLive (contents (entries_in a.slots) a.next_serial a.spare) c.args.b = subst (λ x. IsLive x c.args.b) (sym c.self.view_is) c.requires.live.1 in
-    let ka = live_cell a.slots a.free.items a.spare a.next_serial h c.args.a la in let kb = live_cell a.slots a.free.items a.spare a.next_serial h c.args.b lb in let i = c.args.a.slot in let j = c.args.b.slot in let s = c.args.a.serial in let t = c.args.b.serial in let apart = c.requires.apart in
+    let ka = live_cell a.slots a.free.items (vec_capacity a.free) a.spare a.next_serial h c.args.a la in let kb = live_cell a.slots a.free.items (vec_capacity a.free) a.spare a.next_serial h c.args.b lb in let i = c.args.a.slot in let j = c.args.b.slot in let s = c.args.a.serial in let t = c.args.b.serial in let apart = c.requires.apart in
     let x = c.take-at_a.result in let y = c.take-at_b.result in let gone = c.take-at_a.ensures.cells in
     let same_at_j = ap (λ l. get_or l j None) gone ∙ get_or-set_other a.slots i j None None (λ e. apart (sym e)) in
     let at_i : get_or a.slots i None ≡ Some (s, x) = c.take-at_a.ensures.value ∙ ap (λ r. Some (r, x)) (ap serial_in ka.1) in
@@ -52,7 +52,7 @@ returns-clause-swapped g c =
 pub returns-clause-sound : goal.returns-clause-sound
 returns-clause-sound g c =
     let a = c.self.inside in let h = c.self.invariant in let la : IsLive (contents (entries_in a.slots) a.next_serial a.spare) c.args.a = subst (λ x. IsLive x c.args.a) (sym c.self.view_is) c.requires.live.0 in let lb : IsLive (contents (entries_in a.slots) a.next_serial a.spare) c.args.b = subst (λ x. IsLive x c.args.b) (sym c.self.view_is) c.requires.live.1 in
-    let ka = live_cell a.slots a.free.items a.spare a.next_serial h c.args.a la in let kb = live_cell a.slots a.free.items a.spare a.next_serial h c.args.b lb in let i = c.args.a.slot in let j = c.args.b.slot in let s = c.args.a.serial in let t = c.args.b.serial in let apart = c.requires.apart in
+    let ka = live_cell a.slots a.free.items (vec_capacity a.free) a.spare a.next_serial h c.args.a la in let kb = live_cell a.slots a.free.items (vec_capacity a.free) a.spare a.next_serial h c.args.b lb in let i = c.args.a.slot in let j = c.args.b.slot in let s = c.args.a.serial in let t = c.args.b.serial in let apart = c.requires.apart in
     let x = c.take-at_a.result in let y = c.take-at_b.result in let gone = c.take-at_a.ensures.cells in
     let same_at_j = ap (λ l. get_or l j None) gone ∙ get_or-set_other a.slots i j None None (λ e. apart (sym e)) in
     let at_i : get_or a.slots i None ≡ Some (s, x) = c.take-at_a.ensures.value ∙ ap (λ r. Some (r, x)) (ap serial_in ka.1) in
@@ -60,4 +60,4 @@ returns-clause-sound g c =
     let is : c.put-2.new.self ≡ exchanged_cells a.slots i j s t x y apart at_i at_j =
     c.put-2.ensures ∙ ap (λ l. set l j (Some (t, x))) (c.put.ensures ∙ ap (λ l. set l i (Some (s, y))) (c.take-at_b.ensures.cells ∙ ap (λ l. set l j None) gone))
     ∙ exchanged_is a.slots i j s t x y apart at_i at_j in
-    subst (λ cells. IsSound (contents (entries_in cells) a.next_serial a.spare)) (sym is) (sound _ a.free.items a.spare a.next_serial (IsPool-exchanged a.slots i j s t x y apart at_i at_j a.free.items a.spare a.next_serial h))
+    subst (λ cells. IsSound (contents (entries_in cells) a.next_serial a.spare)) (sym is) (sound _ a.free.items (vec_capacity a.free) a.spare a.next_serial (IsPool-exchanged a.slots i j s t x y apart at_i at_j a.free.items (vec_capacity a.free) a.spare a.next_serial h))

@@ -1,4 +1,4 @@
-use Rattle.std.proofs.Common.{◌≡◌, ℕ, set, Some, sym, ap, ◌∙◌, subst, inl}
+use Rattle.std.proofs.Common.{◌≡◌, ℕ, set, Some, sym, ap, ◌∙◌, subst, inl, vec_capacity}
 use Rattle.std.proofs.lemmas.Option.{same_Some}
 use Rattle.ac_pool.specs.Cell.{serial_in, serial_at}
 use Rattle.ac_pool.specs.Contents.{contents, value_of, IsLive, with_value}
@@ -10,15 +10,15 @@ use Rattle.ac_pool.proofs.pool.Pool.get_mut.Goals as goal
 
 pub get_mut-requires : goal.get_mut-requires
 get_mut-requires g c =
-    let a = c.self.inside in let h = c.self.invariant in let live : IsLive (contents (entries_in a.slots) a.next_serial a.spare) c.args.name = c.is_live.ensures.live.0 c.if-is_live.true in let k = live_cell a.slots a.free.items a.spare a.next_serial h c.args.name live in let i = c.args.name.slot in let e : ℕ × g.row.T.Denot = (c.args.name.serial, k.0) in (e, k.1)
+    let a = c.self.inside in let h = c.self.invariant in let live : IsLive (contents (entries_in a.slots) a.next_serial a.spare) c.args.name = c.is_live.ensures.live.0 c.if-is_live.true in let k = live_cell a.slots a.free.items (vec_capacity a.free) a.spare a.next_serial h c.args.name live in let i = c.args.name.slot in let e : ℕ × g.row.T.Denot = (c.args.name.serial, k.0) in (e, k.1)
 
 pub invariant_of-self-lent : goal.invariant_of-self-lent
 invariant_of-self-lent g c =
-    λ w. let a = c.self.inside in let h = c.self.invariant in IsPool-write a.slots a.free.items a.spare a.next_serial h c.args.name.slot (serial_at a.slots c.args.name.slot) c.get_mut.result.now w c.get_mut.ensures.value
+    λ w. let a = c.self.inside in let h = c.self.invariant in IsPool-write a.slots a.free.items (vec_capacity a.free) a.spare a.next_serial h c.args.name.slot (serial_at a.slots c.args.name.slot) c.get_mut.result.now w c.get_mut.ensures.value
 
 pub returns-then-is_live : goal.returns-then-is_live
 returns-then-is_live g c =
-    let a = c.self.inside in let h = c.self.invariant in let live : IsLive (contents (entries_in a.slots) a.next_serial a.spare) c.args.name = c.is_live.ensures.live.0 c.if-is_live.true in let k = live_cell a.slots a.free.items a.spare a.next_serial h c.args.name live in let i = c.args.name.slot in let e : ℕ × g.row.T.Denot = (c.args.name.serial, k.0) in let name = c.args.name in let v = c.get_mut.result.now in let is : serial_at a.slots i ≡ name.serial = ap serial_in k.1 in
+    let a = c.self.inside in let h = c.self.invariant in let live : IsLive (contents (entries_in a.slots) a.next_serial a.spare) c.args.name = c.is_live.ensures.live.0 c.if-is_live.true in let k = live_cell a.slots a.free.items (vec_capacity a.free) a.spare a.next_serial h c.args.name live in let i = c.args.name.slot in let e : ℕ × g.row.T.Denot = (c.args.name.serial, k.0) in let name = c.args.name in let v = c.get_mut.result.now in let is : serial_at a.slots i ≡ name.serial = ap serial_in k.1 in
     let written : (w : g.row.T.Denot) → contents (entries_in (set a.slots i (Some (serial_at a.slots i, w)))) a.next_serial a.spare ≡ with_value c.args.self.now name w = λ w.
     subst (λ x. contents (entries_in (set a.slots i (Some (serial_at a.slots i, w)))) a.next_serial a.spare ≡ with_value x name w) c.self.view_is
     (ap (λ m. contents m a.next_serial a.spare) (ap (λ s. entries_in (set a.slots i (Some (s, w)))) is

@@ -1,4 +1,4 @@
-use Rattle.std.proofs.Common.{◌≡◌, ◌≤◌, ◌^◌, ◌+◌, ◌-◌, length, sym, ap, ◌∙◌, subst, arith}
+use Rattle.std.proofs.Common.{◌≡◌, ◌≤◌, ◌^◌, ◌+◌, ◌-◌, length, sym, ap, ◌∙◌, subst, arith, vec_capacity}
 use Rattle.std.specs.Result.{OnOk}
 use Rattle.ac_base.specs.Growth.{pow8}
 use Rattle.ac_pool.specs.Contents.{contents, live_count, slot_count, reserved, IsSound}
@@ -9,7 +9,7 @@ use Rattle.ac_pool.proofs.pool.Pool.reserve.Goals as goal
 
 pub returns-then-wanted-self-clause-sound : goal.returns-then-wanted-self-clause-sound
 returns-then-wanted-self-clause-sound g c =
-    let a = c.self.inside in let h = c.self.invariant in subst (λ x. IsSound x) c.self.view_is (sound a.slots a.free.items a.spare a.next_serial h)
+    let a = c.self.inside in let h = c.self.invariant in subst (λ x. IsSound x) c.self.view_is (sound a.slots a.free.items (vec_capacity a.free) a.spare a.next_serial h)
 
 pub overflow_sub-len : goal.overflow_sub-len
 overflow_sub-len g c =
@@ -17,16 +17,16 @@ overflow_sub-len g c =
 
 pub least_slots-slots-requires : goal.least_slots-slots-requires
 least_slots-slots-requires g c =
-    let a = c.self.inside in let h = c.self.invariant in let fits : live_count (contents (entries_in a.slots) a.next_serial a.spare) + c.args.n ≤ 2 ^ 30 = subst (λ x. live_count x + c.args.n ≤ 2 ^ 30) (sym c.self.view_is) c.requires in let live = live_count-cells a.slots a.free.items a.spare a.next_serial h in let len = c.len-len.ensures.count in omega arith
+    let a = c.self.inside in let h = c.self.invariant in let fits : live_count (contents (entries_in a.slots) a.next_serial a.spare) + c.args.n ≤ 2 ^ 30 = subst (λ x. live_count x + c.args.n ≤ 2 ^ 30) (sym c.self.view_is) c.requires in let live = live_count-cells a.slots a.free.items (vec_capacity a.free) a.spare a.next_serial h in let len = c.len-len.ensures.count in omega arith
 
 pub grow-requires : goal.grow-requires
 grow-requires g c =
-    let a = c.self.inside in let h = c.self.invariant in let fits : live_count (contents (entries_in a.slots) a.next_serial a.spare) + c.args.n ≤ 2 ^ 30 = subst (λ x. live_count x + c.args.n ≤ 2 ^ 30) (sym c.self.view_is) c.requires in let live = live_count-cells a.slots a.free.items a.spare a.next_serial h in let len = c.len-len.ensures.count in let b = c.least_slots-slots.ensures.bounds in let all : slot_count c.args.self.now ≡ length a.slots = subst (λ x. slot_count x ≡ length a.slots) c.self.view_is (slot_count-cells a.slots a.free.items a.spare a.next_serial h) in
+    let a = c.self.inside in let h = c.self.invariant in let fits : live_count (contents (entries_in a.slots) a.next_serial a.spare) + c.args.n ≤ 2 ^ 30 = subst (λ x. live_count x + c.args.n ≤ 2 ^ 30) (sym c.self.view_is) c.requires in let live = live_count-cells a.slots a.free.items (vec_capacity a.free) a.spare a.next_serial h in let len = c.len-len.ensures.count in let b = c.least_slots-slots.ensures.bounds in let all : slot_count c.args.self.now ≡ length a.slots = subst (λ x. slot_count x ≡ length a.slots) c.self.view_is (slot_count-cells a.slots a.free.items (vec_capacity a.free) a.spare a.next_serial h) in
     omega (arith, b.1, b.0, c.if-wanted-self.false)
 
 pub returns-clause-ok : goal.returns-clause-ok
 returns-clause-ok g c =
-    let a = c.self.inside in let h = c.self.invariant in let fits : live_count (contents (entries_in a.slots) a.next_serial a.spare) + c.args.n ≤ 2 ^ 30 = subst (λ x. live_count x + c.args.n ≤ 2 ^ 30) (sym c.self.view_is) c.requires in let live = live_count-cells a.slots a.free.items a.spare a.next_serial h in let len = c.len-len.ensures.count in let n = c.args.n in let s = c.least_slots-slots.result in
+    let a = c.self.inside in let h = c.self.invariant in let fits : live_count (contents (entries_in a.slots) a.next_serial a.spare) + c.args.n ≤ 2 ^ 30 = subst (λ x. live_count x + c.args.n ≤ 2 ^ 30) (sym c.self.view_is) c.requires in let live = live_count-cells a.slots a.free.items (vec_capacity a.free) a.spare a.next_serial h in let len = c.len-len.ensures.count in let n = c.args.n in let s = c.least_slots-slots.result in
     let live_is : c.len-len.result - a.spare ≡ live_count (contents (entries_in a.slots) a.next_serial a.spare) = omega arith in
     let s_is : s ≡ pow8 (live_count (contents (entries_in a.slots) a.next_serial a.spare) + n) = c.least_slots-slots.ensures.slots ∙ ap (λ m. pow8 (m + n)) live_is in
     let b = c.least_slots-slots.ensures.bounds in
