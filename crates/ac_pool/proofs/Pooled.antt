@@ -1,11 +1,11 @@
 -- What holds of a pool's fields is kept by each change, and gives what holds of its contents.
-use Rattle.std.proofs.Common.{◌≡◌, ◌≢◌, ℕ, zero, suc, ◌+◌, ◌-◌, ◌<◌, ◌≤◌, ◌^◌, ◌⊎◌, List, [], ◌∷◌, ◌++◌, length, set, get_or, replicate, Option, Some, None, is_some, IsSome, IfSome, IfNone, option_map, refl, sym, ap, ◌∙◌, inl, inr, arith, length-append, length-set, get_or-set_same, get_or-set_other}
+use Rattle.std.proofs.Common.{◌≡◌, ◌≢◌, ℕ, zero, suc, ◌+◌, ◌-◌, ◌<◌, ◌≤◌, ◌^◌, ◌⊎◌, List, [], ◌∷◌, ◌++◌, length, set, get_or, replicate, Option, Some, None, is_some, IsSome, refl, sym, ap, ◌∙◌, inl, inr, arith, length-append, length-set, get_or-set_same, get_or-set_other}
 use Rattle.std.proofs.lemmas.Bool.{cases_eq, cases_lt}
 use Rattle.std.proofs.lemmas.List.{length-map, length-replicate, get_or_append_left, get_or_push, get_or_past, set-set, set_comm}
 use Rattle.std.proofs.lemmas.Option.{same_Some}
 use Rattle.std.specs.FinMap as map
 use Rattle.ac_base.specs.declared.name.Name.{Name}
-use Rattle.ac_pool.specs.Cell.{serial_of, serial_at}
+use Rattle.ac_pool.specs.Cell.{serial_of}
 use Rattle.ac_pool.specs.Contents.{contents, IsLive, live_count, slot_count, IsFresh, IsSound}
 use Rattle.ac_pool.specs.Link.{name_in, value_at, value_in as linked_value}
 use Rattle.ac_pool.specs.PoolFields.{name_at, entries_in, empty_count, reached_in, GivesSlot, IsPool}
@@ -281,11 +281,7 @@ module _ {X : Type 0} where
       no_value : (i : ℕ) → get_or cells i None ≡ None → linked_value (contents (entries_in cells) next n) i ≡ None
       no_value i is = ap (value_at (contents (entries_in cells) next n)) (sym (no_name i (ap serial_of is)))
 
-      pub value_is : {A : Type 0} (now : A → X) (o : Option A) (i : ℕ) → IfSome o (λ v. get_or cells i None ≡ Some (serial_at cells i, now v)) → IfNone o (get_or cells i None ≡ None) → option_map now o ≡ linked_value (contents (entries_in cells) next n) i
-      value_is now None i found none = sym (no_value i none)
-      value_is now (Some v) i found none = sym (value_found (serial_at cells i) i (now v) found)
-
-      value_kept : (i : ℕ) (o : Option (ℕ × X)) → get_or cells i None ≡ o → linked_value (contents (entries_in cells) next n) i ≡ kept_in o
+      pub value_kept : (i : ℕ) (o : Option (ℕ × X)) → get_or cells i None ≡ o → linked_value (contents (entries_in cells) next n) i ≡ kept_in o
       value_kept i None is = no_value i is
       value_kept i (Some e) is = value_found e.0 i e.1 is
 

@@ -26,7 +26,7 @@ module _ {X : Type 0} where
   empty_count (None ∷ cells) = suc (empty_count cells)
   empty_count (Some e ∷ cells) = empty_count cells
 
-  -- from this slot on no value has reached them
+  -- from this slot on no value has reached the cells
   abbrev pub reached_in : List (Option (ℕ × X)) → List ℕ → ℕ → ℕ
   reached_in cells given spare = length cells - (spare - length given)
 

@@ -1,11 +1,11 @@
 //! A row of cells that never move. Its vector is made with room for all of them, and has those up to the highest that was ever filled:
 //! memory that no value has reached isn't touched.
-ghost use Rattle.std.specs.Prelude.{◌≡◌, ℕ, ◌<◌, ◌≤◌, ◌++◌, get_or, Some, None, length, replicate, slice_set, vec_capacity, IfOk, option_copied};
+ghost use Rattle.std.specs.Prelude.{◌≡◌, ℕ, ◌<◌, ◌≤◌, ◌++◌, get_or, Some, None, length, replicate, slice_set, vec_capacity, IfOk, IfSome, IfNone};
 ghost use Rattle.std.specs.Borrow.{sem};
-ghost use Rattle.ac_pool.specs.Cell.{serial_in, serial_at, IsFull, IsKept};
-ghost use Rattle.ac_pool.specs.CellLends.{lends_kept};
+ghost use Rattle.ac_pool.specs.Cell.{serial_at, IsKept};
 ghost use Rattle.ac_pool.specs.Runs.{IsRunOf};
 
+use crate::cell::Cell;
 use std::alloc::{AllocError, Global};
 use std::marker::Model;
 
@@ -13,7 +13,7 @@ use std::marker::Model;
 pub(crate) const CELLS: usize = 512;
 
 /// Makes the cells below the index, each empty.
-fn make_below<T>(cells: &mut Vec<Option<(u64, T)>>, index: usize)
+fn make_below<T>(cells: &mut Vec<Cell<T>>, index: usize)
     requires room { index ≤ vec_capacity cells.old }
     ensures made { (n : ℕ) × (cells.new.items ≡ cells.old.items ++ replicate n None) }
     ensures there { index ≤ length cells.new.items }
@@ -21,25 +21,13 @@ fn make_below<T>(cells: &mut Vec<Option<(u64, T)>>, index: usize)
     ensures capacity { vec_capacity cells.new ≡ vec_capacity cells.old }
 {
     for _ in cells.len()..index {
-        cells.push_reserved(None);
-    }
-}
-
-fn kept_mut<T>(cell: &mut Option<(u64, T)>) -> &mut T
-    requires { IsFull cell.old }
-    ensures* writes_back { sem 𝓛 (lends_kept T.row cell.entry result) }
-    ensures value { cell.old ≡ Some (serial_in cell.old, result.now) }
-{
-    match cell {
-        Some(entry) => &mut entry.1,
-        None => unreachable!(),
+        cells.push_reserved(Cell::empty());
     }
 }
 
 #[derive(Drop)]
 pub struct Chunk<T> {
-    // A value with its serial, or nothing.
-    cells: Vec<Option<(u64, T)>>,
+    cells: Vec<Cell<T>>,
 }
 
 impl<T> Model for Chunk<T> {
@@ -67,20 +55,21 @@ impl<T> Chunk<T> {
         Ok(Chunk { cells })
     }
 
-    /// What the cell keeps.
+    /// The cell, if it is made: those that aren't keep nothing.
     #[inline(always)]
-    pub(crate) fn entry(&self, index: usize) -> Option<&(u64, T)>
-        ensures { option_copied result ≡ get_or self.now index None }
+    pub(crate) fn cell(&self, index: usize) -> Option<&Cell<T>>
+        ensures made { IfSome result (λ cell. cell.now ≡ get_or self.now index None) }
+        ensures none { IfNone result (get_or self.now index None ≡ None) }
     {
         match self.cells.get(index) {
-            Some(cell) => cell.as_ref(),
+            Some(cell) => Some(cell),
             None => None,
         }
     }
 
     /// The cells from this one on, but for empty ones at the end.
     #[inline(always)]
-    pub(crate) fn cells_from(&self, index: usize) -> &[Option<(u64, T)>]
+    pub(crate) fn cells_from(&self, index: usize) -> &[Cell<T>]
         requires { index < 512 }
         ensures { IsRunOf self.now index result.now }
     {
@@ -98,13 +87,10 @@ impl<T> Chunk<T> {
     {
         make_below(&mut self.cells, index);
         if index == self.cells.len() {
-            self.cells.push_reserved(Some((serial, value)));
+            self.cells.push_reserved(Cell::keeping(serial, value));
             return;
         }
-        match self.cells[index].replace((serial, value)) {
-            None => {}
-            Some(_) => unreachable!(),
-        }
+        self.cells[index].put(serial, value);
     }
 
     #[inline(always)]
@@ -113,10 +99,7 @@ impl<T> Chunk<T> {
         ensures value { get_or self.old index None ≡ Some (serial_at self.old index, result) }
         ensures cells { self.new ≡ slice_set self.old index None }
     {
-        match self.cells[index].take() {
-            Some((_, value)) => value,
-            None => unreachable!(),
-        }
+        self.cells[index].take()
     }
 
     #[inline(always)]
@@ -125,6 +108,6 @@ impl<T> Chunk<T> {
         ensures* writes_back { sem 𝓛 (lends_cell_value T.row self.entry index result) }
         ensures value { get_or self.old index None ≡ Some (serial_at self.old index, result.now) }
     {
-        kept_mut(&mut self.cells[index])
+        self.cells[index].value_mut()
     }
 }

@@ -1,6 +1,7 @@
 //! A pool of values under names: slots in chunks that never move, used again under fresh serials.
 #![tactic(auto)]
 
+mod cell;
 mod chunk;
 mod growth;
 mod link;
@@ -8,6 +9,8 @@ mod pool;
 mod run;
 mod slots;
 
+#[doc(hidden)]
+pub use cell::Cell;
 #[doc(hidden)]
 pub use chunk::Chunk;
 pub use link::{NO_SLOT, link_to};

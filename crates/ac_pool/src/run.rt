@@ -1,23 +1,14 @@
 //! A run: slots that lie together in one chunk, from one of them to the chunk's end. From each the next one is at hand.
 ghost use Rattle.std.specs.Prelude.{◌≡◌, drop, get_or, None, option_copied};
-ghost use Rattle.ac_pool.specs.Runs.{kept_in, values_in};
+ghost use Rattle.ac_pool.specs.Runs.{values_in};
 
+use crate::cell::Cell;
 use std::marker::Model;
-
-#[inline(always)]
-fn kept_in<T>(cell: &Option<(u64, T)>) -> Option<&T>
-    ensures { option_copied result ≡ kept_in cell.now }
-{
-    match cell {
-        Some((_, value)) => Some(value),
-        None => None,
-    }
-}
 
 /// A contract sees what each of the slots keeps.
 #[derive(Drop)]
 pub struct Run<'a, T> {
-    cells: &'a [Option<(u64, T)>],
+    cells: &'a [Cell<T>],
 }
 
 impl<'a, T> Model for Run<'a, T> {
@@ -35,7 +26,7 @@ impl<'a, T> Model for Run<'a, T> {
 
 impl<'a, T> Run<'a, T> {
     #[inline(always)]
-    pub(crate) fn over(cells: &'a [Option<(u64, T)>]) -> Run<'a, T>
+    pub(crate) fn over(cells: &'a [Cell<T>]) -> Run<'a, T>
         ensures { result ≡ values_in cells.now }
     {
         Run { cells }
@@ -47,7 +38,7 @@ impl<'a, T> Run<'a, T> {
         ensures { option_copied result ≡ get_or self.now 0 None }
     {
         match self.cells.first() {
-            Some(cell) => kept_in(cell),
+            Some(cell) => cell.value(),
             None => None,
         }
     }

@@ -2,8 +2,9 @@
 ghost use Rattle.std.specs.Prelude.{◌≡◌, ℕ, ◌+◌, ◌*◌, ◌^◌, ◌<◌, ◌≤◌, get_or, List, [], ◌++◌, Option, Some, None, length, replicate, slice_set, OnOk, OnErr, IfSome, IfNone, option_copied};
 ghost use Rattle.std.specs.Borrow.{sem};
 ghost use Rattle.ac_pool.specs.Cell.{serial_of, serial_at, IsKept};
-ghost use Rattle.ac_pool.specs.Runs.{LiesFrom};
+ghost use Rattle.ac_pool.specs.Runs.{kept_in, LiesFrom};
 
+use crate::cell::Cell;
 use crate::chunk::{CELLS, Chunk};
 use std::alloc::{AllocError, Global};
 use std::marker::Model;
@@ -93,31 +94,31 @@ impl<T> Slots<T> {
 
     // By divisions without a branch or a table, so that several reads of one slot find its cell once.
     #[inline(always)]
-    fn entry(&self, slot: usize) -> Option<&(u64, T)>
-        ensures { option_copied result ≡ get_or self.now slot None }
+    fn cell(&self, slot: usize) -> Option<&Cell<T>>
+        ensures made { IfSome result (λ cell. cell.now ≡ get_or self.now slot None) }
+        ensures none { IfNone result (get_or self.now slot None ≡ None) }
     {
         if slot >= self.len() {
             return None;
         }
         let chunk = &self.chunks[chunk_of(slot)];
-        chunk.entry(slot % CELLS)
+        chunk.cell(slot % CELLS)
     }
 
     /// The value in the slot, if there is such a slot and it keeps one.
     #[inline(always)]
     pub(crate) fn value(&self, slot: usize) -> Option<&T>
-        ensures found { IfSome result (λ value. get_or self.now slot None ≡ Some (serial_at self.now slot, value.now)) }
-        ensures none { IfNone result (get_or self.now slot None ≡ None) }
+        ensures { option_copied result ≡ kept_in (get_or self.now slot None) }
     {
-        match self.entry(slot) {
-            Some((_, value)) => Some(value),
+        match self.cell(slot) {
+            Some(cell) => cell.value(),
             None => None,
         }
     }
 
     /// The cells from the slot to the end of its chunk, but for empty ones at the end, or none where there is no such slot.
     #[inline(always)]
-    pub(crate) fn cells_from(&self, slot: usize) -> &[Option<(u64, T)>]
+    pub(crate) fn cells_from(&self, slot: usize) -> &[Cell<T>]
         ensures { LiesFrom (λ i. get_or self.now i None) slot result.now }
     {
         if slot >= self.len() {
@@ -132,8 +133,8 @@ impl<T> Slots<T> {
     pub(crate) fn serial(&self, slot: usize) -> Option<u64>
         ensures { result ≡ serial_of (get_or self.now slot None) }
     {
-        match self.entry(slot) {
-            Some((serial, _)) => Some(*serial),
+        match self.cell(slot) {
+            Some(cell) => cell.serial(),
             None => None,
         }
     }

@@ -11,8 +11,8 @@ index_mut-requires g c =
     let made = c.self.inside.cells.items in let kept : IsFull (get_or (all_in made) c.args.index None) = rw c.self.view_is c.requires in
     omega (arith, c.self.inside.cells.ok, within made c.args.index kept.0 (sym (get_made made c.args.index) ∙ kept.1))
 
-pub kept_mut-requires : goal.kept_mut-requires
-kept_mut-requires g c =
+pub value_mut-requires : goal.value_mut-requires
+value_mut-requires g c =
     let made = c.self.inside.cells.items in let i = c.args.index in let kept : IsFull (get_or (all_in made) i None) = rw c.self.view_is c.requires in
     let less : i < length made = within made i kept.0 (sym (get_made made i) ∙ kept.1) in
     (kept.0, c.index_mut.ensures.value ∙ get_or_default made i c.index_mut.result.now None less ∙ sym (get_made made i) ∙ kept.1)
@@ -23,6 +23,6 @@ returns g c =
     let less : i < length made = within made i kept.0 (sym (get_made made i) ∙ kept.1) in
     let cell : c.index_mut.result.now ≡ get_or (all_in made) i None = c.index_mut.ensures.value ∙ get_or_default made i c.index_mut.result.now None less ∙ sym (get_made made i) in
     rw (← c.self.view_is) (
-      (refl {a = c.kept_mut.result.ghost_name}, λ w. ap (λ v. all_in (set made i (Some (serial_in v, w)))) cell ∙ set_made made i (Some (serial_in (get_or (all_in made) i None), w)) less),
-      record { writes_back = tt; value = sym cell ∙ c.kept_mut.ensures.value ∙ ap (λ v. Some (serial_in v, c.kept_mut.result.now)) cell },
+      (refl {a = c.value_mut.result.ghost_name}, λ w. ap (λ v. all_in (set made i (Some (serial_in v, w)))) cell ∙ set_made made i (Some (serial_in (get_or (all_in made) i None), w)) less),
+      record { writes_back = tt; value = sym cell ∙ c.value_mut.ensures.value ∙ ap (λ v. Some (serial_in v, c.value_mut.result.now)) cell },
     )
