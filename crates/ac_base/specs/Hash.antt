@@ -15,9 +15,13 @@ integer_bytes value = to_le_bytes w64 (cast_unsigned w64 value)
 abbrev pub hash_of_integer : ℤ → ℕ
 hash_of_integer value = hash_of_bytes (integer_bytes value)
 
--- times an odd number, by which the hashes of integers in a row become numbers in a row, and with the low half of a value before it
+-- an odd number, by which the hashes of integers in a row become numbers in a row
+abbrev pub row_factor : ℕ
+row_factor = 1454739231
+
+-- times the odd number, and with the low half of a value before it
 abbrev pub widened : ℕ → ℕ → ℕ
-widened hash value = value % 2 ^ 32 * 2 ^ 32 + hash * 1454739231 % 2 ^ 32
+widened hash value = value % 2 ^ 32 * 2 ^ 32 + hash * row_factor % 2 ^ 32
 
 abbrev pub wide_hash_of_integer : ℤ → ℕ
 wide_hash_of_integer value = widened (hash_of_integer value) (cast_unsigned w64 value)
