@@ -92,7 +92,7 @@ impl<T> Slots<T> {
         self.len
     }
 
-    // By divisions without a branch or a table, so that several reads of one slot find its cell once.
+    // By a division and its remainder, so that several reads of one slot find its cell once.
     #[inline(always)]
     fn cell(&self, slot: usize) -> Option<&Cell<T>>
         ensures made { IfSome result (λ cell. cell.now ≡ get_or self.now slot None) }
