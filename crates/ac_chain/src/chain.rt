@@ -100,6 +100,7 @@ impl<T> Chain<T> {
         self.links.last
     }
 
+    #[inline(always)]
     pub fn next(&self, name: Name) -> Option<Name>
         requires { IsLive self.now name }
         ensures name { result ≡ next_name self.now name }

@@ -55,6 +55,7 @@ impl<T> Links<T> {
         self.nodes.name_in(slot)
     }
 
+    #[inline(always)]
     pub fn next(&self, name: Name) -> Option<Name>
         ensures { result ≡ next_of self.now.nodes (value_of self.now.nodes name) }
     {

@@ -71,7 +71,7 @@ impl<T> Walked<T> for Chain<T> {
         self.last()
     }
 
-    #[inline]
+    #[inline(always)]
     fn next(&self, name: Name) -> Option<Name> {
         self.next(name)
     }
