@@ -28,6 +28,7 @@ impl Bound {
     }
 
     /// The cursor that a cursor variable holds. Another name holds none.
+    #[inline(always)]
     pub(crate) fn cursor(&self) -> Cursor
         ensures { HoldsCursor self.now result }
     {

@@ -18,6 +18,7 @@ ghost use Rattle.ac_objects.specs.declared.bound.Bound.TheVariants as bound;
 use crate::blocks::LoopKey;
 use crate::bound::Bound;
 use crate::objects::Objects;
+use crate::walking::by_fields;
 use ac_base::NoMemory;
 use ac_cursor::{Cursor, GuardKey, GuardKind};
 
@@ -79,12 +80,13 @@ impl Objects {
         ensures names { key.old.names ≤ length self.new.bounds }
         ensures counts { take key.old.names (counts_of (state_of self.new)) ≡ take key.old.names (counts_of (state_of self.old)) }
     {
-        if key.coming == Cursor::NoElement {
+        let coming = by_fields(key.coming);
+        if coming == Cursor::NoElement {
             self.leave_scope(key.names);
             return Ok(false);
         }
-        let following = self.next_at(key.object, key.backward, key.coming);
-        self.name_turn(key.names, elements, key.object, key.coming)?;
+        let following = self.next_at(key.object, key.backward, coming);
+        self.name_turn(key.names, elements, key.object, coming)?;
         key.coming = following;
         Ok(true)
     }
@@ -143,7 +145,7 @@ fn put_cursor(held: &mut Bound, at: Cursor)
     ensures { held.new ≡ bound.Cursor at }
 {
     match held {
-        Bound::Cursor(place) => *place = at,
+        Bound::Cursor(place) => *place = by_fields(at),
         _ => put_cursor_anew(held, at),
     }
 }
@@ -158,7 +160,7 @@ fn put_element(held: &mut Bound, object: usize, at: Cursor)
             at: its_place,
         } => {
             *its_object = object;
-            *its_place = at;
+            *its_place = by_fields(at);
         }
         _ => put_element_anew(held, object, at),
     }

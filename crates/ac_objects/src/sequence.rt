@@ -29,6 +29,7 @@ pub enum Sequence<T> {
 
 impl<T> Sequence<T> {
     /// What holds of every one, for proofs alone.
+    #[inline(always)]
     pub fn law(&self)
         ensures { IsValid (plain (rows_of self.now).object) }
     {

@@ -59,7 +59,7 @@ fn next_in<C: RowObject>(object: &C, backward: bool, at: Cursor) -> Cursor
 
 /// The cursor, copied field by field: a name whose halves were just written, and which is read as one, waits for them.
 #[inline(always)]
-fn by_fields(c: Cursor) -> Cursor
+pub(crate) fn by_fields(c: Cursor) -> Cursor
     ensures { result ≡ c }
 {
     match c {

@@ -15,6 +15,7 @@ use std::alloc::Global;
 impl<T: ScriptElement> OperatedRows for Sequence<T> {
     ghost comes_to = { λ s o source args operation. reply_by T.tools o source args (kind_of s) operation };
 
+    #[inline(always)]
     fn operate(
         &mut self,
         alloc: Global,

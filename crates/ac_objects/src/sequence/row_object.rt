@@ -22,6 +22,7 @@ impl<T: ScriptElement> RowObject for Sequence<T> {
 
     ghost own = { λ _ o. sequence_own T.tools o };
 
+    #[inline(always)]
     fn law(&self) {
         Sequence::law(self)
     }
