@@ -386,11 +386,13 @@ def set_row(name, took):
     print(f"{name:<40}" + "".join(f"{each:>12.1f}" for each in took) + f"{took[-1] / took[0]:>8.2f}", flush=True)
 
 
-def sets(program):
-    """An inclusion, and an exclusion for each second one: in nanoseconds, and of hashed ones in instructions where valgrind is there."""
+def sets(program, place):
+    """An inclusion, and an exclusion for each second one: in nanoseconds, plain Rust's beside hashed ones, and of these in instructions where valgrind is there."""
     print(f"{'set, ns for each element':<40}{'10,000':>12}{'100,000':>12}{'1,000,000':>12}{'growth':>8}")
-    for name, words in (("hashed, scrambled numbers", "hashed"), ("hashed, numbers in a row", "hashed_row"), ("ordered, scrambled numbers", "ordered")):
-        set_row(name, [workload(program, words, str(rows), rounds=3_000_000 // rows) / rows * 1e9 for rows in SIZES])
+    baseline = build("set_baseline.rs", place)
+    for name, made, words in (("hashed, scrambled numbers", program, "hashed"), ("the same in plain Rust", baseline, "hashed"), ("hashed, numbers in a row", program, "hashed_row"),
+                              ("the same in plain Rust", baseline, "hashed_row"), ("ordered, scrambled numbers", program, "ordered")):
+        set_row(name, [workload(made, words, str(rows), rounds=3_000_000 // rows) / rows * 1e9 for rows in SIZES])
     if shutil.which("valgrind"):
         for name, words in (("hashed, scrambled, instructions", "hashed"), ("hashed, in a row, instructions", "hashed_row")):
             set_row(name, [instructions([program, words, str(rows), "1"], os.devnull) / rows for rows in SIZES])
@@ -444,7 +446,7 @@ SECTIONS = [
     ("A pool", "A put and a take, and the ratio to a plain Rust program that does the same.", lambda place, bench: churn(bench, place)),
     ("A chain", "An insertion and a removal in the middle: it stays flat where the chain grows.", lambda place, bench: middle(bench)),
     ("Lists", "Nanoseconds for each element, and the growth from 10,000 elements to 1,000,000.", lambda place, bench: lists(bench)),
-    ("Sets", "The same, and what hashed ones take in instructions, which no cache changes.", lambda place, bench: sets(bench)),
+    ("Sets", "The same, with what a `HashSet` of plain Rust takes, and what hashed ones take in instructions, which no cache changes.", lambda place, bench: sets(bench, place)),
     ("Memory", "Bytes of a slot, and the most that 1,000,000 integers take.", lambda place, bench: memory(bench)),
 ]
 
