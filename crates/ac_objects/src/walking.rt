@@ -42,6 +42,7 @@ fn next_in<C: RowObject>(object: &C, backward: bool, at: Cursor) -> Cursor
     ensures next { let o = plain (C.rows object.now).object in StepsOn backward o.number (names o.rows) at result }
 {
     object.law();
+    // By fields, as `by_fields` does it: bound whole first, the cursor would be written and read once more in each turn.
     match step_in(object, backward, at) {
         Ok(
             Cursor::At {
