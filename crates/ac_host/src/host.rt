@@ -34,6 +34,7 @@ pub struct Host {
 }
 
 impl Host {
+    #[inline(always)]
     fn run_call<K: Sink>(
         &mut self,
         line: u64,
@@ -62,6 +63,7 @@ impl Host {
         )
     }
 
+    #[inline(always)]
     fn run_set<K: Sink>(
         &mut self,
         line: u64,
@@ -86,6 +88,7 @@ impl Host {
         )
     }
 
+    #[inline(always)]
     fn run_sum<K: Sink>(
         &mut self,
         line: u64,
@@ -401,6 +404,7 @@ impl Host {
     }
 
     #[cycle(statements)]
+    #[inline(always)]
     fn run_statement<K: Sink, B: BlockRunner>(
         &mut self,
         stmt: &ResolvedStmt,
