@@ -144,6 +144,7 @@ impl<T> Chain<T> {
     }
 
     /// Puts a value before the place, under a fresh name. The place `None` is the end.
+    #[inline(always)]
     pub fn insert_before(&mut self, place: Option<Name>, v: T) -> Name
         requires place { ForSome place (IsLive self.old) }
         requires spare { 0 < self.old.spare }

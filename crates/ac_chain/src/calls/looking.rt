@@ -100,6 +100,7 @@ pub fn may<T, S: Sequence<T>>(s: &S, c: Cursor) -> Option<Reason>
     }
 }
 
+#[inline(always)]
 fn judged<T, S: Sequence<T>>(s: &S, object: u64, name: Name) -> Option<Reason>
     ensures { result ≡ needs_cursor (S.seen s.now).object (Cursor.At object name) }
 {
