@@ -88,7 +88,12 @@ pub fn write_all<K: Sink>(sink: &mut K, bytes: &[u8]) -> Result<(), WriteFault>
     let mut rest = bytes;
     while !rest.is_empty() {
         match sink.put(rest) {
-            Put::Took(count) => rest = &rest[count..],
+            Put::Took(count) => {
+                if count == rest.len() {
+                    return Ok(());
+                }
+                rest = &rest[count..];
+            }
             Put::Failed => return Err(WriteFault),
         }
     }
