@@ -1,14 +1,20 @@
 //! Copies of an element that are put into a vector.
-ghost use Rattle.std.specs.Prelude.{◌≡◌};
+ghost use Rattle.std.specs.Prelude.{◌≡◌, ◌∷◌, None, pos, true};
+ghost use Rattle.ac_base.specs.FirstReason.{first_reason};
 ghost use Rattle.ac_model.specs.Calls.{Same};
 ghost use Rattle.ac_model.specs.Containers.{Grows};
 ghost use Rattle.ac_model.specs.Forms.{Does, Sets, seen_by};
+ghost use Rattle.ac_model.specs.Letters.{tampers_cursors};
+ghost use Rattle.ac_model.specs.Objects.{plain};
 ghost use Rattle.ac_model.specs.Sequences as sequences;
+ghost use Rattle.ac_model.specs.Sequences.{room_for_copies};
 
 use super::Vector;
-use ac_base::{Elem, Fault};
-use ac_chain::calls;
-use ac_cursor::Cursor;
+use ac_base::{Elem, Fault, GREATEST_LENGTH};
+use ac_chain::Walked;
+use ac_chain::calls::{self, Puts, done};
+use ac_cursor::{Class, Cursor};
+use ac_model::too_many;
 
 impl<T: Elem> Vector<T> {
     /// Append (A.18.2): so many copies at the end.
@@ -16,7 +22,25 @@ impl<T: Elem> Vector<T> {
         ensures changed { Does Same (λ o. sequences.append_call o e n) self.old self.new result }
         ensures slots { Grows result self.old self.new }
     {
+        if n == 1 && self.takes_one() {
+            return done(self.put(None, e, 1));
+        }
         calls::append(self, e, n)
+    }
+
+    /// Whether one element more is refused for no reason.
+    #[inline(always)]
+    fn takes_one(&self) -> bool
+        ensures { result ≡ true →
+            first_reason (tampers_cursors (plain self.now.object) ∷ room_for_copies (plain self.now.object) (pos 1)) ≡ None }
+    {
+        if self.guards.forbids(Class::Cursors).is_some() {
+            return false;
+        }
+        let length = self.rows.len() + 1;
+        length <= GREATEST_LENGTH
+            && too_many(self.limit, length).is_none()
+            && self.rows.next_serial() < u64::MAX
     }
 
     /// Prepend (A.18.2): so many copies at the front.
