@@ -146,7 +146,7 @@ fn put_cursor(held: &mut Bound, at: Cursor)
 {
     match held {
         Bound::Cursor(place) => *place = by_fields(at),
-        _ => put_cursor_anew(held, at),
+        _ => put_cursor_anew(held, by_fields(at)),
     }
 }
 
@@ -162,7 +162,7 @@ fn put_element(held: &mut Bound, object: usize, at: Cursor)
             *its_object = object;
             *its_place = by_fields(at);
         }
-        _ => put_element_anew(held, object, at),
+        _ => put_element_anew(held, object, by_fields(at)),
     }
 }
 

@@ -14,7 +14,7 @@ mod order;
 mod row_object;
 mod sources;
 
-use crate::walking::answer_by_fields;
+use crate::walking::{answer_by_fields, by_fields};
 use ac_base::{Elem, Fault, Rank};
 use ac_cursor::Cursor;
 use ac_list::List;
@@ -101,7 +101,7 @@ impl<T> Sequence<T> {
     {
         match self {
             Sequence::List(list) => answer_by_fields(list.next(c)),
-            Sequence::Vector(vector) => answer_by_fields(vector.next(c)),
+            Sequence::Vector(vector) => answer_by_fields(vector.next(by_fields(c))),
         }
     }
 

@@ -93,7 +93,7 @@ fn step_in<C: RowObject>(object: &C, backward: bool, at: Cursor) -> Result<Curso
         Looks (Marks rows.object) (λ o. step_call backward o (seen_by rows at)) rows result }
 {
     if backward {
-        object.previous(at)
+        object.previous(by_fields(at))
     } else {
         object.next(by_fields(at))
     }
