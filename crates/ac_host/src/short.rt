@@ -7,12 +7,12 @@ use crate::end::HostEnd;
 use ac_io::{Sink, write_all};
 use itoa::write_digits;
 
-/// The most digits of a line's number.
-const NUMBER: usize = 20;
+/// The most bytes of a line: a number of 20 digits, a colon, an integer and its end.
+pub const LINE: usize = 43;
 
 /// Writes a line of which all but its number stands in the array, behind this place.
 #[inline(always)]
-fn write_numbered<K: Sink>(
+pub fn write_numbered<K: Sink>(
     line: &mut [u8],
     end: usize,
     number: u64,
@@ -82,29 +82,17 @@ fn put_integer(line: &mut [u8], end: usize, value: i64) -> usize
     start - 1
 }
 
-/// Writes the line of a command that was answered with an integer.
+/// Puts a colon and an integer before the end of a line, and says where they start.
 #[inline(always)]
-pub fn write_integer<K: Sink>(number: u64, value: i64, sink: &mut K) -> Result<(), HostEnd>
-    ensures { Writes K.held K.faults K.room K.counts_failures sink.old sink.new
-        (decimal number ++ (codes ": " ++ (signed_decimal value ++ 10 ∷ []))) result }
+pub fn put_value(line: &mut [u8], value: i64) -> usize
+    requires { (length line.old ≡ LINE) × (drop 42 line.old ≡ 10 ∷ []) }
+    ensures start { 20 ≤ result }
+    ensures within { result ≤ LINE }
+    ensures written { drop result line.new ≡ codes ": " ++ (signed_decimal value ++ 10 ∷ []) }
+    ensures length { length line.new ≡ LINE }
 {
-    let mut line = [b'\n'; 43];
-    let start = put_integer(&mut line, 42, value);
-    put_byte(&mut line, start - 1, b' ');
-    put_byte(&mut line, start - 2, b':');
-    write_numbered(&mut line, start - 2, number, sink)
-}
-
-/// Writes a line of words, which stand behind room for its number.
-#[inline(always)]
-pub fn write_words<K: Sink, const N: usize>(
-    line: [u8; N],
-    number: u64,
-    sink: &mut K,
-) -> Result<(), HostEnd>
-    requires { 20 ≤ N }
-    ensures { Writes K.held K.faults K.room K.counts_failures sink.old sink.new (decimal number ++ drop 20 line.entry) result }
-{
-    let mut line = line;
-    write_numbered(&mut line, NUMBER, number, sink)
+    let start = put_integer(line, LINE - 1, value);
+    put_byte(line, start - 1, b' ');
+    put_byte(line, start - 2, b':');
+    start - 2
 }

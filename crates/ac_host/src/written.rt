@@ -1,5 +1,5 @@
 //! The line of a command.
-ghost use Rattle.std.specs.Prelude.{◌≡◌, ◌≢◌, ℕ, ◌∷◌, ◌++◌, [], false, codes, decimal, Some, Err, OnOk};
+ghost use Rattle.std.specs.Prelude.{◌≡◌, ◌≢◌, ◌≤◌, ℕ, ◌∷◌, ◌++◌, [], false, true, codes, decimal, drop, None, Some, Err, IfSome, OnOk};
 ghost use Rattle.ac_base.specs.declared.fault.Fault.TheVariants as fault;
 ghost use Rattle.ac_meaning.specs.Answers.{Answer, line, lines_text, answers_list, answers_raised};
 ghost use Rattle.ac_meaning.specs.Commands.{Performed};
@@ -9,12 +9,12 @@ ghost use Rattle.ac_objects.specs.Performs.{Performs, answered};
 ghost use Rattle.ac_objects.specs.Shown.{Shows};
 ghost use Rattle.ac_objects.specs.World.{World, state_of};
 ghost use Rattle.ac_syntax.specs.Canonical.{literal_text};
-ghost use Rattle.ac_host.specs.Lines.{is_listing, shown_text};
+ghost use Rattle.ac_host.specs.Lines.{is_listing, is_string, shown_text};
 ghost use Rattle.ac_host.specs.Writing.{Writes};
 
 use crate::end::HostEnd;
 use crate::line::{begin_line, reason_line, value_line};
-use crate::short::{write_integer, write_words};
+use crate::short::{LINE, put_value, write_numbered};
 use ac_base::{Cursor, Fault, Reason, Value};
 use ac_io::{Sink, add_last, pass};
 use ac_objects::{Objects, Said};
@@ -104,41 +104,74 @@ fn write_shown<K: Sink>(
     ensures { Writes K.held K.faults K.room K.counts_failures sink.old sink.new
         (decimal number ++ (codes ": " ++ (shown_text said.now ++ 10 ∷ []))) result }
 {
+    let mut line = [b'\n'; LINE];
+    match put_short(&mut line, said) {
+        Some(start) => write_numbered(&mut line, start, number, sink),
+        None => write_text(number, said, text, sink),
+    }
+}
+
+/// Puts what a line says behind its number at the array's end, and says where that starts. A string is put nowhere.
+#[inline(always)]
+fn put_short(line: &mut [u8; LINE], said: &Said) -> Option<usize>
+    requires listing { is_listing said.now ≡ false }
+    requires end { drop 42 line.old ≡ 10 ∷ [] }
+    ensures start { IfSome result (λ start. 20 ≤ start) }
+    ensures within { IfSome result (λ start. start ≤ LINE) }
+    ensures said { IfSome result (λ start. drop start line.new ≡ codes ": " ++ (shown_text said.now ++ 10 ∷ [])) }
+    ensures none { result ≡ None → is_string said.now ≡ true }
+{
     match said {
-        Said::Done => write_words(*b"                    : ok\n", number, sink),
-        Said::Value(value) => write_value(number, value, text, sink),
-        Said::Truth(true) => write_words(*b"                    : true\n", number, sink),
-        Said::Truth(false) => write_words(*b"                    : false\n", number, sink),
+        Said::Done => {
+            *line = *b"                                      : ok\n";
+            Some(38)
+        }
+        Said::Value(Value::Int(integer)) => Some(put_value(line, *integer)),
+        Said::Value(Value::Text(_)) => None,
+        Said::Truth(true) => {
+            *line = *b"                                    : true\n";
+            Some(36)
+        }
+        Said::Truth(false) => {
+            *line = *b"                                   : false\n";
+            Some(35)
+        }
         Said::Place(Cursor::At { .. }) => {
-            write_words(*b"                    : cursor\n", number, sink)
+            *line = *b"                                  : cursor\n";
+            Some(34)
         }
         Said::Place(Cursor::NoElement) => {
-            write_words(*b"                    : no_element\n", number, sink)
+            *line = *b"                              : no_element\n";
+            Some(30)
         }
-        Said::Stalled => write_words(*b"                    : stalled\n", number, sink),
+        Said::Stalled => {
+            *line = *b"                                 : stalled\n";
+            Some(33)
+        }
         Said::Listing => unreachable!(),
     }
 }
 
-/// Writes the line of a command that was answered with a value.
-#[inline(always)]
-fn write_value<K: Sink>(
+/// Writes the line of a command that was answered with a string.
+#[inline(never)]
+fn write_text<K: Sink>(
     number: u64,
-    value: &Value,
+    said: &Said,
     text: &mut Vec<u8>,
     sink: &mut K,
 ) -> Result<(), HostEnd>
+    requires { is_string said.now ≡ true }
     ensures { Writes K.held K.faults K.room K.counts_failures sink.old sink.new
-        (decimal number ++ (codes ": " ++ (literal_text value.now ++ 10 ∷ []))) result }
+        (decimal number ++ (codes ": " ++ (shown_text said.now ++ 10 ∷ []))) result }
 {
-    match value {
-        Value::Int(integer) => write_integer(number, *integer, sink),
-        Value::Text(_) => write_text(number, value, text, sink),
+    match said {
+        Said::Value(value) => write_value(number, value, text, sink),
+        _ => unreachable!(),
     }
 }
 
-/// Writes the line of a command that was answered with a string.
-fn write_text<K: Sink>(
+/// Writes the line of a command that was answered with a value, however long it is.
+fn write_value<K: Sink>(
     number: u64,
     value: &Value,
     text: &mut Vec<u8>,
