@@ -63,7 +63,7 @@ impl Host {
         )
     }
 
-    #[inline(always)]
+    #[inline(never)]
     fn run_set<K: Sink>(
         &mut self,
         line: u64,
@@ -152,6 +152,7 @@ impl Host {
     }
 
     #[cycle(statements)]
+    #[inline(never)]
     fn run_loop<K: Sink, B: BlockRunner>(
         &mut self,
         line: u64,
@@ -233,6 +234,7 @@ impl Host {
     }
 
     #[cycle(statements)]
+    #[inline(never)]
     fn run_view<K: Sink, B: BlockRunner>(
         &mut self,
         line: u64,
@@ -334,6 +336,7 @@ impl Host {
     }
 
     #[cycle(statements)]
+    #[inline(never)]
     fn run_stable<K: Sink, B: BlockRunner>(
         &mut self,
         line: u64,
@@ -379,6 +382,7 @@ impl Host {
     }
 
     #[cycle(statements)]
+    #[inline(never)]
     fn run_declare<K: Sink, B: BlockRunner>(
         &mut self,
         line: u64,

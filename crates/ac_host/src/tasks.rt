@@ -15,6 +15,7 @@ use ac_io::Sink;
 
 impl Host {
     /// Runs a block of tasks: its queues are lent to it, the lines of what was done are written, and the queues go back.
+    #[inline(never)]
     pub(crate) fn run_tasks<K: Sink, B: BlockRunner>(
         &mut self,
         tasks: &ResolvedTasks,
