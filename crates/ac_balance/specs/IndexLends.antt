@@ -6,7 +6,7 @@ use Rattle.ac_balance.specs.contracts.index.OrderIndex.{the_row}
 use Rattle.ac_balance.specs.Indexed.{Indexed, with_value}
 
 -- the value under the name is the last one written through r, and at `None` the index stays as it is
-abbrev pub lends_value : (R S : RattleType) → (R.Denot → R.Denot → Bool) → (R.Denot → R.Denot → Bool) → (R.Denot → ℕ) → R.Denot
+abbrev pub lends_value : (R S : RattleType) → (R.Denot → R.Denot → Bool) → (R.Denot → R.Denot → Bool) → (R.Denot → ℕ) → R.Denot → Bool
     → MutBor (Indexed R.Denot S.Denot) → Name → Option (MutBor S.Denot) → Fml
-lends_value R S less same size blank c a r =
-    LendsIf (the_row R S (record { is_less = less }) (record { is_same = same; size_of = size; blank_element = blank })) S c r (λ w. with_value c.now a w) c.now
+lends_value R S less same size blank unboxed c a r =
+    LendsIf (the_row R S (record { is_less = less }) (record { is_same = same; size_of = size; blank_element = blank; is_unboxed = unboxed })) S c r (λ w. with_value c.now a w) c.now

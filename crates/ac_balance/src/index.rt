@@ -213,7 +213,8 @@ impl<K: Rank, V> OrderIndex<K, V> {
 
     /// As `key`, of the value for writing.
     pub fn value_mut(&mut self, name: Name) -> Option<&mut V>
-        ensures* writes_back { sem 𝓛 (lends_value K.row V.row K.is_less K.is_same K.size_of K.blank_element self.entry name result) }
+        ensures* writes_back { sem 𝓛
+            (lends_value K.row V.row K.is_less K.is_same K.size_of K.blank_element K.is_unboxed self.entry name result) }
         ensures value { option_copied_mut result ≡ value_of self.old name }
     {
         match self.links.nodes.get_mut(name) {

@@ -1,4 +1,4 @@
-ghost use Rattle.std.specs.Prelude.{◌≡◌, ◌↔◌, ◌+◌, ◌%◌, ◌^◌, ◌<◌, ℕ, Bool, IsTrue, IfOk};
+ghost use Rattle.std.specs.Prelude.{◌≡◌, ◌↔◌, ◌+◌, ◌%◌, ◌^◌, ◌<◌, ℕ, Bool, IsTrue, Some, None, IfOk, if◌then◌else◌};
 ghost use Rattle.std.specs.Cmp.{IsEquivalence};
 ghost use Rattle.ac_base.specs.Order.{IsWeakOrder, IsTied};
 
@@ -19,11 +19,18 @@ pub trait Elem: Drop {
     /// The element that stands where none was given.
     ghost blank_element: { Self };
 
+    /// Whether elements have no memory of their own.
+    ghost is_unboxed: { Bool };
+
     fn same(&self, other: &Self) -> bool
         ensures { result ≡ is_same self.now other.now };
 
     fn copy(&self, alloc: Global) -> Result<Self, NoMemory>
         ensures { IfOk result (λ made. made ≡ self.now) };
+
+    /// The same as `copy`, of a kind of elements that have no memory of their own.
+    fn unboxed(&self) -> Option<Self>
+        ensures { result ≡ (if is_unboxed then Some self.now else None) };
 
     fn size(&self) -> u64
         ensures { result ≡ size_of self.now };

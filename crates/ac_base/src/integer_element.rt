@@ -1,4 +1,4 @@
-ghost use Rattle.std.specs.Prelude.{◌≡◌, IsOk, IfOk, pos};
+ghost use Rattle.std.specs.Prelude.{◌≡◌, IsOk, IfOk, pos, true};
 ghost use Rattle.std.specs.Ordering.{int_eq};
 ghost use Rattle.std.proofs.lemmas.Cmp.{int_eq_equiv};
 ghost use Rattle.ac_base.specs.Order.{integer_less};
@@ -22,6 +22,8 @@ impl Elem for i64 {
 
     ghost blank_element = { pos 0 };
 
+    ghost is_unboxed = { true };
+
     fn same(&self, other: &i64) -> bool {
         *self == *other
     }
@@ -31,6 +33,11 @@ impl Elem for i64 {
         ensures copied { IfOk result (λ made. made ≡ self.now) }
     {
         Ok(*self)
+    }
+
+    #[inline(always)]
+    fn unboxed(&self) -> Option<i64> {
+        Some(*self)
     }
 
     fn size(&self) -> u64 {

@@ -1,4 +1,4 @@
-ghost use Rattle.std.specs.Prelude.{◌≡◌, IsOk, IfOk, refl, length, []};
+ghost use Rattle.std.specs.Prelude.{◌≡◌, IsOk, IfOk, refl, length, [], false};
 ghost use Rattle.std.specs.Ordering.{on};
 ghost use Rattle.std.proofs.lemmas.Cmp.{on_equiv};
 ghost use Rattle.ac_base.specs.Key.{key_of_text};
@@ -25,12 +25,18 @@ impl Elem for Text {
 
     ghost blank_element = { [] };
 
+    ghost is_unboxed = { false };
+
     fn same(&self, other: &Text) -> bool {
         *self == *other
     }
 
     fn copy(&self, alloc: Global) -> Result<Text, NoMemory> {
         self.duplicate(alloc)
+    }
+
+    fn unboxed(&self) -> Option<Text> {
+        None
     }
 
     fn size(&self) -> u64 {
@@ -113,12 +119,18 @@ impl Elem for KeyedText {
 
     ghost blank_element = { [] };
 
+    ghost is_unboxed = { false };
+
     fn same(&self, other: &KeyedText) -> bool {
         self.text().same(other.text())
     }
 
     fn copy(&self, alloc: Global) -> Result<KeyedText, NoMemory> {
         KeyedText::new(alloc, self.text().copy(alloc)?)
+    }
+
+    fn unboxed(&self) -> Option<KeyedText> {
+        None
     }
 
     fn size(&self) -> u64 {

@@ -147,6 +147,31 @@ module _ {X : Type 0} where
       let some : length left ≡ length rest + 1 = ap length split ∙ length-append rest (v ∷ []) in
       (omega arith, omega arith)
 
+  -- one of so many copies is taken
+  pub one_less : (more i : ℕ) (v : X) → i < more → replicate (more - i) v ≡ replicate (more - (i + 1)) v ++ v ∷ []
+  one_less more i v lt = let count : more - (i + 1) + 1 ≡ more - i = omega arith in sym (replicate_more (more - (i + 1)) v ∙ ap (λ m. replicate m v) count)
+
+  pub all_left : (more : ℕ) (v : X) → replicate (more - 0) v ≡ replicate more v
+  all_left more v = let count : more - 0 ≡ more = omega arith in ap (λ m. replicate m v) count
+
+  -- while copies are left there is room for one more
+  pub again_room : (from : Chained X) (place : Option Name) (v : X) (more i : ℕ) (now : Chained X) → Putting from place (v ∷ reverse (replicate more v)) (replicate (more - i) v) now → i < more
+      → more < from.spare → from.next_serial + more + 1 < 2 ^ 64 → (0 < now.spare) × (now.next_serial < 2 ^ 64 - 1)
+  again_room from place v more i now p lt room serials =
+      let count : length (replicate more v) ≡ more = length-replicate more v in
+      putting_room from place v v (replicate more v) (replicate (more - i) v) (replicate (more - (i + 1)) v) now p (one_less more i v lt) (omega arith) (omega arith)
+
+  -- all copies are put
+  pub again_end : (from : Chained X) (place : Option Name) (v : X) (more i : ℕ) (now : Chained X) → Putting from place (v ∷ reverse (replicate more v)) (replicate (more - i) v) now → more ≤ i
+      → IsPut from.rows from.next_serial place (v ∷ reverse (replicate more v)) now × (now.spare + more + 1 ≡ from.spare)
+  again_end from place v more i now p le =
+      let none : more - i ≡ 0 = omega arith in
+      let left : replicate (more - i) v ≡ [] = ap (λ m. replicate m v) none in
+      let all : length (reverse (replicate more v)) ≡ more = length-reverse (replicate more v) ∙ length-replicate more v in
+      let count : now.spare + suc (length (reverse (replicate more v))) ≡ from.spare + length (replicate (more - i) v) = putting_count from place (v ∷ reverse (replicate more v)) (replicate (more - i) v) now p in
+      let gone : length (replicate (more - i) v) ≡ 0 = ap length left in
+      (putting_end from place (v ∷ reverse (replicate more v)) (replicate (more - i) v) now p left, omega arith)
+
   reverse-replicate : (n : ℕ) (v : X) → reverse (replicate n v) ≡ replicate n v
   reverse-replicate zero v = refl
   reverse-replicate (suc n) v = reverse-append (v ∷ []) (replicate n v) ∙ ap (λ vs. vs ++ v ∷ []) (reverse-replicate n v) ∙ replicate_more n v ∙ (let e : n + 1 ≡ suc n = omega arith in ap (λ m. replicate m v) e)
@@ -193,6 +218,13 @@ module _ {X : Type 0} where
       let enough = (reserved_enough c d n is).enough in
       let count : length others ≡ n - 1 = ap length copies ∙ length-replicate (n - 1) e in
       elim (cases_eq n 0) [ inl z ↦ absurd (some z) | inr more ↦ omega arith ]
+
+  -- the same where the copies stand nowhere before
+  pub again_fits : (c d : Chained X) (n : ℕ) (e : X) → (n ≡ 0 → ⊥) → d ≡ reserved c n → n - 1 < d.spare
+  again_fits c d n e some is = subst (λ m. m < d.spare) (length-replicate (n - 1) e) (copies_fit c d n e (replicate (n - 1) e) some is refl)
+
+  pub again_spare : (n : ℕ) (e : X) (left spare : ℕ) → left + (n - 1) + 1 ≡ spare → left + length (replicate (n - 1) e) + 1 ≡ spare
+  again_spare n e left spare sum = ap (λ m. left + m + 1) (length-replicate (n - 1) e) ∙ sum
 
   pub copies_slots : (c d now : Chained X) (n : ℕ) (place : Option Name) (e : X) (others : List X) → (n ≡ 0 → ⊥) → d ≡ reserved c n → others ≡ replicate (n - 1) e
       → IsPut d.rows d.next_serial place (e ∷ reverse others) now → now.spare + length others + 1 ≡ d.spare → n ≤ c.spare → length now.rows + now.spare ≡ length c.rows + c.spare

@@ -119,6 +119,7 @@ impl<T> Chain<T> {
         self.links.prev(name)
     }
 
+    #[inline(always)]
     pub fn is_live(&self, name: Name) -> bool
         ensures live { IsTrue result ↔ IsLive self.now name }
         ensures sound { IsSound self.now }

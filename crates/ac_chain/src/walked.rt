@@ -56,7 +56,7 @@ impl<T> Walked<T> for Chain<T> {
         self.next_serial()
     }
 
-    #[inline]
+    #[inline(always)]
     fn is_live(&self, name: Name) -> bool {
         self.is_live(name)
     }

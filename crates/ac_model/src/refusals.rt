@@ -86,6 +86,7 @@ fn names_spent(next: u64, more: u64) -> Option<Reason>
 }
 
 /// A new length, and so many new names from the next one on.
+#[inline(always)]
 pub fn room(limit: Limit, next: u64, length: u64, more: u64) -> Option<Reason>
     ensures { result ≡ first_reason (letters.room_in limit next length more) }
 {

@@ -1,5 +1,5 @@
 //! A row in the order of its key.
-ghost use Rattle.std.specs.Prelude.{◌≡◌};
+ghost use Rattle.std.specs.Prelude.{◌≡◌, false};
 ghost use Rattle.ac_ordered.specs.Orders.{weak_rows};
 
 use crate::ranked::Ranked;
@@ -33,6 +33,8 @@ where
 
     ghost blank_element = { S.Row.blank_element };
 
+    ghost is_unboxed = { false };
+
     ghost same_is_equality = { S.Row.same_is_equality };
 
     fn same(&self, other: &Sorted<S>) -> bool {
@@ -42,6 +44,10 @@ where
     fn copy(&self, alloc: Global) -> Result<Sorted<S>, NoMemory> {
         let row = self.row.copy(alloc)?;
         Ok(Sorted { row })
+    }
+
+    fn unboxed(&self) -> Option<Sorted<S>> {
+        None
     }
 
     fn size(&self) -> u64 {

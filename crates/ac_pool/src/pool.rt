@@ -127,6 +127,7 @@ impl<T> Pool<T> {
     }
 
     /// As `put`, where a slot is spare and a serial is left.
+    #[inline(always)]
     pub fn put_reserved(&mut self, value: T) -> Name
         requires spare { 0 < self.old.spare }
         requires unspent { self.old.next_serial < 2 ^ 64 - 1 }

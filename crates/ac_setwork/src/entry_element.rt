@@ -1,5 +1,5 @@
 //! A map's row as an element: equal where the keys and the elements are.
-ghost use Rattle.std.specs.Prelude.{◌&&◌};
+ghost use Rattle.std.specs.Prelude.{◌&&◌, false};
 ghost use Rattle.ac_model.specs.Rows.{entry};
 ghost use Rattle.ac_setwork.specs.EntryLaws.{entries_same};
 
@@ -14,6 +14,8 @@ impl<K: Elem, V: Elem> Elem for Entry<K, V> {
 
     ghost blank_element = { entry K.blank_element V.blank_element };
 
+    ghost is_unboxed = { false };
+
     ghost same_is_equality = { entries_same K.is_same V.is_same K.same_is_equality V.same_is_equality };
 
     fn same(&self, other: &Entry<K, V>) -> bool {
@@ -22,6 +24,10 @@ impl<K: Elem, V: Elem> Elem for Entry<K, V> {
 
     fn copy(&self, alloc: Global) -> Result<Entry<K, V>, NoMemory> {
         Entry::copy(self, alloc)
+    }
+
+    fn unboxed(&self) -> Option<Entry<K, V>> {
+        None
     }
 
     /// That of the element.
