@@ -1,5 +1,5 @@
 -- What a name holds, read and set.
-use Rattle.std.proofs.Common.{◌≡◌, ℕ, ℤ, false, List, [], ◌∷◌, get_or, slice_get, slice_set, refl, sym, ap, subst, ◌∙◌, arith, is_none, Option, Some, None, Result, Ok, Err, IfOk}
+use Rattle.std.proofs.Common.{◌≡◌, ℕ, ℤ, false, List, [], ◌∷◌, get_or, slice_get, slice_set, refl, sym, ap, subst, ◌∙◌, arith, is_none, Option, Some, None, IfSome, Result, Ok, Err, IfOk}
 use Rattle.std.proofs.lemmas.Bool.Decides.{nat_tests}
 use Rattle.std.specs.Borrow.{Bor}
 use Rattle.ac_base.specs.declared.cursor.Cursor.{Cursor}
@@ -23,13 +23,14 @@ use Rattle.ac_syntax.specs.declared.kind.ElemKind.TheVariants.{Integer, Str}
 use Rattle.ac_meaning.specs.Commands.{argument_in, answer_in, assigned_to, element_written, mark_set, value_set}
 use Rattle.ac_meaning.specs.Environment as meant
 use Rattle.ac_meaning.specs.Environment.{State, value_in, value_or_zero, element_in, mark_in, bound_at, object_at, binds_object, with_bound}
-use Rattle.ac_meaning.specs.Elements.{ElementOf, tools_of}
+use Rattle.ac_meaning.specs.Elements.{ElementOf, tools_of, integer_in}
+use Rattle.ac_meaning.specs.Replies.{value_argument}
 use Rattle.ac_meaning.specs.Holdings.{RowKind, RowOf, a_sequence, a_map, a_set, a_keyed_set, a_tree, Held, of_rows, of_holder, of_queue, element_value, Written, write}
 use Rattle.ac_objects.specs.declared.bound.Bound.{Bound}
 use Rattle.ac_objects.specs.declared.bound.Bound.TheVariants as bound
 use Rattle.ac_objects.specs.declared.object.Object.{Object}
 use Rattle.ac_objects.specs.Called.{WritesTo, NotRaised, IsWithinLimit, Lasts}
-use Rattle.ac_objects.specs.Given.{HoldsObject, HoldsCursor}
+use Rattle.ac_objects.specs.Given.{HoldsObject, HoldsValue, IsVariable, HoldsCursor}
 use Rattle.ac_objects.specs.Standing.{ElementsStand}
 use Rattle.ac_objects.specs.Steps.{Advances, CanRead, AssignsTo, WritesAt, SetsMark, SetsValue, StandsSomewhere, marked}
 use Rattle.ac_objects.specs.World.{World, Counters, world, state_of, bound_of, held_of, IsKnown, IsSound, cursor_in}
@@ -100,6 +101,44 @@ reads_value bs i at r o same (Ok v) e n =
     sym (ap (λ h. value_or_zero (element_in h m)) (object_there_in bs n i r.held r.there)
     ∙ ap value_or_zero (ap (λ x. (element_value (held_of x) m).answer) (sym same) ∙ e))
 reads_value bs i at r o same (Err none) e n = tt
+
+-- A variable
+
+held_variable : (b : Bound) (r : Option (Bor Value)) → HoldsValue b r → IsVariable (bound_of b) r
+held_variable bound.Type None h = h
+held_variable bound.Type (Some w) h = h
+held_variable (bound.Object o) None h = h
+held_variable (bound.Object o) (Some w) h = h
+held_variable (bound.Cursor held) None h = h
+held_variable (bound.Cursor held) (Some w) h = h
+held_variable (bound.Value v) None h = h
+held_variable (bound.Value v) (Some w) h = h
+held_variable (bound.Element object at) None h = h
+held_variable (bound.Element object at) (Some w) h = h
+
+pub variable_found : (w : World) (bs : List Bound) (n : Counters) (i : ℕ) (b : Bound) (r : Option (Bor Value)) → world bs n ≡ w → slice_get bs i ≡ Some b → HoldsValue b r →
+    IsVariable (bound_at (state_of w) i) r
+variable_found w bs n i b r view there holds =
+    subst (λ x. IsVariable (bound_at (state_of x) i) r) view (subst (λ k. IsVariable k r) (sym (bound_there bs n i b there)) (held_variable b r holds))
+
+pub variable_past : (w : World) (bs : List Bound) (n : Counters) (i : ℕ) → world bs n ≡ w → slice_get bs i ≡ None → IsVariable (bound_at (state_of w) i) None
+variable_past w bs n i view past = subst (λ x. IsVariable (bound_at (state_of x) i) None) view (subst (λ k. IsVariable k None) (sym (bound_past bs n i past)) tt)
+
+-- a variable as an argument, and as an integer
+pub variable_argument : (e : State) (b : meant.Bound) (r : Option (Bor Value)) → IsVariable b r → IfSome r (λ w. argument_in e b ≡ value_argument w.now)
+variable_argument e b None h = tt
+variable_argument e meant.binds_type (Some w) h = absurd h
+variable_argument e (meant.binds_object o) (Some w) h = absurd h
+variable_argument e (meant.binds_cursor mark) (Some w) h = absurd h
+variable_argument e (meant.binds_value v) (Some w) h = ap value_argument (sym h)
+variable_argument e (meant.binds_element object at) (Some w) h = absurd h
+
+pub variable_integer : (e : State) (b : meant.Bound) (w : Bor Value) → IsVariable b (Some w) → integer_in w.now ≡ integer_in (value_in e b)
+variable_integer e meant.binds_type w h = absurd h
+variable_integer e (meant.binds_object o) w h = absurd h
+variable_integer e (meant.binds_cursor mark) w h = absurd h
+variable_integer e (meant.binds_value v) w h = ap integer_in h
+variable_integer e (meant.binds_element object at) w h = absurd h
 
 -- A cursor
 

@@ -4,11 +4,13 @@ use Rattle.std.specs.Borrow.{Bor}
 use Rattle.ac_base.specs.declared.cursor.Cursor.{Cursor}
 use Rattle.ac_base.specs.declared.cursor.Cursor.TheVariants.{NoElement, At}
 use Rattle.ac_base.specs.declared.name.Name.{Name}
+use Rattle.ac_base.specs.declared.value.Value.{Value}
 use Rattle.ac_model.specs.Letters.{mark_at}
 use Rattle.ac_model.specs.Cursors.{plain_mark}
 use Rattle.ac_model.specs.Objects as model
 use Rattle.ac_meaning.specs.Holdings.{number_of}
 use Rattle.ac_objects.specs.declared.object.Object.{Object}
+use Rattle.ac_meaning.specs.Environment as meant
 use Rattle.ac_meaning.specs.Environment.{object_at}
 use Rattle.ac_meaning.specs.Execution.{in_order}
 use Rattle.ac_meaning.specs.Walks.{first_mark}
@@ -23,6 +25,20 @@ HoldsObject (bound.Object o) None = ⊥
 HoldsObject (bound.Object o) (Some p) = p.now ≡ o
 HoldsObject _ None = ⊤
 HoldsObject _ (Some p) = ⊥
+
+-- the value that a variable holds; another name holds none
+abbrev pub HoldsValue : Bound → Option (Bor Value) → Type 0
+HoldsValue (bound.Value v) None = ⊥
+HoldsValue (bound.Value v) (Some w) = w.now ≡ v
+HoldsValue _ None = ⊤
+HoldsValue _ (Some w) = ⊥
+
+-- the same of a name in scope
+abbrev pub IsVariable : meant.Bound → Option (Bor Value) → Type 0
+IsVariable (meant.binds_value v) None = ⊥
+IsVariable (meant.binds_value v) (Some w) = w.now ≡ v
+IsVariable _ None = ⊤
+IsVariable _ (Some w) = ⊥
 
 -- the cursor that a variable holds; another name holds none
 abbrev pub HoldsCursor : Bound → Cursor → Type 0

@@ -14,6 +14,7 @@ ghost use Rattle.ac_base.specs.declared.value.Value.{Value as value_data};
 use crate::bound::Bound;
 use crate::held::write_element;
 use crate::objects::Objects;
+use crate::values;
 use ac_base::{Fault, Value};
 use ac_cursor::Cursor;
 use std::alloc::Global;
@@ -97,7 +98,7 @@ fn put_variable(bounds: &mut Vec<Bound>, place: usize, value: Value)
     ensures { bounds.new.items ≡ slice_set bounds.old.items place (bound.Value value) }
 {
     match &mut bounds[place] {
-        Bound::Value(held) => *held = value,
+        Bound::Value(held) => values::put_value(value, held),
         _ => unreachable!(),
     }
 }

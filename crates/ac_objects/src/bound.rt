@@ -1,5 +1,5 @@
 //! What a name of a script holds.
-ghost use Rattle.ac_objects.specs.Given.{HoldsObject, HoldsCursor};
+ghost use Rattle.ac_objects.specs.Given.{HoldsObject, HoldsValue, HoldsCursor};
 
 use crate::object::Object;
 use ac_base::Value;
@@ -23,6 +23,17 @@ impl Bound {
     {
         match self {
             Bound::Object(object) => Some(object),
+            _ => None,
+        }
+    }
+
+    /// The value that a variable holds, if it is one.
+    #[inline(always)]
+    pub(crate) fn variable(&self) -> Option<&Value>
+        ensures { HoldsValue self.now result }
+    {
+        match self {
+            Bound::Value(value) => Some(value),
             _ => None,
         }
     }

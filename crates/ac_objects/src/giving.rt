@@ -9,8 +9,8 @@ ghost use Rattle.ac_objects.specs.Steps.{AssignsTo, SaidKnown, placed_of, Placed
 ghost use Rattle.ac_objects.specs.World.{state_of, Persists};
 
 use crate::objects::Objects;
-use crate::reading::copy_value;
 use crate::reply::{Placed, Said};
+use crate::values::copy_value;
 use ac_base::{Fault, Value};
 use ac_check::ResolvedArg;
 

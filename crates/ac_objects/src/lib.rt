@@ -49,6 +49,7 @@ mod set_pair_calls;
 mod tree_calls;
 mod trees;
 mod updates;
+mod values;
 mod vector_calls;
 mod views;
 mod walking;

@@ -1,8 +1,8 @@
 //! The names of a script in scope, with what they hold, and its commands.
-ghost use Rattle.std.specs.Prelude.{◌≡◌, [], Some};
+ghost use Rattle.std.specs.Prelude.{◌≡◌, [], Some, IfOk};
 ghost use Rattle.ac_meaning.specs.Commands.{called, set_from, summed, sum_of, variable_set};
 ghost use Rattle.ac_meaning.specs.Elements.{integer_in};
-ghost use Rattle.ac_meaning.specs.Environment.{object_at};
+ghost use Rattle.ac_meaning.specs.Environment.{object_at, value_at};
 ghost use Rattle.ac_meaning.specs.Holdings.{Held};
 ghost use Rattle.ac_base.specs.declared.reason.Reason.{Reason as Refusal};
 ghost use Rattle.ac_objects.specs.Performs.{Performs, Untouched, answered};
@@ -13,8 +13,9 @@ ghost use Rattle.ac_objects.specs.World.{state_of, world, counted_from, Persists
 use crate::bound::Bound;
 use crate::frame::Frame;
 use crate::reading::said_of;
-use crate::reply::Said;
-use ac_base::{Fault, Reason, Value};
+use crate::reply::{Said, say};
+use crate::values::integer_in;
+use ac_base::{Fault, NoMemory, Reason, Value};
 use ac_check::{Operation, ResolvedArg};
 use ac_cursor::TagMint;
 use std::alloc::Global;
@@ -153,13 +154,23 @@ impl Objects {
         ensures persists { Persists self.old self.new }
         ensures counts { counts_of (state_of self.new) ≡ counts_of (state_of self.old) }
     {
-        match self.read_name(from) {
-            Ok(read) => {
-                let sum = total(integer_of(read.into_value()), minus, number);
-                self.put_sum(target, sum, frame)
-            }
+        match self.operand(from) {
+            Ok(base) => self.put_sum(target, total(base, minus, number), frame),
             Err(_) => Err(Fault::NoMemory),
         }
+    }
+
+    /// The integer that the name stands for.
+    #[inline(always)]
+    fn operand(&self, from: usize) -> Result<i64, NoMemory>
+        requires stand { ElementsStand (state_of self.now) }
+        ensures { IfOk result (λ n. n ≡ integer_in (value_at (state_of self.now) from)) }
+    {
+        if let Some(value) = self.variable_at(from) {
+            return Ok(integer_in(value));
+        }
+        let read = self.read_name(from)?;
+        Ok(integer_in(&read.into_value()))
     }
 
     #[inline(always)]
@@ -174,20 +185,10 @@ impl Objects {
         match sum {
             None => Err(Fault::Raised(Reason::Overflow)),
             Some(sum) => {
-                frame.reply.said = Said::Value(Value::Int(sum));
+                say(Said::Value(Value::Int(sum)), &mut frame.reply.said);
                 self.give(Some(target), &frame.reply.said)
             }
         }
-    }
-}
-
-#[inline(always)]
-pub(crate) fn integer_of(value: Value) -> i64
-    ensures { result ≡ integer_in value }
-{
-    match value {
-        Value::Int(number) => number,
-        Value::Text(_) => 0,
     }
 }
 

@@ -10,8 +10,8 @@ ghost use Rattle.ac_objects.specs.QueueCalls.{QueueReplied};
 ghost use Rattle.ac_objects.specs.Replied.{told};
 
 use crate::argument::Arguments;
-use crate::objects::integer_of;
 use crate::reply::{Reply, Said};
+use crate::values::integer_in;
 use ac_base::{Fault, GREATEST_LENGTH, Limit, Reason, Value};
 use ac_check::{Operation, QueueCall};
 use ac_queue::{AnyQueue, Dequeued};
@@ -43,7 +43,7 @@ fn queue_call(
     ensures { QueueReplied (queue_alone_reply (shared queue.old) (arguments_of args.old) call) queue.old queue.new (told reply.new result) }
 {
     match call {
-        QueueCall::Enqueue => enqueue(queue, integer_of(args.first.take_value()), reply),
+        QueueCall::Enqueue => enqueue(queue, integer_in(&args.first.take_value()), reply),
         QueueCall::Dequeue => dequeue(queue, reply),
         QueueCall::CurrentUse => {
             *reply = Reply::says(Said::Value(Value::Int(queue.current_use() as i64)));

@@ -1,7 +1,9 @@
 //! The arguments of a call, read before it.
-ghost use Rattle.std.specs.Prelude.{◌≡◌, ◌∷◌, ℕ, List, IfOk, OnOk, None, Some, slice_get};
+ghost use Rattle.std.specs.Prelude.{◌≡◌, ◌∷◌, ℕ, List, IfOk, IfSome, OnOk, None, Some, slice_get};
 ghost use Rattle.std.specs.Option.{ForSome};
 ghost use Rattle.ac_meaning.specs.Commands.{source_place, argument_in, argument, argument_of as argument_at, arguments, answer_in, answer_from};
+ghost use Rattle.ac_meaning.specs.Replies.{value_argument};
+ghost use Rattle.ac_objects.specs.Given.{IsVariable};
 ghost use Rattle.ac_meaning.specs.Environment.{State, bound_at, value_in, binds_element};
 ghost use Rattle.ac_model.specs.Cursors.{plain_mark};
 ghost use Rattle.ac_objects.specs.Arguments.{argument_of, arguments_of, cursor_in};
@@ -16,6 +18,7 @@ use crate::bound::Bound;
 use crate::held::element_of;
 use crate::objects::Objects;
 use crate::reply::Said;
+use crate::values::{self, copy_value};
 use ac_base::{Elem, NoMemory, Value};
 use ac_check::ResolvedArg;
 use ac_cursor::Cursor;
@@ -105,10 +108,36 @@ impl Objects {
                 leave_out(read);
                 Ok(())
             }
-            Some(arg) => {
-                put(self.read(arg)?, read);
-                Ok(())
-            }
+            Some(arg) => match self.value_at_hand(arg) {
+                Some(value) => put_copy(self.alloc, value, read),
+                None => {
+                    put(self.read(arg)?, read);
+                    Ok(())
+                }
+            },
+        }
+    }
+
+    /// The value that a literal is, or a variable that is named. Another argument has none at hand.
+    #[inline(always)]
+    fn value_at_hand<'a>(&'a self, arg: &'a ResolvedArg) -> Option<&'a Value>
+        ensures { IfSome result (λ value. argument (state_of self.now) arg.now ≡ value_argument value.now) }
+    {
+        match arg {
+            ResolvedArg::Lit(value) => Some(value),
+            ResolvedArg::NoElement => None,
+            ResolvedArg::At(place) => self.variable_at(*place),
+        }
+    }
+
+    /// The value of the variable at the place. Another name has none.
+    #[inline(always)]
+    pub(crate) fn variable_at(&self, place: usize) -> Option<&Value>
+        ensures { IsVariable (bound_at (state_of self.now) place) result }
+    {
+        match self.bounds.get(place) {
+            Some(bound) => bound.variable(),
+            None => None,
         }
     }
 
@@ -170,25 +199,32 @@ fn put(argument: Argument, read: &mut Argument)
     }
 }
 
+/// Puts a copy of a value into an argument's place.
+#[inline(always)]
+fn put_copy(alloc: Global, value: &Value, read: &mut Argument) -> Result<(), NoMemory>
+    ensures { OnOk result (read.new ≡ Argument.Value value.now) }
+{
+    match value {
+        Value::Int(number) => {
+            put_integer(*number, read);
+            Ok(())
+        }
+        Value::Text(text) => {
+            *read = Argument::Value(Value::Text(text.copy(alloc)?));
+            Ok(())
+        }
+    }
+}
+
 /// Puts an integer into an argument's place, over that of a command before where one stands there.
 #[inline(always)]
 fn put_integer(number: i64, read: &mut Argument)
     ensures { read.new ≡ Argument.Value (Value.Int number) }
 {
     match read {
-        Argument::Value(value) => make_integer(number, value),
+        Argument::Value(value) => values::put_integer(number, value),
         Argument::Absent => *read = Argument::Value(Value::Int(number)),
         Argument::Place(_) => *read = Argument::Value(Value::Int(number)),
-    }
-}
-
-#[inline(always)]
-fn make_integer(number: i64, value: &mut Value)
-    ensures { value.new ≡ Value.Int number }
-{
-    match value {
-        Value::Int(held) => *held = number,
-        Value::Text(_) => *value = Value::Int(number),
     }
 }
 
@@ -218,16 +254,6 @@ pub(crate) fn copy_element(
     match bounds[object].object() {
         Some(held) => element_of(held, alloc, at),
         None => unreachable!(),
-    }
-}
-
-#[inline(always)]
-pub(crate) fn copy_value(alloc: Global, value: &Value) -> Result<Value, NoMemory>
-    ensures { IfOk result (λ made. made ≡ value.now) }
-{
-    match value {
-        Value::Int(number) => Ok(Value::Int(*number)),
-        Value::Text(text) => Ok(Value::Text(text.copy(alloc)?)),
     }
 }
 

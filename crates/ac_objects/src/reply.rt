@@ -1,6 +1,7 @@
 //! What a call on an object comes to.
 ghost use Rattle.std.specs.Prelude.{◌≡◌, Some, None};
 
+use crate::values::put_integer;
 use ac_base::Value;
 use ac_cursor::Cursor;
 
@@ -50,7 +51,7 @@ impl Reply {
         ensures said { self.new.said ≡ said }
         ensures variable { self.new.variable ≡ None }
     {
-        self.said = said;
+        say(said, &mut self.said);
         sets_none(&mut self.variable);
     }
 
@@ -64,6 +65,27 @@ impl Reply {
             said: Said::Done,
             variable: Some(Placed { place, cursor }),
         }
+    }
+}
+
+/// Writes an answer, an integer over one that stands there.
+#[inline(always)]
+pub(crate) fn say(said: Said, held: &mut Said)
+    ensures { held.new ≡ said }
+{
+    match said {
+        Said::Value(Value::Int(number)) => say_integer(number, held),
+        other => *held = other,
+    }
+}
+
+#[inline(always)]
+fn say_integer(number: i64, held: &mut Said)
+    ensures { held.new ≡ Said.Value (Value.Int number) }
+{
+    match held {
+        Said::Value(value) => put_integer(number, value),
+        _ => *held = Said::Value(Value::Int(number)),
     }
 }
 

@@ -18,7 +18,7 @@ returns-in-Some-clause-untouched c =
     let same : to_z w64 (of_z w64 n) ≡ n = search rules in
     let answer = answers_integer n in
     given_untouched (assigned (state_of old) (Some a.target) answer) old c.give.new.self c.give.result
-    (c.give.ensures.given a.target answer (ap answers_integer (sym same)))
+    (c.give.ensures.given a.target answer (subst (λ s. Shows (state_of old) a.target s answer) (sym c.say.ensures) (ap answers_integer (sym same))))
 
 pub returns-in-Some-clause-performed : goal.returns-in-Some-clause-performed
 returns-in-Some-clause-performed c =
@@ -27,8 +27,8 @@ returns-in-Some-clause-performed c =
     let a = c.args in
     let n = c.in-Some.sum in
     let same : to_z w64 (of_z w64 n) ≡ n = search rules in
-    let says = said.Value (value.Int (to_z w64 (of_z w64 n))) in
+    let says = c.say.new.held in
     let answer = answers_integer n in
-    let shows : Shows e a.target says answer = ap answers_integer (sym same) in
+    let shows : Shows e a.target says answer = subst (λ s. Shows e a.target s answer) (sym c.say.ensures) (ap answers_integer (sym same)) in
     subst (λ s. Performs (sum_given e a.target s) a.target old c.give.new.self (answered says c.give.result)) (sym c.in-Some.is)
     (sets_given a.target says answer old c.give.new.self c.give.result shows (c.give.ensures.given a.target answer shows))

@@ -2,12 +2,10 @@ use Rattle.std.proofs.Common.{ap, subst, ◌∙◌, rules, to_z-of_z, w64}
 use mir.Val.{SFits}
 use Rattle.ac_meaning.specs.Commands.{sum_of}
 use Rattle.ac_meaning.specs.Elements.{integer_in}
-use Rattle.ac_meaning.specs.Environment.{bound_at, value_at}
-use Rattle.ac_meaning.specs.Replies.{Argument}
+use Rattle.ac_meaning.specs.Environment.{value_at}
 use Rattle.ac_objects.specs.Performs.{Performs, answered}
 use Rattle.ac_objects.specs.Steps.{if_integer, sum_given}
 use Rattle.ac_objects.specs.World.{state_of}
-use Rattle.ac_objects.proofs.Names.{value_read}
 use Rattle.ac_objects.proofs.Performing.{sum_is}
 use Rattle.ac_objects.proofs.objects.Objects.sum.Goals as goal
 
@@ -16,9 +14,8 @@ returns-in-Ok-clause-performed c =
     let old = c.args.self.now in
     let e = state_of old in
     let a = c.args in
-    let value = c.into_value.ensures ∙ (ap (λ (x : Argument). x.value) c.in-Ok.ensures.read ∙ value_read e (bound_at e a.from)) in
-    let fits : SFits w64 c.integer_of.result = search rules in
-    let number = to_z-of_z {w = w64} {z = c.integer_of.result} fits ∙ (c.integer_of.ensures ∙ ap integer_in value) in
-    let is = ap (sum_given e a.target) (c.total-sum.ensures ∙ ap (λ n. if_integer (sum_of a.minus n a.number)) number)
+    let fits : SFits w64 c.in-Ok.base = search rules in
+    let number = to_z-of_z {w = w64} {z = c.in-Ok.base} fits ∙ c.in-Ok.ensures in
+    let is = ap (sum_given e a.target) (c.total.ensures ∙ ap (λ n. if_integer (sum_of a.minus n a.number)) number)
     ∙ sum_is e a.target (sum_of a.minus (integer_in (value_at e a.from)) a.number) in
     subst (λ p. Performs p a.target old c.put_sum.new.self (answered c.put_sum.new.frame.reply.said c.put_sum.result)) is c.put_sum.ensures.performed
