@@ -186,6 +186,7 @@ fn write_value<K: Sink>(
 }
 
 /// Writes why a command was refused, or a block doesn't begin.
+#[inline(never)]
 pub fn write_refusal<K: Sink>(
     number: u64,
     reason: Reason,
