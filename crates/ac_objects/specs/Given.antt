@@ -5,13 +5,15 @@ use Rattle.ac_base.specs.declared.cursor.Cursor.{Cursor}
 use Rattle.ac_base.specs.declared.cursor.Cursor.TheVariants.{NoElement, At}
 use Rattle.ac_base.specs.declared.name.Name.{Name}
 use Rattle.ac_base.specs.declared.value.Value.{Value}
+use Rattle.ac_check.specs.declared.resolved.ResolvedArg.{ResolvedArg}
+use Rattle.ac_check.specs.declared.resolved.ResolvedArg.TheVariants as arg
 use Rattle.ac_model.specs.Letters.{mark_at}
 use Rattle.ac_model.specs.Cursors.{plain_mark}
 use Rattle.ac_model.specs.Objects as model
 use Rattle.ac_meaning.specs.Holdings.{number_of}
 use Rattle.ac_objects.specs.declared.object.Object.{Object}
 use Rattle.ac_meaning.specs.Environment as meant
-use Rattle.ac_meaning.specs.Environment.{object_at}
+use Rattle.ac_meaning.specs.Environment.{State, bound_at, object_at}
 use Rattle.ac_meaning.specs.Execution.{in_order}
 use Rattle.ac_meaning.specs.Walks.{first_mark}
 use Rattle.ac_objects.specs.declared.bound.Bound.{Bound}
@@ -39,6 +41,13 @@ IsVariable (meant.binds_value v) None = ⊥
 IsVariable (meant.binds_value v) (Some w) = w.now ≡ v
 IsVariable _ None = ⊤
 IsVariable _ (Some w) = ⊥
+
+-- the value of a literal, or of the variable that an argument names; another argument has none at hand
+abbrev pub IsAtHand : State → ResolvedArg → Option (Bor Value) → Type 0
+IsAtHand e (arg.Lit v) w = IsVariable (meant.binds_value v) w
+IsAtHand e arg.NoElement None = ⊤
+IsAtHand e arg.NoElement (Some w) = ⊥
+IsAtHand e (arg.At place) w = IsVariable (bound_at e place) w
 
 -- the cursor that a variable holds; another name holds none
 abbrev pub HoldsCursor : Bound → Cursor → Type 0

@@ -3,7 +3,7 @@ ghost use Rattle.std.specs.Prelude.{◌≡◌, ◌∷◌, ℕ, List, IfOk, IfSom
 ghost use Rattle.std.specs.Option.{ForSome};
 ghost use Rattle.ac_meaning.specs.Commands.{source_place, argument_in, argument, argument_of as argument_at, arguments, answer_in, answer_from};
 ghost use Rattle.ac_meaning.specs.Replies.{value_argument};
-ghost use Rattle.ac_objects.specs.Given.{IsVariable};
+ghost use Rattle.ac_objects.specs.Given.{IsVariable, IsAtHand};
 ghost use Rattle.ac_meaning.specs.Environment.{State, bound_at, value_in, binds_element};
 ghost use Rattle.ac_model.specs.Cursors.{plain_mark};
 ghost use Rattle.ac_objects.specs.Arguments.{argument_of, arguments_of, cursor_in};
@@ -121,7 +121,8 @@ impl Objects {
     /// The value that a literal is, or a variable that is named. Another argument has none at hand.
     #[inline(always)]
     fn value_at_hand<'a>(&'a self, arg: &'a ResolvedArg) -> Option<&'a Value>
-        ensures { IfSome result (λ value. argument (state_of self.now) arg.now ≡ value_argument value.now) }
+        ensures argument { IfSome result (λ value. argument (state_of self.now) arg.now ≡ value_argument value.now) }
+        ensures at_hand { IsAtHand (state_of self.now) arg.now result }
     {
         match arg {
             ResolvedArg::Lit(value) => Some(value),
