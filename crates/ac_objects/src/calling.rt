@@ -74,6 +74,7 @@ fn call_in(
     }
 }
 
+#[inline(never)]
 fn call_source(
     bounds: &mut Vec<Bound>,
     alloc: Global,

@@ -97,25 +97,25 @@ pub fn common_call<C: CommonRows>(
 {
     match call {
         CommonCall::IsEmpty => {
-            reply.tell(Said::Truth(object.is_empty()));
+            reply.tell_apart(Said::Truth(object.is_empty()));
             Ok(())
         }
         CommonCall::Clear => alone::clear(object, reply),
         CommonCall::Assign => alone::assign(object, reply),
         CommonCall::MoveFrom => alone::move_from(object, reply),
         CommonCall::Equal => {
-            reply.tell(Said::Truth(object.equal_self()));
+            reply.tell_apart(Said::Truth(object.equal_self()));
             Ok(())
         }
         CommonCall::HasElement => alone::has_element(object, args, reply),
         CommonCall::Element => alone::element(object, alloc, args, reply),
         CommonCall::ReplaceElement => alone::replace_element(object, alloc, args, reply),
         CommonCall::Print => {
-            reply.tell(Said::Listing);
+            reply.tell_apart(Said::Listing);
             Ok(())
         }
         CommonCall::Length => {
-            reply.tell(Said::Value(Value::Int(object.length())));
+            reply.tell_integer(object.length());
             Ok(())
         }
     }

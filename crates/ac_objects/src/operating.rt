@@ -50,7 +50,7 @@ pub fn operate<T: ScriptElement>(
     }
 }
 
-#[inline(always)]
+#[inline(never)]
 fn operate_capacity<T: ScriptElement>(
     sequence: &mut Sequence<T>,
     call: CapacityCall,
@@ -89,7 +89,7 @@ fn operate_vector<T: ScriptElement>(
     }
 }
 
-#[inline(always)]
+#[inline(never)]
 fn operate_list<T: ScriptElement>(
     sequence: &mut Sequence<T>,
     call: ListCall,

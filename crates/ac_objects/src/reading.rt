@@ -19,7 +19,7 @@ use crate::held::element_of;
 use crate::objects::Objects;
 use crate::reply::Said;
 use crate::values::{self, copy_value};
-use ac_base::{Elem, NoMemory, Value};
+use ac_base::{Elem, NoMemory, Text, Value};
 use ac_check::ResolvedArg;
 use ac_cursor::Cursor;
 use std::alloc::Global;
@@ -38,8 +38,8 @@ impl Objects {
     {
         self.read_at(args, 0, &mut read.first)?;
         self.read_at(args, 1, &mut read.second)?;
-        self.read_at(args, 2, &mut read.third)?;
-        self.read_at(args, 3, &mut read.fourth)?;
+        self.read_rare(args, 2, &mut read.third)?;
+        self.read_rare(args, 3, &mut read.fourth)?;
         read.fifth = self.count_at(args, 4)?;
         Ok(())
     }
@@ -52,11 +52,17 @@ impl Objects {
     {
         match args.get(place) {
             None => Ok(1),
-            Some(arg) => {
-                let read = self.read(arg)?;
-                Ok(read.count())
-            }
+            Some(arg) => self.count_of(arg),
         }
+    }
+
+    #[inline(never)]
+    fn count_of(&self, arg: &ResolvedArg) -> Result<i64, NoMemory>
+        requires stand { ElementsStand (state_of self.now) }
+        ensures { IfOk result (λ count. count ≡ (argument (state_of self.now) arg.now).count) }
+    {
+        let read = self.read(arg)?;
+        Ok(read.count())
     }
 
     /// The place of the object among the arguments.
@@ -110,12 +116,41 @@ impl Objects {
             }
             Some(arg) => match self.value_at_hand(arg) {
                 Some(value) => put_copy(self.alloc, value, read),
-                None => {
-                    put(self.read(arg)?, read);
-                    Ok(())
-                }
+                None => self.read_any(arg, read),
             },
         }
+    }
+
+    /// As `read_at`, where few calls have an argument.
+    #[inline(always)]
+    fn read_rare(
+        &self,
+        args: &[ResolvedArg],
+        place: usize,
+        read: &mut Argument,
+    ) -> Result<(), NoMemory>
+        requires stand { ElementsStand (state_of self.now) }
+        ensures read { OnOk result (argument_of read.new ≡ argument_at (state_of self.now) (slice_get args.now place)) }
+        ensures known { OnOk result (IsKnown self.now (cursor_in read.new)) }
+    {
+        match args.get(place) {
+            None => {
+                leave_out(read);
+                Ok(())
+            }
+            Some(arg) => self.read_any(arg, read),
+        }
+    }
+
+    /// Reads an argument of any sort. It stands apart so that the short way is short.
+    #[inline(never)]
+    fn read_any(&self, arg: &ResolvedArg, read: &mut Argument) -> Result<(), NoMemory>
+        requires stand { ElementsStand (state_of self.now) }
+        ensures read { OnOk result (argument_of read.new ≡ argument (state_of self.now) arg.now) }
+        ensures known { OnOk result (IsKnown self.now (cursor_in read.new)) }
+    {
+        put(self.read(arg)?, read);
+        Ok(())
     }
 
     /// The value that a literal is, or a variable that is named. Another argument has none at hand.
@@ -184,8 +219,15 @@ fn leave_out(read: &mut Argument)
 {
     match read {
         Argument::Absent => {}
-        _ => *read = Argument::Absent,
+        _ => leave_out_anew(read),
     }
+}
+
+#[inline(never)]
+fn leave_out_anew(read: &mut Argument)
+    ensures { read.new ≡ Argument.Absent }
+{
+    *read = Argument::Absent;
 }
 
 /// Puts an argument into its place.
@@ -210,11 +252,16 @@ fn put_copy(alloc: Global, value: &Value, read: &mut Argument) -> Result<(), NoM
             put_integer(*number, read);
             Ok(())
         }
-        Value::Text(text) => {
-            *read = Argument::Value(Value::Text(text.copy(alloc)?));
-            Ok(())
-        }
+        Value::Text(text) => put_text(alloc, text, read),
     }
+}
+
+#[inline(never)]
+fn put_text(alloc: Global, text: &Text, read: &mut Argument) -> Result<(), NoMemory>
+    ensures { OnOk result (read.new ≡ Argument.Value (Value.Text text.now)) }
+{
+    *read = Argument::Value(Value::Text(text.copy(alloc)?));
+    Ok(())
 }
 
 /// Puts an integer into an argument's place, over that of a command before where one stands there.

@@ -40,11 +40,11 @@ pub fn sequence_call<T: ScriptElement>(
         SequenceCall::DeleteFirst => deletions::delete_first(sequence, args, reply),
         SequenceCall::DeleteLast => deletions::delete_last(sequence, args, reply),
         SequenceCall::First => {
-            reply.tell(Said::Place(row_cursors::first(sequence)));
+            reply.tell_apart(Said::Place(row_cursors::first(sequence)));
             Ok(())
         }
         SequenceCall::Last => {
-            reply.tell(Said::Place(row_cursors::last(sequence)));
+            reply.tell_apart(Said::Place(row_cursors::last(sequence)));
             Ok(())
         }
         SequenceCall::FirstElement => looks::first_element(sequence, alloc, reply),
@@ -58,7 +58,7 @@ pub fn sequence_call<T: ScriptElement>(
         SequenceCall::ReverseElements => orders::reverse_elements(sequence, reply),
         SequenceCall::Sort => orders::sort(sequence, reply),
         SequenceCall::IsSorted => {
-            reply.tell(Said::Truth(sequence.is_sorted()));
+            reply.tell_apart(Said::Truth(sequence.is_sorted()));
             Ok(())
         }
         SequenceCall::Merge => orders::merge(sequence, reply),

@@ -32,7 +32,7 @@ pub(crate) fn put_integer(number: i64, held: &mut Value)
 {
     match held {
         Value::Int(there) => *there = number,
-        Value::Text(_) => *held = Value::Int(number),
+        Value::Text(_) => put_anew(Value::Int(number), held),
     }
 }
 
@@ -43,6 +43,14 @@ pub(crate) fn put_value(value: Value, held: &mut Value)
 {
     match value {
         Value::Int(number) => put_integer(number, held),
-        Value::Text(text) => *held = Value::Text(text),
+        other => put_anew(other, held),
     }
+}
+
+/// Writes a value in place of one that goes. It stands apart so that the short way is short.
+#[inline(never)]
+fn put_anew(value: Value, held: &mut Value)
+    ensures { held.new ≡ value }
+{
+    *held = value;
 }

@@ -45,11 +45,11 @@ pub fn vector_call<T: ScriptElement>(
         VectorCall::ToCursor => indexes::to_cursor(vector, args, reply),
         VectorCall::ToIndex => indexes::to_index(vector, args, reply),
         VectorCall::FirstIndex => {
-            reply.tell(Said::Value(Value::Int(vector.first_index())));
+            reply.tell_apart(Said::Value(Value::Int(vector.first_index())));
             Ok(())
         }
         VectorCall::LastIndex => {
-            reply.tell(Said::Value(Value::Int(vector.last_index())));
+            reply.tell_integer(vector.last_index());
             Ok(())
         }
         VectorCall::ElementIndex => indexes::element_index(vector, alloc, args, reply),

@@ -159,6 +159,20 @@ impl Object {
     {
         match self {
             Object::Integers(sequence) => next_in(sequence, backward, at),
+            _ => by_fields(self.next_apart(backward, by_fields(at))),
+        }
+    }
+
+    /// As `next_of`, of any object. It stands apart, so that the way of a list or a vector of integers is short.
+    #[inline(never)]
+    #[tactic(auto, unfolding(crate::specs::World::memory_of))]
+    fn next_apart(&self, backward: bool, at: Cursor) -> Cursor
+        requires { ObjectAgrees self.now at }
+        ensures given { IsGiven self.now result }
+        ensures next { StepsOn backward (number_of (held_of self.now)) (names_of (held_of self.now)) at result }
+    {
+        match self {
+            Object::Integers(sequence) => next_in(sequence, backward, at),
             Object::Texts(sequence) => next_in(sequence, backward, at),
             Object::IntegerSet(set) => next_in(set, backward, at),
             Object::TextSet(set) => next_in(set, backward, at),

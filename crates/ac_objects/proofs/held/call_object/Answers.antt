@@ -37,7 +37,7 @@ returns-in-Integers-clause-lasts c =
 
 pub returns-in-Texts-clause-called : goal.returns-in-Texts-clause-called
 returns-in-Texts-clause-called c =
-    let call = c.call_own-in-Texts in
+    let call = c.call_apart in
     let old = c.in-Texts.sequence in
     own_called (a_sequence (kind_of old) Str) (rows_of old) (rows_of call.new.object) c.args.object.now (Texts call.new.object) c.args.operation
     (arguments_of c.args.args.now) (told call.new.reply call.result) (ap memory_of c.in-Texts.is ∙ texts old)
@@ -46,7 +46,7 @@ returns-in-Texts-clause-called c =
 
 pub returns-in-Texts-clause-lasts : goal.returns-in-Texts-clause-lasts
 returns-in-Texts-clause-lasts c =
-    let call = c.call_own-in-Texts in
+    let call = c.call_apart in
     let old = c.in-Texts.sequence in
     own_lasts (a_sequence (kind_of old) Str) (rows_of old) (rows_of call.new.object) c.args.object.now (Texts call.new.object) c.args.operation
     (arguments_of c.args.args.now) (told call.new.reply call.result) (ap memory_of c.in-Texts.is ∙ texts old)

@@ -5,7 +5,7 @@ use Rattle.ac_objects.specs.World.{memory_of}
 use Rattle.ac_objects.proofs.CalledHolders.{integer_holder, text_holder, ends}
 use Rattle.ac_objects.proofs.CalledQueues as queues
 use Rattle.ac_objects.proofs.CalledQueues.{queue_memory}
-use Rattle.ac_objects.proofs.object.Object.next_of.Goals as goal
+use Rattle.ac_objects.proofs.object.Object.next_apart.Goals as goal
 
 pub returns-in-IntegerHolder-clause-next : goal.returns-in-IntegerHolder-clause-next
 returns-in-IntegerHolder-clause-next c =
