@@ -34,8 +34,8 @@ pub struct Host {
 }
 
 impl Host {
-    #[inline(always)]
-    fn run_call<K: Sink>(
+    /// The runner is told and not used: so each kind of runner has a `run_call` of its own, which one place alone calls, and LLVM puts it in line there.
+    fn run_call<K: Sink, B: BlockRunner>(
         &mut self,
         line: u64,
         target: Option<usize>,
@@ -43,6 +43,7 @@ impl Host {
         operation: Operation,
         args: &[ResolvedArg],
         sink: &mut K,
+        _runner: &B,
     ) -> Result<(), HostEnd>
         requires ready { IsReady self.old.objects }
         ensures runs { Runs K.held K.faults K.room K.counts_failures sink.old sink.new self.old.objects self.new.objects
@@ -428,7 +429,15 @@ impl Host {
                 object,
                 operation,
                 args,
-            } => self.run_call(*line, *target, *object, *operation, args.items(), sink),
+            } => self.run_call(
+                *line,
+                *target,
+                *object,
+                *operation,
+                args.items(),
+                sink,
+                runner,
+            ),
             ResolvedStmt::Set { line, target, from } => self.run_set(*line, *target, from, sink),
             ResolvedStmt::Sum {
                 line,
