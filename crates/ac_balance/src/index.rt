@@ -25,7 +25,7 @@ use std::marker::Model;
 use std::sync::ledger::Ledger;
 
 /// A row that was not added, since one with an equivalent key is there.
-#[derive(Debug, Drop)]
+#[derive(Drop)]
 pub struct Present<K, V> {
     pub at: Name,
     pub k: K,

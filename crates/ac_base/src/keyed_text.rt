@@ -7,7 +7,7 @@ use std::alloc::Global;
 use std::marker::Model;
 
 /// A text with its key, by which keyed sets compare and hash it. Contracts see the text.
-#[derive(Debug, Drop)]
+#[derive(Drop)]
 pub struct KeyedText {
     text: Text,
     key: Text,

@@ -2,7 +2,7 @@ ghost use Rattle.std.specs.Prelude.{◌≡◌};
 ghost use Rattle.ac_base.specs.Reason.{number_of, exception_of, text_of, exception_name};
 
 /// The exceptions that a refusal raises (A.18.1, and 11.1 for the first two).
-#[derive(Clone, Copy, Debug, PartialEq, Eq)]
+#[derive(Clone, Copy, PartialEq, Eq)]
 pub enum Exception {
     ProgramError,
     ConstraintError,
@@ -23,7 +23,7 @@ impl Exception {
 }
 
 /// Why a call is refused.
-#[derive(Clone, Copy, Debug, PartialEq, Eq)]
+#[derive(Clone, Copy, PartialEq, Eq)]
 pub enum Reason {
     /// The call would add or remove elements under a guard on cursors (A.18.2(90/5)).
     CursorTampering,

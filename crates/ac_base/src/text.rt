@@ -8,7 +8,7 @@ use std::alloc::Global;
 use std::marker::Model;
 
 /// A string: at most 1,000 bytes, each printable.
-#[derive(Debug, Drop)]
+#[derive(Drop)]
 pub struct Text {
     bytes: Vec<u8>,
 }
@@ -25,7 +25,7 @@ impl Model for Text {
 }
 
 /// Why bytes aren't taken as a text.
-#[derive(Clone, Copy, Debug, PartialEq, Eq)]
+#[derive(Clone, Copy, PartialEq, Eq)]
 pub enum TextFault {
     /// The first byte outside 32..126 stands at this place, counted from 1.
     BadByte(u64),

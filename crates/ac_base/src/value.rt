@@ -1,7 +1,7 @@
 use crate::text::Text;
 
 /// A value of an element, a key or a variable.
-#[derive(Debug, Drop, PartialEq, Eq)]
+#[derive(Drop, PartialEq, Eq)]
 pub enum Value {
     Int(i64),
     Text(Text),

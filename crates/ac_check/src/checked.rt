@@ -16,7 +16,7 @@ use std::marker::Model;
 
 /// A script without a faulty item: its names are declared once and in scope where they are used, its calls
 /// are those of its objects' types, and it stays within the limits.
-#[derive(Debug, Drop)]
+#[derive(Drop)]
 pub struct Checked {
     script: Script,
     resolved: Resolved,

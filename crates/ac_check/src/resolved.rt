@@ -9,7 +9,7 @@ use ac_syntax::{Ident, TypeDef, ViewKind};
 use std::marker::Model;
 
 /// An argument of a call, or what is assigned.
-#[derive(Debug, Drop)]
+#[derive(Drop)]
 pub enum ResolvedArg {
     Lit(Value),
     NoElement,
@@ -18,7 +18,7 @@ pub enum ResolvedArg {
 }
 
 /// The arguments of a call in order.
-#[derive(Debug, Drop)]
+#[derive(Drop)]
 pub struct ResolvedArgs {
     items: Vec<ResolvedArg>,
 }
@@ -47,7 +47,7 @@ impl ResolvedArgs {
 }
 
 /// What a declaration makes. Its name has the place behind those before it.
-#[derive(Debug, Drop)]
+#[derive(Drop)]
 pub enum ResolvedDecl {
     TypeDecl,
     Object {
@@ -61,7 +61,7 @@ pub enum ResolvedDecl {
 }
 
 /// Declarations in order.
-#[derive(Debug, Drop)]
+#[derive(Drop)]
 pub struct ResolvedDecls {
     items: Vec<ResolvedDecl>,
 }
@@ -90,7 +90,7 @@ impl ResolvedDecls {
 }
 
 /// A statement, with the line of its first token.
-#[derive(Debug, Drop)]
+#[derive(Drop)]
 #[cycle(resolved)]
 pub enum ResolvedStmt {
     /// A call, whose answer the target takes where there is one.
@@ -147,7 +147,7 @@ pub enum ResolvedStmt {
 }
 
 /// Statements in order.
-#[derive(Debug, Drop)]
+#[derive(Drop)]
 #[cycle(resolved)]
 pub struct ResolvedStmts {
     items: Vec<ResolvedStmt>,
@@ -187,7 +187,7 @@ impl ResolvedStmts {
 }
 
 /// A task, with the line of its first token: its name, how many locals it has, and its commands.
-#[derive(Debug, Drop)]
+#[derive(Drop)]
 #[cycle(resolved)]
 pub struct ResolvedTask {
     pub line: u64,
@@ -197,7 +197,7 @@ pub struct ResolvedTask {
 }
 
 /// Tasks in order.
-#[derive(Debug, Drop)]
+#[derive(Drop)]
 #[cycle(resolved)]
 pub struct ResolvedTasks {
     items: Vec<ResolvedTask>,

@@ -336,7 +336,7 @@ impl Walk {
 }
 
 /// What a script is resolved to.
-#[derive(Debug, Drop)]
+#[derive(Drop)]
 pub struct Resolved {
     pub decls: ResolvedDecls,
     pub stmts: ResolvedStmts,

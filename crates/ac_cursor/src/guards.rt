@@ -7,7 +7,6 @@ use ac_base::{Class, GuardKind, Reason};
 use std::marker::Model;
 
 /// A guard that is held. Its object releases it: a key can't be dropped, so no guard is forgotten.
-#[derive(Debug)]
 pub struct GuardKey {
     object: u64,
     kind: GuardKind,
@@ -63,7 +62,7 @@ pub trait Guarded {
 }
 
 /// The guards of one object: how many of each kind are held.
-#[derive(Debug, Drop)]
+#[derive(Drop)]
 pub struct Guards {
     tag: Tag,
     cursor_guards: u64,

@@ -3,7 +3,7 @@ ghost use Rattle.std.specs.Prelude.{◌≡◌, ◌+◌, ◌<◌, IfSome, IfNone}
 use std::marker::Model;
 
 /// The number of one object. There is one tag for each number of a mint, since a tag is never copied.
-#[derive(Debug, Drop)]
+#[derive(Drop)]
 pub struct Tag {
     number: u64,
 }
@@ -25,7 +25,7 @@ impl Tag {
 }
 
 /// Gives each object its number. Contracts see a mint as the number that it gives next.
-#[derive(Debug, Drop)]
+#[derive(Drop)]
 pub struct TagMint {
     coming: u64,
 }

@@ -10,7 +10,7 @@ use std::test::Fail;
 fn the_last_number_is_never_given(rt: HostRuntime) -> Result<(), Fail> {
     let mut mint = TagMint::starting_at(u64::MAX - 1);
     let tag = mint.next().ok_or("no tag")?;
-    assert_eq!(rt; tag.number(), u64::MAX - 1);
+    assert!(rt; tag.number() == u64::MAX - 1);
     assert!(rt; mint.next().is_none());
     assert!(rt; mint.next().is_none());
     Ok(())
@@ -20,7 +20,7 @@ fn the_last_number_is_never_given(rt: HostRuntime) -> Result<(), Fail> {
 fn numbers_run_from_one(rt: HostRuntime) -> Result<(), Fail> {
     let mut mint = TagMint::new();
     for number in [1, 2, 3] {
-        assert_eq!(rt; mint.next().ok_or("no tag")?.number(), number);
+        assert!(rt; mint.next().ok_or("no tag")?.number() == number);
     }
     Ok(())
 }
@@ -28,30 +28,18 @@ fn numbers_run_from_one(rt: HostRuntime) -> Result<(), Fail> {
 #[test]
 fn guards_forbid_by_class(rt: HostRuntime) -> Result<(), Fail> {
     let mut guards = Guards::new(TagMint::starting_at(7).next().ok_or("no tag")?);
-    assert_eq!(rt; guards.number(), 7);
+    assert!(rt; guards.number() == 7);
     let elements = guards.hold(GuardKind::Elements);
-    assert_eq!(rt;
-        guards.forbids(Class::Cursors),
-        Some(Reason::ElementTampering)
-    );
-    assert_eq!(rt;
-        guards.forbids(Class::Elements),
-        Some(Reason::ElementTampering)
-    );
+    assert!(rt; guards.forbids(Class::Cursors) == Some(Reason::ElementTampering));
+    assert!(rt; guards.forbids(Class::Elements) == Some(Reason::ElementTampering));
     let cursors = guards.hold(GuardKind::Cursors);
-    assert_eq!(rt;
-        guards.forbids(Class::Cursors),
-        Some(Reason::CursorTampering)
-    );
-    assert_eq!(rt;
-        guards.forbids(Class::Elements),
-        Some(Reason::ElementTampering)
-    );
+    assert!(rt; guards.forbids(Class::Cursors) == Some(Reason::CursorTampering));
+    assert!(rt; guards.forbids(Class::Elements) == Some(Reason::ElementTampering));
     guards.release(elements);
-    assert_eq!(rt; guards.count(GuardKind::Elements), 0);
-    assert_eq!(rt; guards.forbids(Class::Elements), None);
+    assert!(rt; guards.count(GuardKind::Elements) == 0);
+    assert!(rt; guards.forbids(Class::Elements) == None);
     guards.release(cursors);
-    assert_eq!(rt; guards.forbids(Class::Cursors), None);
+    assert!(rt; guards.forbids(Class::Cursors) == None);
     Ok(())
 }
 
@@ -103,10 +91,10 @@ impl Guarded for EmptySet {
 fn guards_through_the_bound(rt: HostRuntime) -> Result<(), Fail> {
     let mut guards = Guards::new(TagMint::new().next().ok_or("no tag")?);
     let key = held_once(&mut guards, GuardKind::Elements);
-    assert_eq!(rt; guards.held(GuardKind::Elements), 1);
+    assert!(rt; guards.held(GuardKind::Elements) == 1);
     released_once(&mut guards, key);
-    assert_eq!(rt; guards.held(GuardKind::Elements), 0);
-    assert_eq!(rt; count_under_guard(&mut guards, GuardKind::Elements), 1);
+    assert!(rt; guards.held(GuardKind::Elements) == 0);
+    assert!(rt; count_under_guard(&mut guards, GuardKind::Elements) == 1);
     Ok(())
 }
 
@@ -115,11 +103,11 @@ fn a_set_has_cursor_guards_alone(rt: HostRuntime) -> Result<(), Fail> {
     let guards = Guards::new(TagMint::new().next().ok_or("no tag")?);
     let mut set = EmptySet { guards, limit: 5 };
     let key = set.hold(GuardKind::Elements);
-    assert_eq!(rt; set.held(GuardKind::Cursors), 1);
-    assert_eq!(rt; set.held(GuardKind::Elements), 0);
+    assert!(rt; set.held(GuardKind::Cursors) == 1);
+    assert!(rt; set.held(GuardKind::Elements) == 0);
     set.release(key);
-    assert_eq!(rt; count_under_guard(&mut set, GuardKind::Elements), 0);
-    assert_eq!(rt; count_under_guard(&mut set, GuardKind::Cursors), 1);
-    assert_eq!(rt; set.limit, 5);
+    assert!(rt; count_under_guard(&mut set, GuardKind::Elements) == 0);
+    assert!(rt; count_under_guard(&mut set, GuardKind::Cursors) == 1);
+    assert!(rt; set.limit == 5);
     Ok(())
 }

@@ -5,14 +5,14 @@ use std::alloc::Global;
 use std::marker::Model;
 
 /// A number, or the local of this number.
-#[derive(Clone, Copy, Debug, PartialEq, Eq)]
+#[derive(Clone, Copy, PartialEq, Eq)]
 pub enum TaskArg {
     Number(i64),
     Local(u32),
 }
 
 /// A command of a task, with its line. Queues and locals have numbers from 0; `into` is the local that takes the reply.
-#[derive(Clone, Copy, Debug, PartialEq, Eq)]
+#[derive(Clone, Copy, PartialEq, Eq)]
 pub enum TaskStep {
     Enqueue {
         line: u64,
@@ -51,7 +51,7 @@ pub enum TaskStep {
 }
 
 /// The steps of a task in order.
-#[derive(Debug, Drop)]
+#[derive(Drop)]
 pub struct Steplist {
     items: Vec<TaskStep>,
 }
@@ -89,7 +89,7 @@ impl Steplist {
 }
 
 /// A task: how many locals it has, and its steps.
-#[derive(Debug, Drop)]
+#[derive(Drop)]
 pub struct TaskCode {
     pub locals: u32,
     pub steps: Steplist,

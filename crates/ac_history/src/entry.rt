@@ -1,7 +1,7 @@
 use ac_base::Reason;
 
 /// What a step answers.
-#[derive(Clone, Copy, Debug, PartialEq, Eq)]
+#[derive(Clone, Copy, PartialEq, Eq)]
 pub enum Reply {
     Done,
     Number(i64),
@@ -11,7 +11,7 @@ pub enum Reply {
 }
 
 /// A step that was done: its task, its place in the task, from 0, and its reply.
-#[derive(Clone, Copy, Debug, PartialEq, Eq)]
+#[derive(Clone, Copy, PartialEq, Eq)]
 pub struct Entry {
     pub task: u32,
     pub place: u32,
@@ -19,7 +19,7 @@ pub struct Entry {
 }
 
 /// What came of a turn.
-#[derive(Clone, Copy, Debug, PartialEq, Eq)]
+#[derive(Clone, Copy, PartialEq, Eq)]
 pub enum Turn {
     Ran,
     /// The task's next step would wait.

@@ -23,7 +23,7 @@ pub trait BlockRunner {
 }
 
 /// All tasks have turns in rounds, one after another.
-#[derive(Clone, Copy, Debug)]
+#[derive(Clone, Copy)]
 pub struct InTurn;
 
 impl BlockRunner for InTurn {

@@ -2,7 +2,7 @@ ghost use Rattle.std.specs.Prelude.{◌≡◌, ◌≢◌, ◌<◌, ◌≤◌, �
 ghost use Rattle.ac_io.specs.Outside.{Rose, Gives, Takes, TakesWithin};
 
 /// What one call of a source gave.
-#[derive(Clone, Copy, Debug, PartialEq, Eq)]
+#[derive(Clone, Copy, PartialEq, Eq)]
 pub enum Next {
     /// So many bytes stand at the front of the buffer.
     Got(usize),
@@ -38,7 +38,7 @@ pub trait Source {
 }
 
 /// What one call of a sink took.
-#[derive(Clone, Copy, Debug, PartialEq, Eq)]
+#[derive(Clone, Copy, PartialEq, Eq)]
 pub enum Put {
     /// So many bytes of the piece, from its front.
     Took(usize),

@@ -24,13 +24,13 @@ fn source_of(
 fn reads_all_in_pieces(rt: HostRuntime) -> Result<(), Fail> {
     let mut bytewise = source_of(rt.alloc(), LINE, 1, &[])?;
     let line = read_all(rt.alloc(), &mut bytewise, 6)?;
-    assert_eq!(rt; line.as_slice(), LINE);
+    assert!(rt; line.as_slice() == LINE);
     assert!(rt; bytewise.rest().is_empty());
 
     let long = vec![in rt.alloc(); 7; 10_000]?;
     let mut at_once = source_of(rt.alloc(), &long, usize::MAX, &[])?;
     let read = read_all(rt.alloc(), &mut at_once, 10_000)?;
-    assert_eq!(rt; read.as_slice(), long.as_slice());
+    assert!(rt; read.as_slice() == long.as_slice());
     Ok(())
 }
 
@@ -46,23 +46,29 @@ fn reading_ends_early(rt: HostRuntime) -> Result<(), Fail> {
             Err(ReadEnd::ReadFault)
         )
     );
-    assert_eq!(rt; broken.rest(), b"k\n".as_slice());
+    assert!(rt; broken.rest() == b"k\n".as_slice());
     Ok(())
 }
 
 #[test]
 fn writes_all_or_a_front(rt: HostRuntime) -> Result<(), Fail> {
-    let mut bytewise = MemorySink::with_room(rt.alloc(), 6, 1, Vec::new(rt.alloc()))?;
+    let mut bytewise = MemorySink::with_room(rt.alloc(), 6, 1, Vec::new(rt.alloc()))
+        .ok()
+        .ok_or("no memory")?;
     write_all(&mut bytewise, LINE)?;
-    assert_eq!(rt; bytewise.bytes(), LINE);
+    assert!(rt; bytewise.bytes() == LINE);
 
-    let mut broken = MemorySink::with_room(rt.alloc(), 100, 4, vec![in rt.alloc(); 2]?)?;
+    let mut broken = MemorySink::with_room(rt.alloc(), 100, 4, vec![in rt.alloc(); 2]?)
+        .ok()
+        .ok_or("no memory")?;
     assert!(rt; write_all(&mut broken, LINE).is_err());
-    assert_eq!(rt; broken.bytes(), b"3: o".as_slice());
+    assert!(rt; broken.bytes() == b"3: o".as_slice());
 
-    let mut full = MemorySink::with_room(rt.alloc(), 5, 4, Vec::new(rt.alloc()))?;
+    let mut full = MemorySink::with_room(rt.alloc(), 5, 4, Vec::new(rt.alloc()))
+        .ok()
+        .ok_or("no memory")?;
     assert!(rt; write_all(&mut full, LINE).is_err());
-    assert_eq!(rt; full.bytes(), b"3: ok".as_slice());
+    assert!(rt; full.bytes() == b"3: ok".as_slice());
     Ok(())
 }
 
@@ -72,29 +78,31 @@ fn writes_to_a_sink_that_grows(rt: HostRuntime) -> Result<(), Fail> {
     assert!(rt; sink.bytes().is_empty());
     write_all(&mut sink, LINE)?;
     write_all(&mut sink, LINE)?;
-    assert_eq!(rt; sink.bytes(), b"3: ok\n3: ok\n".as_slice());
+    assert!(rt; sink.bytes() == b"3: ok\n3: ok\n".as_slice());
     Ok(())
 }
 
 #[test]
 fn writes_in_pieces(rt: HostRuntime) -> Result<(), Fail> {
-    let mut sink = MemorySink::with_room(rt.alloc(), 12, 4, Vec::new(rt.alloc()))?;
+    let mut sink = MemorySink::with_room(rt.alloc(), 12, 4, Vec::new(rt.alloc()))
+        .ok()
+        .ok_or("no memory")?;
     let mut text = Vec::new(rt.alloc());
     add(&mut text, LINE, &mut sink)?;
     assert!(rt; sink.bytes().is_empty());
     add_last(&mut text, LINE, &mut sink)?;
-    assert_eq!(rt; sink.bytes(), b"3: ok\n3: ok\n".as_slice());
+    assert!(rt; sink.bytes() == b"3: ok\n3: ok\n".as_slice());
     Ok(())
 }
 
 #[test]
 fn reads_standard_input(rt: HostRuntime) -> Result<(), Fail> {
     let mut input = StdSource::new(rt.reader());
-    assert_ne!(rt; input.next(&mut [0; 8]), Next::Failed);
+    assert!(rt; input.next(&mut [0; 8]) != Next::Failed);
 
     let mut known = StdSource::new(LINE);
     let line = read_all(rt.alloc(), &mut known, 6)?;
-    assert_eq!(rt; line.as_slice(), LINE);
+    assert!(rt; line.as_slice() == LINE);
     Ok(())
 }
 
@@ -144,8 +152,8 @@ fn writes_what_a_printer_takes(rt: HostRuntime) -> Result<(), Fail> {
             room,
         };
         let mut output = StdSink::new(&printer);
-        assert_eq!(rt; write_all(&mut output, LINE).is_ok(), is_whole);
-        assert_eq!(rt; printer.taken.try_borrow()?.as_slice(), front);
+        assert!(rt; write_all(&mut output, LINE).is_ok() == is_whole);
+        assert!(rt; printer.taken.try_borrow()?.as_slice() == front);
     }
     Ok(())
 }

@@ -6,7 +6,7 @@ use ac_base::Value;
 use ac_cursor::Cursor;
 
 /// An argument as it is read before the call.
-#[derive(Debug, Drop)]
+#[derive(Drop)]
 pub enum Argument {
     /// Left out, or the object that is the call's source.
     Absent,
@@ -15,7 +15,7 @@ pub enum Argument {
 }
 
 /// The arguments of a call by their places.
-#[derive(Debug, Drop)]
+#[derive(Drop)]
 pub struct Arguments {
     pub first: Argument,
     pub second: Argument,

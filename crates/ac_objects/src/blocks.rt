@@ -2,7 +2,7 @@
 use ac_cursor::{Cursor, GuardKey};
 
 /// Why declarations failed.
-#[derive(Clone, Copy, Debug)]
+#[derive(Clone, Copy)]
 pub enum DeclareFault {
     /// No number is left for the object that is declared on this line.
     Spent { line: u64 },
@@ -10,7 +10,6 @@ pub enum DeclareFault {
 }
 
 /// An open loop: its object, where it stands next, and the guards that it holds.
-#[derive(Debug)]
 pub struct LoopKey {
     pub(crate) object: usize,
     pub(crate) names: usize,
@@ -21,7 +20,6 @@ pub struct LoopKey {
 }
 
 /// An open view or `stable`: its object, and the guard that it holds.
-#[derive(Debug)]
 pub struct ViewKey {
     pub(crate) object: usize,
     pub(crate) names: usize,
@@ -29,7 +27,6 @@ pub struct ViewKey {
 }
 
 /// An open update of a key: its object, where the element stands, and the guard that it holds. The block's name holds the copy.
-#[derive(Debug)]
 pub struct UpdateKey {
     pub(crate) object: usize,
     pub(crate) names: usize,

@@ -15,7 +15,7 @@ use std::alloc::Global;
 use std::marker::Model;
 
 /// Why a value was not put into a pool, which hands it back.
-#[derive(Debug, Drop)]
+#[derive(Drop)]
 pub enum PutFault<T> {
     /// The pool has no serial left.
     Spent(T),

@@ -1,5 +1,5 @@
 /// What came of an Enqueue.
-#[derive(Clone, Copy, Debug, PartialEq, Eq)]
+#[derive(Clone, Copy, PartialEq, Eq)]
 pub enum Enqueued {
     Took,
     /// The queue is bounded and full.
@@ -9,7 +9,7 @@ pub enum Enqueued {
 }
 
 /// What came of a Dequeue.
-#[derive(Clone, Copy, Debug, PartialEq, Eq)]
+#[derive(Clone, Copy, PartialEq, Eq)]
 pub enum Dequeued {
     Got(i64),
     /// The queue is empty.

@@ -8,7 +8,7 @@ use ac_syntax::{Piece, Placed, Token};
 use std::alloc::{AllocError, Global};
 
 /// A text cut into tokens, up to the first malformed piece.
-#[derive(Debug, Drop)]
+#[derive(Drop)]
 pub struct CutText {
     pub placed: Vec<Placed>,
     /// The line of the malformed piece, if there is one.

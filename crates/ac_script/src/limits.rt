@@ -45,7 +45,7 @@ const TASK_WORDS: [&[u8]; 1] = [b"task"];
 const BEGIN_WORDS: [&[u8]; 1] = [b"begin"];
 
 /// How far a task has come.
-#[derive(Clone, Copy, Debug, PartialEq, Eq)]
+#[derive(Clone, Copy, PartialEq, Eq)]
 enum Progress {
     /// No task is open.
     NoTask,
@@ -57,7 +57,7 @@ enum Progress {
 }
 
 /// What the tokens so far say of the limits of the next one.
-#[derive(Clone, Copy, Debug, PartialEq, Eq)]
+#[derive(Clone, Copy, PartialEq, Eq)]
 struct Behind {
     /// How many blocks are open.
     depth: u64,

@@ -11,7 +11,7 @@ use ac_syntax::{Ident, Mark, Piece, StringBytes, Token};
 use std::alloc::{AllocError, Global};
 
 /// What a byte behind a string's first quote does.
-#[derive(Clone, Copy, Debug, PartialEq, Eq)]
+#[derive(Clone, Copy, PartialEq, Eq)]
 enum StringByte {
     /// It stands for itself.
     Keeps,

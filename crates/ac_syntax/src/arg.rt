@@ -5,7 +5,7 @@ use ac_base::Value;
 use std::marker::Model;
 
 /// An argument of a call, or what is assigned.
-#[derive(Debug, Drop)]
+#[derive(Drop)]
 pub enum Arg {
     Lit(Value),
     NoElement,
@@ -13,7 +13,7 @@ pub enum Arg {
 }
 
 /// The arguments of a call in order.
-#[derive(Debug, Drop)]
+#[derive(Drop)]
 pub struct Args {
     items: Vec<Arg>,
 }

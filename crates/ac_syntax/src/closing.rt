@@ -1,5 +1,5 @@
 /// The words that end a block.
-#[derive(Clone, Copy, Debug, PartialEq, Eq)]
+#[derive(Clone, Copy, PartialEq, Eq)]
 pub enum Closing {
     /// `end loop;`
     EndLoop,

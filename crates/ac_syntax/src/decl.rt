@@ -5,7 +5,7 @@ use crate::type_def::TypeDef;
 use std::marker::Model;
 
 /// A declaration, with the line of its first token.
-#[derive(Debug, Drop)]
+#[derive(Drop)]
 pub enum Decl {
     TypeDecl {
         line: u64,
@@ -34,7 +34,7 @@ pub enum Decl {
 }
 
 /// Declarations in order.
-#[derive(Debug, Drop)]
+#[derive(Drop)]
 pub struct Decls {
     items: Vec<Decl>,
 }

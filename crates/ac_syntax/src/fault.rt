@@ -5,7 +5,7 @@ use crate::refusal::RefusalKind;
 use ac_base::NoMemory;
 
 /// Why no script was made of a text, or a script isn't taken.
-#[derive(Clone, Copy, Debug, PartialEq, Eq)]
+#[derive(Clone, Copy, PartialEq, Eq)]
 pub enum ScriptFault {
     /// The first refused line, from 1, and why.
     Refused { line: u64, kind: RefusalKind },

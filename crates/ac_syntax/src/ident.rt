@@ -4,7 +4,7 @@ use std::alloc::{AllocError, Global};
 use std::marker::Model;
 
 /// The bytes of a name.
-#[derive(Debug, Drop)]
+#[derive(Drop)]
 pub struct Ident {
     bytes: Vec<u8>,
 }
@@ -39,7 +39,7 @@ impl Ident {
 }
 
 /// Names in order.
-#[derive(Debug, Drop)]
+#[derive(Drop)]
 pub struct Idents {
     items: Vec<Ident>,
 }

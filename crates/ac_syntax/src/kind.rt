@@ -1,5 +1,5 @@
 /// What sort of object a type is of.
-#[derive(Clone, Copy, Debug, PartialEq, Eq)]
+#[derive(Clone, Copy, PartialEq, Eq)]
 pub enum Kind {
     Vector,
     List,
@@ -14,7 +14,7 @@ pub enum Kind {
 }
 
 /// What sort of value an element or a key is.
-#[derive(Clone, Copy, Debug, PartialEq, Eq)]
+#[derive(Clone, Copy, PartialEq, Eq)]
 pub enum ElemKind {
     Integer,
     Str,

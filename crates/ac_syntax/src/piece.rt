@@ -2,7 +2,7 @@ use crate::token::Token;
 
 /// What stands at the front of a text: how many bytes it has, and its token, unless it is white space or
 /// a comment.
-#[derive(Debug, Drop)]
+#[derive(Drop)]
 pub struct Piece {
     pub len: usize,
     pub token: Option<Token>,

@@ -1,5 +1,5 @@
 /// Why a script is refused.
-#[derive(Clone, Copy, Debug, PartialEq, Eq)]
+#[derive(Clone, Copy, PartialEq, Eq)]
 pub enum RefusalKind {
     Syntax,
     Limit,

@@ -8,7 +8,7 @@ use crate::view_kind::ViewKind;
 use std::marker::Model;
 
 /// A statement, with the line of its first token.
-#[derive(Debug, Drop)]
+#[derive(Drop)]
 #[cycle(statements)]
 pub enum Stmt {
     /// A call, whose answer the target takes where there is one.
@@ -67,7 +67,7 @@ pub enum Stmt {
 }
 
 /// Statements in order.
-#[derive(Debug, Drop)]
+#[derive(Drop)]
 #[cycle(statements)]
 pub struct Stmts {
     items: Vec<Stmt>,
@@ -107,7 +107,7 @@ impl Stmts {
 }
 
 /// A task, with the line of its first token: its locals, and its commands.
-#[derive(Debug, Drop)]
+#[derive(Drop)]
 #[cycle(statements)]
 pub struct TaskText {
     pub line: u64,
@@ -117,7 +117,7 @@ pub struct TaskText {
 }
 
 /// Tasks in order.
-#[derive(Debug, Drop)]
+#[derive(Drop)]
 #[cycle(statements)]
 pub struct TaskTexts {
     items: Vec<TaskText>,

@@ -4,7 +4,7 @@ use std::alloc::{AllocError, Global};
 use std::marker::Model;
 
 /// The bytes of a string between its quotes, each doubled quote as one.
-#[derive(Debug, Drop)]
+#[derive(Drop)]
 pub struct StringBytes {
     bytes: Vec<u8>,
 }

@@ -2,7 +2,7 @@ use crate::ident::Ident;
 use crate::string_bytes::StringBytes;
 
 /// A mark of one or two bytes.
-#[derive(Clone, Copy, Debug, PartialEq, Eq)]
+#[derive(Clone, Copy, PartialEq, Eq)]
 pub enum Mark {
     Colon,
     Semicolon,
@@ -15,7 +15,7 @@ pub enum Mark {
     Minus,
 }
 
-#[derive(Debug, Drop)]
+#[derive(Drop)]
 pub enum Token {
     /// A word in lower case, reserved or not.
     Word(Ident),
@@ -26,7 +26,7 @@ pub enum Token {
 }
 
 /// A token and the line that it stands on, from 1.
-#[derive(Debug, Drop)]
+#[derive(Drop)]
 pub struct Placed {
     pub token: Token,
     pub line: u64,

@@ -1,7 +1,7 @@
 use crate::kind::{ElemKind, Kind};
 
 /// What a type declaration says of its type.
-#[derive(Clone, Copy, Debug, PartialEq, Eq)]
+#[derive(Clone, Copy, PartialEq, Eq)]
 pub struct TypeDef {
     pub bounded: bool,
     pub kind: Kind,

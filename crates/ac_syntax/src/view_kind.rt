@@ -1,5 +1,5 @@
 /// How a block views an element.
-#[derive(Clone, Copy, Debug, PartialEq, Eq)]
+#[derive(Clone, Copy, PartialEq, Eq)]
 pub enum ViewKind {
     Query,
     Update,

@@ -5,7 +5,7 @@ pub trait Gate {
 }
 
 /// A gate that lets every worker go on at once.
-#[derive(Clone, Copy, Debug, Default)]
+#[derive(Clone, Copy, Default)]
 pub struct FreeGate;
 
 impl Gate for FreeGate {

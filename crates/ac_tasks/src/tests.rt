@@ -70,15 +70,26 @@ fn entry(task: u32, place: u32, reply: Reply) -> Entry {
 
 #[test]
 fn workers_bring_a_block_to_its_end(rt: HostRuntime) -> Result<(), Fail> {
-    let done = run_block(&rt, rt.alloc(), by_turns(rt.alloc())?, &FreeGate)?;
+    let done = run_block(
+        &rt,
+        rt.alloc(),
+        by_turns(rt.alloc()).ok().ok_or("no memory")?,
+        &FreeGate,
+    )
+    .ok()
+    .ok_or("no memory")?;
     assert!(rt; is_by_turns(done.history()));
     Ok(())
 }
 
 #[test]
 fn a_block_without_tasks_has_ended(rt: HostRuntime) -> Result<(), Fail> {
-    let book = Book::prepare(rt.alloc(), Vec::new(rt.alloc()), Vec::new(rt.alloc()))?;
-    let done = run_block(&rt, rt.alloc(), book, &FreeGate)?;
+    let book = Book::prepare(rt.alloc(), Vec::new(rt.alloc()), Vec::new(rt.alloc()))
+        .ok()
+        .ok_or("no memory")?;
+    let done = run_block(&rt, rt.alloc(), book, &FreeGate)
+        .ok()
+        .ok_or("no memory")?;
     assert!(rt; done.history().is_empty());
     Ok(())
 }
@@ -137,7 +148,14 @@ fn comes_to(came: &AtomicU64, wanted: u64) -> bool {
 #[test]
 fn a_worker_goes_on_while_another_is_held(rt: HostRuntime) -> Result<(), Fail> {
     let gate = Meeting::new();
-    let done = run_block(&rt, rt.alloc(), by_turns(rt.alloc())?, &gate)?;
+    let done = run_block(
+        &rt,
+        rt.alloc(),
+        by_turns(rt.alloc()).ok().ok_or("no memory")?,
+        &gate,
+    )
+    .ok()
+    .ok_or("no memory")?;
     assert!(rt; gate.was_held());
     assert!(rt; is_by_turns(done.history()));
     Ok(())

@@ -1,7 +1,7 @@
 //! What the program does.
 
 /// What is done with a script.
-#[derive(Clone, Copy, Debug, PartialEq, Eq)]
+#[derive(Clone, Copy, PartialEq, Eq)]
 pub enum Task {
     Run,
     /// It is run, and then the number of nodes is written.
@@ -11,7 +11,7 @@ pub enum Task {
 }
 
 /// What the words ask for.
-#[derive(Clone, Copy, Debug, PartialEq, Eq)]
+#[derive(Clone, Copy, PartialEq, Eq)]
 pub enum Mode {
     /// Something is done with the script that is read.
     Read(Task),
