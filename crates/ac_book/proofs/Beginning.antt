@@ -12,7 +12,8 @@ use Rattle.ac_history.specs.declared.code.TaskStep.{TaskStep}
 use Rattle.ac_history.specs.declared.code.TaskCode.{TaskCode}
 use Rattle.ac_history.specs.declared.entry.Entry.{Entry}
 use Rattle.ac_history.specs.Blocks.{commands_in, new_block}
-use Rattle.ac_history.specs.States.{TaskQueue, TaskState, begun, left, one_each}
+use Rattle.ac_history.specs.States.{TaskState, begun, left, one_each}
+use Rattle.ac_model.specs.Queues.{TaskQueue}
 use Rattle.ac_history.proofs.Left.{left_begun, all_ones}
 use Rattle.ac_book.specs.Books.{IsBook, block_of, CodeFits, TaskFits}
 use Rattle.ac_book.specs.Running.{Fits, HaveSpare, added_by}

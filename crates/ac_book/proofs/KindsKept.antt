@@ -2,10 +2,9 @@
 use Rattle.std.proofs.Common.{◌≡◌, ◌<◌, ℕ, ℤ, List, map, length, get_or, refl, sym, ap, ◌∙◌, subst}
 use Rattle.std.proofs.lemmas.List.{length-map, map-set, get_or-map, set-get_or}
 use Rattle.ac_base.specs.declared.limit.Limit.TheVariants.{Unbounded}
-use Rattle.ac_model.specs.Queues.{Discipline, by_arrival, empty_queue, dequeue_call, high_only_call}
+use Rattle.ac_model.specs.Queues.{Discipline, by_arrival, empty_queue, dequeue_call, high_only_call, TaskQueue}
 use Rattle.ac_history.specs.declared.code.TaskStep.{TaskStep}
 use Rattle.ac_history.specs.declared.code.TaskStep.TheVariants.{Enqueue, Dequeue, High, CurrentUse, PeakUse, Set}
-use Rattle.ac_history.specs.States.{TaskQueue}
 use Rattle.ac_history.specs.Steps.{QueueStep, queue_at, on_queue, step_call, enqueue_step, taking_step, value_of}
 use Rattle.ac_book.specs.Running.{Fits}
 

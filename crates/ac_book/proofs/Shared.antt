@@ -2,9 +2,8 @@
 use Rattle.std.proofs.Common.{◌≡◌, ◌<◌, ℕ, Bool, true, false, List, map, length, get_or, set, refl, sym, ap, ◌∙◌, subst, if◌then◌else◌}
 use Rattle.std.proofs.lemmas.List.{map-set, get_or-map, set-get_or}
 use Rattle.ac_queue.specs.declared.any_queue.AnyQueue.{AnyQueue}
-use Rattle.ac_model.specs.Queues.{by_arrival, empty_queue}
+use Rattle.ac_model.specs.Queues.{by_arrival, empty_queue, TaskQueue}
 use Rattle.ac_base.specs.declared.limit.Limit.TheVariants.{Unbounded}
-use Rattle.ac_history.specs.States.{TaskQueue}
 use Rattle.ac_history.specs.Steps.{QueueStep, queue_at, on_queue}
 use Rattle.ac_book.specs.Shared.{shared}
 use Rattle.ac_book.specs.Running.{queue_after, queues_after}

@@ -13,7 +13,8 @@ use Rattle.ac_history.specs.declared.entry.Turn.{Turn}
 use Rattle.ac_history.specs.declared.entry.Turn.TheVariants as turn
 use Rattle.ac_history.specs.Blocks.{Block, commands_in, present, with_entries}
 use Rattle.ac_history.specs.Histories.{over, held_up, done, outcome, outcome_of, entry, entries_of, state_after, turn_told, Explains}
-use Rattle.ac_history.specs.States.{State, TaskQueue, TaskState, opening_state, left, one_each}
+use Rattle.ac_history.specs.States.{State, TaskState, opening_state, left, one_each}
+use Rattle.ac_model.specs.Queues.{TaskQueue}
 use Rattle.ac_history.specs.Steps.{step_call, advanced, kept, target_of}
 use Rattle.ac_history.proofs.LegalHistories.{turn_more}
 use Rattle.ac_book.specs.Books.{IsBook, block_of, TaskFits, state_now, entries_in, told_in}

@@ -8,7 +8,8 @@ use Rattle.ac_history.specs.declared.entry.Turn.{Turn}
 use Rattle.ac_history.specs.declared.entry.Turn.TheVariants as turn
 use Rattle.ac_history.specs.Blocks.{Block, commands_in}
 use Rattle.ac_history.specs.Histories.{Explains}
-use Rattle.ac_history.specs.States.{State, TaskQueue, TaskState, opening_state, left, one_each}
+use Rattle.ac_history.specs.States.{State, TaskState, opening_state, left, one_each}
+use Rattle.ac_model.specs.Queues.{TaskQueue}
 use Rattle.ac_book.specs.Running.{Fits, HaveSpare, added_by}
 use Rattle.ac_book.specs.Shared.{shared}
 use Rattle.ac_book.specs.Tasks.{code_of}

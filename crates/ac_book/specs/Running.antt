@@ -1,7 +1,7 @@
 -- What the code's steps answer and leave, and what they want of the queues in memory.
 use Rattle.std.specs.Prelude.{◌≡◌, ◌<◌, ◌≤◌, ⊤, ℕ, Bool, List, length, Option, Some, None, if◌then◌else◌}
 use Rattle.std.specs.List.{All}
-use Rattle.ac_model.specs.Queues.{by_priority}
+use Rattle.ac_model.specs.Queues.{by_priority, TaskQueue}
 use Rattle.ac_queue.specs.declared.any_queue.AnyQueue.{AnyQueue}
 use Rattle.ac_queue.specs.Kinds.{state_of}
 use Rattle.ac_history.specs.declared.code.TaskArg.{TaskArg}
@@ -9,7 +9,6 @@ use Rattle.ac_history.specs.declared.code.TaskArg.TheVariants as arg
 use Rattle.ac_history.specs.declared.code.TaskStep.{TaskStep}
 use Rattle.ac_history.specs.declared.code.TaskStep.TheVariants.{Enqueue, Dequeue, High, CurrentUse, PeakUse, Set}
 use Rattle.ac_history.specs.declared.entry.Reply.{Reply}
-use Rattle.ac_history.specs.States.{TaskQueue}
 use Rattle.ac_history.specs.Steps.{QueueStep, StepCall, queue_at}
 
 -- nothing, where it would wait

@@ -7,7 +7,8 @@ use Rattle.ac_history.specs.declared.code.TaskCode.{TaskCode}
 use Rattle.ac_history.specs.declared.entry.Entry.{Entry}
 use Rattle.ac_history.specs.declared.entry.Turn.{Turn}
 use Rattle.ac_history.specs.declared.entry.Turn.TheVariants as turn
-use Rattle.ac_history.specs.States.{TaskQueue, TaskState}
+use Rattle.ac_history.specs.States.{TaskState}
+use Rattle.ac_model.specs.Queues.{TaskQueue}
 use Rattle.ac_history.specs.Steps.{StepCall, step_call, advanced}
 use Rattle.ac_history.specs.Histories.{entry}
 

@@ -5,7 +5,8 @@ use Rattle.std.specs.Coded.{Coded, codes}
 use Rattle.ac_history.specs.declared.code.TaskCode.{TaskCode}
 use Rattle.ac_history.specs.declared.entry.Entry.{Entry}
 use Rattle.ac_history.specs.Histories.{entries_of, is_able, outcome, replay}
-use Rattle.ac_history.specs.States.{State, TaskQueue, opening_state}
+use Rattle.ac_history.specs.States.{State, opening_state}
+use Rattle.ac_model.specs.Queues.{TaskQueue}
 
 pub record Block : Type 0 where
   pub queues : List TaskQueue

@@ -2,12 +2,12 @@
 use Rattle.std.specs.Prelude.{ℕ, pos, List, [], ◌∷◌, Some, None}
 use Rattle.ac_base.specs.declared.limit.Limit.{Limit}
 use Rattle.ac_base.specs.declared.limit.Limit.TheVariants.{Bounded}
-use Rattle.ac_model.specs.Queues.{by_arrival, empty_queue}
+use Rattle.ac_model.specs.Queues.{by_arrival, empty_queue, TaskQueue}
 use Rattle.ac_history.specs.declared.code.TaskArg.TheVariants as arg
 use Rattle.ac_history.specs.declared.code.TaskStep.{TaskStep}
 use Rattle.ac_history.specs.declared.code.TaskStep.TheVariants.{Enqueue, Dequeue, Set}
 use Rattle.ac_history.specs.declared.code.TaskCode.{TaskCode}
-use Rattle.ac_history.specs.States.{State, TaskQueue, opening_state}
+use Rattle.ac_history.specs.States.{State, opening_state}
 
 abbrev task_code : ℕ → List TaskStep → TaskCode
 task_code locals steps = record { locals = locals; steps = steps }

@@ -1,14 +1,9 @@
 -- What the tasks of a block share and have: the queues, and of each task its steps, its place and its locals.
 use Rattle.std.specs.Prelude.{ℕ, ℤ, pos, List, map, drop, replicate}
 use Rattle.std.specs.List.{sum_by}
-use Rattle.ac_model.specs.Queues.{Queue, Discipline}
+use Rattle.ac_model.specs.Queues.{TaskQueue}
 use Rattle.ac_history.specs.declared.code.TaskStep.{TaskStep}
 use Rattle.ac_history.specs.declared.code.TaskCode.{TaskCode}
-
--- a queue with its discipline
-pub record TaskQueue : Type 0 where
-  pub discipline : Discipline
-  pub queue : Queue
 
 pub record TaskState : Type 0 where
   pub steps : List TaskStep

@@ -2,14 +2,14 @@
 use Rattle.std.specs.Prelude.{◌+◌, ◌-◌, ◌^◌, ℕ, ℤ, pos, negsuc, ◌+ℤ◌, int_le, Bool, false, ◌&&◌, List, Option, Some, None, get_or, set, if◌then◌else◌}
 use Rattle.ac_base.specs.declared.limit.Limit.TheVariants.{Unbounded}
 use Rattle.ac_base.specs.declared.reason.Reason.TheVariants.{Overflow}
-use Rattle.ac_model.specs.Queues.{Queue, by_arrival, QueueCall, empty_queue, enqueue_call, dequeue_call, high_only_call, current_use_call, peak_use_call}
+use Rattle.ac_model.specs.Queues.{Queue, by_arrival, QueueCall, empty_queue, enqueue_call, dequeue_call, high_only_call, current_use_call, peak_use_call, TaskQueue}
 use Rattle.ac_history.specs.declared.code.TaskArg.{TaskArg}
 use Rattle.ac_history.specs.declared.code.TaskArg.TheVariants as arg
 use Rattle.ac_history.specs.declared.code.TaskStep.{TaskStep}
 use Rattle.ac_history.specs.declared.code.TaskStep.TheVariants.{Enqueue, Dequeue, High, CurrentUse, PeakUse, Set}
 use Rattle.ac_history.specs.declared.entry.Reply.{Reply}
 use Rattle.ac_history.specs.declared.entry.Reply.TheVariants as reply
-use Rattle.ac_history.specs.States.{TaskQueue, TaskState}
+use Rattle.ac_history.specs.States.{TaskState}
 
 abbrev pub value_of : List ℤ → TaskArg → ℤ
 value_of locals (arg.Number n) = n

@@ -4,7 +4,7 @@ ghost use Rattle.ac_base.specs.declared.limit.Limit.TheVariants.{Unbounded, Boun
 ghost use Rattle.ac_base.specs.declared.reason.Reason.TheVariants.{Overflow};
 ghost use Rattle.ac_history.specs.declared.entry.Reply.TheVariants as reply;
 ghost use Rattle.ac_history.specs.Histories.{IsLegal, entry, is_able, replay};
-ghost use Rattle.ac_history.specs.States.{TaskQueue};
+ghost use Rattle.ac_model.specs.Queues.{TaskQueue};
 ghost use Rattle.ac_history.specs.Examples.{pass_on, too_great};
 
 /// Through a queue of one item, the two tasks go by turns: this history is the only one.

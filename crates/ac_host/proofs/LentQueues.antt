@@ -9,7 +9,8 @@ use Rattle.ac_history.specs.declared.entry.Entry.{Entry}
 use Rattle.ac_history.specs.Blocks.{Block, new_block, present}
 use Rattle.ac_history.specs.Histories.{over, held_up, done, outcome as turn_outcome, outcome_of, replay, state_after}
 use Rattle.ac_history.specs.Orders.{last_rounds, run_of}
-use Rattle.ac_history.specs.States.{State as Running, TaskQueue, TaskState}
+use Rattle.ac_history.specs.States.{State as Running, TaskState}
+use Rattle.ac_model.specs.Queues.{TaskQueue}
 use Rattle.ac_history.specs.Steps.{step_call}
 use Rattle.ac_history.proofs.Starts.{turns_keep_start}
 use Rattle.ac_check.specs.Resolved.{ResolvedCode}

@@ -4,13 +4,12 @@ use Rattle.std.specs.List.{All, list_all}
 use Rattle.std.proofs.lemmas.Bool.Decides.{nat_tests}
 use Rattle.std.proofs.lemmas.List.{length-map}
 use Rattle.std.proofs.lemmas.List.Elements.{All-nil, All-cons}
-use Rattle.ac_model.specs.Queues.{Discipline, by_arrival, by_priority}
+use Rattle.ac_model.specs.Queues.{Discipline, by_arrival, by_priority, TaskQueue}
 use Rattle.ac_history.specs.declared.code.TaskArg.{TaskArg}
 use Rattle.ac_history.specs.declared.code.TaskArg.TheVariants as arg
 use Rattle.ac_history.specs.declared.code.TaskCode.{TaskCode}
 use Rattle.ac_history.specs.declared.code.TaskStep.{TaskStep}
 use Rattle.ac_history.specs.declared.code.TaskStep.TheVariants.{Enqueue, Dequeue, High, CurrentUse, PeakUse, Set}
-use Rattle.ac_history.specs.States.{TaskQueue}
 use Rattle.ac_history.specs.Steps.{queue_at}
 use Rattle.ac_book.specs.Books.{CodeFits}
 use Rattle.ac_book.specs.Running.{Fits, IsArg, IsTarget}

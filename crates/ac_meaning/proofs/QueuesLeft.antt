@@ -1,6 +1,6 @@
 -- A block of tasks leaves everything but its queues' items, and the count of blocks.
 use Rattle.std.proofs.Common.{◌≡◌, ◌+◌, ◌≤◌, ℕ, Bool, true, false, List, [], ◌∷◌, refl, sym, ap, ◌∙◌, arith, if◌then◌else◌, Option, Some, None}
-use Rattle.ac_history.specs.States.{TaskQueue}
+use Rattle.ac_model.specs.Queues.{TaskQueue}
 use Rattle.ac_history.specs.Blocks.{present}
 use Rattle.ac_history.specs.Orders.{run_of}
 use Rattle.ac_check.specs.Resolved.{ResolvedCode}

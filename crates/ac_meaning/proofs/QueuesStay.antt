@@ -1,7 +1,6 @@
 -- What stays of queues through every call on them.
 use Rattle.std.proofs.Common.{◌≡◌, ℤ, Bool, true, false, refl, ◌∙◌, None, if◌then◌else◌}
-use Rattle.ac_model.specs.Queues.{Queue, Discipline, by_arrival, by_priority, has_at_least}
-use Rattle.ac_history.specs.States.{TaskQueue}
+use Rattle.ac_model.specs.Queues.{Queue, Discipline, by_arrival, by_priority, has_at_least, TaskQueue}
 use Rattle.ac_check.specs.declared.operation.Operation.{Operation}
 use Rattle.ac_check.specs.declared.operation.Operation.TheVariants as operation
 use Rattle.ac_check.specs.declared.operation.QueueCall.{QueueCall}

@@ -6,8 +6,7 @@ use Rattle.ac_model.specs.Rows.{Entry, Node}
 use Rattle.ac_model.specs.Objects.{Object}
 use Rattle.ac_model.specs.Calls.{Call, Done}
 use Rattle.ac_model.specs.Holders.{Holder}
-use Rattle.ac_model.specs.Queues.{Discipline, by_arrival, by_priority}
-use Rattle.ac_history.specs.States.{TaskQueue}
+use Rattle.ac_model.specs.Queues.{Discipline, by_arrival, by_priority, TaskQueue}
 use Rattle.ac_model.specs.Lists as list
 use Rattle.ac_model.specs.Vectors as vector
 use Rattle.ac_check.specs.declared.operation.Operation.{Operation}

@@ -13,14 +13,13 @@ use Rattle.ac_base.specs.Rows.{names}
 use Rattle.ac_model.specs.Rows.{Entry, Node}
 use Rattle.ac_model.specs.Objects.{Object, empty_object, length_of}
 use Rattle.ac_model.specs.Holders.{Holder, empty_holder}
-use Rattle.ac_model.specs.Queues.{Discipline, by_arrival, by_priority, empty_queue}
+use Rattle.ac_model.specs.Queues.{Discipline, by_arrival, by_priority, empty_queue, TaskQueue}
 use Rattle.ac_model.specs.Letters.{Mark}
 use Rattle.ac_model.specs.Calls.{Call, Look, look}
 use Rattle.ac_model.specs.Common.{under_guards}
 use Rattle.ac_model.specs.KeyedSets as by_key
 use Rattle.ac_model.specs.Cursors.{seen}
 use Rattle.ac_model.specs.Trees.{seen_in_tree}
-use Rattle.ac_history.specs.States.{TaskQueue}
 use Rattle.ac_syntax.specs.declared.kind.ElemKind.{ElemKind}
 use Rattle.ac_syntax.specs.declared.kind.ElemKind.TheVariants.{Integer, Str}
 use Rattle.ac_syntax.specs.declared.kind.Kind.{Kind}

@@ -2,8 +2,7 @@
 use Rattle.std.specs.Prelude.{ℕ, ℤ, false, List, Option, Some, None}
 use Rattle.ac_base.specs.declared.value.Value.TheVariants as value
 use Rattle.ac_model.specs.Queues as queue
-use Rattle.ac_model.specs.Queues.{Discipline, by_arrival, by_priority}
-use Rattle.ac_history.specs.States.{TaskQueue}
+use Rattle.ac_model.specs.Queues.{Discipline, by_arrival, by_priority, TaskQueue}
 use Rattle.ac_syntax.specs.Canonical.{literal_text}
 use Rattle.ac_check.specs.declared.operation.Operation.{Operation}
 use Rattle.ac_check.specs.declared.operation.Operation.TheVariants as operation

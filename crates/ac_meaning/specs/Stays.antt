@@ -5,7 +5,7 @@ use Rattle.ac_base.specs.Rows.{names}
 use Rattle.ac_model.specs.Objects.{Object}
 use Rattle.ac_model.specs.Letters.{tampers_cursors}
 use Rattle.ac_model.specs.Holders.{Holder, tampers}
-use Rattle.ac_history.specs.States.{TaskQueue}
+use Rattle.ac_model.specs.Queues.{TaskQueue}
 use Rattle.ac_meaning.specs.Elements.{ElementOf}
 use Rattle.ac_meaning.specs.Replies.{Source, without, itself, another, Reply}
 use Rattle.ac_meaning.specs.Holdings.{RowOf, Held, of_rows, of_holder, of_queue, from_rows, number_of}

@@ -2,7 +2,7 @@
 use Rattle.std.specs.Prelude.{ℕ, pos, ◌+◌, ◌-◌, ◌==◌, nat_lt, Bool, true, false, ◌&&◌, List, [], ◌∷◌, ◌++◌, length, map, get_or, slice_get, Option, Some, None, option_map, if◌then◌else◌}
 use Rattle.std.specs.List.{list_all, list_any, position_or_len}
 use Rattle.ac_base.specs.declared.limit.Limit.TheVariants.{Unbounded}
-use Rattle.ac_model.specs.Queues.{by_arrival, by_priority, empty_queue}
+use Rattle.ac_model.specs.Queues.{by_arrival, by_priority, empty_queue, TaskQueue}
 use Rattle.ac_history.specs.declared.code.TaskArg.{TaskArg}
 use Rattle.ac_history.specs.declared.code.TaskArg.TheVariants as task_arg
 use Rattle.ac_history.specs.declared.code.TaskStep.{TaskStep}
@@ -11,7 +11,7 @@ use Rattle.ac_history.specs.declared.code.TaskCode.{TaskCode}
 use Rattle.ac_history.specs.declared.entry.Entry.{Entry}
 use Rattle.ac_history.specs.declared.entry.Reply.{Reply}
 use Rattle.ac_history.specs.declared.entry.Reply.TheVariants as reply
-use Rattle.ac_history.specs.States.{TaskQueue, TaskState}
+use Rattle.ac_history.specs.States.{TaskState}
 use Rattle.ac_history.specs.Blocks.{Block, new_block, present}
 use Rattle.ac_check.specs.declared.operation.Operation.{Operation}
 use Rattle.ac_check.specs.declared.operation.Operation.TheVariants as operation

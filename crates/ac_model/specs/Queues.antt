@@ -25,6 +25,11 @@ pub data Discipline : Type 0 where
   by_arrival : Discipline
   by_priority : Discipline
 
+-- a queue with its discipline, as tasks share it
+pub record TaskQueue : Type 0 where
+  pub discipline : Discipline
+  pub queue : Queue
+
 -- Get_Priority: rounded toward zero
 abbrev pub priority : ℤ → ℤ
 priority item = int_div item (pos 100)

@@ -10,8 +10,7 @@ use Rattle.ac_base.specs.declared.limit.Limit.{Limit}
 use Rattle.ac_base.specs.declared.limit.Limit.TheVariants.{Unbounded, Bounded}
 use Rattle.ac_model.specs.Holders.{Holder, empty_holder}
 use Rattle.ac_model.specs.Objects.{empty_object}
-use Rattle.ac_model.specs.Queues.{LimitInRange, empty_queue}
-use Rattle.ac_history.specs.States.{TaskQueue}
+use Rattle.ac_model.specs.Queues.{LimitInRange, empty_queue, TaskQueue}
 use Rattle.ac_syntax.specs.declared.kind.Kind.{Kind}
 use Rattle.ac_syntax.specs.declared.kind.Kind.TheVariants as kinds
 use Rattle.ac_model.specs.Objects as model

@@ -1,7 +1,7 @@
 -- Queues that a block of tasks takes out of their places, and puts back.
 use Rattle.std.specs.Prelude.{◌≡◌, ◌==◌, ⊤, ℕ, false, List, [], ◌∷◌, length, slice_get, slice_set, Option, Some, None}
 use Rattle.std.specs.List.{list_any}
-use Rattle.ac_history.specs.States.{TaskQueue}
+use Rattle.ac_model.specs.Queues.{TaskQueue}
 use Rattle.ac_queue.specs.declared.any_queue.AnyQueue.{AnyQueue}
 use Rattle.ac_meaning.specs.Environment.{State}
 use Rattle.ac_meaning.specs.TaskBlocks.{queues_left, one_block_more}

@@ -6,7 +6,7 @@ use Rattle.ac_model.specs.Containers.{Container}
 use Rattle.ac_model.specs.Objects.{plain}
 use Rattle.ac_model.specs.Cursors.{plain_mark}
 use Rattle.ac_model.specs.Holders.{Holder}
-use Rattle.ac_history.specs.States.{TaskQueue}
+use Rattle.ac_model.specs.Queues.{TaskQueue}
 use Rattle.ac_book.specs.Shared.{shared}
 use Rattle.ac_syntax.specs.declared.kind.ElemKind.{ElemKind}
 use Rattle.ac_syntax.specs.declared.kind.ElemKind.TheVariants.{Integer, Str}
