@@ -7,5 +7,6 @@ mod find;
 mod map;
 mod set;
 
+pub use arrivals::Arrivals;
 pub use map::HashedMap;
 pub use set::HashedSet;
