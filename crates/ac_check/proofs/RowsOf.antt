@@ -2,7 +2,7 @@
 use Rattle.std.proofs.Common.{◌≡◌, ◌++◌, ◌∙◌, Bool, List, ap, sym}
 use Rattle.ac_syntax.specs.declared.kind.Kind.{Kind}
 use Rattle.ac_syntax.specs.declared.type_def.TypeDef.{TypeDef}
-use Rattle.ac_check.specs.Kinds.{has_capacity}
+use Rattle.ac_syntax.specs.Kinds.{has_capacity}
 use Rattle.ac_check.specs.Table.{Row, rows_by, rows_if, rows_of, capacity_rows}
 
 abbrev pub rows_with : Kind → (is_keyed : Bool) → List Row

@@ -16,17 +16,17 @@ use Rattle.ac_syntax.specs.declared.stmt.Stmt.TheVariants.{Call, Set, Sum, Loop,
 use Rattle.ac_syntax.specs.declared.type_def.TypeDef.{TypeDef}
 use Rattle.ac_syntax.specs.declared.view_kind.ViewKind.{ViewKind}
 use Rattle.ac_syntax.specs.declared.view_kind.ViewKind.TheVariants.{Query, Update, Reference, UpdateKey}
-use Rattle.ac_check.specs.declared.operation.Operation.{Operation}
-use Rattle.ac_check.specs.declared.operation.Operation.TheVariants as operation
-use Rattle.ac_check.specs.declared.operation.SequenceCall.TheVariants as sequence_call
-use Rattle.ac_check.specs.declared.operation.ListCall.TheVariants as list_call
-use Rattle.ac_check.specs.declared.operation.VectorCall.TheVariants as vector_call
-use Rattle.ac_check.specs.declared.operation.MapCall.TheVariants as map_call
-use Rattle.ac_check.specs.declared.operation.SetCall.TheVariants as set_call
-use Rattle.ac_check.specs.declared.operation.SetPairCall.TheVariants as set_pair_call
-use Rattle.ac_check.specs.declared.operation.KeyedCall.TheVariants as keyed_call
-use Rattle.ac_check.specs.declared.operation.TreeChangeCall.TheVariants as tree_change_call
-use Rattle.ac_check.specs.declared.operation.QueueCall.TheVariants as queue_call
+use Rattle.ac_syntax.specs.declared.operation.Operation.{Operation}
+use Rattle.ac_syntax.specs.declared.operation.Operation.TheVariants as operation
+use Rattle.ac_syntax.specs.declared.operation.SequenceCall.TheVariants as sequence_call
+use Rattle.ac_syntax.specs.declared.operation.ListCall.TheVariants as list_call
+use Rattle.ac_syntax.specs.declared.operation.VectorCall.TheVariants as vector_call
+use Rattle.ac_syntax.specs.declared.operation.MapCall.TheVariants as map_call
+use Rattle.ac_syntax.specs.declared.operation.SetCall.TheVariants as set_call
+use Rattle.ac_syntax.specs.declared.operation.SetPairCall.TheVariants as set_pair_call
+use Rattle.ac_syntax.specs.declared.operation.KeyedCall.TheVariants as keyed_call
+use Rattle.ac_syntax.specs.declared.operation.TreeChangeCall.TheVariants as tree_change_call
+use Rattle.ac_syntax.specs.declared.operation.QueueCall.TheVariants as queue_call
 use Rattle.ac_check.specs.Operations.{operation_of}
 use Rattle.ac_check.specs.Faults.{is_crowded}
 use Rattle.ac_check.specs.Rules.{is_decl, is_stmt}

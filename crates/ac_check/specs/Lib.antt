@@ -1,4 +1,3 @@
-pub mod Kinds
 pub mod Table
 pub mod Scopes
 pub mod Meanings

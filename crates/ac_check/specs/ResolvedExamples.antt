@@ -7,10 +7,10 @@ use Rattle.ac_syntax.specs.declared.kind.Kind.TheVariants as kind
 use Rattle.ac_syntax.specs.declared.kind.ElemKind.TheVariants.{Integer, Str}
 use Rattle.ac_syntax.specs.declared.view_kind.ViewKind.TheVariants.{Query, Update}
 use Rattle.ac_base.specs.declared.value.Value.TheVariants as value
-use Rattle.ac_check.specs.declared.operation.Operation.TheVariants as operation
-use Rattle.ac_check.specs.declared.operation.CommonCall.TheVariants as common_call
-use Rattle.ac_check.specs.declared.operation.SequenceCall.TheVariants as sequence_call
-use Rattle.ac_check.specs.declared.operation.ListCall.TheVariants as list_call
+use Rattle.ac_syntax.specs.declared.operation.Operation.TheVariants as operation
+use Rattle.ac_syntax.specs.declared.operation.CommonCall.TheVariants as common_call
+use Rattle.ac_syntax.specs.declared.operation.SequenceCall.TheVariants as sequence_call
+use Rattle.ac_syntax.specs.declared.operation.ListCall.TheVariants as list_call
 use Rattle.ac_check.specs.declared.resolved.ResolvedArg.TheVariants.{Lit, At}
 use Rattle.ac_check.specs.declared.resolved.ResolvedArg.TheVariants as resolved_arg
 use Rattle.ac_check.specs.declared.resolved.ResolvedDecl.TheVariants as made

@@ -2,7 +2,7 @@
 use Rattle.std.specs.Prelude.{Bool, List, [], ◌∷◌, ◌++◌, map, find, Option, option_map}
 use Rattle.std.specs.Borrow.{Bor}
 use Rattle.ac_check.specs.Table.{Row}
-use Rattle.ac_check.specs.declared.operation.Operation.{Operation}
+use Rattle.ac_syntax.specs.declared.operation.Operation.{Operation}
 use Rattle.ac_check.specs.declared.table.Row.{Row as Kept}
 
 abbrev pub row_view : Kept → Row

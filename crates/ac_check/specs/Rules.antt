@@ -23,7 +23,7 @@ use Rattle.ac_check.specs.declared.rows.Letter.{Letter}
 use Rattle.ac_check.specs.declared.rows.Letter.TheVariants as letter
 use Rattle.ac_check.specs.declared.rows.Answer.{Answer}
 use Rattle.ac_check.specs.declared.rows.Answer.TheVariants as answer
-use Rattle.ac_check.specs.Kinds.{is_map, is_set, is_queue, is_holder, has_cursors, goes_backward, is_built}
+use Rattle.ac_syntax.specs.Kinds.{is_map, is_set, is_queue, is_holder, has_cursors, goes_backward, is_built}
 use Rattle.ac_check.specs.Table.{Row, rows_of}
 use Rattle.ac_check.specs.UsedNames.{optional_name, arg_names, args_names}
 use Rattle.ac_check.specs.Scopes.{Meaning, a_type, an_object, a_cursor, a_value, a_task, Entry, Scope, first_task, meaning_in, type_of, object_of, Typed, element_of, Standing}

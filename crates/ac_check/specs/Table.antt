@@ -3,26 +3,26 @@ use Rattle.std.specs.Prelude.{ℕ, codes, Bool, List, [], ◌∷◌, ◌++◌, O
 use Rattle.ac_syntax.specs.declared.kind.Kind.{Kind}
 use Rattle.ac_syntax.specs.declared.kind.Kind.TheVariants as kind
 use Rattle.ac_syntax.specs.declared.type_def.TypeDef.{TypeDef}
-use Rattle.ac_check.specs.Kinds.{has_capacity}
-use Rattle.ac_check.specs.declared.operation.Operation.{Operation}
-use Rattle.ac_check.specs.declared.operation.Operation.TheVariants as operation
-use Rattle.ac_check.specs.declared.operation.CommonCall.TheVariants as common
-use Rattle.ac_check.specs.declared.operation.SequenceCall.TheVariants as sequence
-use Rattle.ac_check.specs.declared.operation.CapacityCall.TheVariants as capacity
-use Rattle.ac_check.specs.declared.operation.VectorCall.TheVariants as vector
-use Rattle.ac_check.specs.declared.operation.ListCall.TheVariants as list
-use Rattle.ac_check.specs.declared.operation.WalkCall.TheVariants as walk
-use Rattle.ac_check.specs.declared.operation.MapCall.TheVariants as map
-use Rattle.ac_check.specs.declared.operation.SetCall.TheVariants as set
-use Rattle.ac_check.specs.declared.operation.SetPairCall.TheVariants as set_pair
-use Rattle.ac_check.specs.declared.operation.KeyedCall.TheVariants as keyed_set
-use Rattle.ac_check.specs.declared.operation.OrderedCall.TheVariants as ordered
-use Rattle.ac_check.specs.declared.operation.OrderedMapCall.TheVariants as ordered_map
-use Rattle.ac_check.specs.declared.operation.OrderedSetCall.TheVariants as ordered_set
-use Rattle.ac_check.specs.declared.operation.TreeCall.TheVariants as tree
-use Rattle.ac_check.specs.declared.operation.TreeChangeCall.TheVariants as tree_change
-use Rattle.ac_check.specs.declared.operation.HolderCall.TheVariants as holder
-use Rattle.ac_check.specs.declared.operation.QueueCall.TheVariants as queue
+use Rattle.ac_syntax.specs.Kinds.{has_capacity}
+use Rattle.ac_syntax.specs.declared.operation.Operation.{Operation}
+use Rattle.ac_syntax.specs.declared.operation.Operation.TheVariants as operation
+use Rattle.ac_syntax.specs.declared.operation.CommonCall.TheVariants as common
+use Rattle.ac_syntax.specs.declared.operation.SequenceCall.TheVariants as sequence
+use Rattle.ac_syntax.specs.declared.operation.CapacityCall.TheVariants as capacity
+use Rattle.ac_syntax.specs.declared.operation.VectorCall.TheVariants as vector
+use Rattle.ac_syntax.specs.declared.operation.ListCall.TheVariants as list
+use Rattle.ac_syntax.specs.declared.operation.WalkCall.TheVariants as walk
+use Rattle.ac_syntax.specs.declared.operation.MapCall.TheVariants as map
+use Rattle.ac_syntax.specs.declared.operation.SetCall.TheVariants as set
+use Rattle.ac_syntax.specs.declared.operation.SetPairCall.TheVariants as set_pair
+use Rattle.ac_syntax.specs.declared.operation.KeyedCall.TheVariants as keyed_set
+use Rattle.ac_syntax.specs.declared.operation.OrderedCall.TheVariants as ordered
+use Rattle.ac_syntax.specs.declared.operation.OrderedMapCall.TheVariants as ordered_map
+use Rattle.ac_syntax.specs.declared.operation.OrderedSetCall.TheVariants as ordered_set
+use Rattle.ac_syntax.specs.declared.operation.TreeCall.TheVariants as tree
+use Rattle.ac_syntax.specs.declared.operation.TreeChangeCall.TheVariants as tree_change
+use Rattle.ac_syntax.specs.declared.operation.HolderCall.TheVariants as holder
+use Rattle.ac_syntax.specs.declared.operation.QueueCall.TheVariants as queue
 use Rattle.ac_check.specs.declared.rows.Letter.{Letter}
 use Rattle.ac_check.specs.declared.rows.Letter.TheVariants as letter
 use Rattle.ac_check.specs.declared.rows.Answer.{Answer}

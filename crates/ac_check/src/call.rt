@@ -10,11 +10,10 @@ use crate::given::{
     Given, Typed, given_by, is_cursor, is_object, is_value, is_variable, object_of, takes,
 };
 use crate::kinds::element_of;
-use crate::operation::Operation;
 use crate::rows::{Answer, Letter};
 use crate::scope::Scope;
 use crate::table::{Row, rows_of};
-use ac_syntax::{Arg, ElemKind, Ident, Stmt};
+use ac_syntax::{Arg, ElemKind, Ident, Operation, Stmt};
 
 /// Whether an argument is what the letter asks of a call on an object of the type.
 fn fits(scope: &Scope, typed: Typed<'_>, letter: Letter, arg: &Arg) -> bool

@@ -12,10 +12,9 @@ ghost use Rattle.ac_check.specs.Operations.{meant};
 ghost use Rattle.ac_check.specs.Walks as walks;
 ghost use Rattle.ac_check.specs.Walks.{has_unknown, fault_with, stmt_item};
 
-use crate::operation::Operation;
 use crate::rules::{is_well_typed_decl, is_well_typed_stmt, suits_decl, suits_stmt};
 use crate::scope::Scope;
-use ac_syntax::{Arg, Decl, Ident, RefusalKind, Stmt};
+use ac_syntax::{Arg, Decl, Ident, Operation, RefusalKind, Stmt};
 
 /// How many names may be in scope.
 const MOST_NAMES: usize = 1_000;

@@ -1,7 +1,7 @@
 //! What each kind of container has.
 ghost use Rattle.std.specs.Prelude.{◌≡◌, ◌&&◌, ◌||◌, not};
 ghost use Rattle.ac_syntax.specs.declared.kind.ElemKind.TheVariants.{Integer, Str};
-ghost use Rattle.ac_check.specs.Kinds as kinds;
+ghost use Rattle.ac_syntax.specs.Kinds as kinds;
 ghost use Rattle.ac_check.specs.Rules as rules;
 ghost use Rattle.ac_check.specs.Scopes as scopes;
 

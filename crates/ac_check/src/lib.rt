@@ -12,7 +12,6 @@ mod having;
 mod kinds;
 mod law;
 mod meaning;
-mod operation;
 mod resolve;
 mod resolved;
 mod rows;
@@ -27,11 +26,6 @@ pub use examples::{
     task_examples,
 };
 pub use law::{each_script, one_fault, one_row, places, rules_kept};
-pub use operation::{
-    CapacityCall, CommonCall, HolderCall, KeyedCall, ListCall, MapCall, Operation, OrderedCall,
-    OrderedMapCall, OrderedSetCall, QueueCall, SequenceCall, SetCall, SetPairCall, TreeCall,
-    TreeChangeCall, VectorCall, WalkCall,
-};
 pub use resolved::{
     ResolvedArg, ResolvedArgs, ResolvedDecl, ResolvedDecls, ResolvedStmt, ResolvedStmts,
     ResolvedTask, ResolvedTasks,

@@ -10,14 +10,15 @@ ghost use Rattle.ac_check.specs.Scopes as scopes;
 ghost use Rattle.ac_check.specs.Operations.{meant};
 
 use crate::given::type_of;
-use crate::operation::{CommonCall, Operation};
 use crate::resolved::{
     ResolvedArg, ResolvedArgs, ResolvedDecl, ResolvedDecls, ResolvedStmt, ResolvedStmts,
     ResolvedTask,
 };
 use crate::scope::Scope;
 use ac_base::{Elem, NoMemory, Value};
-use ac_syntax::{Arg, Decl, ElemKind, Ident, Kind, Stmt, TaskText, TypeDef, ViewKind};
+use ac_syntax::{
+    Arg, CommonCall, Decl, ElemKind, Ident, Kind, Operation, Stmt, TaskText, TypeDef, ViewKind,
+};
 use std::alloc::Global;
 
 /// What begins a block, with the line of its first token.

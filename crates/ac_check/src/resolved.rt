@@ -3,9 +3,8 @@
 ghost use Rattle.std.specs.Prelude.{◌≡◌};
 ghost use Rattle.ac_check.specs.ResolvedStatements.{resolved_of, resolved_tasks_of};
 
-use crate::operation::Operation;
 use ac_base::Value;
-use ac_syntax::{Ident, TypeDef, ViewKind};
+use ac_syntax::{Ident, Operation, TypeDef, ViewKind};
 use std::marker::Model;
 
 /// An argument of a call, or what is assigned.

@@ -11,9 +11,8 @@ ghost use Rattle.ac_check.specs.UsedNames.{arg_names, args_names, optional_name}
 use crate::block::{is_looped, is_view};
 use crate::given::{Given, Typed, given_by, given_in, is_value, object_of, takes, type_of};
 use crate::kinds::{has_cursors, is_queue, is_type};
-use crate::operation::Operation;
 use crate::scope::Scope;
-use ac_syntax::{Arg, Decl, ElemKind, Ident, Stmt, TypeDef};
+use ac_syntax::{Arg, Decl, ElemKind, Ident, Operation, Stmt, TypeDef};
 
 const PRINT: &[u8] = b"print";
 

@@ -3,13 +3,12 @@ ghost use Rattle.std.specs.Prelude.{◌≡◌};
 ghost use Rattle.ac_check.specs.Rows.{joined};
 ghost use Rattle.ac_check.specs.Table as table;
 
-use crate::operation::{
-    CapacityCall, CommonCall, HolderCall, KeyedCall, ListCall, MapCall, Operation, OrderedCall,
-    OrderedMapCall, OrderedSetCall, QueueCall, SequenceCall, SetCall, SetPairCall, TreeCall,
-    TreeChangeCall, VectorCall, WalkCall,
-};
 use crate::rows::{Answer, Letter};
-use ac_syntax::{Kind, TypeDef};
+use ac_syntax::{
+    CapacityCall, CommonCall, HolderCall, KeyedCall, Kind, ListCall, MapCall, Operation,
+    OrderedCall, OrderedMapCall, OrderedSetCall, QueueCall, SequenceCall, SetCall, SetPairCall,
+    TreeCall, TreeChangeCall, TypeDef, VectorCall, WalkCall,
+};
 
 /// A call: its word, what its arguments must be, what it answers, and the operation that it means.
 #[derive(Clone, Copy)]

@@ -23,7 +23,6 @@ use crate::faults::{
     decl_capacity, decl_fault, decl_line, decl_name, stmt_fault, stmt_line, task_fault,
 };
 use crate::meaning::Meaning;
-use crate::operation::Operation;
 use crate::resolve::{BlockHead, keep, place_of, resolve_command, resolve_decl, resolve_task};
 use crate::resolved::{
     ResolvedDecl, ResolvedDecls, ResolvedStmt, ResolvedStmts, ResolvedTask, ResolvedTasks,
@@ -31,7 +30,8 @@ use crate::resolved::{
 use crate::scope::Scope;
 use ac_base::NoMemory;
 use ac_syntax::{
-    Decl, Ident, RefusalKind, Script, ScriptFault, Stmt, Stmts, TaskText, TaskTexts, ViewKind,
+    Decl, Ident, Operation, RefusalKind, Script, ScriptFault, Stmt, Stmts, TaskText, TaskTexts,
+    ViewKind,
 };
 use std::alloc::Global;
 

@@ -20,10 +20,10 @@ use crate::end::HostEnd;
 use crate::runner::BlockRunner;
 use crate::written::{write_line, write_refusal};
 use ac_base::{Fault, Reason};
-use ac_check::{Operation, ResolvedArg, ResolvedDecl, ResolvedStmt, ResolvedStmts};
+use ac_check::{ResolvedArg, ResolvedDecl, ResolvedStmt, ResolvedStmts};
 use ac_io::Sink;
 use ac_objects::{DeclareFault, Frame, LoopKey, Objects, UpdateKey, ViewKey};
-use ac_syntax::ViewKind;
+use ac_syntax::{Operation, ViewKind};
 
 /// A script that runs: what its names hold, and the line that is made next.
 #[derive(Drop)]

@@ -11,9 +11,8 @@ ghost use Rattle.ac_meaning.specs.TaskBlocks.{steps_of, tasks_from};
 use crate::named_task::NamedTask;
 use ac_base::{NoMemory, Value};
 use ac_book::{Steplist, TaskArg, TaskStep};
-use ac_check::{
-    Operation, QueueCall, ResolvedArg, ResolvedStmt, ResolvedStmts, ResolvedTask, ResolvedTasks,
-};
+use ac_check::{ResolvedArg, ResolvedStmt, ResolvedStmts, ResolvedTask, ResolvedTasks};
+use ac_syntax::{Operation, QueueCall};
 use std::alloc::Global;
 
 /// A number of 32 bits. What has more counts as want of memory: no script that was checked has so many tasks or locals.

@@ -8,7 +8,7 @@ use Rattle.ac_model.specs.Objects.{Object}
 use Rattle.ac_model.specs.Holders.{Holder}
 use Rattle.ac_syntax.specs.declared.kind.ElemKind.{ElemKind}
 use Rattle.ac_model.specs.Letters.{Mark, name_of}
-use Rattle.ac_check.specs.declared.operation.Operation.{Operation}
+use Rattle.ac_syntax.specs.declared.operation.Operation.{Operation}
 use Rattle.ac_check.specs.declared.resolved.ResolvedArg.{ResolvedArg}
 use Rattle.ac_check.specs.Resolved.{ResolvedSimple, calls_at, sets_at, sums_at}
 use Rattle.ac_meaning.specs.Elements.{ElementOf, tools_of, integer_in}

@@ -11,10 +11,10 @@ use Rattle.ac_model.specs.Letters.{Mark, reason_if}
 use Rattle.ac_model.specs.Holders as holder
 use Rattle.ac_model.specs.Holders.{Holder, with_element, tampers, fits}
 use Rattle.ac_syntax.specs.declared.kind.ElemKind.{ElemKind}
-use Rattle.ac_check.specs.declared.operation.Operation.{Operation}
-use Rattle.ac_check.specs.declared.operation.Operation.TheVariants as operation
-use Rattle.ac_check.specs.declared.operation.HolderCall.{HolderCall}
-use Rattle.ac_check.specs.declared.operation.HolderCall.TheVariants as holder_call
+use Rattle.ac_syntax.specs.declared.operation.Operation.{Operation}
+use Rattle.ac_syntax.specs.declared.operation.Operation.TheVariants as operation
+use Rattle.ac_syntax.specs.declared.operation.HolderCall.{HolderCall}
+use Rattle.ac_syntax.specs.declared.operation.HolderCall.TheVariants as holder_call
 use Rattle.ac_meaning.specs.Elements.{Tools, ElementOf}
 use Rattle.ac_meaning.specs.Replies.{Arguments, Source, without, itself, another, by_source, Reply, changes_ok}
 use Rattle.ac_meaning.specs.HolderReplies.{holder_source, holder_write, holder_alone_reply, holder_reply}

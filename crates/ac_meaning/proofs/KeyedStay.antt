@@ -14,24 +14,24 @@ use Rattle.ac_model.specs.Keyed.{Order, row_like, replaced_rows, on_key, room_wh
 use Rattle.ac_model.specs.KeyedSets as by_key
 use Rattle.ac_model.specs.Maps as map
 use Rattle.ac_model.specs.Sets.{unchecked_union, unchecked_symmetric_difference}
-use Rattle.ac_check.specs.declared.operation.Operation.{Operation}
-use Rattle.ac_check.specs.declared.operation.Operation.TheVariants as operation
-use Rattle.ac_check.specs.declared.operation.WalkCall.{WalkCall}
-use Rattle.ac_check.specs.declared.operation.WalkCall.TheVariants as walk_call
-use Rattle.ac_check.specs.declared.operation.OrderedCall.{OrderedCall}
-use Rattle.ac_check.specs.declared.operation.OrderedCall.TheVariants as ordered_call
-use Rattle.ac_check.specs.declared.operation.MapCall.{MapCall}
-use Rattle.ac_check.specs.declared.operation.MapCall.TheVariants as map_call
-use Rattle.ac_check.specs.declared.operation.OrderedMapCall.{OrderedMapCall}
-use Rattle.ac_check.specs.declared.operation.OrderedMapCall.TheVariants as ordered_map_call
-use Rattle.ac_check.specs.declared.operation.KeyedCall.{KeyedCall}
-use Rattle.ac_check.specs.declared.operation.KeyedCall.TheVariants as keyed_call
-use Rattle.ac_check.specs.declared.operation.SetCall.{SetCall}
-use Rattle.ac_check.specs.declared.operation.SetCall.TheVariants as set_call
-use Rattle.ac_check.specs.declared.operation.SetPairCall.{SetPairCall}
-use Rattle.ac_check.specs.declared.operation.SetPairCall.TheVariants as set_pair_call
-use Rattle.ac_check.specs.declared.operation.OrderedSetCall.{OrderedSetCall}
-use Rattle.ac_check.specs.declared.operation.OrderedSetCall.TheVariants as ordered_set_call
+use Rattle.ac_syntax.specs.declared.operation.Operation.{Operation}
+use Rattle.ac_syntax.specs.declared.operation.Operation.TheVariants as operation
+use Rattle.ac_syntax.specs.declared.operation.WalkCall.{WalkCall}
+use Rattle.ac_syntax.specs.declared.operation.WalkCall.TheVariants as walk_call
+use Rattle.ac_syntax.specs.declared.operation.OrderedCall.{OrderedCall}
+use Rattle.ac_syntax.specs.declared.operation.OrderedCall.TheVariants as ordered_call
+use Rattle.ac_syntax.specs.declared.operation.MapCall.{MapCall}
+use Rattle.ac_syntax.specs.declared.operation.MapCall.TheVariants as map_call
+use Rattle.ac_syntax.specs.declared.operation.OrderedMapCall.{OrderedMapCall}
+use Rattle.ac_syntax.specs.declared.operation.OrderedMapCall.TheVariants as ordered_map_call
+use Rattle.ac_syntax.specs.declared.operation.KeyedCall.{KeyedCall}
+use Rattle.ac_syntax.specs.declared.operation.KeyedCall.TheVariants as keyed_call
+use Rattle.ac_syntax.specs.declared.operation.SetCall.{SetCall}
+use Rattle.ac_syntax.specs.declared.operation.SetCall.TheVariants as set_call
+use Rattle.ac_syntax.specs.declared.operation.SetPairCall.{SetPairCall}
+use Rattle.ac_syntax.specs.declared.operation.SetPairCall.TheVariants as set_pair_call
+use Rattle.ac_syntax.specs.declared.operation.OrderedSetCall.{OrderedSetCall}
+use Rattle.ac_syntax.specs.declared.operation.OrderedSetCall.TheVariants as ordered_set_call
 use Rattle.ac_meaning.specs.Elements.{Tools, Text, texts, keyed_texts}
 use Rattle.ac_meaning.specs.KeyedReplies.{KeyedKind, of_hashed, of_ordered, order_by, walk_reply, ordered_reply}
 use Rattle.ac_meaning.specs.MapReplies.{map_own, map_alone_reply, ordered_map_reply, map_reply}

@@ -5,14 +5,14 @@ use Rattle.ac_model.specs.Letters.{Mark, tampers_cursors, may, needs, in_range, 
 use Rattle.ac_model.specs.Sequences.{room_for_copies}
 use Rattle.ac_model.specs.Calls.{Call, Done}
 use Rattle.ac_model.specs.Lists as list
-use Rattle.ac_check.specs.declared.operation.Operation.{Operation}
-use Rattle.ac_check.specs.declared.operation.Operation.TheVariants as operation
-use Rattle.ac_check.specs.declared.operation.CommonCall.{CommonCall}
-use Rattle.ac_check.specs.declared.operation.CommonCall.TheVariants as common_call
-use Rattle.ac_check.specs.declared.operation.SequenceCall.{SequenceCall}
-use Rattle.ac_check.specs.declared.operation.SequenceCall.TheVariants as sequence_call
-use Rattle.ac_check.specs.declared.operation.ListCall.{ListCall}
-use Rattle.ac_check.specs.declared.operation.ListCall.TheVariants as list_call
+use Rattle.ac_syntax.specs.declared.operation.Operation.{Operation}
+use Rattle.ac_syntax.specs.declared.operation.Operation.TheVariants as operation
+use Rattle.ac_syntax.specs.declared.operation.CommonCall.{CommonCall}
+use Rattle.ac_syntax.specs.declared.operation.CommonCall.TheVariants as common_call
+use Rattle.ac_syntax.specs.declared.operation.SequenceCall.{SequenceCall}
+use Rattle.ac_syntax.specs.declared.operation.SequenceCall.TheVariants as sequence_call
+use Rattle.ac_syntax.specs.declared.operation.ListCall.{ListCall}
+use Rattle.ac_syntax.specs.declared.operation.ListCall.TheVariants as list_call
 use Rattle.ac_meaning.specs.Elements.{Tools}
 use Rattle.ac_base.specs.declared.value.Value.{Value}
 use Rattle.ac_meaning.specs.Replies.{Arguments, Source, another}

@@ -6,7 +6,7 @@ use Rattle.ac_syntax.specs.declared.type_def.TypeDef.{TypeDef}
 use Rattle.ac_model.specs.Objects.{empty_object}
 use Rattle.ac_model.specs.Holders.{empty_holder}
 use Rattle.ac_model.specs.Queues.{empty_queue}
-use Rattle.ac_check.specs.Kinds.{is_holder, is_queue}
+use Rattle.ac_syntax.specs.Kinds.{is_holder, is_queue}
 use Rattle.ac_check.specs.declared.resolved.ResolvedDecl.{ResolvedDecl}
 use Rattle.ac_check.specs.declared.resolved.ResolvedDecl.TheVariants as decl
 use Rattle.ac_check.specs.Resolved.{ResolvedSimple}

@@ -1,10 +1,10 @@
 -- What stays of queues through every call on them.
 use Rattle.std.proofs.Common.{◌≡◌, ℤ, Bool, true, false, refl, ◌∙◌, None, if◌then◌else◌}
 use Rattle.ac_model.specs.Queues.{Queue, Discipline, by_arrival, by_priority, has_at_least, TaskQueue}
-use Rattle.ac_check.specs.declared.operation.Operation.{Operation}
-use Rattle.ac_check.specs.declared.operation.Operation.TheVariants as operation
-use Rattle.ac_check.specs.declared.operation.QueueCall.{QueueCall}
-use Rattle.ac_check.specs.declared.operation.QueueCall.TheVariants as queue_call
+use Rattle.ac_syntax.specs.declared.operation.Operation.{Operation}
+use Rattle.ac_syntax.specs.declared.operation.Operation.TheVariants as operation
+use Rattle.ac_syntax.specs.declared.operation.QueueCall.{QueueCall}
+use Rattle.ac_syntax.specs.declared.operation.QueueCall.TheVariants as queue_call
 use Rattle.ac_meaning.specs.Replies.{Arguments}
 use Rattle.ac_meaning.specs.QueueReplies.{high_reply, queue_alone_reply, queue_reply}
 use Rattle.ac_meaning.specs.Stays.{QueueStays}

@@ -9,42 +9,42 @@ use Rattle.ac_model.specs.Holders.{Holder}
 use Rattle.ac_model.specs.Queues.{Discipline, by_arrival, by_priority, TaskQueue}
 use Rattle.ac_model.specs.Lists as list
 use Rattle.ac_model.specs.Vectors as vector
-use Rattle.ac_check.specs.declared.operation.Operation.{Operation}
-use Rattle.ac_check.specs.declared.operation.Operation.TheVariants as operation
-use Rattle.ac_check.specs.declared.operation.CommonCall.{CommonCall}
-use Rattle.ac_check.specs.declared.operation.CommonCall.TheVariants as common_call
-use Rattle.ac_check.specs.declared.operation.SequenceCall.{SequenceCall}
-use Rattle.ac_check.specs.declared.operation.SequenceCall.TheVariants as sequence_call
-use Rattle.ac_check.specs.declared.operation.CapacityCall.{CapacityCall}
-use Rattle.ac_check.specs.declared.operation.CapacityCall.TheVariants as capacity_call
-use Rattle.ac_check.specs.declared.operation.VectorCall.{VectorCall}
-use Rattle.ac_check.specs.declared.operation.VectorCall.TheVariants as vector_call
-use Rattle.ac_check.specs.declared.operation.ListCall.{ListCall}
-use Rattle.ac_check.specs.declared.operation.ListCall.TheVariants as list_call
-use Rattle.ac_check.specs.declared.operation.TreeCall.{TreeCall}
-use Rattle.ac_check.specs.declared.operation.TreeCall.TheVariants as tree_call
-use Rattle.ac_check.specs.declared.operation.TreeChangeCall.{TreeChangeCall}
-use Rattle.ac_check.specs.declared.operation.TreeChangeCall.TheVariants as tree_change_call
-use Rattle.ac_check.specs.declared.operation.HolderCall.{HolderCall}
-use Rattle.ac_check.specs.declared.operation.HolderCall.TheVariants as holder_call
-use Rattle.ac_check.specs.declared.operation.QueueCall.{QueueCall}
-use Rattle.ac_check.specs.declared.operation.QueueCall.TheVariants as queue_call
-use Rattle.ac_check.specs.declared.operation.WalkCall.{WalkCall}
-use Rattle.ac_check.specs.declared.operation.WalkCall.TheVariants as walk_call
-use Rattle.ac_check.specs.declared.operation.OrderedCall.{OrderedCall}
-use Rattle.ac_check.specs.declared.operation.OrderedCall.TheVariants as ordered_call
-use Rattle.ac_check.specs.declared.operation.MapCall.{MapCall}
-use Rattle.ac_check.specs.declared.operation.MapCall.TheVariants as map_call
-use Rattle.ac_check.specs.declared.operation.OrderedMapCall.{OrderedMapCall}
-use Rattle.ac_check.specs.declared.operation.OrderedMapCall.TheVariants as ordered_map_call
-use Rattle.ac_check.specs.declared.operation.KeyedCall.{KeyedCall}
-use Rattle.ac_check.specs.declared.operation.KeyedCall.TheVariants as keyed_call
-use Rattle.ac_check.specs.declared.operation.SetCall.{SetCall}
-use Rattle.ac_check.specs.declared.operation.SetCall.TheVariants as set_call
-use Rattle.ac_check.specs.declared.operation.SetPairCall.{SetPairCall}
-use Rattle.ac_check.specs.declared.operation.SetPairCall.TheVariants as set_pair_call
-use Rattle.ac_check.specs.declared.operation.OrderedSetCall.{OrderedSetCall}
-use Rattle.ac_check.specs.declared.operation.OrderedSetCall.TheVariants as ordered_set_call
+use Rattle.ac_syntax.specs.declared.operation.Operation.{Operation}
+use Rattle.ac_syntax.specs.declared.operation.Operation.TheVariants as operation
+use Rattle.ac_syntax.specs.declared.operation.CommonCall.{CommonCall}
+use Rattle.ac_syntax.specs.declared.operation.CommonCall.TheVariants as common_call
+use Rattle.ac_syntax.specs.declared.operation.SequenceCall.{SequenceCall}
+use Rattle.ac_syntax.specs.declared.operation.SequenceCall.TheVariants as sequence_call
+use Rattle.ac_syntax.specs.declared.operation.CapacityCall.{CapacityCall}
+use Rattle.ac_syntax.specs.declared.operation.CapacityCall.TheVariants as capacity_call
+use Rattle.ac_syntax.specs.declared.operation.VectorCall.{VectorCall}
+use Rattle.ac_syntax.specs.declared.operation.VectorCall.TheVariants as vector_call
+use Rattle.ac_syntax.specs.declared.operation.ListCall.{ListCall}
+use Rattle.ac_syntax.specs.declared.operation.ListCall.TheVariants as list_call
+use Rattle.ac_syntax.specs.declared.operation.TreeCall.{TreeCall}
+use Rattle.ac_syntax.specs.declared.operation.TreeCall.TheVariants as tree_call
+use Rattle.ac_syntax.specs.declared.operation.TreeChangeCall.{TreeChangeCall}
+use Rattle.ac_syntax.specs.declared.operation.TreeChangeCall.TheVariants as tree_change_call
+use Rattle.ac_syntax.specs.declared.operation.HolderCall.{HolderCall}
+use Rattle.ac_syntax.specs.declared.operation.HolderCall.TheVariants as holder_call
+use Rattle.ac_syntax.specs.declared.operation.QueueCall.{QueueCall}
+use Rattle.ac_syntax.specs.declared.operation.QueueCall.TheVariants as queue_call
+use Rattle.ac_syntax.specs.declared.operation.WalkCall.{WalkCall}
+use Rattle.ac_syntax.specs.declared.operation.WalkCall.TheVariants as walk_call
+use Rattle.ac_syntax.specs.declared.operation.OrderedCall.{OrderedCall}
+use Rattle.ac_syntax.specs.declared.operation.OrderedCall.TheVariants as ordered_call
+use Rattle.ac_syntax.specs.declared.operation.MapCall.{MapCall}
+use Rattle.ac_syntax.specs.declared.operation.MapCall.TheVariants as map_call
+use Rattle.ac_syntax.specs.declared.operation.OrderedMapCall.{OrderedMapCall}
+use Rattle.ac_syntax.specs.declared.operation.OrderedMapCall.TheVariants as ordered_map_call
+use Rattle.ac_syntax.specs.declared.operation.KeyedCall.{KeyedCall}
+use Rattle.ac_syntax.specs.declared.operation.KeyedCall.TheVariants as keyed_call
+use Rattle.ac_syntax.specs.declared.operation.SetCall.{SetCall}
+use Rattle.ac_syntax.specs.declared.operation.SetCall.TheVariants as set_call
+use Rattle.ac_syntax.specs.declared.operation.SetPairCall.{SetPairCall}
+use Rattle.ac_syntax.specs.declared.operation.SetPairCall.TheVariants as set_pair_call
+use Rattle.ac_syntax.specs.declared.operation.OrderedSetCall.{OrderedSetCall}
+use Rattle.ac_syntax.specs.declared.operation.OrderedSetCall.TheVariants as ordered_set_call
 use Rattle.ac_check.specs.declared.resolved.ResolvedArg.{ResolvedArg}
 use Rattle.ac_check.specs.declared.resolved.ResolvedArg.TheVariants.{Lit, NoElement, At}
 use Rattle.ac_check.specs.Resolved.{calls_at, sets_at, sums_at}

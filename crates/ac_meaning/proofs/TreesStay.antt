@@ -8,12 +8,12 @@ use Rattle.ac_model.specs.Letters.{name_of, tampers_cursors, reason_if}
 use Rattle.ac_model.specs.Outline.{is_in, is_in_subtree, run_of}
 use Rattle.ac_model.specs.Sequences.{room_for_copies}
 use Rattle.ac_model.specs.Trees.{needs_node, may_node, needs_element, child_or_none, is_root, is_leaf, child_depth, subtree_at_depth, run_at_depth, copied_rows, room_for_rows, element_of, with_element}
-use Rattle.ac_check.specs.declared.operation.Operation.{Operation}
-use Rattle.ac_check.specs.declared.operation.Operation.TheVariants as operation
-use Rattle.ac_check.specs.declared.operation.TreeCall.{TreeCall}
-use Rattle.ac_check.specs.declared.operation.TreeCall.TheVariants as tree_call
-use Rattle.ac_check.specs.declared.operation.TreeChangeCall.{TreeChangeCall}
-use Rattle.ac_check.specs.declared.operation.TreeChangeCall.TheVariants as tree_change_call
+use Rattle.ac_syntax.specs.declared.operation.Operation.{Operation}
+use Rattle.ac_syntax.specs.declared.operation.Operation.TheVariants as operation
+use Rattle.ac_syntax.specs.declared.operation.TreeCall.{TreeCall}
+use Rattle.ac_syntax.specs.declared.operation.TreeCall.TheVariants as tree_call
+use Rattle.ac_syntax.specs.declared.operation.TreeChangeCall.{TreeChangeCall}
+use Rattle.ac_syntax.specs.declared.operation.TreeChangeCall.TheVariants as tree_change_call
 use Rattle.ac_meaning.specs.Elements.{Tools}
 use Rattle.ac_meaning.specs.TreeReplies.{tree_own, tree_look_reply, tree_change_reply, tree_reply}
 use Rattle.ac_meaning.specs.Replies.{Arguments, Source, another}

@@ -4,12 +4,12 @@ use Rattle.ac_model.specs.Objects.{Object, contents, length_of}
 use Rattle.ac_model.specs.Letters.{may, count_of, in_range, index_in, room}
 use Rattle.ac_model.specs.Sequences.{room_for_copies}
 use Rattle.ac_model.specs.Vectors as vector
-use Rattle.ac_check.specs.declared.operation.Operation.{Operation}
-use Rattle.ac_check.specs.declared.operation.Operation.TheVariants as operation
-use Rattle.ac_check.specs.declared.operation.CapacityCall.{CapacityCall}
-use Rattle.ac_check.specs.declared.operation.CapacityCall.TheVariants as capacity_call
-use Rattle.ac_check.specs.declared.operation.VectorCall.{VectorCall}
-use Rattle.ac_check.specs.declared.operation.VectorCall.TheVariants as vector_call
+use Rattle.ac_syntax.specs.declared.operation.Operation.{Operation}
+use Rattle.ac_syntax.specs.declared.operation.Operation.TheVariants as operation
+use Rattle.ac_syntax.specs.declared.operation.CapacityCall.{CapacityCall}
+use Rattle.ac_syntax.specs.declared.operation.CapacityCall.TheVariants as capacity_call
+use Rattle.ac_syntax.specs.declared.operation.VectorCall.{VectorCall}
+use Rattle.ac_syntax.specs.declared.operation.VectorCall.TheVariants as vector_call
 use Rattle.ac_meaning.specs.Elements.{Tools}
 use Rattle.ac_meaning.specs.Replies.{Arguments, Source, another, by_source, Reply, changes_ok, changes_variable}
 use Rattle.ac_meaning.specs.SequenceReplies.{sequence_own, capacity_reply}

@@ -4,7 +4,7 @@ use Rattle.ac_base.specs.declared.value.Value.{Value}
 use Rattle.ac_base.specs.declared.reason.Reason.{Reason}
 use Rattle.ac_base.specs.declared.reason.Reason.TheVariants.{Overflow}
 use Rattle.ac_model.specs.Letters.{Mark, no_mark}
-use Rattle.ac_check.specs.declared.operation.Operation.{Operation}
+use Rattle.ac_syntax.specs.declared.operation.Operation.{Operation}
 use Rattle.ac_check.specs.declared.resolved.ResolvedArg.{ResolvedArg}
 use Rattle.ac_check.specs.declared.resolved.ResolvedArg.TheVariants.{Lit, NoElement, At}
 use Rattle.ac_check.specs.Resolved.{ResolvedSimple, calls_at, sets_at, sums_at}

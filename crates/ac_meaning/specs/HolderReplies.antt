@@ -5,10 +5,10 @@ use Rattle.ac_model.specs.Calls.{Call, Look, Done}
 use Rattle.ac_model.specs.Holders as holder
 use Rattle.ac_model.specs.Holders.{Holder}
 use Rattle.ac_syntax.specs.Canonical.{literal_text}
-use Rattle.ac_check.specs.declared.operation.Operation.{Operation}
-use Rattle.ac_check.specs.declared.operation.Operation.TheVariants as operation
-use Rattle.ac_check.specs.declared.operation.HolderCall.{HolderCall}
-use Rattle.ac_check.specs.declared.operation.HolderCall.TheVariants as holder_call
+use Rattle.ac_syntax.specs.declared.operation.Operation.{Operation}
+use Rattle.ac_syntax.specs.declared.operation.Operation.TheVariants as operation
+use Rattle.ac_syntax.specs.declared.operation.HolderCall.{HolderCall}
+use Rattle.ac_syntax.specs.declared.operation.HolderCall.TheVariants as holder_call
 use Rattle.ac_meaning.specs.Elements.{Tools}
 use Rattle.ac_meaning.specs.Answers.{answers_ok, answers_truth, answers_list}
 use Rattle.ac_meaning.specs.Listings.{bracketed}

@@ -25,8 +25,8 @@ use Rattle.ac_syntax.specs.declared.kind.ElemKind.TheVariants.{Integer, Str}
 use Rattle.ac_syntax.specs.declared.kind.Kind.{Kind}
 use Rattle.ac_syntax.specs.declared.kind.Kind.TheVariants as kinds
 use Rattle.ac_syntax.specs.declared.type_def.TypeDef.{TypeDef}
-use Rattle.ac_check.specs.declared.operation.Operation.{Operation}
-use Rattle.ac_check.specs.Kinds.{is_holder, is_queue}
+use Rattle.ac_syntax.specs.declared.operation.Operation.{Operation}
+use Rattle.ac_syntax.specs.Kinds.{is_holder, is_queue}
 use Rattle.ac_meaning.specs.Elements.{Tools, ElementOf, tools_of, Text, text_in, texts, keyed_texts}
 use Rattle.ac_meaning.specs.Replies.{Arguments, Source, arguments_seen, source_in, Reply, carried}
 use Rattle.ac_meaning.specs.SequenceReplies.{OwnCalls, sequence_own}

@@ -6,10 +6,10 @@ use Rattle.ac_model.specs.Keyed as keyed
 use Rattle.ac_model.specs.Keyed.{Order, by_arrival, ascending, Inserted}
 use Rattle.ac_model.specs.Ordered as ordered
 use Rattle.ac_model.specs.Sequences as sequence
-use Rattle.ac_check.specs.declared.operation.WalkCall.{WalkCall}
-use Rattle.ac_check.specs.declared.operation.WalkCall.TheVariants as walk_call
-use Rattle.ac_check.specs.declared.operation.OrderedCall.{OrderedCall}
-use Rattle.ac_check.specs.declared.operation.OrderedCall.TheVariants as ordered_call
+use Rattle.ac_syntax.specs.declared.operation.WalkCall.{WalkCall}
+use Rattle.ac_syntax.specs.declared.operation.WalkCall.TheVariants as walk_call
+use Rattle.ac_syntax.specs.declared.operation.OrderedCall.{OrderedCall}
+use Rattle.ac_syntax.specs.declared.operation.OrderedCall.TheVariants as ordered_call
 use Rattle.ac_meaning.specs.Elements.{Tools}
 use Rattle.ac_meaning.specs.Answers.{answers_truth, answers_place}
 use Rattle.ac_meaning.specs.Replies.{Arguments, Reply, placed, changes, changes_ok, changes_variable, looks, tells}

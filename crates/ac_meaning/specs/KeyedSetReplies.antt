@@ -3,10 +3,10 @@ use Rattle.std.specs.Prelude.{ℕ}
 use Rattle.ac_base.specs.Key.{key_of_text}
 use Rattle.ac_model.specs.Objects.{Object}
 use Rattle.ac_model.specs.KeyedSets as by_key
-use Rattle.ac_check.specs.declared.operation.Operation.{Operation}
-use Rattle.ac_check.specs.declared.operation.Operation.TheVariants as operation
-use Rattle.ac_check.specs.declared.operation.KeyedCall.{KeyedCall}
-use Rattle.ac_check.specs.declared.operation.KeyedCall.TheVariants as keyed_call
+use Rattle.ac_syntax.specs.declared.operation.Operation.{Operation}
+use Rattle.ac_syntax.specs.declared.operation.Operation.TheVariants as operation
+use Rattle.ac_syntax.specs.declared.operation.KeyedCall.{KeyedCall}
+use Rattle.ac_syntax.specs.declared.operation.KeyedCall.TheVariants as keyed_call
 use Rattle.ac_meaning.specs.Elements.{Text, text_in, texts, keyed_texts}
 use Rattle.ac_meaning.specs.Answers.{answers_ok, answers_truth, answers_place}
 use Rattle.ac_meaning.specs.KeyedReplies.{KeyedKind, of_hashed, order_by}

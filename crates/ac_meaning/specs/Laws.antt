@@ -4,7 +4,7 @@ use Rattle.ac_syntax.specs.Code.{Code}
 use Rattle.ac_syntax.specs.declared.script.Script.{Script}
 use Rattle.ac_check.specs.Scopes.{Scope}
 use Rattle.ac_check.specs.Resolved.{ResolvedCode, ResolvedScript, ResolvedSimple, resolve, resolve_script}
-use Rattle.ac_check.specs.declared.operation.Operation.{Operation}
+use Rattle.ac_syntax.specs.declared.operation.Operation.{Operation}
 use Rattle.ac_model.specs.Objects.{Object}
 use Rattle.ac_meaning.specs.Elements.{Tools}
 use Rattle.ac_meaning.specs.Replies.{Arguments, Source}

@@ -2,10 +2,10 @@
 use Rattle.std.specs.Prelude.{ℕ}
 use Rattle.ac_model.specs.Objects.{Object}
 use Rattle.ac_model.specs.Lists as list
-use Rattle.ac_check.specs.declared.operation.Operation.{Operation}
-use Rattle.ac_check.specs.declared.operation.Operation.TheVariants as operation
-use Rattle.ac_check.specs.declared.operation.ListCall.{ListCall}
-use Rattle.ac_check.specs.declared.operation.ListCall.TheVariants as list_call
+use Rattle.ac_syntax.specs.declared.operation.Operation.{Operation}
+use Rattle.ac_syntax.specs.declared.operation.Operation.TheVariants as operation
+use Rattle.ac_syntax.specs.declared.operation.ListCall.{ListCall}
+use Rattle.ac_syntax.specs.declared.operation.ListCall.TheVariants as list_call
 use Rattle.ac_meaning.specs.Elements.{Tools}
 use Rattle.ac_meaning.specs.Answers.{answers_ok}
 use Rattle.ac_meaning.specs.Replies.{Arguments, Source, by_source, Reply, changes_ok, changes_variable, changes_both, changes_both_variable, tells}

@@ -4,12 +4,12 @@ use Rattle.ac_model.specs.Rows.{Entry}
 use Rattle.ac_model.specs.Objects.{Object, contents}
 use Rattle.ac_model.specs.Maps as map
 use Rattle.ac_syntax.specs.Canonical.{literal_text}
-use Rattle.ac_check.specs.declared.operation.Operation.{Operation}
-use Rattle.ac_check.specs.declared.operation.Operation.TheVariants as operation
-use Rattle.ac_check.specs.declared.operation.MapCall.{MapCall}
-use Rattle.ac_check.specs.declared.operation.MapCall.TheVariants as map_call
-use Rattle.ac_check.specs.declared.operation.OrderedMapCall.{OrderedMapCall}
-use Rattle.ac_check.specs.declared.operation.OrderedMapCall.TheVariants as ordered_map_call
+use Rattle.ac_syntax.specs.declared.operation.Operation.{Operation}
+use Rattle.ac_syntax.specs.declared.operation.Operation.TheVariants as operation
+use Rattle.ac_syntax.specs.declared.operation.MapCall.{MapCall}
+use Rattle.ac_syntax.specs.declared.operation.MapCall.TheVariants as map_call
+use Rattle.ac_syntax.specs.declared.operation.OrderedMapCall.{OrderedMapCall}
+use Rattle.ac_syntax.specs.declared.operation.OrderedMapCall.TheVariants as ordered_map_call
 use Rattle.ac_meaning.specs.Elements.{Tools}
 use Rattle.ac_meaning.specs.Answers.{answers_ok, answers_truth, answers_place}
 use Rattle.ac_meaning.specs.KeyedReplies.{KeyedKind, of_hashed, of_ordered, order_by, changes_inserting, walk_reply, ordered_reply}

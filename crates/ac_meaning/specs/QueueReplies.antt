@@ -4,10 +4,10 @@ use Rattle.ac_base.specs.declared.value.Value.TheVariants as value
 use Rattle.ac_model.specs.Queues as queue
 use Rattle.ac_model.specs.Queues.{Discipline, by_arrival, by_priority, TaskQueue}
 use Rattle.ac_syntax.specs.Canonical.{literal_text}
-use Rattle.ac_check.specs.declared.operation.Operation.{Operation}
-use Rattle.ac_check.specs.declared.operation.Operation.TheVariants as operation
-use Rattle.ac_check.specs.declared.operation.QueueCall.{QueueCall}
-use Rattle.ac_check.specs.declared.operation.QueueCall.TheVariants as queue_call
+use Rattle.ac_syntax.specs.declared.operation.Operation.{Operation}
+use Rattle.ac_syntax.specs.declared.operation.Operation.TheVariants as operation
+use Rattle.ac_syntax.specs.declared.operation.QueueCall.{QueueCall}
+use Rattle.ac_syntax.specs.declared.operation.QueueCall.TheVariants as queue_call
 use Rattle.ac_meaning.specs.Elements.{integer_in}
 use Rattle.ac_meaning.specs.Answers.{Answer, answers_ok, answers_integer, answers_truth, answers_list}
 use Rattle.ac_meaning.specs.Listings.{bracketed}

@@ -7,12 +7,12 @@ use Rattle.ac_model.specs.Calls.{Call, Look, Done}
 use Rattle.ac_model.specs.Common as common
 use Rattle.ac_model.specs.Sequences as sequence
 use Rattle.ac_syntax.specs.Canonical.{literal_text}
-use Rattle.ac_check.specs.declared.operation.CommonCall.{CommonCall}
-use Rattle.ac_check.specs.declared.operation.CommonCall.TheVariants as common_call
-use Rattle.ac_check.specs.declared.operation.CapacityCall.{CapacityCall}
-use Rattle.ac_check.specs.declared.operation.CapacityCall.TheVariants as capacity_call
-use Rattle.ac_check.specs.declared.operation.SequenceCall.{SequenceCall}
-use Rattle.ac_check.specs.declared.operation.SequenceCall.TheVariants as sequence_call
+use Rattle.ac_syntax.specs.declared.operation.CommonCall.{CommonCall}
+use Rattle.ac_syntax.specs.declared.operation.CommonCall.TheVariants as common_call
+use Rattle.ac_syntax.specs.declared.operation.CapacityCall.{CapacityCall}
+use Rattle.ac_syntax.specs.declared.operation.CapacityCall.TheVariants as capacity_call
+use Rattle.ac_syntax.specs.declared.operation.SequenceCall.{SequenceCall}
+use Rattle.ac_syntax.specs.declared.operation.SequenceCall.TheVariants as sequence_call
 use Rattle.ac_meaning.specs.Elements.{Tools}
 use Rattle.ac_meaning.specs.Answers.{answers_integer, answers_truth, answers_place, answers_list}
 use Rattle.ac_meaning.specs.Listings.{bracketed}

@@ -5,14 +5,14 @@ use Rattle.ac_model.specs.Keyed as keyed
 use Rattle.ac_model.specs.Sequences as sequence
 use Rattle.ac_model.specs.Sets as set
 use Rattle.ac_syntax.specs.Canonical.{literal_text}
-use Rattle.ac_check.specs.declared.operation.Operation.{Operation}
-use Rattle.ac_check.specs.declared.operation.Operation.TheVariants as operation
-use Rattle.ac_check.specs.declared.operation.SetCall.{SetCall}
-use Rattle.ac_check.specs.declared.operation.SetCall.TheVariants as set_call
-use Rattle.ac_check.specs.declared.operation.SetPairCall.{SetPairCall}
-use Rattle.ac_check.specs.declared.operation.SetPairCall.TheVariants as set_pair_call
-use Rattle.ac_check.specs.declared.operation.OrderedSetCall.{OrderedSetCall}
-use Rattle.ac_check.specs.declared.operation.OrderedSetCall.TheVariants as ordered_set_call
+use Rattle.ac_syntax.specs.declared.operation.Operation.{Operation}
+use Rattle.ac_syntax.specs.declared.operation.Operation.TheVariants as operation
+use Rattle.ac_syntax.specs.declared.operation.SetCall.{SetCall}
+use Rattle.ac_syntax.specs.declared.operation.SetCall.TheVariants as set_call
+use Rattle.ac_syntax.specs.declared.operation.SetPairCall.{SetPairCall}
+use Rattle.ac_syntax.specs.declared.operation.SetPairCall.TheVariants as set_pair_call
+use Rattle.ac_syntax.specs.declared.operation.OrderedSetCall.{OrderedSetCall}
+use Rattle.ac_syntax.specs.declared.operation.OrderedSetCall.TheVariants as ordered_set_call
 use Rattle.ac_meaning.specs.Elements.{Tools}
 use Rattle.ac_meaning.specs.Answers.{answers_ok, answers_truth, answers_place}
 use Rattle.ac_meaning.specs.KeyedReplies.{KeyedKind, of_hashed, of_ordered, order_by, changes_inserting, walk_reply, ordered_reply}

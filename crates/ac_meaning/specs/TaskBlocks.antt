@@ -13,10 +13,10 @@ use Rattle.ac_history.specs.declared.entry.Reply.{Reply}
 use Rattle.ac_history.specs.declared.entry.Reply.TheVariants as reply
 use Rattle.ac_history.specs.States.{TaskState}
 use Rattle.ac_history.specs.Blocks.{Block, new_block, present}
-use Rattle.ac_check.specs.declared.operation.Operation.{Operation}
-use Rattle.ac_check.specs.declared.operation.Operation.TheVariants as operation
-use Rattle.ac_check.specs.declared.operation.QueueCall.{QueueCall}
-use Rattle.ac_check.specs.declared.operation.QueueCall.TheVariants as queue_call
+use Rattle.ac_syntax.specs.declared.operation.Operation.{Operation}
+use Rattle.ac_syntax.specs.declared.operation.Operation.TheVariants as operation
+use Rattle.ac_syntax.specs.declared.operation.QueueCall.{QueueCall}
+use Rattle.ac_syntax.specs.declared.operation.QueueCall.TheVariants as queue_call
 use Rattle.ac_check.specs.declared.resolved.ResolvedArg.{ResolvedArg}
 use Rattle.ac_check.specs.declared.resolved.ResolvedArg.TheVariants.{Lit, NoElement, At}
 use Rattle.ac_check.specs.Resolved.{ResolvedSimple, calls_at, sets_at, sums_at, ResolvedHead, loops_at, views_at, stables_at, declares_at, gathers_at, works_at, ResolvedCode, no_statement, a_command, a_block}

@@ -4,12 +4,12 @@ use Rattle.ac_model.specs.Rows.{Node}
 use Rattle.ac_model.specs.Objects.{Object, contents}
 use Rattle.ac_model.specs.Trees as tree
 use Rattle.ac_syntax.specs.Canonical.{literal_text}
-use Rattle.ac_check.specs.declared.operation.Operation.{Operation}
-use Rattle.ac_check.specs.declared.operation.Operation.TheVariants as operation
-use Rattle.ac_check.specs.declared.operation.TreeCall.{TreeCall}
-use Rattle.ac_check.specs.declared.operation.TreeCall.TheVariants as tree_call
-use Rattle.ac_check.specs.declared.operation.TreeChangeCall.{TreeChangeCall}
-use Rattle.ac_check.specs.declared.operation.TreeChangeCall.TheVariants as tree_change_call
+use Rattle.ac_syntax.specs.declared.operation.Operation.{Operation}
+use Rattle.ac_syntax.specs.declared.operation.Operation.TheVariants as operation
+use Rattle.ac_syntax.specs.declared.operation.TreeCall.{TreeCall}
+use Rattle.ac_syntax.specs.declared.operation.TreeCall.TheVariants as tree_call
+use Rattle.ac_syntax.specs.declared.operation.TreeChangeCall.{TreeChangeCall}
+use Rattle.ac_syntax.specs.declared.operation.TreeChangeCall.TheVariants as tree_change_call
 use Rattle.ac_meaning.specs.Elements.{Tools}
 use Rattle.ac_meaning.specs.Answers.{answers_ok, answers_integer, answers_truth, answers_place}
 use Rattle.ac_meaning.specs.Listings.{tree_listing}

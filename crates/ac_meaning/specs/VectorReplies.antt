@@ -2,10 +2,10 @@
 use Rattle.std.specs.Prelude.{ℕ}
 use Rattle.ac_model.specs.Objects.{Object}
 use Rattle.ac_model.specs.Vectors as vector
-use Rattle.ac_check.specs.declared.operation.Operation.{Operation}
-use Rattle.ac_check.specs.declared.operation.Operation.TheVariants as operation
-use Rattle.ac_check.specs.declared.operation.VectorCall.{VectorCall}
-use Rattle.ac_check.specs.declared.operation.VectorCall.TheVariants as vector_call
+use Rattle.ac_syntax.specs.declared.operation.Operation.{Operation}
+use Rattle.ac_syntax.specs.declared.operation.Operation.TheVariants as operation
+use Rattle.ac_syntax.specs.declared.operation.VectorCall.{VectorCall}
+use Rattle.ac_syntax.specs.declared.operation.VectorCall.TheVariants as vector_call
 use Rattle.ac_meaning.specs.Elements.{Tools}
 use Rattle.ac_meaning.specs.Answers.{answers_ok, answers_integer, answers_place}
 use Rattle.ac_meaning.specs.Replies.{Arguments, Source, by_source, Reply, changes_ok, changes_variable, looks, tells, value_answer, as_value}

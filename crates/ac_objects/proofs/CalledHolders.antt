@@ -11,7 +11,7 @@ use Rattle.ac_model.specs.Cursors.{plain_mark}
 use Rattle.ac_model.specs.Holders.{Holder}
 use Rattle.ac_syntax.specs.declared.kind.ElemKind.{ElemKind}
 use Rattle.ac_syntax.specs.declared.kind.ElemKind.TheVariants.{Integer, Str}
-use Rattle.ac_check.specs.declared.operation.Operation.{Operation}
+use Rattle.ac_syntax.specs.declared.operation.Operation.{Operation}
 use Rattle.ac_meaning.specs.Answers.{answers_list}
 use Rattle.ac_meaning.specs.Elements.{ElementOf, tools_of, Text}
 use Rattle.ac_meaning.specs.HolderReplies.{holder_source, holder_reply, holder_write}

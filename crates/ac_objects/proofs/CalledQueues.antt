@@ -8,7 +8,7 @@ use Rattle.ac_queue.specs.declared.any_queue.AnyQueue.{AnyQueue}
 use Rattle.ac_queue.specs.declared.any_queue.AnyQueue.TheVariants.{Plain, Ranked}
 use Rattle.ac_queue.specs.Kinds.{discipline_of, state_of}
 use Rattle.ac_book.specs.Shared.{shared}
-use Rattle.ac_check.specs.declared.operation.Operation.{Operation}
+use Rattle.ac_syntax.specs.declared.operation.Operation.{Operation}
 use Rattle.ac_meaning.specs.Answers.{Answer, answers_list}
 use Rattle.ac_meaning.specs.QueueReplies.{queue_reply}
 use Rattle.ac_meaning.specs.Holdings.{Held, of_queue, number_of, names_of, listing_of, reply_of}

@@ -18,7 +18,7 @@ use Rattle.ac_model.specs.Containers.{Container}
 use Rattle.ac_model.specs.Cursors.{IsNamed, plain_mark}
 use Rattle.ac_model.specs.Trees.{root_name}
 use Rattle.ac_model.proofs.Unslotted.{tree_agreement_kept}
-use Rattle.ac_check.specs.declared.operation.Operation.{Operation}
+use Rattle.ac_syntax.specs.declared.operation.Operation.{Operation}
 use Rattle.ac_meaning.specs.Answers.{answers_list}
 use Rattle.ac_meaning.specs.Holdings.{RowKind, RowOf, Held, of_rows, of_holder, of_queue, number_of, rows_in, have_root, seen_in, own_calls, listing_of, Written, written, write, rows_reply, reply_of}
 use Rattle.ac_meaning.specs.Replies.{itself, another, arguments_seen, source_in, carried}

@@ -3,7 +3,7 @@ use Rattle.std.proofs.Common.{◌≡◌, inl, inr, ℕ, List, get_or, slice_get,
 use Rattle.std.specs.Prelude.{⊤}
 use Rattle.ac_base.specs.declared.fault.Fault.{Fault}
 use Rattle.ac_base.specs.declared.fault.Fault.TheVariants as fault
-use Rattle.ac_check.specs.declared.operation.Operation.{Operation}
+use Rattle.ac_syntax.specs.declared.operation.Operation.{Operation}
 use Rattle.ac_meaning.specs.Answers as meant
 use Rattle.ac_meaning.specs.Commands.{source_of, source_set}
 use Rattle.ac_meaning.specs.Environment.{State, binds_object, object_at, with_bound}

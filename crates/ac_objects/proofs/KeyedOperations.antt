@@ -3,10 +3,10 @@ use Rattle.std.proofs.Common.{◌≡◌, ℕ, Bool, true, false, refl, sym, subs
 use Rattle.std.specs.Prelude.{Result}
 use Rattle.ac_base.specs.declared.fault.Fault.{Fault}
 use Rattle.ac_model.specs.Objects.{Object, plain}
-use Rattle.ac_check.specs.declared.operation.KeyedCall.{KeyedCall}
-use Rattle.ac_check.specs.declared.operation.KeyedCall.TheVariants as keyed_call
-use Rattle.ac_check.specs.declared.operation.Operation.{Operation}
-use Rattle.ac_check.specs.declared.operation.Operation.TheVariants as operation
+use Rattle.ac_syntax.specs.declared.operation.KeyedCall.{KeyedCall}
+use Rattle.ac_syntax.specs.declared.operation.KeyedCall.TheVariants as keyed_call
+use Rattle.ac_syntax.specs.declared.operation.Operation.{Operation}
+use Rattle.ac_syntax.specs.declared.operation.Operation.TheVariants as operation
 use Rattle.ac_meaning.specs.Elements.{Text, keyed_texts}
 use Rattle.ac_meaning.specs.KeyedReplies.{KeyedKind, of_hashed, of_ordered}
 use Rattle.ac_meaning.specs.KeyedSetReplies.{key_reply, keyed_set_reply}

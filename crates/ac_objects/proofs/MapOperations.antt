@@ -5,14 +5,14 @@ use Rattle.ac_base.specs.declared.fault.Fault.{Fault}
 use Rattle.ac_model.specs.Objects.{Object, plain}
 use Rattle.ac_model.specs.Containers.{Container}
 use Rattle.ac_model.specs.Rows.{Entry}
-use Rattle.ac_check.specs.declared.operation.Operation.{Operation}
-use Rattle.ac_check.specs.declared.operation.Operation.TheVariants as operation
-use Rattle.ac_check.specs.declared.operation.CommonCall.{CommonCall}
-use Rattle.ac_check.specs.declared.operation.WalkCall.{WalkCall}
-use Rattle.ac_check.specs.declared.operation.MapCall.{MapCall}
-use Rattle.ac_check.specs.declared.operation.CapacityCall.{CapacityCall}
-use Rattle.ac_check.specs.declared.operation.OrderedCall.{OrderedCall}
-use Rattle.ac_check.specs.declared.operation.OrderedMapCall.{OrderedMapCall}
+use Rattle.ac_syntax.specs.declared.operation.Operation.{Operation}
+use Rattle.ac_syntax.specs.declared.operation.Operation.TheVariants as operation
+use Rattle.ac_syntax.specs.declared.operation.CommonCall.{CommonCall}
+use Rattle.ac_syntax.specs.declared.operation.WalkCall.{WalkCall}
+use Rattle.ac_syntax.specs.declared.operation.MapCall.{MapCall}
+use Rattle.ac_syntax.specs.declared.operation.CapacityCall.{CapacityCall}
+use Rattle.ac_syntax.specs.declared.operation.OrderedCall.{OrderedCall}
+use Rattle.ac_syntax.specs.declared.operation.OrderedMapCall.{OrderedMapCall}
 use Rattle.ac_meaning.specs.Elements.{Tools}
 use Rattle.ac_meaning.specs.Answers.{answers_ok}
 use Rattle.ac_meaning.specs.KeyedReplies.{KeyedKind, of_hashed, of_ordered, walk_reply}

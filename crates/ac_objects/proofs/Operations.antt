@@ -6,7 +6,7 @@ use Rattle.ac_base.specs.declared.fault.Fault.TheVariants as fault
 use Rattle.ac_base.specs.declared.name.Name.{Name}
 use Rattle.ac_model.specs.Objects.{Object, plain}
 use Rattle.ac_model.specs.Containers.{Container}
-use Rattle.ac_check.specs.declared.operation.Operation.{Operation}
+use Rattle.ac_syntax.specs.declared.operation.Operation.{Operation}
 use Rattle.ac_meaning.specs.Replies as replies
 use Rattle.ac_meaning.specs.Holdings.{seen_by_root}
 use Rattle.ac_meaning.specs.Replies.{Source, itself, another, seen_by, arguments_seen}

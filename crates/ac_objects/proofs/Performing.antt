@@ -8,7 +8,7 @@ use Rattle.ac_base.specs.declared.value.Value.{Value}
 use Rattle.ac_base.specs.declared.value.Value.TheVariants.{Int}
 use Rattle.ac_model.specs.Calls.{Done}
 use Rattle.ac_model.specs.Letters.{Mark}
-use Rattle.ac_check.specs.declared.operation.Operation.{Operation}
+use Rattle.ac_syntax.specs.declared.operation.Operation.{Operation}
 use Rattle.ac_check.specs.declared.resolved.ResolvedArg.{ResolvedArg}
 use Rattle.ac_check.specs.Resolved.{calls_at}
 use Rattle.ac_meaning.specs.Answers as meant

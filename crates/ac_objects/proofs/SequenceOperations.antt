@@ -1,13 +1,13 @@
 -- What an operation comes to on a list or a vector.
 use Rattle.std.proofs.Common.{◌≡◌, ℕ, refl}
 use Rattle.ac_model.specs.Objects.{Object}
-use Rattle.ac_check.specs.declared.operation.Operation.{Operation}
-use Rattle.ac_check.specs.declared.operation.Operation.TheVariants as operation
-use Rattle.ac_check.specs.declared.operation.CommonCall.{CommonCall}
-use Rattle.ac_check.specs.declared.operation.SequenceCall.{SequenceCall}
-use Rattle.ac_check.specs.declared.operation.CapacityCall.{CapacityCall}
-use Rattle.ac_check.specs.declared.operation.VectorCall.{VectorCall}
-use Rattle.ac_check.specs.declared.operation.ListCall.{ListCall}
+use Rattle.ac_syntax.specs.declared.operation.Operation.{Operation}
+use Rattle.ac_syntax.specs.declared.operation.Operation.TheVariants as operation
+use Rattle.ac_syntax.specs.declared.operation.CommonCall.{CommonCall}
+use Rattle.ac_syntax.specs.declared.operation.SequenceCall.{SequenceCall}
+use Rattle.ac_syntax.specs.declared.operation.CapacityCall.{CapacityCall}
+use Rattle.ac_syntax.specs.declared.operation.VectorCall.{VectorCall}
+use Rattle.ac_syntax.specs.declared.operation.ListCall.{ListCall}
 use Rattle.ac_meaning.specs.Elements.{Tools}
 use Rattle.ac_meaning.specs.Answers.{answers_ok}
 use Rattle.ac_meaning.specs.Replies as replies

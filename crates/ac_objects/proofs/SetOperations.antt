@@ -1,15 +1,15 @@
 -- What an operation comes to on a set.
 use Rattle.std.proofs.Common.{◌≡◌, ℕ, Bool, refl}
 use Rattle.ac_model.specs.Objects.{Object}
-use Rattle.ac_check.specs.declared.operation.Operation.{Operation}
-use Rattle.ac_check.specs.declared.operation.Operation.TheVariants as operation
-use Rattle.ac_check.specs.declared.operation.CommonCall.{CommonCall}
-use Rattle.ac_check.specs.declared.operation.CapacityCall.{CapacityCall}
-use Rattle.ac_check.specs.declared.operation.WalkCall.{WalkCall}
-use Rattle.ac_check.specs.declared.operation.SetCall.{SetCall}
-use Rattle.ac_check.specs.declared.operation.SetPairCall.{SetPairCall}
-use Rattle.ac_check.specs.declared.operation.OrderedCall.{OrderedCall}
-use Rattle.ac_check.specs.declared.operation.OrderedSetCall.{OrderedSetCall}
+use Rattle.ac_syntax.specs.declared.operation.Operation.{Operation}
+use Rattle.ac_syntax.specs.declared.operation.Operation.TheVariants as operation
+use Rattle.ac_syntax.specs.declared.operation.CommonCall.{CommonCall}
+use Rattle.ac_syntax.specs.declared.operation.CapacityCall.{CapacityCall}
+use Rattle.ac_syntax.specs.declared.operation.WalkCall.{WalkCall}
+use Rattle.ac_syntax.specs.declared.operation.SetCall.{SetCall}
+use Rattle.ac_syntax.specs.declared.operation.SetPairCall.{SetPairCall}
+use Rattle.ac_syntax.specs.declared.operation.OrderedCall.{OrderedCall}
+use Rattle.ac_syntax.specs.declared.operation.OrderedSetCall.{OrderedSetCall}
 use Rattle.ac_meaning.specs.Elements.{Tools}
 use Rattle.ac_meaning.specs.Answers.{answers_ok}
 use Rattle.ac_meaning.specs.KeyedReplies.{KeyedKind, of_hashed, of_ordered}

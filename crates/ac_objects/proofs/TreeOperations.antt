@@ -2,11 +2,11 @@
 use Rattle.std.proofs.Common.{◌≡◌, ℕ, refl}
 use Rattle.ac_model.specs.Objects.{Object}
 use Rattle.ac_model.specs.Rows.{Node}
-use Rattle.ac_check.specs.declared.operation.Operation.{Operation}
-use Rattle.ac_check.specs.declared.operation.Operation.TheVariants as operation
-use Rattle.ac_check.specs.declared.operation.CommonCall.{CommonCall}
-use Rattle.ac_check.specs.declared.operation.TreeCall.{TreeCall}
-use Rattle.ac_check.specs.declared.operation.TreeChangeCall.{TreeChangeCall}
+use Rattle.ac_syntax.specs.declared.operation.Operation.{Operation}
+use Rattle.ac_syntax.specs.declared.operation.Operation.TheVariants as operation
+use Rattle.ac_syntax.specs.declared.operation.CommonCall.{CommonCall}
+use Rattle.ac_syntax.specs.declared.operation.TreeCall.{TreeCall}
+use Rattle.ac_syntax.specs.declared.operation.TreeChangeCall.{TreeChangeCall}
 use Rattle.ac_meaning.specs.Elements.{Tools}
 use Rattle.ac_meaning.specs.Answers.{answers_ok}
 use Rattle.ac_meaning.specs.Replies as replies

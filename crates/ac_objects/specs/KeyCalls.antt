@@ -2,8 +2,8 @@
 use Rattle.std.specs.Prelude.{Result}
 use Rattle.ac_base.specs.declared.fault.Fault.{Fault}
 use Rattle.ac_model.specs.Containers.{Container}
-use Rattle.ac_check.specs.declared.operation.KeyedCall.{KeyedCall}
-use Rattle.ac_check.specs.declared.operation.Operation.{Operation}
+use Rattle.ac_syntax.specs.declared.operation.KeyedCall.{KeyedCall}
+use Rattle.ac_syntax.specs.declared.operation.Operation.{Operation}
 use Rattle.ac_meaning.specs.Elements.{Text}
 use Rattle.ac_meaning.specs.KeyedReplies.{of_ordered}
 use Rattle.ac_meaning.specs.KeyedSetReplies.{key_reply, keyed_set_reply}

@@ -4,9 +4,9 @@ use Rattle.std.specs.Prelude.{ℕ, Result}
 use Rattle.ac_model.specs.Objects.{Object}
 use Rattle.ac_model.specs.Rows.{Entry}
 use Rattle.ac_model.specs.Containers.{Container}
-use Rattle.ac_check.specs.declared.operation.Operation.{Operation}
-use Rattle.ac_check.specs.declared.operation.MapCall.{MapCall}
-use Rattle.ac_check.specs.declared.operation.OrderedMapCall.{OrderedMapCall}
+use Rattle.ac_syntax.specs.declared.operation.Operation.{Operation}
+use Rattle.ac_syntax.specs.declared.operation.MapCall.{MapCall}
+use Rattle.ac_syntax.specs.declared.operation.OrderedMapCall.{OrderedMapCall}
 use Rattle.ac_meaning.specs.Elements.{Tools}
 use Rattle.ac_meaning.specs.KeyedReplies.{of_ordered}
 use Rattle.ac_meaning.specs.MapReplies.{map_alone_reply, ordered_map_reply, map_reply}

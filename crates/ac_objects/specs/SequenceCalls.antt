@@ -3,10 +3,10 @@ use Rattle.ac_base.specs.declared.fault.Fault.{Fault}
 use Rattle.std.specs.Prelude.{ℕ, Result}
 use Rattle.ac_model.specs.Objects.{Object, plain}
 use Rattle.ac_model.specs.Containers.{Container}
-use Rattle.ac_check.specs.declared.operation.Operation.{Operation}
-use Rattle.ac_check.specs.declared.operation.SequenceCall.{SequenceCall}
-use Rattle.ac_check.specs.declared.operation.VectorCall.{VectorCall}
-use Rattle.ac_check.specs.declared.operation.ListCall.{ListCall}
+use Rattle.ac_syntax.specs.declared.operation.Operation.{Operation}
+use Rattle.ac_syntax.specs.declared.operation.SequenceCall.{SequenceCall}
+use Rattle.ac_syntax.specs.declared.operation.VectorCall.{VectorCall}
+use Rattle.ac_syntax.specs.declared.operation.ListCall.{ListCall}
 use Rattle.ac_meaning.specs.Elements.{Tools}
 use Rattle.ac_meaning.specs.Holdings.{reply_by}
 use Rattle.ac_meaning.specs.Replies as replies

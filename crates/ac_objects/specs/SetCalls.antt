@@ -3,10 +3,10 @@ use Rattle.std.specs.Prelude.{Bool, Result}
 use Rattle.ac_base.specs.declared.fault.Fault.{Fault}
 use Rattle.ac_model.specs.Objects.{plain}
 use Rattle.ac_model.specs.Containers.{Container}
-use Rattle.ac_check.specs.declared.operation.Operation.{Operation}
-use Rattle.ac_check.specs.declared.operation.SetCall.{SetCall}
-use Rattle.ac_check.specs.declared.operation.SetPairCall.{SetPairCall}
-use Rattle.ac_check.specs.declared.operation.OrderedSetCall.{OrderedSetCall}
+use Rattle.ac_syntax.specs.declared.operation.Operation.{Operation}
+use Rattle.ac_syntax.specs.declared.operation.SetCall.{SetCall}
+use Rattle.ac_syntax.specs.declared.operation.SetPairCall.{SetPairCall}
+use Rattle.ac_syntax.specs.declared.operation.OrderedSetCall.{OrderedSetCall}
 use Rattle.ac_meaning.specs.Elements.{Tools}
 use Rattle.ac_meaning.specs.KeyedReplies.{of_ordered}
 use Rattle.ac_meaning.specs.Replies as replies

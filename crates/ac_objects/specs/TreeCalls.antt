@@ -5,9 +5,9 @@ use Rattle.ac_model.specs.Objects.{Object, plain}
 use Rattle.ac_model.specs.Containers.{Container}
 use Rattle.ac_model.specs.Rows.{Node}
 use Rattle.ac_model.specs.Trees.{tree_mark}
-use Rattle.ac_check.specs.declared.operation.Operation.{Operation}
-use Rattle.ac_check.specs.declared.operation.TreeCall.{TreeCall}
-use Rattle.ac_check.specs.declared.operation.TreeChangeCall.{TreeChangeCall}
+use Rattle.ac_syntax.specs.declared.operation.Operation.{Operation}
+use Rattle.ac_syntax.specs.declared.operation.TreeCall.{TreeCall}
+use Rattle.ac_syntax.specs.declared.operation.TreeChangeCall.{TreeChangeCall}
 use Rattle.ac_meaning.specs.Elements.{Tools}
 use Rattle.ac_meaning.specs.Replies as replies
 use Rattle.ac_meaning.specs.Replies.{Source, itself, another}

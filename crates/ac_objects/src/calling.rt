@@ -20,7 +20,7 @@ use crate::object::Object;
 use crate::objects::Objects;
 use crate::reply::Reply;
 use ac_base::Fault;
-use ac_check::Operation;
+use ac_syntax::Operation;
 use std::alloc::Global;
 
 impl Objects {

@@ -12,7 +12,7 @@ ghost use Rattle.ac_objects.specs.RowCalls.{RowsReplied};
 use crate::argument::Arguments;
 use crate::reply::{Reply, Said};
 use ac_base::{Fault, Value};
-use ac_check::CapacityCall;
+use ac_syntax::CapacityCall;
 
 /// What has a Capacity.
 pub trait WithCapacity {

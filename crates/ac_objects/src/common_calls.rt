@@ -19,8 +19,8 @@ use crate::argument::Arguments;
 use crate::reply::{Reply, Said};
 use crate::row_object::RowObject;
 use ac_base::{Fault, Value};
-use ac_check::CommonCall;
 use ac_cursor::Cursor;
+use ac_syntax::CommonCall;
 use std::alloc::Global;
 
 /// Rows with the calls that all kinds have.

@@ -18,8 +18,8 @@ use crate::queue_calls::operate_queue;
 use crate::reply::Reply;
 use crate::row_object::RowObject;
 use ac_base::{Fault, NoMemory, Reason, Value};
-use ac_check::Operation;
 use ac_cursor::Cursor;
+use ac_syntax::Operation;
 use std::alloc::Global;
 
 /// Makes a call on an object without a source, or with itself as the source.

@@ -13,8 +13,8 @@ use crate::argument::Arguments;
 use crate::element::ScriptElement;
 use crate::reply::{Reply, Said};
 use ac_base::Fault;
-use ac_check::{HolderCall, Operation};
 use ac_forms::Holder;
+use ac_syntax::{HolderCall, Operation};
 use std::alloc::Global;
 
 /// Makes a call on a holder that is its own source, where the call has one.

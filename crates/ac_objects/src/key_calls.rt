@@ -1,6 +1,6 @@
 //! The calls of keyed sets by a key.
 ghost use Rattle.std.specs.Prelude.{◌≡◌};
-ghost use Rattle.ac_check.specs.declared.operation.Operation.TheVariants.{Keyed};
+ghost use Rattle.ac_syntax.specs.declared.operation.Operation.TheVariants.{Keyed};
 ghost use Rattle.ac_objects.specs.KeyCalls.{KeyedOperated};
 ghost use Rattle.ac_objects.specs.KeyedSets.{keyed_kind};
 ghost use Rattle.ac_objects.specs.Replied.{told};
@@ -14,7 +14,7 @@ use crate::keyed_set::KeyedSet;
 use crate::reply::{Reply, Said};
 use crate::set::Set;
 use ac_base::Fault;
-use ac_check::KeyedCall;
+use ac_syntax::KeyedCall;
 use std::alloc::Global;
 
 /// A call by a key.

@@ -12,8 +12,8 @@ use crate::reply::{Reply, Said};
 use crate::row_cursors;
 use crate::row_object::RowObject;
 use ac_base::Fault;
-use ac_check::WalkCall;
 use ac_cursor::Cursor;
+use ac_syntax::WalkCall;
 
 /// A map or a set.
 pub trait KeyedRows: RowObject {

@@ -10,9 +10,9 @@ use crate::argument::Arguments;
 use crate::element::ScriptElement;
 use crate::reply::{Reply, Said};
 use ac_base::Fault;
-use ac_check::ListCall;
 use ac_cursor::Cursor;
 use ac_list::List;
+use ac_syntax::ListCall;
 
 /// A call of lists alone, where the list is its own source if the call has one.
 pub fn list_call<T: ScriptElement>(

@@ -15,8 +15,8 @@ use crate::element::ScriptElement;
 use crate::map::Map;
 use crate::reply::Reply;
 use ac_base::Fault;
-use ac_check::{MapCall, OrderedMapCall};
 use ac_ordered::OrderedMap;
+use ac_syntax::{MapCall, OrderedMapCall};
 use std::alloc::Global;
 
 /// A call of maps.

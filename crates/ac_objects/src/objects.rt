@@ -16,8 +16,9 @@ use crate::reading::said_of;
 use crate::reply::{Said, say};
 use crate::values::integer_in;
 use ac_base::{Fault, NoMemory, Reason, Value};
-use ac_check::{Operation, ResolvedArg};
+use ac_check::ResolvedArg;
 use ac_cursor::TagMint;
+use ac_syntax::Operation;
 use std::alloc::Global;
 use std::marker::Model;
 

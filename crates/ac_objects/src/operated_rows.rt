@@ -1,7 +1,7 @@
 //! Objects with rows as the operations of scripts find them. They stand apart from `RowObject`, so that the calls that an operation goes to can ask that of the object.
 ghost use Rattle.std.specs.Prelude.{◌≡◌, ℕ};
 ghost use Rattle.ac_model.specs.Objects.{Object, plain};
-ghost use Rattle.ac_check.specs.declared.operation.Operation.{Operation as Operations};
+ghost use Rattle.ac_syntax.specs.declared.operation.Operation.{Operation as Operations};
 ghost use Rattle.ac_meaning.specs.Replies as replies;
 ghost use Rattle.ac_meaning.specs.Holdings.{seen_in};
 ghost use Rattle.ac_meaning.specs.Replies.{itself, another, arguments_seen};
@@ -12,7 +12,7 @@ use crate::argument::Arguments;
 use crate::reply::Reply;
 use crate::row_object::RowObject;
 use ac_base::Fault;
-use ac_check::Operation;
+use ac_syntax::Operation;
 use std::alloc::Global;
 
 /// An object with rows on which operations are made.

@@ -19,7 +19,7 @@ use crate::sequence_calls::sequence_call;
 use crate::sequence_source_calls::sequence_call_with;
 use crate::vector_calls::{vector_call, vector_call_with};
 use ac_base::Fault;
-use ac_check::{CapacityCall, ListCall, Operation, VectorCall};
+use ac_syntax::{CapacityCall, ListCall, Operation, VectorCall};
 use std::alloc::Global;
 
 /// Makes a call on a list or a vector that is its own source, where the call has one.

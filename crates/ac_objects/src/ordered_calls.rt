@@ -16,8 +16,8 @@ ghost use Rattle.ac_objects.specs.RowCalls.{GivesValue, RowsReplied};
 use crate::argument::Arguments;
 use crate::reply::{Reply, Said};
 use ac_base::{Fault, Value};
-use ac_check::OrderedCall;
 use ac_cursor::Cursor;
+use ac_syntax::OrderedCall;
 use std::alloc::Global;
 
 /// Ordered maps and sets.

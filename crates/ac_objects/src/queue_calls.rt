@@ -13,8 +13,8 @@ use crate::argument::Arguments;
 use crate::reply::{Reply, Said};
 use crate::values::integer_in;
 use ac_base::{Fault, GREATEST_LENGTH, Limit, Reason, Value};
-use ac_check::{Operation, QueueCall};
 use ac_queue::{AnyQueue, Dequeued};
+use ac_syntax::{Operation, QueueCall};
 
 /// Makes a call on a queue.
 pub fn operate_queue(

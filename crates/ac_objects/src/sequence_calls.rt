@@ -16,7 +16,7 @@ use crate::reply::{Reply, Said};
 use crate::row_cursors;
 use crate::sequence::Sequence;
 use ac_base::Fault;
-use ac_check::SequenceCall;
+use ac_syntax::SequenceCall;
 use std::alloc::Global;
 
 /// A call that lists and vectors share.

@@ -13,7 +13,7 @@ use crate::reply::{Reply, Said};
 use crate::sequence::Sequence;
 use crate::sequence_calls::sequence_call;
 use ac_base::Fault;
-use ac_check::SequenceCall;
+use ac_syntax::SequenceCall;
 use std::alloc::Global;
 
 /// A call that lists and vectors share.

@@ -13,8 +13,8 @@ use crate::element::ScriptElement;
 use crate::reply::Reply;
 use crate::set::Set;
 use ac_base::Fault;
-use ac_check::{OrderedSetCall, SetCall};
 use ac_ordered::OrderedSet;
+use ac_syntax::{OrderedSetCall, SetCall};
 use std::alloc::Global;
 
 /// A call of sets alone.

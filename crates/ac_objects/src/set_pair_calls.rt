@@ -11,7 +11,7 @@ use crate::element::ScriptElement;
 use crate::reply::Reply;
 use crate::set::Set;
 use ac_base::Fault;
-use ac_check::SetPairCall;
+use ac_syntax::SetPairCall;
 
 /// A call of two sets, with the set itself as the source.
 pub fn set_pair_call<T: ScriptElement>(

@@ -10,7 +10,7 @@ use crate::capacity_calls::WithCapacity;
 use crate::element::ScriptElement;
 use crate::reply::{Reply, Said};
 use ac_base::{Fault, Value};
-use ac_check::VectorCall;
+use ac_syntax::VectorCall;
 use ac_vector::Vector;
 pub use copies::vector_call_with;
 use std::alloc::Global;

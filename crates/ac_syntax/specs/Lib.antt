@@ -5,6 +5,7 @@ pub mod StatementsFall
 pub mod Characters
 pub mod Tokens
 pub mod Items
+pub mod Kinds
 pub mod Parts
 pub mod Grammar
 pub mod Limits

@@ -8,6 +8,7 @@ mod fault;
 mod ident;
 mod kind;
 mod law;
+mod operation;
 mod piece;
 mod refusal;
 mod script;
@@ -26,6 +27,11 @@ pub use kind::{ElemKind, Kind};
 pub use law::{
     blanks, examples, forms, items_alone, items_order, one_refusal, refusals, round_trip,
     task_limits, tasks, well_formed, words,
+};
+pub use operation::{
+    CapacityCall, CommonCall, HolderCall, KeyedCall, ListCall, MapCall, Operation, OrderedCall,
+    OrderedMapCall, OrderedSetCall, QueueCall, SequenceCall, SetCall, SetPairCall, TreeCall,
+    TreeChangeCall, VectorCall, WalkCall,
 };
 pub use piece::Piece;
 pub use refusal::RefusalKind;

@@ -11,8 +11,8 @@ use super::CommonRows;
 use crate::argument::Arguments;
 use crate::reply::{Reply, Said};
 use ac_base::Fault;
-use ac_check::CommonCall;
 use ac_model::allowed;
+use ac_syntax::CommonCall;
 use std::alloc::Global;
 
 pub fn clear<C: CommonRows>(object: &mut C, reply: &mut Reply) -> Result<(), Fault>

@@ -8,8 +8,8 @@ use crate::element::ScriptElement;
 use crate::keyed_set::KeyedSet;
 use crate::reply::{Reply, Said};
 use ac_base::{Fault, KeyedText, Text};
-use ac_check::KeyedCall;
 use ac_ordered::OrderedSet;
+use ac_syntax::KeyedCall;
 use std::alloc::Global;
 
 pub fn key(set: &KeyedSet, alloc: Global, args: &Arguments, reply: &mut Reply) -> Result<(), Fault>

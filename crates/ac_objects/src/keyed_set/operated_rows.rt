@@ -9,7 +9,7 @@ use crate::operated_rows::OperatedRows;
 use crate::reply::Reply;
 use crate::set::operating;
 use ac_base::Fault;
-use ac_check::Operation;
+use ac_syntax::Operation;
 use std::alloc::Global;
 
 impl OperatedRows for KeyedSet {

@@ -9,7 +9,7 @@ use crate::element::ScriptElement;
 use crate::operated_rows::OperatedRows;
 use crate::reply::Reply;
 use ac_base::Fault;
-use ac_check::Operation;
+use ac_syntax::Operation;
 use std::alloc::Global;
 
 impl<K: ScriptElement, V: ScriptElement> OperatedRows for Map<K, V> {

@@ -1,7 +1,7 @@
 //! Operations on maps: each goes to the calls that mean it.
 ghost use Rattle.std.specs.Prelude.{◌≡◌};
 ghost use Rattle.ac_model.specs.Objects.{plain};
-ghost use Rattle.ac_check.specs.declared.operation.CommonCall.{CommonCall as CommonCalls};
+ghost use Rattle.ac_syntax.specs.declared.operation.CommonCall.{CommonCall as CommonCalls};
 ghost use Rattle.ac_meaning.specs.MapReplies.{map_reply};
 ghost use Rattle.ac_meaning.specs.Replies.{itself, another, seen_by};
 ghost use Rattle.ac_objects.specs.Arguments.{AllAgree, arguments_of};
@@ -19,7 +19,7 @@ use crate::map_calls::{map_call, ordered_map_call};
 use crate::ordered_calls::ordered_call;
 use crate::reply::{Reply, Said};
 use ac_base::Fault;
-use ac_check::{CapacityCall, Operation, OrderedCall, OrderedMapCall};
+use ac_syntax::{CapacityCall, Operation, OrderedCall, OrderedMapCall};
 use std::alloc::Global;
 
 /// Makes a call on a map that is its own source, where the call has one.

@@ -8,7 +8,7 @@ use crate::element::ScriptElement;
 use crate::map::Map;
 use crate::reply::{Reply, Said};
 use ac_base::Fault;
-use ac_check::MapCall;
+use ac_syntax::MapCall;
 use std::alloc::Global;
 
 pub fn key<K: ScriptElement, V: ScriptElement>(

@@ -10,8 +10,8 @@ use crate::argument::Arguments;
 use crate::element::ScriptElement;
 use crate::reply::{Reply, Said};
 use ac_base::Fault;
-use ac_check::OrderedMapCall;
 use ac_ordered::OrderedMap;
+use ac_syntax::OrderedMapCall;
 use std::alloc::Global;
 
 pub fn first_key<K: ScriptElement, V: ScriptElement>(

@@ -9,7 +9,7 @@ use crate::operated_rows::OperatedRows;
 use crate::operating::{operate, operate_with};
 use crate::reply::Reply;
 use ac_base::Fault;
-use ac_check::Operation;
+use ac_syntax::Operation;
 use std::alloc::Global;
 
 impl<T: ScriptElement> OperatedRows for Sequence<T> {

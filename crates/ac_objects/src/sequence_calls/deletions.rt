@@ -9,7 +9,7 @@ use crate::element::ScriptElement;
 use crate::reply::{Reply, Said};
 use crate::sequence::Sequence;
 use ac_base::Fault;
-use ac_check::SequenceCall;
+use ac_syntax::SequenceCall;
 
 #[inline(never)]
 pub fn delete<T: ScriptElement>(

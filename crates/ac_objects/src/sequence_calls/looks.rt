@@ -13,7 +13,7 @@ use crate::reply::{Reply, Said};
 use crate::row_cursors;
 use crate::sequence::Sequence;
 use ac_base::Fault;
-use ac_check::SequenceCall;
+use ac_syntax::SequenceCall;
 use std::alloc::Global;
 
 pub fn first_element<T: ScriptElement>(

@@ -10,7 +10,7 @@ use crate::element::ScriptElement;
 use crate::reply::{Reply, Said};
 use crate::sequence::Sequence;
 use ac_base::Fault;
-use ac_check::SequenceCall;
+use ac_syntax::SequenceCall;
 use std::alloc::Global;
 
 pub fn append<T: ScriptElement>(

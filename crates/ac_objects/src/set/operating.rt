@@ -19,7 +19,7 @@ use crate::reply::{Reply, Said};
 use crate::set_calls::{ordered_set_call, set_call};
 use crate::set_pair_calls::{set_pair_call, set_pair_call_with};
 use ac_base::Fault;
-use ac_check::{CapacityCall, Operation, OrderedCall, OrderedSetCall};
+use ac_syntax::{CapacityCall, Operation, OrderedCall, OrderedSetCall};
 use std::alloc::Global;
 
 /// Makes a call on a set that is its own source, where the call has one.

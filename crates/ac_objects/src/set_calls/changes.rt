@@ -10,8 +10,8 @@ use crate::element::ScriptElement;
 use crate::reply::{Placed, Reply, Said};
 use crate::set::Set;
 use ac_base::Fault;
-use ac_check::SetCall;
 use ac_cursor::Cursor;
+use ac_syntax::SetCall;
 use std::alloc::Global;
 
 pub fn insert<T: ScriptElement>(

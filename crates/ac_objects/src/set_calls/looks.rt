@@ -8,8 +8,8 @@ use crate::element::ScriptElement;
 use crate::reply::{Reply, Said};
 use crate::set::Set;
 use ac_base::Fault;
-use ac_check::{OrderedSetCall, SetCall};
 use ac_ordered::OrderedSet;
+use ac_syntax::{OrderedSetCall, SetCall};
 use std::alloc::Global;
 
 pub fn find<T: ScriptElement>(

@@ -7,7 +7,7 @@ use crate::argument::Arguments;
 use crate::element::ScriptElement;
 use crate::reply::{Reply, Said};
 use ac_base::{Fault, Value};
-use ac_check::TreeCall;
+use ac_syntax::TreeCall;
 use ac_tree::Tree;
 use std::alloc::Global;
 

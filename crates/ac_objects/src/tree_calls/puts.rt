@@ -7,7 +7,7 @@ use crate::argument::Arguments;
 use crate::element::ScriptElement;
 use crate::reply::{Reply, Said};
 use ac_base::Fault;
-use ac_check::TreeChangeCall;
+use ac_syntax::TreeChangeCall;
 use ac_tree::Tree;
 use std::alloc::Global;
 

@@ -9,7 +9,7 @@ use crate::operated_rows::OperatedRows;
 use crate::reply::{Reply, Said};
 use crate::tree_calls::{tree_change, tree_change_with, tree_look};
 use ac_base::Fault;
-use ac_check::Operation;
+use ac_syntax::Operation;
 use ac_tree::Tree;
 use std::alloc::Global;
 

@@ -12,8 +12,8 @@ use crate::argument::Arguments;
 use crate::element::ScriptElement;
 use crate::reply::{Reply, Said};
 use ac_base::Fault;
-use ac_check::VectorCall;
 use ac_cursor::Cursor;
+use ac_syntax::VectorCall;
 use ac_vector::Vector;
 use std::alloc::Global;
 

@@ -11,8 +11,8 @@ use crate::argument::{Argument, Arguments};
 use crate::element::ScriptElement;
 use crate::reply::{Reply, Said};
 use ac_base::{Fault, Value};
-use ac_check::VectorCall;
 use ac_cursor::Cursor;
+use ac_syntax::VectorCall;
 use ac_vector::Vector;
 use std::alloc::Global;
 

@@ -1,6 +1,6 @@
 use Rattle.std.proofs.Common.{ap, ◌∙◌}
 use Rattle.ac_syntax.specs.declared.kind.ElemKind.TheVariants.{Integer, Str}
-use Rattle.ac_check.specs.Kinds.{is_holder}
+use Rattle.ac_syntax.specs.Kinds.{is_holder}
 use Rattle.ac_objects.specs.World.{held_in}
 use Rattle.ac_objects.proofs.CalledHolders.{integer_holder, text_holder}
 use Rattle.ac_objects.proofs.NewObjects.{of_holder_type}

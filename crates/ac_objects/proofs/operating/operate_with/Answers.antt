@@ -1,5 +1,5 @@
 use Rattle.std.proofs.Common.{rules, refl, subst, sym}
-use Rattle.ac_check.specs.declared.operation.Operation.TheVariants.{Common, Sequence, Capacity, Vector, List}
+use Rattle.ac_syntax.specs.declared.operation.Operation.TheVariants.{Common, Sequence, Capacity, Vector, List}
 use Rattle.ac_model.specs.Objects.{plain}
 use Rattle.ac_meaning.specs.Holdings.{reply_by}
 use Rattle.ac_meaning.specs.Replies.{another, seen_by}

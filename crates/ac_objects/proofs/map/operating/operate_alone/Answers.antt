@@ -1,5 +1,5 @@
 use Rattle.std.proofs.Common.{rules, subst, sym}
-use Rattle.ac_check.specs.declared.operation.Operation.TheVariants.{Walk, Map, Capacity, Ordered, OrderedMap}
+use Rattle.ac_syntax.specs.declared.operation.Operation.TheVariants.{Walk, Map, Capacity, Ordered, OrderedMap}
 use Rattle.ac_model.specs.Objects.{plain}
 use Rattle.ac_objects.specs.Arguments.{marked}
 use Rattle.ac_objects.specs.Maps.{entries_of, map_kind_of}

@@ -1,5 +1,5 @@
 use Rattle.std.proofs.Common.{refl}
-use Rattle.ac_check.specs.declared.operation.Operation.TheVariants.{Common}
+use Rattle.ac_syntax.specs.declared.operation.Operation.TheVariants.{Common}
 use Rattle.ac_model.specs.Objects.{plain}
 use Rattle.ac_meaning.specs.MapReplies.{map_reply}
 use Rattle.ac_meaning.specs.Replies.{another}

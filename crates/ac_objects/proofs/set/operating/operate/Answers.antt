@@ -1,5 +1,5 @@
 use Rattle.std.proofs.Common.{rules, subst, sym}
-use Rattle.ac_check.specs.declared.operation.Operation.TheVariants.{Common, Walk, Set, SetPair, Capacity, Ordered, OrderedSet}
+use Rattle.ac_syntax.specs.declared.operation.Operation.TheVariants.{Common, Walk, Set, SetPair, Capacity, Ordered, OrderedSet}
 use Rattle.ac_model.specs.Objects.{plain}
 use Rattle.ac_meaning.specs.Replies.{itself, seen_by}
 use Rattle.ac_meaning.specs.SetReplies.{set_reply}

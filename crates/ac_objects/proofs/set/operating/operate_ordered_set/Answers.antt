@@ -1,5 +1,5 @@
 use Rattle.std.proofs.Common.{sym, subst}
-use Rattle.ac_check.specs.declared.operation.Operation.TheVariants.{OrderedSet}
+use Rattle.ac_syntax.specs.declared.operation.Operation.TheVariants.{OrderedSet}
 use Rattle.ac_objects.specs.Replied.{told}
 use Rattle.ac_objects.specs.SetCalls.{OrderedSetReplied, SetOperated}
 use Rattle.ac_objects.proofs.SetOperations.{own_tools}

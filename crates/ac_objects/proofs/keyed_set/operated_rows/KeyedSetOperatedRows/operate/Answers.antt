@@ -1,5 +1,5 @@
 use Rattle.std.proofs.Common.{subst, sym}
-use Rattle.ac_check.specs.declared.operation.Operation.TheVariants.{Keyed}
+use Rattle.ac_syntax.specs.declared.operation.Operation.TheVariants.{Keyed}
 use Rattle.ac_model.specs.Objects.{plain}
 use Rattle.ac_meaning.specs.KeyedSetReplies.{keyed_set_reply}
 use Rattle.ac_meaning.specs.Replies.{itself, seen_by}

@@ -1,5 +1,5 @@
 use Rattle.std.proofs.Common.{rules, subst, sym, true, refl, Ok}
-use Rattle.ac_check.specs.declared.operation.Operation.TheVariants.{Common, Tree, TreeChange}
+use Rattle.ac_syntax.specs.declared.operation.Operation.TheVariants.{Common, Tree, TreeChange}
 use Rattle.ac_model.specs.Objects.{plain}
 use Rattle.ac_meaning.specs.TreeReplies.{tree_reply}
 use Rattle.ac_meaning.specs.Replies.{another}
