@@ -18,8 +18,8 @@ use Rattle.ac_syntax.specs.declared.type_def.TypeDef.{TypeDef}
 use Rattle.ac_check.specs.Resolved.{ResolvedCode, ResolvedHead, loops_at, views_at, stables_at}
 use Rattle.ac_check.specs.declared.resolved.ResolvedDecl.{ResolvedDecl}
 use Rattle.ac_check.specs.declared.resolved.ResolvedDecl.TheVariants as decl
-use Rattle.ac_meaning.specs.Answers.{line, lines_text, answers_raised}
-use Rattle.ac_meaning.specs.Holdings.{Held, of_rows, of_holder, of_queue, takes_guards, Guards, number_of, names_of, new_held, held_under, guard_on}
+use Rattle.ac_calls.specs.Answers.{line, lines_text, answers_raised}
+use Rattle.ac_calls.specs.Holdings.{Held, of_rows, of_holder, of_queue, takes_guards, Guards, number_of, names_of, new_held, held_under, guard_on}
 use Rattle.ac_meaning.specs.Environment.{Bound, binds_type, binds_object, binds_cursor, binds_value, binds_element, bound_by, bound_in, object_in, mark_in, State, objects_by, under, bound_at, object_at, guarded_at, mark_at, with_name, leaving, number_taken, Declared, declared, unless_spent, after_decl, after_decls}
 use Rattle.ac_meaning.specs.Execution.{Outcome, outcome, Orders, one_line, exec_resolved, guards_of_loop, guards_of_stable, guards_of_view, head_reason, in_order, turn_bound, turns, view_on, viewed, on_object, after_declared, scoped}
 use Rattle.ac_meaning.specs.GuardedNames.{of_element, frame, kept}

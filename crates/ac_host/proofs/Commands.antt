@@ -4,14 +4,14 @@ use Rattle.std.proofs.lemmas.Result.{on_ok_weaker}
 use Rattle.ac_base.specs.declared.fault.Fault.{Fault}
 use Rattle.ac_base.specs.declared.fault.Fault.TheVariants as fault
 use Rattle.ac_check.specs.Resolved.{ResolvedSimple}
-use Rattle.ac_meaning.specs.Answers.{line, lines_text}
-use Rattle.ac_meaning.specs.Holdings.{Guards}
+use Rattle.ac_calls.specs.Answers.{line, lines_text}
+use Rattle.ac_calls.specs.Holdings.{Guards}
 use Rattle.ac_meaning.specs.Environment.{State, under, at_rest}
 use Rattle.ac_meaning.specs.Commands.{Performed, performed, number_in}
 use Rattle.ac_meaning.specs.Execution.{commanded}
 use Rattle.ac_meaning.proofs.CountsStay.{counts_are_the_guards, commands_keep_counts}
 use Rattle.ac_model.specs.Calls.{Done}
-use Rattle.ac_objects.specs.declared.reply.Said.{Said}
+use Rattle.ac_calls.specs.declared.reply.Said.{Said}
 use Rattle.ac_objects.specs.Performs.{Performs, answered}
 use Rattle.ac_objects.specs.World.{World, state_of}
 use Rattle.ac_host.specs.declared.end.HostEnd.{HostEnd}

@@ -9,7 +9,7 @@ use Rattle.ac_base.specs.Guards.{HeldGuard, GuardCounts, count_of, one_more, one
 use Rattle.ac_model.specs.Objects.{Object}
 use Rattle.ac_model.specs.Holders.{Holder}
 use Rattle.ac_model.specs.Common.{hold_call, release_call, guards_on}
-use Rattle.ac_meaning.specs.Holdings.{Held, of_rows, of_holder, of_queue, takes_guards, as_object, counted_as, Guards, number_of}
+use Rattle.ac_calls.specs.Holdings.{Held, of_rows, of_holder, of_queue, takes_guards, as_object, counted_as, Guards, number_of}
 use Rattle.ac_meaning.specs.Environment.{Bound, binds_type, binds_object, binds_cursor, binds_value, binds_element, bound_by, bound_in, object_in, State, objects_by, under, bound_at, object_at, leaving}
 use Rattle.ac_meaning.specs.UnderGuards.{held_with, held_without}
 use Rattle.ac_meaning.proofs.CountsStay.{guards_come_and_go, release_hold, objects_twice, objects_alike, bound_under}

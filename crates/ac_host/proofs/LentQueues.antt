@@ -14,8 +14,8 @@ use Rattle.ac_model.specs.Queues.{TaskQueue}
 use Rattle.ac_history.specs.Steps.{step_call}
 use Rattle.ac_history.proofs.Starts.{turns_keep_start}
 use Rattle.ac_check.specs.Resolved.{ResolvedCode}
-use Rattle.ac_meaning.specs.Answers.{lines_text}
-use Rattle.ac_meaning.specs.Holdings.{Held, of_rows, of_holder, of_queue, Guards, held_under}
+use Rattle.ac_calls.specs.Answers.{lines_text}
+use Rattle.ac_calls.specs.Holdings.{Held, of_rows, of_holder, of_queue, Guards, held_under}
 use Rattle.ac_meaning.specs.Environment.{binds_object, State, under, object_at}
 use Rattle.ac_meaning.specs.Execution.{Outcome, outcome, Orders, run_by, gathered}
 use Rattle.ac_meaning.specs.TaskBlocks.{Task, block_fits, block_lines, block_of, code_fits, is_ranked, one_block_more, queue_in, queue_left, queue_places, queues_at, queues_left, tasks_from, tasks_of}

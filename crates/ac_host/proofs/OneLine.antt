@@ -4,10 +4,10 @@ use Rattle.std.proofs.lemmas.Result.{err_from_is_err_and}
 use Rattle.ac_base.specs.declared.cursor.Cursor.TheVariants as cursor
 use Rattle.ac_io.specs.Pieces.{Adds}
 use Rattle.ac_io.proofs.Telling.{adds_broken, written_whole, written_room}
-use Rattle.ac_meaning.specs.Answers.{Line, Answer, line, line_text, lines_text, answer_text, answers_list}
+use Rattle.ac_calls.specs.Answers.{Line, Answer, line, line_text, lines_text, answer_text, answers_list}
 use Rattle.ac_meaning.specs.Environment.{State}
-use Rattle.ac_objects.specs.declared.reply.Said.{Said}
-use Rattle.ac_objects.specs.declared.reply.Said.TheVariants.{Done, Value, Truth, Place, Listing, Stalled}
+use Rattle.ac_calls.specs.declared.reply.Said.{Said}
+use Rattle.ac_calls.specs.declared.reply.Said.TheVariants.{Done, Value, Truth, Place, Listing, Stalled}
 use Rattle.ac_objects.specs.Shown.{Shows}
 use Rattle.ac_host.specs.declared.end.HostEnd.{HostEnd}
 use Rattle.ac_host.specs.declared.end.HostEnd.TheVariants.{WriteFault, NoMemory}

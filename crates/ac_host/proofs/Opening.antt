@@ -17,7 +17,7 @@ use Rattle.ac_model.proofs.Reasons.{none_others}
 use Rattle.ac_syntax.specs.declared.view_kind.ViewKind.{ViewKind}
 use Rattle.ac_syntax.specs.declared.view_kind.ViewKind.TheVariants.{Query, Update, Reference, UpdateKey}
 use Rattle.ac_model.specs.Queues.{TaskQueue}
-use Rattle.ac_meaning.specs.Holdings.{RowKind, RowOf, a_sequence, a_map, a_set, a_keyed_set, a_tree, have_root, Held, of_rows, of_holder, of_queue, Guards, number_of, names_of, has_root, holds_element, held_under, guard_on, element_value}
+use Rattle.ac_calls.specs.Holdings.{RowKind, RowOf, a_sequence, a_map, a_set, a_keyed_set, a_tree, have_root, Held, of_rows, of_holder, of_queue, Guards, number_of, names_of, has_root, holds_element, held_under, guard_on, element_value}
 use Rattle.ac_meaning.specs.Environment.{Bound, binds_value, binds_element, bound_by, State, under, object_at, with_name, leaving}
 use Rattle.ac_meaning.specs.Execution.{guards_of_loop, guards_of_stable, guards_of_view, head_reason, in_order}
 use Rattle.ac_meaning.specs.GuardedNames.{is_guarded, is_element_guarded, of_object, frame, kept}

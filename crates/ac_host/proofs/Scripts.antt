@@ -8,8 +8,8 @@ use Rattle.ac_syntax.specs.declared.script.Script.{Script}
 use Rattle.ac_check.specs.Scopes.{with_decls}
 use Rattle.ac_check.specs.Resolved.{ResolvedCode, resolve, resolve_decls}
 use Rattle.ac_check.specs.declared.resolved.ResolvedDecl.{ResolvedDecl}
-use Rattle.ac_meaning.specs.Answers.{lines_text}
-use Rattle.ac_meaning.specs.Holdings.{of_rows, of_holder, of_queue, Guards, held_under}
+use Rattle.ac_calls.specs.Answers.{lines_text}
+use Rattle.ac_calls.specs.Holdings.{of_rows, of_holder, of_queue, Guards, held_under}
 use Rattle.ac_meaning.specs.Environment.{Bound, binds_type, binds_object, binds_cursor, binds_value, binds_element, bound_by, State, first_state, under, after_decls, nodes_in, nodes}
 use Rattle.ac_meaning.specs.Execution.{Outcome, Orders, exec_resolved, no_orders, run, run_with, text_of, text_with}
 use Rattle.ac_meaning.proofs.NewObjects.{new_objects_are_unguarded}

@@ -6,7 +6,7 @@ use Rattle.ac_check.specs.ResolvedStatements.{resolved_before, resolved_of}
 use Rattle.ac_check.specs.declared.resolved.ResolvedStmt.{ResolvedStmt}
 use Rattle.ac_check.specs.declared.resolved.ResolvedStmt.TheVariants.{Call, Set, Sum, Loop, View, Stable, Declare, Tasks}
 use Rattle.ac_check.proofs.Outcomes.{next_item}
-use Rattle.ac_meaning.specs.Holdings.{Guards}
+use Rattle.ac_calls.specs.Holdings.{Guards}
 use Rattle.ac_meaning.specs.Environment.{State}
 use Rattle.ac_meaning.specs.Execution.{Outcome, outcome, Orders, followed, exec_resolved}
 use Rattle.ac_host.specs.Ready.{Ready}

@@ -2,10 +2,10 @@
 use Rattle.std.proofs.Common.{◌≡◌, ◌+◌, ℕ, Bool, List, [], ◌∷◌, refl, subst, Option, Result, Ok, OnOk, IsErrAnd}
 use Rattle.std.proofs.lemmas.List.Elements.{All-nil, All-cons}
 use Rattle.ac_check.specs.Resolved.{ResolvedCode}
-use Rattle.ac_meaning.specs.Answers.{lines_text}
+use Rattle.ac_calls.specs.Answers.{lines_text}
 use Rattle.ac_meaning.specs.Environment.{State}
 use Rattle.ac_meaning.specs.Execution.{Orders, outcome, gathered}
-use Rattle.ac_meaning.specs.Holdings.{Guards}
+use Rattle.ac_calls.specs.Holdings.{Guards}
 use Rattle.ac_objects.specs.World.{World}
 use Rattle.ac_host.specs.declared.end.HostEnd.{HostEnd}
 use Rattle.ac_host.specs.declared.end.HostEnd.TheVariants.{NoMemory}

@@ -2,7 +2,7 @@
 use Rattle.std.proofs.Common.{◌≡◌, ◌≢◌, ◌-◌, ◌≤◌, ℕ, Bool, List, [], ◌∷◌, ◌++◌, length, refl, sym, ap, subst, ◌∙◌, Option, Some, None, IfSome, append_assoc, append-nil, length-append, arith}
 use Rattle.std.proofs.lemmas.Option.{none-some, same_Some}
 use Rattle.ac_io.specs.Outside.{Rose, GrewBy, GrewByFront}
-use Rattle.ac_meaning.specs.Answers.{Line, line_text, lines_text}
+use Rattle.ac_calls.specs.Answers.{Line, line_text, lines_text}
 use Rattle.ac_meaning.specs.Environment.{State}
 use Rattle.ac_meaning.specs.Execution.{Outcome, outcome, followed}
 use Rattle.ac_host.specs.declared.end.HostEnd.{HostEnd}

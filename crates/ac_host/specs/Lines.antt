@@ -3,9 +3,9 @@ use Rattle.std.specs.Prelude.{ℕ, codes, Bool, true, false, List, []}
 use Rattle.ac_base.specs.declared.cursor.Cursor.TheVariants as cursor
 use Rattle.ac_base.specs.declared.value.Value.TheVariants as value
 use Rattle.ac_syntax.specs.Canonical.{literal_text}
-use Rattle.ac_meaning.specs.Answers.{truth_text}
-use Rattle.ac_objects.specs.declared.reply.Said.{Said}
-use Rattle.ac_objects.specs.declared.reply.Said.TheVariants.{Done, Value, Truth, Place, Listing, Stalled}
+use Rattle.ac_calls.specs.Answers.{truth_text}
+use Rattle.ac_calls.specs.declared.reply.Said.{Said}
+use Rattle.ac_calls.specs.declared.reply.Said.TheVariants.{Done, Value, Truth, Place, Listing, Stalled}
 
 -- the answer is an object's listing
 abbrev pub is_listing : Said → Bool

@@ -1,7 +1,7 @@
 -- What is known where statements stand: which guards are held, and that the elements for which names stand have one.
 use Rattle.std.specs.Prelude.{◌≡◌, ◌⊎◌, ℕ, Bool, true, List, ◌∷◌, ◌++◌, slice_get, Some}
 use Rattle.ac_model.specs.Letters.{Mark, mark_at}
-use Rattle.ac_meaning.specs.Holdings.{Guards}
+use Rattle.ac_calls.specs.Holdings.{Guards}
 use Rattle.ac_meaning.specs.Environment.{State, under}
 use Rattle.ac_meaning.specs.GuardedNames.{is_guarded, Frame, of_object, of_element, kept}
 use Rattle.ac_meaning.specs.Numbers.{NumbersDiffer, GuardsBelow}

@@ -6,7 +6,7 @@ use Rattle.ac_model.specs.Letters.{Mark}
 use Rattle.ac_check.specs.Resolved.{ResolvedCode, ResolvedHead, calls_at, sets_at, sums_at, loops_at, views_at, stables_at, declares_at}
 use Rattle.ac_check.specs.declared.resolved.ResolvedStmt.{ResolvedStmt}
 use Rattle.ac_check.specs.declared.resolved.ResolvedStmt.TheVariants.{Call, Set, Sum, Loop, View, Stable, Declare, Tasks}
-use Rattle.ac_meaning.specs.Holdings.{Held, Guards, number_of, names_of}
+use Rattle.ac_calls.specs.Holdings.{Held, Guards, number_of, names_of}
 use Rattle.ac_meaning.specs.Environment.{State, under, value_at, leaving}
 use Rattle.ac_meaning.specs.Execution.{Outcome, outcome, Orders, commanded, gathered, block_on, exec_resolved, in_order, guards_of_loop, key_end}
 use Rattle.ac_meaning.specs.GuardedNames.{is_guarded, of_object, kept}

@@ -1,9 +1,9 @@
 -- What was written of a text when a part of a script ended.
 use Rattle.std.specs.Prelude.{◌≡◌, ◌≢◌, ◌-◌, ◌≤◌, ℕ, Bool, true, List, ◌++◌, length, Option, Some, IfSome, Result, Ok, Err, OnOk}
 use Rattle.ac_io.specs.Outside.{Rose, GrewBy, GrewByFront}
-use Rattle.ac_meaning.specs.Answers.{lines_text}
+use Rattle.ac_calls.specs.Answers.{lines_text}
 use Rattle.ac_meaning.specs.Environment.{under}
-use Rattle.ac_meaning.specs.Holdings.{Guards}
+use Rattle.ac_calls.specs.Holdings.{Guards}
 use Rattle.ac_meaning.specs.Execution.{Outcome}
 use Rattle.ac_objects.specs.World.{World, state_of}
 use Rattle.ac_host.specs.declared.end.HostEnd.{HostEnd}

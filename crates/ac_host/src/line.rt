@@ -1,7 +1,7 @@
 //! The lines that a script's commands write.
 ghost use Rattle.std.specs.Prelude.{◌≡◌, ◌∷◌, ◌++◌, [], codes, decimal, OnOk};
 ghost use Rattle.ac_syntax.specs.Canonical.{literal_text};
-ghost use Rattle.ac_meaning.specs.Answers.{answers_raised, raised_text, line, line_text};
+ghost use Rattle.ac_calls.specs.Answers.{answers_raised, raised_text, line, line_text};
 
 use ac_base::{NoMemory, Reason, Value};
 use ac_script::append_literal;

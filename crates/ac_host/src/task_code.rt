@@ -4,7 +4,7 @@ ghost use Rattle.std.specs.List.{position_or_len};
 ghost use Rattle.ac_check.specs.Resolved.{calls_at, no_statement, sets_at, sums_at};
 ghost use Rattle.ac_check.specs.ResolvedStatements.{resolved_before};
 ghost use Rattle.ac_meaning.specs.Commands.{sum_of};
-ghost use Rattle.ac_meaning.specs.Elements.{integer_in};
+ghost use Rattle.ac_calls.specs.Elements.{integer_in};
 ghost use Rattle.ac_meaning.specs.TaskBlocks as meant;
 ghost use Rattle.ac_meaning.specs.TaskBlocks.{steps_of, tasks_from};
 

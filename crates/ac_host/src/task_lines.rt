@@ -2,7 +2,7 @@
 ghost use Rattle.std.specs.Prelude.{◌≡◌, ◌∷◌, [], ◌++◌, Some, OnOk, length};
 ghost use Rattle.std.specs.List.{slice_get};
 ghost use Rattle.ac_history.specs.Blocks.{present};
-ghost use Rattle.ac_meaning.specs.Answers.{answer_text, line_text, lines_text, task_line};
+ghost use Rattle.ac_calls.specs.Answers.{answer_text, line_text, lines_text, task_line};
 ghost use Rattle.ac_meaning.specs.TaskBlocks.{block_lines, history_lines, line_of, lines_at, reply_answer, stalled_lines};
 ghost use Rattle.ac_host.specs.TaskLines.{shown};
 ghost use Rattle.ac_host.specs.Writing.{Writes};

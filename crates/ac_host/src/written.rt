@@ -1,10 +1,10 @@
 //! The line of a command.
 ghost use Rattle.std.specs.Prelude.{◌≡◌, ◌≢◌, ◌≤◌, ℕ, ◌∷◌, ◌++◌, [], false, true, codes, decimal, drop, None, Some, Err, IfSome, OnOk};
 ghost use Rattle.ac_base.specs.declared.fault.Fault.TheVariants as fault;
-ghost use Rattle.ac_meaning.specs.Answers.{Answer, line, lines_text, answers_list, answers_raised};
+ghost use Rattle.ac_calls.specs.Answers.{Answer, line, lines_text, answers_list, answers_raised};
 ghost use Rattle.ac_meaning.specs.Commands.{Performed};
 ghost use Rattle.ac_meaning.specs.Environment.{State, object_at};
-ghost use Rattle.ac_meaning.specs.Holdings.{Held, listing_of};
+ghost use Rattle.ac_calls.specs.Holdings.{Held, listing_of};
 ghost use Rattle.ac_objects.specs.Performs.{Performs, answered};
 ghost use Rattle.ac_objects.specs.Shown.{Shows};
 ghost use Rattle.ac_objects.specs.World.{World, state_of};

@@ -4,7 +4,7 @@ use Rattle.ac_base.specs.declared.reason.Reason.{Reason}
 use Rattle.ac_base.specs.declared.guard.Class.TheVariants as class
 use Rattle.ac_base.specs.Tampering.{forbids}
 use Rattle.ac_model.specs.Objects.{Object}
-use Rattle.ac_meaning.specs.Holdings.{Held, of_rows, of_holder, of_queue}
+use Rattle.ac_calls.specs.Holdings.{Held, of_rows, of_holder, of_queue}
 use Rattle.ac_meaning.specs.Environment.{Bound, binds_type, binds_object, binds_cursor, binds_value, binds_element, State, bound_in, bound_at, with_bound, object_in}
 use Rattle.ac_meaning.specs.Stays.{Stays, HeldStays, BoundStays, EachStays, StateStays}
 use Rattle.ac_meaning.proofs.CallsStay.{none_some, same}

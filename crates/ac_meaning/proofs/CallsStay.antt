@@ -6,7 +6,7 @@ use Rattle.ac_base.specs.Rows.{Row, row, names}
 use Rattle.ac_model.specs.Rows.{with_value, with_some_value, with_exchanged_values, value_at, over}
 use Rattle.ac_model.specs.Objects.{Object, with_rows, grown, grown_unless}
 use Rattle.ac_model.specs.Letters.{tampers_cursors}
-use Rattle.ac_meaning.specs.Replies.{Arguments, Source, without, itself, another, by_source, Reply}
+use Rattle.ac_calls.specs.Replies.{Arguments, Source, without, itself, another, by_source, Reply}
 use Rattle.ac_meaning.specs.Stays.{Stays, SourceStays, ReplyStays}
 
 pub none_some : {A : Type 0} {B : Type 0} (x : A) → None ≡ Some x → B

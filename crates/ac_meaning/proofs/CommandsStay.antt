@@ -11,11 +11,11 @@ use Rattle.ac_model.specs.Letters.{Mark, name_of}
 use Rattle.ac_syntax.specs.declared.operation.Operation.{Operation}
 use Rattle.ac_check.specs.declared.resolved.ResolvedArg.{ResolvedArg}
 use Rattle.ac_check.specs.Resolved.{ResolvedSimple, calls_at, sets_at, sums_at}
-use Rattle.ac_meaning.specs.Elements.{ElementOf, tools_of, integer_in}
-use Rattle.ac_meaning.specs.Answers.{Answer, answers_ok, answers_value, answers_truth, answers_place, answers_list, answers_raised, answers_stalled, answers_integer}
-use Rattle.ac_meaning.specs.Replies.{Arguments, Source, itself, another, arguments_seen, source_in, Reply, Placed}
-use Rattle.ac_meaning.specs.Holdings.{RowKind, a_sequence, a_map, a_set, a_keyed_set, a_tree, RowOf, Held, of_rows, of_holder, of_queue, same_element, same_kind, rows_in, holder_in, rows_reply, seen_in, own_calls, write, reply_of}
-use Rattle.ac_meaning.specs.HolderReplies.{holder_source, holder_write}
+use Rattle.ac_calls.specs.Elements.{ElementOf, tools_of, integer_in}
+use Rattle.ac_calls.specs.Answers.{Answer, answers_ok, answers_value, answers_truth, answers_place, answers_list, answers_raised, answers_stalled, answers_integer}
+use Rattle.ac_calls.specs.Replies.{Arguments, Source, itself, another, arguments_seen, source_in, Reply, Placed}
+use Rattle.ac_calls.specs.Holdings.{RowKind, a_sequence, a_map, a_set, a_keyed_set, a_tree, RowOf, Held, of_rows, of_holder, of_queue, same_element, same_kind, rows_in, holder_in, rows_reply, seen_in, own_calls, write, reply_of}
+use Rattle.ac_calls.specs.HolderReplies.{holder_source, holder_write}
 use Rattle.ac_meaning.specs.Environment.{Bound, binds_type, binds_object, binds_cursor, binds_value, binds_element, State, bound_at, with_bound, object_at, value_at}
 use Rattle.ac_meaning.specs.Commands.{Assigned, value_set, mark_set, assigned, element_written, place_in, variable_to, variable_set, source_place, source_of, source_set, after_call, unless_refused, waits_or_goes, replied, call_on, arguments, answer_from, assigned_from, is_integer, sum_of, sum_assigned, performed}
 use Rattle.ac_meaning.specs.Stays.{Stays, SourceStays, ReplyStays, HeldStays, StateStays}

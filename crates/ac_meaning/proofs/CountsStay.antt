@@ -7,7 +7,7 @@ use Rattle.ac_base.specs.Guards.{HeldGuard}
 use Rattle.ac_model.specs.Objects.{Object}
 use Rattle.ac_model.specs.Holders.{Holder}
 use Rattle.ac_model.specs.Common.{hold_call, release_call, under_guards}
-use Rattle.ac_meaning.specs.Holdings.{Held, of_rows, of_holder, of_queue, as_object, counted_as, from_rows, Guards, is_kind, held_on, guarded, held_under}
+use Rattle.ac_calls.specs.Holdings.{Held, of_rows, of_holder, of_queue, as_object, counted_as, from_rows, Guards, is_kind, held_on, guarded, held_under}
 use Rattle.ac_meaning.specs.Environment.{Bound, binds_type, binds_object, binds_cursor, binds_value, binds_element, bound_by, bound_in, object_in, State, objects_by, under, bound_at, with_name, leaving}
 use Rattle.ac_meaning.specs.Commands.{performed}
 use Rattle.ac_meaning.specs.Stays.{Stays, HolderStays, HeldStays, BoundStays, EachStays}

@@ -12,7 +12,7 @@ use Rattle.ac_model.specs.Objects.{Object}
 use Rattle.ac_model.specs.Letters.{Mark, no_mark, mark_at, stale_mark, reason_if, needs}
 use Rattle.ac_model.specs.Cursors.{seen}
 use Rattle.ac_model.specs.Trees.{seen_in_tree, needs_node, needs_element, is_root, view_reason}
-use Rattle.ac_meaning.specs.Holdings.{RowKind, a_sequence, a_map, a_set, a_keyed_set, a_tree, RowOf, have_root, seen_in, own_calls}
+use Rattle.ac_calls.specs.Holdings.{RowKind, a_sequence, a_map, a_set, a_keyed_set, a_tree, RowOf, have_root, seen_in, own_calls}
 use Rattle.ac_meaning.proofs.CallsStay.{none_some, first_none, earlier_none}
 
 -- why an element is refused, in objects with a root and in others

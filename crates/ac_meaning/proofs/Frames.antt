@@ -6,7 +6,7 @@ use Rattle.std.proofs.lemmas.Option.{slice_get-map}
 use Rattle.std.proofs.Math.Seq.{take-append_seam}
 use Rattle.ac_base.specs.declared.guard.GuardKind.TheVariants as guard
 use Rattle.ac_base.specs.Guards.{HeldGuard}
-use Rattle.ac_meaning.specs.Holdings.{of_rows, of_holder, of_queue, Guards, is_on, held_under, number_of, names_of, holds_element, has_root}
+use Rattle.ac_calls.specs.Holdings.{of_rows, of_holder, of_queue, Guards, is_on, held_under, number_of, names_of, holds_element, has_root}
 use Rattle.ac_meaning.specs.Environment.{Bound, binds_type, binds_object, binds_cursor, binds_value, binds_element, bound_by, bound_in, State, under, at_rest, bound_at, with_bound, leaving}
 use Rattle.ac_meaning.specs.GuardedNames.{is_guarded, is_element_guarded, Frame, of_type, of_object, of_cursor, of_value, of_element, names_if, frame, kept}
 

@@ -7,7 +7,7 @@ use Rattle.ac_model.specs.Objects.{Object}
 use Rattle.ac_model.specs.Rows.{is_named}
 use Rattle.ac_syntax.specs.declared.view_kind.ViewKind.{ViewKind}
 use Rattle.ac_syntax.specs.declared.view_kind.ViewKind.TheVariants.{Query, Update, Reference, UpdateKey}
-use Rattle.ac_meaning.specs.Holdings.{RowKind, RowOf, have_root, Held, of_rows, of_holder, of_queue, Guards, number_of, names_of, holds_element, has_root, element_value}
+use Rattle.ac_calls.specs.Holdings.{RowKind, RowOf, have_root, Held, of_rows, of_holder, of_queue, Guards, number_of, names_of, holds_element, has_root, element_value}
 use Rattle.ac_meaning.specs.Environment.{Bound, binds_type, binds_object, binds_cursor, binds_value, binds_element, object_in, State, bound_at, with_name, leaving}
 use Rattle.ac_meaning.specs.Execution.{exec_resolved, guards_of_loop, guards_of_view}
 use Rattle.ac_meaning.specs.GuardedNames.{is_guarded, is_element_guarded, Frame, of_type, of_object, of_cursor, of_value, of_element, names_if, frame, GuardedGoesOn, GuardedStays, DesignatedStays, ElementGoesOn, ElementsStay, ViewsGuardElements, BlocksGuard, TurnsKeepNames}

@@ -1,6 +1,6 @@
 -- The object that a block finds to guard is the one at the place, where that takes guards.
 use Rattle.std.proofs.Common.{◌≡◌, ℕ, Bool, true, false, refl, sym, ap, ◌∙◌, if◌then◌else◌, Option, Some, None}
-use Rattle.ac_meaning.specs.Holdings.{Held, takes_guards}
+use Rattle.ac_calls.specs.Holdings.{Held, takes_guards}
 use Rattle.ac_meaning.specs.Environment.{State, object_at, only_guarded, guarded_at}
 use Rattle.ac_meaning.proofs.CallsStay.{none_some}
 

@@ -15,10 +15,10 @@ use Rattle.ac_syntax.specs.declared.operation.Operation.{Operation}
 use Rattle.ac_syntax.specs.declared.operation.Operation.TheVariants as operation
 use Rattle.ac_syntax.specs.declared.operation.HolderCall.{HolderCall}
 use Rattle.ac_syntax.specs.declared.operation.HolderCall.TheVariants as holder_call
-use Rattle.ac_meaning.specs.Elements.{Tools, ElementOf}
-use Rattle.ac_meaning.specs.Replies.{Arguments, Source, without, itself, another, by_source, Reply, changes_ok}
-use Rattle.ac_meaning.specs.HolderReplies.{holder_source, holder_write, holder_alone_reply, holder_reply}
-use Rattle.ac_meaning.specs.Holdings.{Held, of_rows, of_holder, of_queue, holds_element, element_value}
+use Rattle.ac_calls.specs.Elements.{Tools, ElementOf}
+use Rattle.ac_calls.specs.Replies.{Arguments, Source, without, itself, another, by_source, Reply, changes_ok}
+use Rattle.ac_calls.specs.HolderReplies.{holder_source, holder_write, holder_alone_reply, holder_reply}
+use Rattle.ac_calls.specs.Holdings.{Held, of_rows, of_holder, of_queue, holds_element, element_value}
 use Rattle.ac_meaning.specs.Stays.{HolderStays, HolderSourceStays, HolderReplyStays}
 use Rattle.ac_meaning.proofs.CallsStay.{none_some, first_none, second_none}
 

@@ -32,12 +32,12 @@ use Rattle.ac_syntax.specs.declared.operation.SetPairCall.{SetPairCall}
 use Rattle.ac_syntax.specs.declared.operation.SetPairCall.TheVariants as set_pair_call
 use Rattle.ac_syntax.specs.declared.operation.OrderedSetCall.{OrderedSetCall}
 use Rattle.ac_syntax.specs.declared.operation.OrderedSetCall.TheVariants as ordered_set_call
-use Rattle.ac_meaning.specs.Elements.{Tools, Text, texts, keyed_texts}
-use Rattle.ac_meaning.specs.KeyedReplies.{KeyedKind, of_hashed, of_ordered, order_by, walk_reply, ordered_reply}
-use Rattle.ac_meaning.specs.MapReplies.{map_own, map_alone_reply, ordered_map_reply, map_reply}
-use Rattle.ac_meaning.specs.SetReplies.{set_own, set_alone_reply, set_pair_reply, ordered_set_reply, set_reply}
-use Rattle.ac_meaning.specs.KeyedSetReplies.{key_reply, keyed_set_reply}
-use Rattle.ac_meaning.specs.Replies.{Arguments, Source, another, Reply}
+use Rattle.ac_calls.specs.Elements.{Tools, Text, texts, keyed_texts}
+use Rattle.ac_calls.specs.KeyedReplies.{KeyedKind, of_hashed, of_ordered, order_by, walk_reply, ordered_reply}
+use Rattle.ac_calls.specs.MapReplies.{map_own, map_alone_reply, ordered_map_reply, map_reply}
+use Rattle.ac_calls.specs.SetReplies.{set_own, set_alone_reply, set_pair_reply, ordered_set_reply, set_reply}
+use Rattle.ac_calls.specs.KeyedSetReplies.{key_reply, keyed_set_reply}
+use Rattle.ac_calls.specs.Replies.{Arguments, Source, another, Reply}
 use Rattle.ac_meaning.specs.Stays.{Stays, ReplyStays}
 use Rattle.ac_meaning.proofs.CallsStay.{alone, by_source_stays, same, renamed, changed, grows, grows_unless, first_check, earlier_check, names-with_value, names-with_some_value}
 use Rattle.ac_meaning.proofs.ListsStay.{common_stays}

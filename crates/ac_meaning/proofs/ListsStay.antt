@@ -13,11 +13,11 @@ use Rattle.ac_syntax.specs.declared.operation.SequenceCall.{SequenceCall}
 use Rattle.ac_syntax.specs.declared.operation.SequenceCall.TheVariants as sequence_call
 use Rattle.ac_syntax.specs.declared.operation.ListCall.{ListCall}
 use Rattle.ac_syntax.specs.declared.operation.ListCall.TheVariants as list_call
-use Rattle.ac_meaning.specs.Elements.{Tools}
+use Rattle.ac_calls.specs.Elements.{Tools}
 use Rattle.ac_base.specs.declared.value.Value.{Value}
-use Rattle.ac_meaning.specs.Replies.{Arguments, Source, another}
-use Rattle.ac_meaning.specs.SequenceReplies.{OwnCalls, sequence_own, common_reply, sequence_reply}
-use Rattle.ac_meaning.specs.ListReplies.{list_alone_reply, list_reply}
+use Rattle.ac_calls.specs.Replies.{Arguments, Source, another}
+use Rattle.ac_calls.specs.SequenceReplies.{OwnCalls, sequence_own, common_reply, sequence_reply}
+use Rattle.ac_calls.specs.ListReplies.{list_alone_reply, list_reply}
 use Rattle.ac_meaning.specs.Stays.{Stays, ReplyStays}
 use Rattle.ac_meaning.proofs.CallsStay.{alone, by_source_stays, same, renamed, changed, grows, first_check, second_check, names-with_value, names-with_exchanged_values}
 

@@ -1,7 +1,7 @@
 -- Objects go on under their numbers, and names come and go at the end.
 use Rattle.std.proofs.Common.{◌≡◌, ◌<◌, ◌≤◌, ◌++◌, ℕ, zero, suc, List, [], ◌∷◌, take, length, slice_get, refl, sym, ap, subst, ◌∙◌, arith, Some}
 use Rattle.std.proofs.Math.Seq.{take-append_seam}
-use Rattle.ac_meaning.specs.Holdings.{Held, of_rows, of_holder, of_queue, number_of}
+use Rattle.ac_calls.specs.Holdings.{Held, of_rows, of_holder, of_queue, number_of}
 use Rattle.ac_meaning.specs.Environment.{Bound, binds_type, binds_object, binds_cursor, binds_value, binds_element, bound_in, object_in, State, bound_at}
 use Rattle.ac_meaning.specs.Commands.{performed}
 use Rattle.ac_meaning.specs.Stays.{HeldStays, BoundStays, next_of, ObjectGoesOn, NamesComeAndGo}

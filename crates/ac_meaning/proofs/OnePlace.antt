@@ -5,7 +5,7 @@ use Rattle.ac_base.specs.declared.guard.GuardKind.{GuardKind}
 use Rattle.ac_base.specs.Guards.{HeldGuard, raised_kind, one_more, one_less}
 use Rattle.ac_model.specs.Objects.{Object}
 use Rattle.ac_model.specs.Common.{hold_call, release_call, under_guards, guards_on}
-use Rattle.ac_meaning.specs.Holdings.{Held, of_rows, of_holder, of_queue, as_object, counted_as, with_rows_by, number_of, are_sets, is_a_set, guard_on}
+use Rattle.ac_calls.specs.Holdings.{Held, of_rows, of_holder, of_queue, as_object, counted_as, with_rows_by, number_of, are_sets, is_a_set, guard_on}
 use Rattle.ac_meaning.specs.Environment.{Bound, binds_type, binds_object, binds_cursor, binds_value, binds_element, bound_by, bound_in, object_in, State, objects_by, object_at, with_bound}
 use Rattle.ac_meaning.specs.UnderGuards.{held_with, held_without}
 use Rattle.ac_meaning.specs.Numbers.{has_number, times_numbered, NumbersDiffer, GuardsAreOnOneObject}

@@ -6,8 +6,8 @@ use Rattle.ac_model.specs.Letters.{Mark, mark_at as mark_of_name}
 use Rattle.ac_syntax.specs.declared.view_kind.ViewKind.{ViewKind}
 use Rattle.ac_syntax.specs.declared.view_kind.ViewKind.TheVariants.{Query, Update, Reference, UpdateKey}
 use Rattle.ac_check.specs.Resolved.{ResolvedHead, loops_at, views_at, stables_at, declares_at, gathers_at, works_at, ResolvedCode, no_statement, a_command, a_block}
-use Rattle.ac_meaning.specs.Answers.{answers_raised}
-use Rattle.ac_meaning.specs.Holdings.{Held, Guards, names_of, number_of, element_value}
+use Rattle.ac_calls.specs.Answers.{answers_raised}
+use Rattle.ac_calls.specs.Holdings.{Held, Guards, names_of, number_of, element_value}
 use Rattle.ac_meaning.specs.Environment.{binds_value, State, under, object_at, guarded_at, mark_at, value_at, value_or_zero, with_name, leaving, after_decls}
 use Rattle.ac_meaning.specs.Execution.{Outcome, outcome, Orders, one_line, followed, scoped, commanded, run_by, gathered, guards_of_loop, guards_of_stable, guards_of_view, in_order, turn_bound, head_reason, key_end, turns, key_body, viewed, on_object, block_on, exec_resolved}
 use Rattle.ac_meaning.specs.TaskBlocks.{block_of, block_fits}

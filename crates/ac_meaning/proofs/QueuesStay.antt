@@ -5,8 +5,8 @@ use Rattle.ac_syntax.specs.declared.operation.Operation.{Operation}
 use Rattle.ac_syntax.specs.declared.operation.Operation.TheVariants as operation
 use Rattle.ac_syntax.specs.declared.operation.QueueCall.{QueueCall}
 use Rattle.ac_syntax.specs.declared.operation.QueueCall.TheVariants as queue_call
-use Rattle.ac_meaning.specs.Replies.{Arguments}
-use Rattle.ac_meaning.specs.QueueReplies.{high_reply, queue_alone_reply, queue_reply}
+use Rattle.ac_calls.specs.Replies.{Arguments}
+use Rattle.ac_calls.specs.QueueReplies.{high_reply, queue_alone_reply, queue_reply}
 use Rattle.ac_meaning.specs.Stays.{QueueStays}
 
 pub queue_same : (q : TaskQueue) → QueueStays q q

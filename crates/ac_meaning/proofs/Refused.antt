@@ -48,20 +48,20 @@ use Rattle.ac_syntax.specs.declared.operation.OrderedSetCall.TheVariants as orde
 use Rattle.ac_check.specs.declared.resolved.ResolvedArg.{ResolvedArg}
 use Rattle.ac_check.specs.declared.resolved.ResolvedArg.TheVariants.{Lit, NoElement, At}
 use Rattle.ac_check.specs.Resolved.{calls_at, sets_at, sums_at}
-use Rattle.ac_meaning.specs.Elements.{Tools, Text, tools_of, keyed_texts, integer_in}
-use Rattle.ac_meaning.specs.Answers.{Answer, answers_integer}
-use Rattle.ac_meaning.specs.Replies.{Arguments, Source, without, itself, another, by_source, arguments_seen, source_in, Reply, value_answer}
-use Rattle.ac_meaning.specs.SequenceReplies.{OwnCalls, sequence_own, common_reply, sequence_reply, capacity_reply}
-use Rattle.ac_meaning.specs.ListReplies.{list_alone_reply, list_reply}
-use Rattle.ac_meaning.specs.VectorReplies.{vector_alone_reply, vector_reply}
-use Rattle.ac_meaning.specs.KeyedReplies.{KeyedKind, of_hashed, of_ordered, walk_reply, ordered_reply}
-use Rattle.ac_meaning.specs.MapReplies.{map_own, map_alone_reply, ordered_map_reply, map_reply}
-use Rattle.ac_meaning.specs.SetReplies.{set_own, set_alone_reply, set_pair_reply, ordered_set_reply, set_reply}
-use Rattle.ac_meaning.specs.KeyedSetReplies.{key_reply, keyed_set_reply}
-use Rattle.ac_meaning.specs.TreeReplies.{tree_own, tree_look_reply, tree_change_reply, tree_reply}
-use Rattle.ac_meaning.specs.HolderReplies.{holder_source, holder_alone_reply, holder_reply}
-use Rattle.ac_meaning.specs.QueueReplies.{item_answer, high_reply, queue_alone_reply, queue_reply}
-use Rattle.ac_meaning.specs.Holdings.{SequenceKind, of_list, of_vector, RowKind, a_sequence, a_map, a_set, a_keyed_set, a_tree, RowOf, Held, of_rows, of_holder, of_queue, rows_in, holder_in, reply_by, rows_reply, seen_in, reply_of}
+use Rattle.ac_calls.specs.Elements.{Tools, Text, tools_of, keyed_texts, integer_in}
+use Rattle.ac_calls.specs.Answers.{Answer, answers_integer}
+use Rattle.ac_calls.specs.Replies.{Arguments, Source, without, itself, another, by_source, arguments_seen, source_in, Reply, value_answer}
+use Rattle.ac_calls.specs.SequenceReplies.{OwnCalls, sequence_own, common_reply, sequence_reply, capacity_reply}
+use Rattle.ac_calls.specs.ListReplies.{list_alone_reply, list_reply}
+use Rattle.ac_calls.specs.VectorReplies.{vector_alone_reply, vector_reply}
+use Rattle.ac_calls.specs.KeyedReplies.{KeyedKind, of_hashed, of_ordered, walk_reply, ordered_reply}
+use Rattle.ac_calls.specs.MapReplies.{map_own, map_alone_reply, ordered_map_reply, map_reply}
+use Rattle.ac_calls.specs.SetReplies.{set_own, set_alone_reply, set_pair_reply, ordered_set_reply, set_reply}
+use Rattle.ac_calls.specs.KeyedSetReplies.{key_reply, keyed_set_reply}
+use Rattle.ac_calls.specs.TreeReplies.{tree_own, tree_look_reply, tree_change_reply, tree_reply}
+use Rattle.ac_calls.specs.HolderReplies.{holder_source, holder_alone_reply, holder_reply}
+use Rattle.ac_calls.specs.QueueReplies.{item_answer, high_reply, queue_alone_reply, queue_reply}
+use Rattle.ac_calls.specs.Holdings.{SequenceKind, of_list, of_vector, RowKind, a_sequence, a_map, a_set, a_keyed_set, a_tree, RowOf, Held, of_rows, of_holder, of_queue, rows_in, holder_in, reply_by, rows_reply, seen_in, reply_of}
 use Rattle.ac_meaning.specs.Environment.{Bound, binds_type, binds_object, binds_cursor, binds_value, binds_element, State, bound_at, object_at, value_at}
 use Rattle.ac_meaning.specs.Commands.{Performed, Assigned, source_place, source_of, after_call, assigned, unless_refused, waits_or_goes, replied, call_on, arguments, answer_in, answer_from, assigned_from, is_integer, sum_of, sum_assigned}
 use Rattle.ac_meaning.specs.Laws.{IsRefusal, RefusalsLeave}

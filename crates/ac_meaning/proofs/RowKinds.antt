@@ -3,8 +3,8 @@ use Rattle.std.proofs.Common.{◌≡◌, ℕ, refl, ap, ◌∙◌, Some, option_
 use Rattle.ac_model.specs.Objects.{Object}
 use Rattle.ac_syntax.specs.declared.kind.ElemKind.{ElemKind}
 use Rattle.ac_syntax.specs.declared.kind.ElemKind.TheVariants.{Integer, Str}
-use Rattle.ac_meaning.specs.KeyedReplies.{KeyedKind, of_hashed, of_ordered}
-use Rattle.ac_meaning.specs.Holdings.{SequenceKind, of_list, of_vector, RowKind, a_sequence, a_map, a_set, a_keyed_set, a_tree, RowOf, of_rows, both_same, all_same, same_element, same_sequence, same_keyed, same_kind, rows_in}
+use Rattle.ac_calls.specs.KeyedReplies.{KeyedKind, of_hashed, of_ordered}
+use Rattle.ac_calls.specs.Holdings.{SequenceKind, of_list, of_vector, RowKind, a_sequence, a_map, a_set, a_keyed_set, a_tree, RowOf, of_rows, both_same, all_same, same_element, same_sequence, same_keyed, same_kind, rows_in}
 
 element_is : (e : ElemKind) → same_element e e ≡ Some refl
 element_is Integer = refl

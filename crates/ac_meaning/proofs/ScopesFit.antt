@@ -13,7 +13,7 @@ use Rattle.ac_check.specs.Scopes.{Meaning, a_type, an_object, a_cursor, a_value,
 use Rattle.ac_check.specs.Rules.{is_object_of, is_looped, is_view}
 use Rattle.ac_check.specs.Kept.{DeclKept, DeclsKept}
 use Rattle.ac_check.specs.Resolved.{place_of, resolve_decl, resolve_decls}
-use Rattle.ac_meaning.specs.Holdings.{Held, Guards}
+use Rattle.ac_calls.specs.Holdings.{Held, Guards}
 use Rattle.ac_meaning.specs.Environment.{Bound, binds_type, binds_object, binds_cursor, binds_value, binds_element, bound_in, object_in, State, under, bound_at, object_at, Declared, after_decl, after_decls, unless_spent}
 use Rattle.ac_meaning.specs.Commands.{performed}
 use Rattle.ac_meaning.specs.Execution.{exec, exec_resolved, turn_bound}

@@ -14,9 +14,9 @@ use Rattle.ac_syntax.specs.declared.operation.TreeCall.{TreeCall}
 use Rattle.ac_syntax.specs.declared.operation.TreeCall.TheVariants as tree_call
 use Rattle.ac_syntax.specs.declared.operation.TreeChangeCall.{TreeChangeCall}
 use Rattle.ac_syntax.specs.declared.operation.TreeChangeCall.TheVariants as tree_change_call
-use Rattle.ac_meaning.specs.Elements.{Tools}
-use Rattle.ac_meaning.specs.TreeReplies.{tree_own, tree_look_reply, tree_change_reply, tree_reply}
-use Rattle.ac_meaning.specs.Replies.{Arguments, Source, another}
+use Rattle.ac_calls.specs.Elements.{Tools}
+use Rattle.ac_calls.specs.TreeReplies.{tree_own, tree_look_reply, tree_change_reply, tree_reply}
+use Rattle.ac_calls.specs.Replies.{Arguments, Source, another}
 use Rattle.ac_meaning.specs.Stays.{ReplyStays}
 use Rattle.ac_meaning.proofs.CallsStay.{alone, by_source_stays, same, renamed, changed, grows, first_check, second_check, names-with_some_value}
 use Rattle.ac_meaning.proofs.ListsStay.{common_stays}

@@ -9,7 +9,7 @@ use Rattle.ac_model.specs.Letters.{Mark, needs}
 use Rattle.ac_model.specs.KeyedSets.{update_key_reason}
 use Rattle.ac_model.specs.Cursors.{seen}
 use Rattle.ac_syntax.specs.declared.view_kind.ViewKind.TheVariants.{UpdateKey}
-use Rattle.ac_meaning.specs.Holdings.{a_sequence, a_map, a_set, a_keyed_set, a_tree, Held, of_rows, of_holder, of_queue, Guards, held_on, guarded, held_under, number_of, names_of, holds_element, has_root, key_updated}
+use Rattle.ac_calls.specs.Holdings.{a_sequence, a_map, a_set, a_keyed_set, a_tree, Held, of_rows, of_holder, of_queue, Guards, held_on, guarded, held_under, number_of, names_of, holds_element, has_root, key_updated}
 use Rattle.ac_meaning.specs.Environment.{binds_object, State, under, bound_at, with_bound, object_at}
 use Rattle.ac_meaning.specs.Execution.{head_reason, key_end_on}
 use Rattle.ac_meaning.specs.UnderGuards.{UpdatesKeepCounts}

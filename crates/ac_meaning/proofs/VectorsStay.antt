@@ -10,11 +10,11 @@ use Rattle.ac_syntax.specs.declared.operation.CapacityCall.{CapacityCall}
 use Rattle.ac_syntax.specs.declared.operation.CapacityCall.TheVariants as capacity_call
 use Rattle.ac_syntax.specs.declared.operation.VectorCall.{VectorCall}
 use Rattle.ac_syntax.specs.declared.operation.VectorCall.TheVariants as vector_call
-use Rattle.ac_meaning.specs.Elements.{Tools}
-use Rattle.ac_meaning.specs.Replies.{Arguments, Source, another, by_source, Reply, changes_ok, changes_variable}
-use Rattle.ac_meaning.specs.SequenceReplies.{sequence_own, capacity_reply}
-use Rattle.ac_meaning.specs.VectorReplies.{vector_alone_reply, vector_reply}
-use Rattle.ac_meaning.specs.Holdings.{SequenceKind, of_list, of_vector, reply_by}
+use Rattle.ac_calls.specs.Elements.{Tools}
+use Rattle.ac_calls.specs.Replies.{Arguments, Source, another, by_source, Reply, changes_ok, changes_variable}
+use Rattle.ac_calls.specs.SequenceReplies.{sequence_own, capacity_reply}
+use Rattle.ac_calls.specs.VectorReplies.{vector_alone_reply, vector_reply}
+use Rattle.ac_calls.specs.Holdings.{SequenceKind, of_list, of_vector, reply_by}
 use Rattle.ac_meaning.specs.Stays.{Stays, ReplyStays}
 use Rattle.ac_meaning.proofs.CallsStay.{alone, by_source_stays, same, renamed, changed, grows, grows_unless, reserves, first_check, names-with_value, names-with_exchanged_values, names-over}
 use Rattle.ac_meaning.proofs.ListsStay.{common_stays, sequence_stays, list_stays}

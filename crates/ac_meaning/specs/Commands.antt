@@ -8,10 +8,10 @@ use Rattle.ac_syntax.specs.declared.operation.Operation.{Operation}
 use Rattle.ac_check.specs.declared.resolved.ResolvedArg.{ResolvedArg}
 use Rattle.ac_check.specs.declared.resolved.ResolvedArg.TheVariants.{Lit, NoElement, At}
 use Rattle.ac_check.specs.Resolved.{ResolvedSimple, calls_at, sets_at, sums_at}
-use Rattle.ac_meaning.specs.Elements.{integer_in}
-use Rattle.ac_meaning.specs.Answers.{Answer, answers_ok, answers_value, answers_truth, answers_place, answers_list, answers_raised, answers_stalled, answers_integer}
-use Rattle.ac_meaning.specs.Replies.{Argument, value_argument, cursor_argument, no_argument, Arguments, Placed, Reply}
-use Rattle.ac_meaning.specs.Holdings.{Held, write, reply_of}
+use Rattle.ac_calls.specs.Elements.{integer_in}
+use Rattle.ac_calls.specs.Answers.{Answer, answers_ok, answers_value, answers_truth, answers_place, answers_list, answers_raised, answers_stalled, answers_integer}
+use Rattle.ac_calls.specs.Replies.{Argument, value_argument, cursor_argument, no_argument, Arguments, Placed, Reply}
+use Rattle.ac_calls.specs.Holdings.{Held, write, reply_of}
 use Rattle.ac_meaning.specs.Environment.{Bound, binds_type, binds_object, binds_cursor, binds_value, binds_element, State, bound_at, with_bound, object_at, value_in, value_at}
 
 -- what a command comes to: its answer, and the environment after it

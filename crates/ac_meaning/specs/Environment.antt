@@ -9,7 +9,7 @@ use Rattle.ac_base.specs.declared.value.Value.TheVariants as value
 use Rattle.ac_model.specs.Letters.{Mark, no_mark}
 use Rattle.ac_check.specs.declared.resolved.ResolvedDecl.{ResolvedDecl}
 use Rattle.ac_check.specs.declared.resolved.ResolvedDecl.TheVariants as decl
-use Rattle.ac_meaning.specs.Holdings.{Held, takes_guards, Guards, held_under, held_at_rest, new_held, nodes_of, element_value}
+use Rattle.ac_calls.specs.Holdings.{Held, takes_guards, Guards, held_under, held_at_rest, new_held, nodes_of, element_value}
 
 -- what a name holds
 pub data Bound : Type 0 where

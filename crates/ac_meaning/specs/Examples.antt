@@ -14,10 +14,10 @@ use Rattle.ac_syntax.specs.declared.kind.ElemKind.{ElemKind}
 use Rattle.ac_syntax.specs.declared.kind.ElemKind.TheVariants.{Integer, Str}
 use Rattle.ac_syntax.specs.declared.view_kind.ViewKind.TheVariants.{Query, Update}
 use Rattle.ac_syntax.specs.declared.script.Script.{Script}
-use Rattle.ac_meaning.specs.Listings.{map_listing, tree_listing}
+use Rattle.ac_calls.specs.Listings.{map_listing, tree_listing}
 use Rattle.ac_base.specs.Limits.{numbers_end}
 use Rattle.ac_check.specs.Scopes.{with_decls}
-use Rattle.ac_meaning.specs.Answers.{lines_text}
+use Rattle.ac_calls.specs.Answers.{lines_text}
 use Rattle.ac_meaning.specs.Environment.{binds_type, binds_value}
 use Rattle.ac_meaning.specs.Execution.{no_orders, exec, text_of}
 

@@ -8,7 +8,7 @@ use Rattle.ac_syntax.specs.declared.view_kind.ViewKind.{ViewKind}
 use Rattle.ac_check.specs.Scopes.{Meaning, a_type, an_object, a_cursor, a_value, Scope, Typed, meaning_in, object_of, with_decls, behind_words}
 use Rattle.ac_check.specs.Kept.{DeclsKept, HeadKept}
 use Rattle.ac_check.specs.Resolved.{ResolvedCode, ResolvedSimple, place_of, resolve_decls}
-use Rattle.ac_meaning.specs.Holdings.{Held, Guards}
+use Rattle.ac_calls.specs.Holdings.{Held, Guards}
 use Rattle.ac_meaning.specs.Environment.{Bound, binds_type, binds_object, binds_cursor, binds_value, binds_element, State, first_state, under, at_rest, bound_at, object_at, with_name, leaving, after_decls}
 use Rattle.ac_meaning.specs.Commands.{performed}
 use Rattle.ac_meaning.specs.Execution.{Orders, exec, exec_resolved, turn_bound}

@@ -6,12 +6,12 @@ use Rattle.ac_check.specs.Scopes.{Scope}
 use Rattle.ac_check.specs.Resolved.{ResolvedCode, ResolvedScript, ResolvedSimple, resolve, resolve_script}
 use Rattle.ac_syntax.specs.declared.operation.Operation.{Operation}
 use Rattle.ac_model.specs.Objects.{Object}
-use Rattle.ac_meaning.specs.Elements.{Tools}
-use Rattle.ac_meaning.specs.Replies.{Arguments, Source}
+use Rattle.ac_calls.specs.Elements.{Tools}
+use Rattle.ac_calls.specs.Replies.{Arguments, Source}
 use Rattle.ac_meaning.specs.Stays.{ReplyStays, StateStays, ObjectGoesOn}
-use Rattle.ac_meaning.specs.Answers.{Answer, answers_ok, answers_value, answers_truth, answers_place, answers_list, answers_raised, answers_stalled}
+use Rattle.ac_calls.specs.Answers.{Answer, answers_ok, answers_value, answers_truth, answers_place, answers_list, answers_raised, answers_stalled}
 use Rattle.ac_meaning.specs.Commands.{performed}
-use Rattle.ac_meaning.specs.Holdings.{SequenceKind, Held, Guards, reply_by}
+use Rattle.ac_calls.specs.Holdings.{SequenceKind, Held, Guards, reply_by}
 use Rattle.ac_meaning.specs.Environment.{State, first_state, object_at, after_decls}
 use Rattle.ac_meaning.specs.Execution.{Outcome, Orders, exec, exec_resolved, run_with}
 

@@ -5,7 +5,7 @@ use Rattle.ac_check.specs.declared.resolved.ResolvedDecl.{ResolvedDecl}
 use Rattle.ac_check.specs.Scopes.{Scope}
 use Rattle.ac_check.specs.Resolved.{ResolvedCode, ResolvedSimple}
 use Rattle.ac_base.specs.declared.guard.GuardKind.{GuardKind}
-use Rattle.ac_meaning.specs.Holdings.{Held, with_rows_by, number_of, is_a_set, Guards, held_on, guard_on}
+use Rattle.ac_calls.specs.Holdings.{Held, with_rows_by, number_of, is_a_set, Guards, held_on, guard_on}
 use Rattle.ac_meaning.specs.UnderGuards.{held_with, held_without}
 use Rattle.ac_model.specs.Common.{hold_call, release_call}
 use Rattle.ac_meaning.specs.Environment.{Bound, binds_type, binds_object, binds_cursor, binds_value, binds_element, object_in, State, first_state, objects_by, with_bound, under, at_rest, object_at, with_name, leaving, after_decls}

@@ -6,9 +6,9 @@ use Rattle.ac_model.specs.Objects.{Object}
 use Rattle.ac_model.specs.Letters.{tampers_cursors}
 use Rattle.ac_model.specs.Holders.{Holder, tampers}
 use Rattle.ac_model.specs.Queues.{TaskQueue}
-use Rattle.ac_meaning.specs.Elements.{ElementOf}
-use Rattle.ac_meaning.specs.Replies.{Source, without, itself, another, Reply}
-use Rattle.ac_meaning.specs.Holdings.{RowOf, Held, of_rows, of_holder, of_queue, from_rows, number_of}
+use Rattle.ac_calls.specs.Elements.{ElementOf}
+use Rattle.ac_calls.specs.Replies.{Source, without, itself, another, Reply}
+use Rattle.ac_calls.specs.Holdings.{RowOf, Held, of_rows, of_holder, of_queue, from_rows, number_of}
 use Rattle.ac_meaning.specs.Environment.{Bound, binds_type, binds_object, binds_cursor, binds_value, binds_element, State, bound_at, object_at, with_name, leaving}
 
 -- the object's number and its counts of guards; no name is taken back; and where a guard is held, a call that isn't refused keeps the

@@ -20,9 +20,9 @@ use Rattle.ac_syntax.specs.declared.operation.QueueCall.TheVariants as queue_cal
 use Rattle.ac_check.specs.declared.resolved.ResolvedArg.{ResolvedArg}
 use Rattle.ac_check.specs.declared.resolved.ResolvedArg.TheVariants.{Lit, NoElement, At}
 use Rattle.ac_check.specs.Resolved.{ResolvedSimple, calls_at, sets_at, sums_at, ResolvedHead, loops_at, views_at, stables_at, declares_at, gathers_at, works_at, ResolvedCode, no_statement, a_command, a_block}
-use Rattle.ac_meaning.specs.Elements.{integer_in}
-use Rattle.ac_meaning.specs.Answers.{Answer, answers_ok, answers_integer, answers_truth, answers_raised, answers_stalled, Line, task_line}
-use Rattle.ac_meaning.specs.Holdings.{Held, of_rows, of_holder, of_queue}
+use Rattle.ac_calls.specs.Elements.{integer_in}
+use Rattle.ac_calls.specs.Answers.{Answer, answers_ok, answers_integer, answers_truth, answers_raised, answers_stalled, Line, task_line}
+use Rattle.ac_calls.specs.Holdings.{Held, of_rows, of_holder, of_queue}
 use Rattle.ac_meaning.specs.Environment.{binds_object, State, object_at, with_bound}
 use Rattle.ac_meaning.specs.Commands.{sum_of}
 

@@ -7,9 +7,9 @@ use Rattle.ac_model.specs.Objects.{Object}
 use Rattle.ac_model.specs.Letters.{Mark}
 use Rattle.ac_model.specs.Common.{hold_call, release_call}
 use Rattle.ac_check.specs.Resolved.{ResolvedSimple}
-use Rattle.ac_meaning.specs.Elements.{Text}
-use Rattle.ac_meaning.specs.KeyedReplies.{KeyedKind}
-use Rattle.ac_meaning.specs.Holdings.{a_keyed_set, Held, of_rows, Guards, with_rows_by, held_under, guard_on, key_updated}
+use Rattle.ac_calls.specs.Elements.{Text}
+use Rattle.ac_calls.specs.KeyedReplies.{KeyedKind}
+use Rattle.ac_calls.specs.Holdings.{a_keyed_set, Held, of_rows, Guards, with_rows_by, held_under, guard_on, key_updated}
 use Rattle.ac_meaning.specs.Environment.{Bound, bound_by, object_in, State, objects_by, under, at_rest, object_at, bound_at, with_bound, with_name, leaving}
 use Rattle.ac_meaning.specs.Commands.{performed}
 

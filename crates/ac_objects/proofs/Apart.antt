@@ -1,8 +1,8 @@
 -- An object of one type is found as no rows of another's kinds, and as no holder of another element type.
 use Rattle.std.proofs.Common.{◌≡◌, refl, Some, None}
 use Rattle.ac_syntax.specs.declared.kind.ElemKind.TheVariants.{Integer, Str}
-use Rattle.ac_meaning.specs.Holdings.{SequenceKind, a_sequence, a_map, a_set, a_keyed_set, a_tree, rows_in, holder_in}
-use Rattle.ac_meaning.specs.KeyedReplies.{KeyedKind}
+use Rattle.ac_calls.specs.Holdings.{SequenceKind, a_sequence, a_map, a_set, a_keyed_set, a_tree, rows_in, holder_in}
+use Rattle.ac_calls.specs.KeyedReplies.{KeyedKind}
 use Rattle.ac_objects.specs.declared.object.Object.{Object}
 use Rattle.ac_objects.specs.declared.object.Object.TheVariants.{Integers, Texts, IntegerSet, TextSet, KeyedSet, IntegersByInteger, IntegersByText, TextsByInteger, TextsByText, IntegerTree, TextTree, IntegerHolder, TextHolder, Queue}
 use Rattle.ac_objects.specs.World.{memory_of, held_of}

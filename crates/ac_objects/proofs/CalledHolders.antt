@@ -12,21 +12,21 @@ use Rattle.ac_model.specs.Holders.{Holder}
 use Rattle.ac_syntax.specs.declared.kind.ElemKind.{ElemKind}
 use Rattle.ac_syntax.specs.declared.kind.ElemKind.TheVariants.{Integer, Str}
 use Rattle.ac_syntax.specs.declared.operation.Operation.{Operation}
-use Rattle.ac_meaning.specs.Answers.{answers_list}
-use Rattle.ac_meaning.specs.Elements.{ElementOf, tools_of, Text}
-use Rattle.ac_meaning.specs.HolderReplies.{holder_source, holder_reply, holder_write}
-use Rattle.ac_meaning.specs.Holdings.{Held, of_holder, number_of, names_of, holder_in, listing_of, Written, written, write, reply_of}
+use Rattle.ac_calls.specs.Answers.{answers_list}
+use Rattle.ac_calls.specs.Elements.{ElementOf, tools_of, Text}
+use Rattle.ac_calls.specs.HolderReplies.{holder_source, holder_reply, holder_write}
+use Rattle.ac_calls.specs.Holdings.{Held, of_holder, number_of, names_of, holder_in, listing_of, Written, written, write, reply_of}
 use Rattle.ac_meaning.specs.Execution.{in_order}
-use Rattle.ac_meaning.specs.Replies.{without, itself, another, carried}
-use Rattle.ac_meaning.specs.Replies as replies
+use Rattle.ac_calls.specs.Replies.{without, itself, another, carried}
+use Rattle.ac_calls.specs.Replies as replies
 use Rattle.ac_meaning.specs.Stays.{HolderStays}
 use Rattle.ac_meaning.proofs.HoldersStay.{holder_stays, holder_write_stays}
 use Rattle.ac_objects.specs.declared.object.Object.{Object}
 use Rattle.ac_objects.specs.declared.object.Object.TheVariants.{IntegerHolder, TextHolder}
-use Rattle.ac_objects.specs.declared.reply.Reply.{Reply}
-use Rattle.ac_objects.specs.declared.reply.Said.{Said}
-use Rattle.ac_objects.specs.declared.reply.Said.TheVariants as said
-use Rattle.ac_objects.specs.declared.reply.Placed.{Placed}
+use Rattle.ac_calls.specs.declared.reply.Reply.{Reply}
+use Rattle.ac_calls.specs.declared.reply.Said.{Said}
+use Rattle.ac_calls.specs.declared.reply.Said.TheVariants as said
+use Rattle.ac_calls.specs.declared.reply.Placed.{Placed}
 use Rattle.ac_objects.specs.Called.{Tells, Places, HeldAfter, Called, CalledWith, Lasts, WritesTo}
 use Rattle.ac_objects.specs.Given.{StepsOn}
 use Rattle.ac_objects.specs.HolderCalls.{ChangesHolder, HolderSays, HolderAfter, HolderReplied, HolderRepliedWith}

@@ -9,19 +9,19 @@ use Rattle.ac_queue.specs.declared.any_queue.AnyQueue.TheVariants.{Plain, Ranked
 use Rattle.ac_queue.specs.Kinds.{discipline_of, state_of}
 use Rattle.ac_book.specs.Shared.{shared}
 use Rattle.ac_syntax.specs.declared.operation.Operation.{Operation}
-use Rattle.ac_meaning.specs.Answers.{Answer, answers_list}
-use Rattle.ac_meaning.specs.QueueReplies.{queue_reply}
-use Rattle.ac_meaning.specs.Holdings.{Held, of_queue, number_of, names_of, listing_of, reply_of}
+use Rattle.ac_calls.specs.Answers.{Answer, answers_list}
+use Rattle.ac_calls.specs.QueueReplies.{queue_reply}
+use Rattle.ac_calls.specs.Holdings.{Held, of_queue, number_of, names_of, listing_of, reply_of}
 use Rattle.ac_meaning.specs.Execution.{in_order}
-use Rattle.ac_meaning.specs.Replies.{carried}
-use Rattle.ac_meaning.specs.Replies as replies
+use Rattle.ac_calls.specs.Replies.{carried}
+use Rattle.ac_calls.specs.Replies as replies
 use Rattle.ac_objects.specs.declared.numbered_queue.NumberedQueue.{NumberedQueue}
 use Rattle.ac_objects.specs.declared.object.Object.{Object}
 use Rattle.ac_objects.specs.declared.object.Object.TheVariants.{Queue}
-use Rattle.ac_objects.specs.declared.reply.Placed.{Placed}
-use Rattle.ac_objects.specs.declared.reply.Reply.{Reply}
-use Rattle.ac_objects.specs.declared.reply.Said.{Said}
-use Rattle.ac_objects.specs.declared.reply.Said.TheVariants as said
+use Rattle.ac_calls.specs.declared.reply.Placed.{Placed}
+use Rattle.ac_calls.specs.declared.reply.Reply.{Reply}
+use Rattle.ac_calls.specs.declared.reply.Said.{Said}
+use Rattle.ac_calls.specs.declared.reply.Said.TheVariants as said
 use Rattle.ac_objects.specs.Called.{Tells, Places, HeldAfter, Called, CalledWith, Lasts}
 use Rattle.ac_objects.specs.Given.{StepsOn}
 use Rattle.ac_objects.specs.QueueCalls.{QueueSays, QueueReplied}

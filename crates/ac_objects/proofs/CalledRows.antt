@@ -19,25 +19,26 @@ use Rattle.ac_model.specs.Cursors.{IsNamed, plain_mark}
 use Rattle.ac_model.specs.Trees.{root_name}
 use Rattle.ac_model.proofs.Unslotted.{tree_agreement_kept}
 use Rattle.ac_syntax.specs.declared.operation.Operation.{Operation}
-use Rattle.ac_meaning.specs.Answers.{answers_list}
-use Rattle.ac_meaning.specs.Holdings.{RowKind, RowOf, Held, of_rows, of_holder, of_queue, number_of, rows_in, have_root, seen_in, own_calls, listing_of, Written, written, write, rows_reply, reply_of}
-use Rattle.ac_meaning.specs.Replies.{itself, another, arguments_seen, source_in, carried}
-use Rattle.ac_meaning.specs.Replies as replies
+use Rattle.ac_calls.specs.Answers.{answers_list}
+use Rattle.ac_calls.specs.Holdings.{RowKind, RowOf, Held, of_rows, of_holder, of_queue, number_of, rows_in, have_root, seen_in, own_calls, listing_of, Written, written, write, rows_reply, reply_of}
+use Rattle.ac_calls.specs.Replies.{itself, another, arguments_seen, source_in, carried}
+use Rattle.ac_calls.specs.Replies as replies
 use Rattle.ac_meaning.specs.Stays.{Stays}
 use Rattle.ac_meaning.proofs.CommandsStay.{own_write_stays, rows_stay, rows_found}
 use Rattle.ac_meaning.proofs.RowKinds.{rows_own}
 use Rattle.ac_objects.specs.declared.object.Object.{Object as AnyObject}
-use Rattle.ac_objects.specs.declared.reply.Said.{Said}
-use Rattle.ac_objects.specs.declared.reply.Said.TheVariants as said
-use Rattle.ac_objects.specs.declared.reply.Placed.{Placed}
-use Rattle.ac_objects.specs.declared.reply.Reply.{Reply}
-use Rattle.ac_objects.specs.Arguments.{SlotAgrees, mark_in}
-use Rattle.ac_objects.specs.Called.{IsFound, Tells, Places, HeldAfter, Called, CalledWith, Lasts, RowsLast, AreValid, WritesTo, WritesIn}
-use Rattle.ac_objects.specs.Replied.{IsOwnName, IsOwnCursor, Says, SetsVariable, SourceAfter, Replied, RepliedWith}
+use Rattle.ac_calls.specs.declared.reply.Said.{Said}
+use Rattle.ac_calls.specs.declared.reply.Said.TheVariants as said
+use Rattle.ac_calls.specs.declared.reply.Placed.{Placed}
+use Rattle.ac_calls.specs.declared.reply.Reply.{Reply}
+use Rattle.ac_calls.specs.Arguments.{SlotAgrees, mark_in}
+use Rattle.ac_objects.specs.Called.{IsFound, Tells, Places, HeldAfter, Called, CalledWith, Lasts, RowsLast, AreValid, WritesTo}
+use Rattle.ac_calls.specs.RowWrites.{WritesIn}
+use Rattle.ac_calls.specs.Replied.{IsOwnName, IsOwnCursor, Says, SetsVariable, SourceAfter, Replied, RepliedWith}
 use Rattle.ac_objects.specs.Standing.{held_counts}
 use Rattle.ac_objects.specs.World.{in_rows, memory_of, held_in, held_of, AgreesIn, ObjectAgrees}
 use Rattle.ac_objects.proofs.Given.{no_root}
-use Rattle.ac_objects.proofs.Made.{seen_marks_by}
+use Rattle.ac_calls.proofs.Made.{seen_marks_by}
 use Rattle.ac_objects.proofs.Sources.{rows_alone, if_false, listed}
 
 -- what lasts of rows through a call that was made

@@ -10,7 +10,7 @@ use Rattle.ac_base.specs.declared.limit.Limit.TheVariants.{Unbounded}
 use Rattle.ac_model.specs.Common.{hold_call, release_call}
 use Rattle.ac_model.specs.Objects.{empty_object}
 use Rattle.ac_syntax.specs.declared.kind.ElemKind.TheVariants.{Integer}
-use Rattle.ac_meaning.specs.Holdings.{Held, of_rows, a_sequence, of_list, number_of, is_a_set, guard_on, with_rows_by}
+use Rattle.ac_calls.specs.Holdings.{Held, of_rows, a_sequence, of_list, number_of, is_a_set, guard_on, with_rows_by}
 use Rattle.ac_meaning.specs.Environment.{State, binds_object, bound_by, with_bound, object_at, objects_by, leaving}
 use Rattle.ac_meaning.specs.UnderGuards.{held_with, held_without}
 use Rattle.ac_meaning.proofs.OnePlace.{guards_are_on_one_object}

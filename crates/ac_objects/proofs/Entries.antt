@@ -2,8 +2,8 @@
 use Rattle.std.proofs.Common.{◌≡◌, Bool, sym, Option, Some, None}
 use Rattle.ac_model.specs.Maps.{key_of, element_of}
 use Rattle.ac_model.specs.Rows.{Entry, entry}
-use Rattle.ac_meaning.specs.Elements.{Tools}
-use Rattle.ac_meaning.specs.KeyedReplies.{KeyedKind, keyed_order, order_by}
+use Rattle.ac_calls.specs.Elements.{Tools}
+use Rattle.ac_calls.specs.KeyedReplies.{KeyedKind, keyed_order, order_by}
 
 -- the entry of which a key and an element were lent
 pub entry_is : {K V : Type 0} (found : Option (Entry K V)) (row : Entry K V) (key : K) (element : V)

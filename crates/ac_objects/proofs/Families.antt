@@ -4,9 +4,9 @@ use Rattle.ac_syntax.specs.declared.kind.ElemKind.{ElemKind}
 use Rattle.ac_syntax.specs.declared.kind.ElemKind.TheVariants.{Integer, Str}
 use Rattle.ac_model.specs.Containers.{Container}
 use Rattle.ac_model.specs.Rows.{Node}
-use Rattle.ac_meaning.specs.Elements.{ElementOf, Text}
-use Rattle.ac_meaning.specs.Holdings.{SequenceKind, of_list, of_vector, RowKind, a_sequence, a_map, a_set, a_keyed_set, a_tree}
-use Rattle.ac_meaning.specs.KeyedReplies.{KeyedKind, of_hashed, of_ordered}
+use Rattle.ac_calls.specs.Elements.{ElementOf, Text}
+use Rattle.ac_calls.specs.Holdings.{SequenceKind, of_list, of_vector, RowKind, a_sequence, a_map, a_set, a_keyed_set, a_tree}
+use Rattle.ac_calls.specs.KeyedReplies.{KeyedKind, of_hashed, of_ordered}
 use Rattle.ac_objects.specs.declared.object.Object.{Object}
 use Rattle.ac_objects.specs.declared.object.Object.TheVariants.{Integers, Texts, IntegerSet, TextSet, KeyedSet, IntegersByInteger, IntegersByText, TextsByInteger, TextsByText, IntegerTree, TextTree}
 use Rattle.ac_objects.specs.declared.keyed_set.KeyedSet.{KeyedSet as KeyedTexts}

@@ -6,7 +6,7 @@ use Rattle.std.specs.Borrow.{Bor}
 use Rattle.std.proofs.lemmas.Bool.{false≢true}
 use Rattle.ac_base.specs.declared.cursor.Cursor.{Cursor}
 use Rattle.ac_meaning.specs.Environment as meant
-use Rattle.ac_meaning.specs.Holdings.{Held, takes_guards}
+use Rattle.ac_calls.specs.Holdings.{Held, takes_guards}
 use Rattle.ac_meaning.proofs.GuardedPlaces.{guarded_is_there, guarded_takes, there_guarded, there_unguarded}
 use Rattle.ac_objects.specs.declared.bound.Bound.{Bound}
 use Rattle.ac_objects.specs.declared.bound.Bound.TheVariants as bound

@@ -12,13 +12,13 @@ use Rattle.ac_model.specs.Objects.{plain, plain_row, IsValid, times}
 use Rattle.ac_model.specs.Letters.{Mark, no_mark, mark_at, stale_mark, is_among, is_same_name}
 use Rattle.ac_model.specs.Calls.{Marks}
 use Rattle.ac_model.specs.Cursors.{plain_mark}
-use Rattle.ac_meaning.specs.Holdings.{number_of}
+use Rattle.ac_calls.specs.Holdings.{number_of}
 use Rattle.ac_meaning.proofs.NumbersApart.{numbers_tell, is_there}
 use Rattle.ac_meaning.proofs.Walks.{named_there}
 use Rattle.ac_objects.specs.declared.object.Object.{Object}
 use Rattle.ac_objects.specs.declared.bound.Bound.{Bound}
 use Rattle.ac_objects.specs.declared.bound.Bound.TheVariants as bound
-use Rattle.ac_objects.specs.Arguments.{SlotAgrees}
+use Rattle.ac_calls.specs.Arguments.{SlotAgrees}
 use Rattle.ac_objects.specs.Given.{HasNumber, GivenBy, IsGiven}
 use Rattle.ac_objects.specs.RootFree.{NoRootAmong}
 use Rattle.ac_objects.specs.World.{World, Counters, world, held_of, state_of, ObjectAgrees, BoundAgrees, IsKnown, IsSound, memory_of}

@@ -1,6 +1,6 @@
 -- Operations on holders.
 use Rattle.std.proofs.Common.{◌≡◌, Bool}
-use Rattle.ac_meaning.specs.Elements.{Tools}
+use Rattle.ac_calls.specs.Elements.{Tools}
 use Rattle.ac_objects.specs.HolderCalls.{own_tools}
 
 -- the tools with the size and the test that the element type brings

@@ -4,23 +4,23 @@ use Rattle.std.specs.Prelude.{⊤}
 use Rattle.ac_base.specs.declared.fault.Fault.{Fault}
 use Rattle.ac_base.specs.declared.fault.Fault.TheVariants as fault
 use Rattle.ac_syntax.specs.declared.operation.Operation.{Operation}
-use Rattle.ac_meaning.specs.Answers as meant
+use Rattle.ac_calls.specs.Answers as meant
 use Rattle.ac_meaning.specs.Commands.{source_of, source_set}
 use Rattle.ac_meaning.specs.Environment.{State, binds_object, object_at, with_bound}
-use Rattle.ac_meaning.specs.Holdings.{Held, number_of, reply_of}
-use Rattle.ac_meaning.specs.Replies as replies
+use Rattle.ac_calls.specs.Holdings.{Held, number_of, reply_of}
+use Rattle.ac_calls.specs.Replies as replies
 use Rattle.ac_meaning.proofs.NumbersApart.{numbers_tell}
-use Rattle.ac_objects.specs.declared.argument.Arguments.{Arguments}
+use Rattle.ac_calls.specs.declared.argument.Arguments.{Arguments}
 use Rattle.ac_objects.specs.declared.bound.Bound.{Bound}
 use Rattle.ac_objects.specs.declared.bound.Bound.TheVariants as bound
 use Rattle.ac_objects.specs.declared.object.Object.{Object}
-use Rattle.ac_objects.specs.declared.reply.Said.{Said}
-use Rattle.ac_objects.specs.declared.reply.Said.TheVariants as said
-use Rattle.ac_objects.specs.declared.reply.Placed.{Placed}
-use Rattle.ac_objects.specs.declared.reply.Reply.{Reply}
-use Rattle.ac_objects.specs.Arguments.{arguments_of}
+use Rattle.ac_calls.specs.declared.reply.Said.{Said}
+use Rattle.ac_calls.specs.declared.reply.Said.TheVariants as said
+use Rattle.ac_calls.specs.declared.reply.Placed.{Placed}
+use Rattle.ac_calls.specs.declared.reply.Reply.{Reply}
+use Rattle.ac_calls.specs.Arguments.{arguments_of}
 use Rattle.ac_objects.specs.Called.{AgreesWith, Tells, Places, HeldAfter, Called, CalledWith, Lasts}
-use Rattle.ac_objects.specs.Replied.{IsStalled}
+use Rattle.ac_calls.specs.Replied.{IsStalled}
 use Rattle.ac_objects.specs.Shown.{Shows}
 use Rattle.ac_objects.specs.Steps.{AllKnown, Advances, CalledIn, CalledInBoth, SaidKnown, placed_of, PlacedKnown, CalledAt, CallsIn, CanCall, CalledBounds, CanCallIn}
 use Rattle.ac_objects.specs.World.{World, Counters, world, state_of, held_of, IsSound, memory_of}

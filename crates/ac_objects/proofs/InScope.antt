@@ -8,7 +8,7 @@ use Rattle.ac_base.specs.declared.cursor.Cursor.{Cursor}
 use Rattle.ac_base.specs.declared.cursor.Cursor.TheVariants as cursor
 use Rattle.ac_base.specs.declared.value.Value.{Value}
 use Rattle.ac_model.specs.Letters.{Mark}
-use Rattle.ac_meaning.specs.Holdings.{Held, number_of}
+use Rattle.ac_calls.specs.Holdings.{Held, number_of}
 use Rattle.ac_meaning.specs.Environment as meant
 use Rattle.ac_meaning.specs.Numbers.{has_number, times_numbered, NumbersDiffer}
 use Rattle.ac_meaning.proofs.NumbersApart.{numbers_go_on}

@@ -7,7 +7,7 @@ use Rattle.ac_model.specs.Calls.{Call, Done, Same}
 use Rattle.ac_model.specs.Containers.{Container}
 use Rattle.ac_model.specs.Forms.{Does}
 use Rattle.ac_model.specs.Objects.{Object}
-use Rattle.ac_objects.specs.Called.{WritesIn}
+use Rattle.ac_calls.specs.RowWrites.{WritesIn}
 
 module _ {V : Type 0} where
   pub whole_kept : (old new : Container V) → new.object ≡ old.object → new.spare ≡ old.spare → new ≡ old

@@ -7,20 +7,20 @@ use Rattle.ac_syntax.specs.declared.operation.KeyedCall.{KeyedCall}
 use Rattle.ac_syntax.specs.declared.operation.KeyedCall.TheVariants as keyed_call
 use Rattle.ac_syntax.specs.declared.operation.Operation.{Operation}
 use Rattle.ac_syntax.specs.declared.operation.Operation.TheVariants as operation
-use Rattle.ac_meaning.specs.Elements.{Text, keyed_texts}
-use Rattle.ac_meaning.specs.KeyedReplies.{KeyedKind, of_hashed, of_ordered}
-use Rattle.ac_meaning.specs.KeyedSetReplies.{key_reply, keyed_set_reply}
-use Rattle.ac_meaning.specs.Replies as replies
-use Rattle.ac_meaning.specs.Replies.{Source, itself}
-use Rattle.ac_meaning.specs.SetReplies.{set_reply}
-use Rattle.ac_objects.specs.declared.argument.Arguments.{Arguments}
+use Rattle.ac_calls.specs.Elements.{Text, keyed_texts}
+use Rattle.ac_calls.specs.KeyedReplies.{KeyedKind, of_hashed, of_ordered}
+use Rattle.ac_calls.specs.KeyedSetReplies.{key_reply, keyed_set_reply}
+use Rattle.ac_calls.specs.Replies as replies
+use Rattle.ac_calls.specs.Replies.{Source, itself}
+use Rattle.ac_calls.specs.SetReplies.{set_reply}
+use Rattle.ac_calls.specs.declared.argument.Arguments.{Arguments}
 use Rattle.ac_objects.specs.declared.keyed_set.KeyedSet.{KeyedSet}
-use Rattle.ac_objects.specs.declared.reply.Reply.{Reply}
+use Rattle.ac_calls.specs.declared.reply.Reply.{Reply}
 use Rattle.ac_objects.specs.declared.set.Set.{Set}
-use Rattle.ac_objects.specs.Arguments.{marked}
+use Rattle.ac_calls.specs.Arguments.{marked}
 use Rattle.ac_objects.specs.KeyCalls.{KeyReplied, KeyedOperated}
 use Rattle.ac_objects.specs.KeyedSets.{keyed_items, keyed_kind}
-use Rattle.ac_objects.specs.Replied.{Replied}
+use Rattle.ac_calls.specs.Replied.{Replied}
 
 -- a call that both kinds have
 abbrev of_both : KeyedCall → Bool

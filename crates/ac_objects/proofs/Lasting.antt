@@ -9,7 +9,7 @@ use Rattle.ac_base.specs.Tampering.{forbids}
 use Rattle.ac_model.specs.Objects.{Object}
 use Rattle.ac_model.specs.Letters.{Mark}
 use Rattle.ac_meaning.specs.Environment.{Bound, binds_type, binds_object, binds_cursor, binds_value, binds_element, State, bound_at, object_in}
-use Rattle.ac_meaning.specs.Holdings.{RowKind, RowOf, have_root, Held, of_rows, of_holder, of_queue, element_value}
+use Rattle.ac_calls.specs.Holdings.{RowKind, RowOf, have_root, Held, of_rows, of_holder, of_queue, element_value}
 use Rattle.ac_meaning.specs.Stays.{Stays, HeldStays, BoundStays, StateStays}
 use Rattle.ac_meaning.proofs.BoundsStay.{each_at, object_there}
 use Rattle.ac_meaning.proofs.HoldersStay.{element_stands, stands_there}

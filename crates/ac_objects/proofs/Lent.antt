@@ -11,7 +11,7 @@ use Rattle.ac_model.specs.Queues.{TaskQueue}
 use Rattle.ac_queue.specs.declared.any_queue.AnyQueue.{AnyQueue}
 use Rattle.ac_book.specs.Shared.{shared}
 use Rattle.ac_check.specs.Resolved.{ResolvedSimple, calls_at, sets_at, sums_at, ResolvedCode, no_statement, a_command, a_block}
-use Rattle.ac_meaning.specs.Holdings.{Held, of_rows, of_holder, of_queue}
+use Rattle.ac_calls.specs.Holdings.{Held, of_rows, of_holder, of_queue}
 use Rattle.ac_meaning.specs.Environment as meant
 use Rattle.ac_meaning.specs.Environment.{State, binds_type, binds_object, binds_cursor, binds_value, binds_element, bound_in, object_in, object_at, with_bound}
 use Rattle.ac_meaning.specs.TaskBlocks.{with_place, with_object, places_called, places_shared, queue_places, no_queue, queue_in, queues_at, queue_left, queues_left, one_block_more}

@@ -1,16 +1,12 @@
-pub mod Listed
 pub mod NodesListed
-pub mod Quoted
 pub mod Walks
-pub mod Made
-pub mod Kept
 pub mod KeptNodes
 pub mod Operations
 pub mod SequenceOperations
 pub mod SetKinds
 pub mod SetOperations
 pub mod KeyedOperations
-pub mod Own
+pub mod OwnInserted
 pub mod OwnNodes
 pub mod Entries
 pub mod PutEntries

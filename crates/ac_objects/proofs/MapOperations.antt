@@ -13,15 +13,15 @@ use Rattle.ac_syntax.specs.declared.operation.MapCall.{MapCall}
 use Rattle.ac_syntax.specs.declared.operation.CapacityCall.{CapacityCall}
 use Rattle.ac_syntax.specs.declared.operation.OrderedCall.{OrderedCall}
 use Rattle.ac_syntax.specs.declared.operation.OrderedMapCall.{OrderedMapCall}
-use Rattle.ac_meaning.specs.Elements.{Tools}
-use Rattle.ac_meaning.specs.Answers.{answers_ok}
-use Rattle.ac_meaning.specs.KeyedReplies.{KeyedKind, of_hashed, of_ordered, walk_reply}
-use Rattle.ac_meaning.specs.MapReplies.{map_own, map_alone_reply, map_reply}
-use Rattle.ac_meaning.specs.Replies as replies
-use Rattle.ac_meaning.specs.Replies.{Source, itself, another, seen_by, tells}
-use Rattle.ac_meaning.specs.SequenceReplies.{common_reply}
-use Rattle.ac_objects.specs.declared.reply.Reply.{Reply}
-use Rattle.ac_objects.specs.Replied.{Replied, RepliedWith}
+use Rattle.ac_calls.specs.Elements.{Tools}
+use Rattle.ac_calls.specs.Answers.{answers_ok}
+use Rattle.ac_calls.specs.KeyedReplies.{KeyedKind, of_hashed, of_ordered, walk_reply}
+use Rattle.ac_calls.specs.MapReplies.{map_own, map_alone_reply, map_reply}
+use Rattle.ac_calls.specs.Replies as replies
+use Rattle.ac_calls.specs.Replies.{Source, itself, another, seen_by, tells}
+use Rattle.ac_calls.specs.SequenceReplies.{common_reply}
+use Rattle.ac_calls.specs.declared.reply.Reply.{Reply}
+use Rattle.ac_calls.specs.Replied.{Replied, RepliedWith}
 
 either_kind : {A : Type 0} (f : KeyedKind → A) (x : A) → f of_hashed ≡ x → f of_ordered ≡ x → (which : KeyedKind) → f which ≡ x
 either_kind f x hashed ordered of_hashed = hashed

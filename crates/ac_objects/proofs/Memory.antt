@@ -9,9 +9,9 @@ use Rattle.ac_base.specs.Guards.{GuardCounts, one_more, one_less, raised_kind}
 use Rattle.ac_model.specs.Common.{hold_call, release_call, under_guards, guards_on}
 use Rattle.ac_model.specs.Containers.{Container, with_guards}
 use Rattle.ac_model.specs.Objects.{plain}
-use Rattle.ac_meaning.specs.Holdings.{RowKind, RowOf, of_rows, number_of, is_a_set, are_sets, with_rows_by}
-use Rattle.ac_objects.specs.declared.argument.Arguments.{Arguments}
-use Rattle.ac_objects.specs.Arguments.{SlotAgrees, cursor_in}
+use Rattle.ac_calls.specs.Holdings.{RowKind, RowOf, of_rows, number_of, is_a_set, are_sets, with_rows_by}
+use Rattle.ac_calls.specs.declared.argument.Arguments.{Arguments}
+use Rattle.ac_calls.specs.Arguments.{SlotAgrees, cursor_in}
 use Rattle.ac_objects.specs.Called.{AllAgreeIn}
 use Rattle.ac_objects.specs.Counts.{counted_in}
 use Rattle.ac_objects.specs.Standing.{counts_in_held}

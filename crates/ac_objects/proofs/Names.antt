@@ -23,9 +23,9 @@ use Rattle.ac_syntax.specs.declared.kind.ElemKind.TheVariants.{Integer, Str}
 use Rattle.ac_meaning.specs.Commands.{argument_in, answer_in, assigned_to, element_written, mark_set, value_set}
 use Rattle.ac_meaning.specs.Environment as meant
 use Rattle.ac_meaning.specs.Environment.{State, value_in, value_or_zero, element_in, mark_in, bound_at, object_at, binds_object, with_bound}
-use Rattle.ac_meaning.specs.Elements.{ElementOf, tools_of, integer_in}
-use Rattle.ac_meaning.specs.Replies.{value_argument}
-use Rattle.ac_meaning.specs.Holdings.{RowKind, RowOf, a_sequence, a_map, a_set, a_keyed_set, a_tree, Held, of_rows, of_holder, of_queue, element_value, Written, write}
+use Rattle.ac_calls.specs.Elements.{ElementOf, tools_of, integer_in}
+use Rattle.ac_calls.specs.Replies.{value_argument}
+use Rattle.ac_calls.specs.Holdings.{RowKind, RowOf, a_sequence, a_map, a_set, a_keyed_set, a_tree, Held, of_rows, of_holder, of_queue, element_value, Written, write}
 use Rattle.ac_objects.specs.declared.bound.Bound.{Bound}
 use Rattle.ac_objects.specs.declared.bound.Bound.TheVariants as bound
 use Rattle.ac_objects.specs.declared.object.Object.{Object}

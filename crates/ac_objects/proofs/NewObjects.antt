@@ -18,8 +18,8 @@ use Rattle.ac_syntax.specs.declared.kind.ElemKind.{ElemKind}
 use Rattle.ac_syntax.specs.declared.type_def.TypeDef.{TypeDef}
 use Rattle.ac_syntax.specs.Kinds.{has_cursors, is_holder, is_queue}
 use Rattle.ac_check.specs.declared.resolved.ResolvedDecl.TheVariants as decl
-use Rattle.ac_meaning.specs.Elements.{ElementOf}
-use Rattle.ac_meaning.specs.Holdings.{RowKind, RowOf, Held, of_rows, of_holder, of_queue, discipline_by, number_of, have_capacity, kind_by, limit_by, new_within, new_held}
+use Rattle.ac_calls.specs.Elements.{ElementOf}
+use Rattle.ac_calls.specs.Holdings.{RowKind, RowOf, Held, of_rows, of_holder, of_queue, discipline_by, number_of, have_capacity, kind_by, limit_by, new_within, new_held}
 use Rattle.ac_meaning.specs.Environment as meant
 use Rattle.ac_meaning.specs.Environment.{Declared, declared, number_taken}
 use Rattle.ac_meaning.specs.Numbers.{NumbersDiffer}

@@ -18,7 +18,7 @@ use Rattle.ac_model.specs.Sequences.{mark_before}
 use Rattle.ac_model.specs.Trees.{root_name, tree_mark}
 use Rattle.ac_tree.specs.TreeCursors.{NodeMarks}
 use Rattle.ac_objects.proofs.Given.{named_among, no_root}
-use Rattle.ac_objects.proofs.Own.{stale_judged}
+use Rattle.ac_calls.proofs.Own.{stale_judged}
 use Rattle.ac_objects.proofs.OwnNodes.{at_root}
 
 -- the mark isn't a root's

@@ -7,7 +7,7 @@ use Rattle.ac_base.specs.declared.name.Name.{Name}
 use Rattle.ac_base.specs.Rows.{Row}
 use Rattle.ac_model.specs.Objects.{Object, plain, plain_row, contents}
 use Rattle.ac_model.specs.Rows.{Node}
-use Rattle.ac_meaning.specs.Listings.{between_nodes, nodes_after, nodes_listing}
+use Rattle.ac_calls.specs.Listings.{between_nodes, nodes_after, nodes_listing}
 use Rattle.ac_tree.specs.Meeting.{StandsBefore, IsMet}
 use Rattle.ac_objects.specs.ListedNodes.{follows}
 

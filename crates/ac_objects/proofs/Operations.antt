@@ -7,14 +7,14 @@ use Rattle.ac_base.specs.declared.name.Name.{Name}
 use Rattle.ac_model.specs.Objects.{Object, plain}
 use Rattle.ac_model.specs.Containers.{Container}
 use Rattle.ac_syntax.specs.declared.operation.Operation.{Operation}
-use Rattle.ac_meaning.specs.Replies as replies
-use Rattle.ac_meaning.specs.Holdings.{seen_by_root}
-use Rattle.ac_meaning.specs.Replies.{Source, itself, another, seen_by, arguments_seen}
-use Rattle.ac_objects.specs.declared.argument.Arguments.{Arguments}
-use Rattle.ac_objects.specs.declared.reply.Reply.{Reply}
-use Rattle.ac_objects.specs.Arguments.{AllAgree, arguments_of, marked, arguments_marked, mark_by_root}
-use Rattle.ac_objects.specs.Replied.{Replied, RepliedWith, SourceAfter}
-use Rattle.ac_objects.proofs.Made.{seen_arguments_by}
+use Rattle.ac_calls.specs.Replies as replies
+use Rattle.ac_calls.specs.Holdings.{seen_by_root}
+use Rattle.ac_calls.specs.Replies.{Source, itself, another, seen_by, arguments_seen}
+use Rattle.ac_calls.specs.declared.argument.Arguments.{Arguments}
+use Rattle.ac_calls.specs.declared.reply.Reply.{Reply}
+use Rattle.ac_calls.specs.Arguments.{AllAgree, arguments_of, marked, arguments_marked, mark_by_root}
+use Rattle.ac_calls.specs.Replied.{Replied, RepliedWith, SourceAfter}
+use Rattle.ac_calls.proofs.Made.{seen_arguments_by}
 
 module _ {V : Type 0} (rooted : Bool) (reply : Source (Object ℕ V) → replies.Arguments → Operation → replies.Reply (Object ℕ V)) where
   abbrev marks : Object Name V → Arguments → replies.Arguments

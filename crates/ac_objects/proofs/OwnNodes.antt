@@ -20,8 +20,8 @@ use Rattle.ac_model.specs.Sequences.{first_new}
 use Rattle.ac_model.proofs.Depths.{and_left, and_right}
 use Rattle.ac_model.proofs.Reasons.{none_first, none_others}
 use Rattle.ac_tree.specs.TreeCursors.{NodeMarks}
-use Rattle.ac_objects.specs.Replied.{IsOwnName, IsAnswer}
-use Rattle.ac_objects.proofs.Own.{IsOwnMark, own_at, judged_own, stale_judged}
+use Rattle.ac_calls.specs.Replied.{IsOwnName, IsAnswer}
+use Rattle.ac_calls.proofs.Own.{IsOwnMark, own_at, judged_own, stale_judged}
 
 -- a name that is the root's
 pub at_root : (name : Name) → is_same_name name root_name ≡ true → name ≡ root_name

@@ -11,20 +11,20 @@ use Rattle.ac_model.specs.Letters.{Mark}
 use Rattle.ac_syntax.specs.declared.operation.Operation.{Operation}
 use Rattle.ac_check.specs.declared.resolved.ResolvedArg.{ResolvedArg}
 use Rattle.ac_check.specs.Resolved.{calls_at}
-use Rattle.ac_meaning.specs.Answers as meant
+use Rattle.ac_calls.specs.Answers as meant
 use Rattle.ac_meaning.specs.Commands.{Performed, says, Assigned, assigned_to, assigned, unless_refused, waits_or_goes, replied, call_on, called, after_call, arguments, source_of, source_place, source_set, place_in, mark_set, variable_to, variable_set, assigned_from, is_integer, sum_assigned}
 use Rattle.ac_meaning.specs.Environment.{Bound, binds_type, binds_object, binds_cursor, binds_value, binds_element, State, bound_in, bound_at, object_in, object_at, with_bound}
-use Rattle.ac_meaning.specs.Holdings.{Held}
-use Rattle.ac_meaning.specs.Replies as replies
+use Rattle.ac_calls.specs.Holdings.{Held}
+use Rattle.ac_calls.specs.Replies as replies
 use Rattle.ac_meaning.specs.Stays.{StateStays}
 use Rattle.ac_meaning.proofs.CallsStay.{none_some}
 use Rattle.ac_meaning.proofs.CommandsStay.{command_stays}
-use Rattle.ac_objects.specs.declared.reply.Said.{Said}
-use Rattle.ac_objects.specs.declared.reply.Said.TheVariants as said
-use Rattle.ac_objects.specs.declared.reply.Reply.{Reply}
+use Rattle.ac_calls.specs.declared.reply.Said.{Said}
+use Rattle.ac_calls.specs.declared.reply.Said.TheVariants as said
+use Rattle.ac_calls.specs.declared.reply.Reply.{Reply}
 use Rattle.ac_objects.specs.Called.{NotRaised}
 use Rattle.ac_objects.specs.Performs.{Performs, Untouched, answered}
-use Rattle.ac_objects.specs.Replied.{Stalls}
+use Rattle.ac_calls.specs.Replied.{Stalls}
 use Rattle.ac_objects.specs.Shown.{Shows}
 use Rattle.ac_objects.specs.Standing.{ElementsStand}
 use Rattle.ac_objects.specs.Steps.{AssignsTo, SaidKnown, placed_of, PlacedKnown, CalledAt, IsPerformed, PerformsAt, reply_in, if_integer, sum_given}

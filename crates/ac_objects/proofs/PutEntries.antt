@@ -5,13 +5,13 @@ use Rattle.ac_model.specs.Calls.{Call, Changing, Done, Same}
 use Rattle.ac_model.specs.Containers.{Container}
 use Rattle.ac_model.specs.Keyed.{Inserted}
 use Rattle.ac_model.specs.Objects.{Object}
-use Rattle.ac_meaning.specs.Answers.{answers_ok, answers_truth}
-use Rattle.ac_meaning.specs.KeyedReplies.{changes_inserting}
-use Rattle.ac_meaning.specs.Replies.{changes_ok, placed}
-use Rattle.ac_objects.specs.declared.reply.Reply.{Reply}
-use Rattle.ac_objects.specs.declared.reply.Said.TheVariants as said
-use Rattle.ac_objects.specs.Replied.{IsMade, Says, SetsVariable}
-use Rattle.ac_objects.specs.RowCalls.{PlacesOwn}
+use Rattle.ac_calls.specs.Answers.{answers_ok, answers_truth}
+use Rattle.ac_calls.specs.KeyedReplies.{changes_inserting}
+use Rattle.ac_calls.specs.Replies.{changes_ok, placed}
+use Rattle.ac_calls.specs.declared.reply.Reply.{Reply}
+use Rattle.ac_calls.specs.declared.reply.Said.TheVariants as said
+use Rattle.ac_calls.specs.Replied.{IsMade, Says, SetsVariable}
+use Rattle.ac_calls.specs.RowCalls.{PlacesOwn}
 
 module _ {V : Type 0} where
   -- a call that answers nothing, and was made

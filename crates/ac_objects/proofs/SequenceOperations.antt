@@ -8,12 +8,12 @@ use Rattle.ac_syntax.specs.declared.operation.SequenceCall.{SequenceCall}
 use Rattle.ac_syntax.specs.declared.operation.CapacityCall.{CapacityCall}
 use Rattle.ac_syntax.specs.declared.operation.VectorCall.{VectorCall}
 use Rattle.ac_syntax.specs.declared.operation.ListCall.{ListCall}
-use Rattle.ac_meaning.specs.Elements.{Tools}
-use Rattle.ac_meaning.specs.Answers.{answers_ok}
-use Rattle.ac_meaning.specs.Replies as replies
-use Rattle.ac_meaning.specs.Replies.{Source, tells}
-use Rattle.ac_meaning.specs.SequenceReplies.{common_reply, sequence_reply, sequence_own}
-use Rattle.ac_meaning.specs.Holdings.{SequenceKind, of_list, of_vector, reply_by}
+use Rattle.ac_calls.specs.Elements.{Tools}
+use Rattle.ac_calls.specs.Answers.{answers_ok}
+use Rattle.ac_calls.specs.Replies as replies
+use Rattle.ac_calls.specs.Replies.{Source, tells}
+use Rattle.ac_calls.specs.SequenceReplies.{common_reply, sequence_reply, sequence_own}
+use Rattle.ac_calls.specs.Holdings.{SequenceKind, of_list, of_vector, reply_by}
 use Rattle.ac_objects.specs.Sequences.{reversing, sorting}
 
 either_kind : {A : Type 0} (f : SequenceKind → A) (x : A) → f of_list ≡ x → f of_vector ≡ x → (which : SequenceKind) → f which ≡ x

@@ -10,12 +10,12 @@ use Rattle.ac_syntax.specs.declared.operation.SetCall.{SetCall}
 use Rattle.ac_syntax.specs.declared.operation.SetPairCall.{SetPairCall}
 use Rattle.ac_syntax.specs.declared.operation.OrderedCall.{OrderedCall}
 use Rattle.ac_syntax.specs.declared.operation.OrderedSetCall.{OrderedSetCall}
-use Rattle.ac_meaning.specs.Elements.{Tools}
-use Rattle.ac_meaning.specs.Answers.{answers_ok}
-use Rattle.ac_meaning.specs.KeyedReplies.{KeyedKind, of_hashed, of_ordered}
-use Rattle.ac_meaning.specs.Replies as replies
-use Rattle.ac_meaning.specs.Replies.{Source, itself, tells}
-use Rattle.ac_meaning.specs.SetReplies.{set_reply}
+use Rattle.ac_calls.specs.Elements.{Tools}
+use Rattle.ac_calls.specs.Answers.{answers_ok}
+use Rattle.ac_calls.specs.KeyedReplies.{KeyedKind, of_hashed, of_ordered}
+use Rattle.ac_calls.specs.Replies as replies
+use Rattle.ac_calls.specs.Replies.{Source, itself, tells}
+use Rattle.ac_calls.specs.SetReplies.{set_reply}
 use Rattle.ac_objects.specs.SetCalls.{tools_by}
 
 -- what holds of both kinds

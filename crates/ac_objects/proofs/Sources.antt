@@ -48,20 +48,20 @@ use Rattle.ac_syntax.specs.declared.operation.OrderedSetCall.TheVariants as orde
 use Rattle.ac_model.specs.Rows.{Entry, Node}
 use Rattle.ac_syntax.specs.declared.kind.ElemKind.{ElemKind}
 use Rattle.ac_syntax.specs.declared.kind.ElemKind.TheVariants.{Integer, Str}
-use Rattle.ac_meaning.specs.Elements.{Tools, ElementOf, tools_of, Text, keyed_texts}
-use Rattle.ac_meaning.specs.Answers.{Answer, answers_ok, answers_value, answers_truth, answers_place, answers_list, answers_raised, answers_stalled}
-use Rattle.ac_meaning.specs.TreeReplies.{tree_own, tree_look_reply, tree_change_reply, tree_reply}
-use Rattle.ac_meaning.specs.HolderReplies.{holder_source, holder_element, holder_alone_reply, holder_reply}
-use Rattle.ac_meaning.specs.QueueReplies.{item_answer, high_reply, queue_alone_reply, queue_reply}
-use Rattle.ac_meaning.specs.Replies.{Arguments, Placed, Source, without, itself, another, by_source, arguments_seen, source_in, Reply, value_answer, carried}
-use Rattle.ac_meaning.specs.SequenceReplies.{OwnCalls, sequence_own, common_reply, sequence_reply, capacity_reply}
-use Rattle.ac_meaning.specs.ListReplies.{list_alone_reply, list_reply}
-use Rattle.ac_meaning.specs.VectorReplies.{vector_alone_reply, vector_reply}
-use Rattle.ac_meaning.specs.KeyedReplies.{KeyedKind, of_hashed, of_ordered, walk_reply, ordered_reply}
-use Rattle.ac_meaning.specs.MapReplies.{map_own, map_alone_reply, ordered_map_reply, map_reply}
-use Rattle.ac_meaning.specs.KeyedSetReplies.{keyed_set_reply}
-use Rattle.ac_meaning.specs.SetReplies.{set_own, set_alone_reply, set_pair_reply, ordered_set_reply, set_reply}
-use Rattle.ac_meaning.specs.Holdings.{SequenceKind, of_list, of_vector, RowKind, a_sequence, a_map, a_set, a_keyed_set, a_tree, RowOf, Held, of_rows, of_holder, of_queue, same_element, rows_in, holder_in, seen_in, own_calls, reply_by, rows_reply, reply_of}
+use Rattle.ac_calls.specs.Elements.{Tools, ElementOf, tools_of, Text, keyed_texts}
+use Rattle.ac_calls.specs.Answers.{Answer, answers_ok, answers_value, answers_truth, answers_place, answers_list, answers_raised, answers_stalled}
+use Rattle.ac_calls.specs.TreeReplies.{tree_own, tree_look_reply, tree_change_reply, tree_reply}
+use Rattle.ac_calls.specs.HolderReplies.{holder_source, holder_element, holder_alone_reply, holder_reply}
+use Rattle.ac_calls.specs.QueueReplies.{item_answer, high_reply, queue_alone_reply, queue_reply}
+use Rattle.ac_calls.specs.Replies.{Arguments, Placed, Source, without, itself, another, by_source, arguments_seen, source_in, Reply, value_answer, carried}
+use Rattle.ac_calls.specs.SequenceReplies.{OwnCalls, sequence_own, common_reply, sequence_reply, capacity_reply}
+use Rattle.ac_calls.specs.ListReplies.{list_alone_reply, list_reply}
+use Rattle.ac_calls.specs.VectorReplies.{vector_alone_reply, vector_reply}
+use Rattle.ac_calls.specs.KeyedReplies.{KeyedKind, of_hashed, of_ordered, walk_reply, ordered_reply}
+use Rattle.ac_calls.specs.MapReplies.{map_own, map_alone_reply, ordered_map_reply, map_reply}
+use Rattle.ac_calls.specs.KeyedSetReplies.{keyed_set_reply}
+use Rattle.ac_calls.specs.SetReplies.{set_own, set_alone_reply, set_pair_reply, ordered_set_reply, set_reply}
+use Rattle.ac_calls.specs.Holdings.{SequenceKind, of_list, of_vector, RowKind, a_sequence, a_map, a_set, a_keyed_set, a_tree, RowOf, Held, of_rows, of_holder, of_queue, same_element, rows_in, holder_in, seen_in, own_calls, reply_by, rows_reply, reply_of}
 use Rattle.ac_meaning.proofs.RowKinds.{rows_own}
 use Rattle.ac_objects.proofs.KeyedOperations.{key_alone}
 

@@ -5,12 +5,12 @@ use Rattle.ac_model.specs.Calls.{Look}
 use Rattle.ac_model.specs.Containers.{Container}
 use Rattle.ac_model.specs.Letters.{Mark}
 use Rattle.ac_model.specs.Objects.{plain}
-use Rattle.ac_meaning.specs.Answers.{answers_place}
-use Rattle.ac_meaning.specs.Replies.{looks}
-use Rattle.ac_objects.specs.declared.reply.Reply.{Reply}
-use Rattle.ac_objects.specs.declared.reply.Said.TheVariants.{Place}
-use Rattle.ac_objects.specs.Replied.{IsAnswer, IsMade, Says, SetsVariable}
-use Rattle.ac_objects.proofs.Made.{unchanged}
+use Rattle.ac_calls.specs.Answers.{answers_place}
+use Rattle.ac_calls.specs.Replies.{looks}
+use Rattle.ac_calls.specs.declared.reply.Reply.{Reply}
+use Rattle.ac_calls.specs.declared.reply.Said.TheVariants.{Place}
+use Rattle.ac_calls.specs.Replied.{IsAnswer, IsMade, Says, SetsVariable}
+use Rattle.ac_calls.proofs.Made.{unchanged}
 
 module _ {V : Type 0} where
   pub place_looked : (o : Container V) (l : Look Mark) (made : Reply) (c : Cursor) → l.reason ≡ None → IsAnswer o.object c l.answer →

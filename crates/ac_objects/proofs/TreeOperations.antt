@@ -7,11 +7,11 @@ use Rattle.ac_syntax.specs.declared.operation.Operation.TheVariants as operation
 use Rattle.ac_syntax.specs.declared.operation.CommonCall.{CommonCall}
 use Rattle.ac_syntax.specs.declared.operation.TreeCall.{TreeCall}
 use Rattle.ac_syntax.specs.declared.operation.TreeChangeCall.{TreeChangeCall}
-use Rattle.ac_meaning.specs.Elements.{Tools}
-use Rattle.ac_meaning.specs.Answers.{answers_ok}
-use Rattle.ac_meaning.specs.Replies as replies
-use Rattle.ac_meaning.specs.Replies.{Source, tells}
-use Rattle.ac_meaning.specs.TreeReplies.{tree_reply}
+use Rattle.ac_calls.specs.Elements.{Tools}
+use Rattle.ac_calls.specs.Answers.{answers_ok}
+use Rattle.ac_calls.specs.Replies as replies
+use Rattle.ac_calls.specs.Replies.{Source, tells}
+use Rattle.ac_calls.specs.TreeReplies.{tree_reply}
 
 module _ {T : Type 0} (tools : Tools T) (o : Object ℕ (Node T)) (source : Source (Object ℕ (Node T))) (args : replies.Arguments) where
   pub no_tree_call : (op : Operation) → ((c : CommonCall) → op ≡ operation.Common c → ⊥) → ((c : TreeCall) → op ≡ operation.Tree c → ⊥)

@@ -21,11 +21,11 @@ use Rattle.ac_model.specs.Objects.{IsValid, plain}
 use Rattle.ac_model.specs.Objects as model
 use Rattle.ac_model.proofs.Reasons.{none_others}
 use Rattle.ac_model.proofs.Unslotted.{tree_agreement_kept, seen_marks}
-use Rattle.ac_objects.proofs.Made.{slot_agrees}
+use Rattle.ac_calls.proofs.Made.{slot_agrees}
 use Rattle.ac_setwork.specs.KeyCalls.{cursor_guard_of}
-use Rattle.ac_meaning.specs.Elements.{Text, text_in, texts}
-use Rattle.ac_meaning.specs.KeyedReplies.{order_by}
-use Rattle.ac_meaning.specs.Holdings.{Held, Guards, Written, of_rows, of_holder, of_queue, as_object, counted_as, a_sequence, a_map, a_set, a_keyed_set, a_tree, number_of, held_on, guarded, held_under, guard_on, with_rows_by, element_value, key_update_reason, key_updated}
+use Rattle.ac_calls.specs.Elements.{Text, text_in, texts}
+use Rattle.ac_calls.specs.KeyedReplies.{order_by}
+use Rattle.ac_calls.specs.Holdings.{Held, Guards, Written, of_rows, of_holder, of_queue, as_object, counted_as, a_sequence, a_map, a_set, a_keyed_set, a_tree, number_of, held_on, guarded, held_under, guard_on, with_rows_by, element_value, key_update_reason, key_updated}
 use Rattle.ac_meaning.specs.Environment.{Bound, binds_type, binds_object, binds_cursor, binds_value, binds_element, State, bound_at, bound_by, object_at, objects_by, under, at_rest, value_at, value_in, value_or_zero, element_in, with_bound, leaving}
 use Rattle.ac_meaning.specs.Execution.{end_lines, key_end_on}
 use Rattle.ac_meaning.specs.UnderGuards.{held_without}

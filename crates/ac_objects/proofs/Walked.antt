@@ -20,9 +20,9 @@ use Rattle.ac_model.proofs.Unslotted.{seen_marks}
 use Rattle.ac_meaning.specs.Execution.{in_order}
 use Rattle.ac_meaning.specs.Walks.{step_call, first_mark}
 use Rattle.ac_meaning.proofs.Walks.{walks}
-use Rattle.ac_objects.specs.Arguments.{SlotAgrees}
+use Rattle.ac_calls.specs.Arguments.{SlotAgrees}
 use Rattle.ac_objects.specs.Given.{GivenBy}
-use Rattle.ac_objects.proofs.Made.{slot_agrees}
+use Rattle.ac_calls.proofs.Made.{slot_agrees}
 use Rattle.ac_objects.proofs.Given.{IsOf, given_by, marked_by}
 
 -- marks of one object

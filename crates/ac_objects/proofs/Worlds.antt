@@ -5,7 +5,7 @@ use Rattle.ac_base.specs.declared.cursor.Cursor.TheVariants as cursor
 use Rattle.ac_base.specs.declared.name.Name.{Name}
 use Rattle.ac_meaning.specs.Environment as meant
 use Rattle.ac_meaning.specs.Environment.{State, binds_type, binds_object, binds_cursor, binds_value, binds_element, object_at, object_in, bound_in, bound_at, with_bound}
-use Rattle.ac_meaning.specs.Holdings.{Held, of_rows, of_holder, of_queue, number_of}
+use Rattle.ac_calls.specs.Holdings.{Held, of_rows, of_holder, of_queue, number_of}
 use Rattle.ac_meaning.specs.Numbers.{has_number, times_numbered, NumbersDiffer}
 use Rattle.ac_meaning.proofs.CallsStay.{none_some}
 use Rattle.ac_meaning.proofs.NumbersApart.{is_there, numbers_tell}

@@ -2,7 +2,7 @@
 use Rattle.std.specs.Prelude.{◌≡◌, ◌<◌, ◌-◌, ◌^◌, ℕ, true, [], ◌∷◌, Option, Some, None}
 use Rattle.ac_base.specs.declared.guard.GuardKind.{GuardKind}
 use Rattle.ac_base.specs.Guards.{HeldGuard, count_of, raised_kind}
-use Rattle.ac_meaning.specs.Holdings.{Held, Guards, number_of, is_a_set, takes_guards}
+use Rattle.ac_calls.specs.Holdings.{Held, Guards, number_of, is_a_set, takes_guards}
 use Rattle.ac_meaning.specs.Environment.{State, objects_by, object_at}
 use Rattle.ac_meaning.specs.UnderGuards.{held_with, held_without}
 use Rattle.ac_objects.specs.declared.blocks.LoopKey.{LoopKey}

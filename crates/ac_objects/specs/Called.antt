@@ -10,18 +10,18 @@ use Rattle.ac_model.specs.Calls.{Call, Done, IsAfter}
 use Rattle.ac_model.specs.Cursors.{plain_mark}
 use Rattle.ac_model.specs.Holders.{IsValidHolder}
 use Rattle.ac_model.specs.Containers.{Container, guards_of}
-use Rattle.ac_meaning.specs.Answers.{Answer, answers_ok, answers_value, answers_truth, answers_place, answers_list}
-use Rattle.ac_meaning.specs.Elements.{tools_of}
-use Rattle.ac_meaning.specs.Holdings.{Held, of_rows, of_holder, of_queue, number_of, listing_of, Written}
-use Rattle.ac_meaning.specs.Replies as replies
-use Rattle.ac_objects.specs.declared.argument.Arguments.{Arguments}
+use Rattle.ac_calls.specs.Answers.{Answer, answers_ok, answers_value, answers_truth, answers_place, answers_list}
+use Rattle.ac_calls.specs.Elements.{tools_of}
+use Rattle.ac_calls.specs.Holdings.{Held, of_rows, of_holder, of_queue, number_of, listing_of, Written}
+use Rattle.ac_calls.specs.Replies as replies
+use Rattle.ac_calls.specs.declared.argument.Arguments.{Arguments}
 use Rattle.ac_objects.specs.declared.object.Object.{Object}
-use Rattle.ac_objects.specs.declared.reply.Said.{Said}
-use Rattle.ac_objects.specs.declared.reply.Said.TheVariants as said
-use Rattle.ac_objects.specs.declared.reply.Placed.{Placed}
-use Rattle.ac_objects.specs.declared.reply.Reply.{Reply}
-use Rattle.ac_objects.specs.Arguments.{AllAgree, SlotAgrees}
-use Rattle.ac_objects.specs.Replied.{IsStalled}
+use Rattle.ac_calls.specs.declared.reply.Said.{Said}
+use Rattle.ac_calls.specs.declared.reply.Said.TheVariants as said
+use Rattle.ac_calls.specs.declared.reply.Placed.{Placed}
+use Rattle.ac_calls.specs.declared.reply.Reply.{Reply}
+use Rattle.ac_calls.specs.Arguments.{AllAgree, SlotAgrees}
+use Rattle.ac_calls.specs.Replied.{IsStalled}
 use Rattle.ac_objects.specs.Standing.{held_counts}
 use Rattle.ac_objects.specs.World.{InMemory, in_rows, in_holder, in_queue, memory_of, held_of, ObjectAgrees}
 
@@ -110,9 +110,3 @@ abbrev pub IsWithinLimit : Held → Type 0
 IsWithinLimit (of_rows kind o) = ⊤
 IsWithinLimit (of_holder e h) = IsValidHolder (tools_of e).size h
 IsWithinLimit (of_queue number q) = ⊤
-
--- the same in its rows
-abbrev pub WritesIn : {V : Type 0} → (lists.Object ℕ V → Call (lists.Object ℕ V) Done) → (old new : Container V) → Result Done Fault → Type 0
-WritesIn call old new (Ok done) = ((call (plain old.object)).reason ≡ None) × IsAfter old.object new.object (call (plain old.object)).after
-WritesIn call old new (Err (fault.Raised reason)) = ((call (plain old.object)).reason ≡ Some reason) × (new ≡ old)
-WritesIn call old new (Err fault.NoMemory) = new ≡ old

@@ -3,8 +3,8 @@ use Rattle.std.specs.Prelude.{◌≡◌, refl}
 use Rattle.ac_base.specs.Guards.{GuardCounts}
 use Rattle.ac_model.specs.Containers.{with_guards, guards_of}
 use Rattle.ac_forms.specs.HolderFields.{with_guards as holder_with}
-use Rattle.ac_meaning.specs.Elements.{Text}
-use Rattle.ac_meaning.specs.Holdings.{a_keyed_set}
+use Rattle.ac_calls.specs.Elements.{Text}
+use Rattle.ac_calls.specs.Holdings.{a_keyed_set}
 use Rattle.ac_objects.specs.declared.object.Object.{Object}
 use Rattle.ac_objects.specs.declared.object.Object.TheVariants.{Integers, Texts, IntegerSet, TextSet, KeyedSet, IntegersByInteger, IntegersByText, TextsByInteger, TextsByText, IntegerTree, TextTree, IntegerHolder, TextHolder, Queue}
 use Rattle.ac_objects.specs.declared.keyed_set.KeyedSet.{KeyedSet as KeyedTexts}

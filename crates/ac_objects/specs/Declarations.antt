@@ -2,7 +2,7 @@
 use Rattle.std.specs.Prelude.{ℕ, nat_lt, Option, Some, if◌then◌else◌}
 use Rattle.ac_base.specs.Limits.{numbers_end}
 use Rattle.ac_syntax.specs.declared.type_def.TypeDef.{TypeDef}
-use Rattle.ac_meaning.specs.Holdings.{new_held}
+use Rattle.ac_calls.specs.Holdings.{new_held}
 use Rattle.ac_meaning.specs.Environment.{binds_object, State, with_name, Declared, declared, number_taken}
 
 -- no number was left for the object that is declared on this line

@@ -10,7 +10,7 @@ use Rattle.ac_check.specs.declared.resolved.ResolvedArg.TheVariants as arg
 use Rattle.ac_model.specs.Letters.{mark_at}
 use Rattle.ac_model.specs.Cursors.{plain_mark}
 use Rattle.ac_model.specs.Objects as model
-use Rattle.ac_meaning.specs.Holdings.{number_of}
+use Rattle.ac_calls.specs.Holdings.{number_of}
 use Rattle.ac_objects.specs.declared.object.Object.{Object}
 use Rattle.ac_meaning.specs.Environment as meant
 use Rattle.ac_meaning.specs.Environment.{State, bound_at, object_at}
@@ -18,7 +18,7 @@ use Rattle.ac_meaning.specs.Execution.{in_order}
 use Rattle.ac_meaning.specs.Walks.{first_mark}
 use Rattle.ac_objects.specs.declared.bound.Bound.{Bound}
 use Rattle.ac_objects.specs.declared.bound.Bound.TheVariants as bound
-use Rattle.ac_objects.specs.Arguments.{SlotAgrees}
+use Rattle.ac_calls.specs.Arguments.{SlotAgrees}
 use Rattle.ac_objects.specs.World.{World, held_of, state_of, ObjectAgrees}
 
 -- the object that a name holds, if it holds one

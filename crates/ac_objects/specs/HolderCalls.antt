@@ -4,13 +4,13 @@ use Rattle.ac_base.specs.declared.fault.Fault.{Fault}
 use Rattle.ac_base.specs.declared.fault.Fault.TheVariants as fault
 use Rattle.ac_model.specs.Calls.{Call, Done}
 use Rattle.ac_model.specs.Holders.{Holder}
-use Rattle.ac_meaning.specs.Answers.{Answer, answers_ok, answers_value, answers_truth, answers_list}
-use Rattle.ac_meaning.specs.Elements.{Tools}
-use Rattle.ac_meaning.specs.HolderReplies.{holder_listing}
-use Rattle.ac_meaning.specs.Replies as replies
-use Rattle.ac_objects.specs.declared.reply.Reply.{Reply}
-use Rattle.ac_objects.specs.declared.reply.Said.{Said}
-use Rattle.ac_objects.specs.declared.reply.Said.TheVariants as said
+use Rattle.ac_calls.specs.Answers.{Answer, answers_ok, answers_value, answers_truth, answers_list}
+use Rattle.ac_calls.specs.Elements.{Tools}
+use Rattle.ac_calls.specs.HolderReplies.{holder_listing}
+use Rattle.ac_calls.specs.Replies as replies
+use Rattle.ac_calls.specs.declared.reply.Reply.{Reply}
+use Rattle.ac_calls.specs.declared.reply.Said.{Said}
+use Rattle.ac_calls.specs.declared.reply.Said.TheVariants as said
 
 -- the tools of an element type with its own size and its own test
 abbrev pub own_tools : {T : Type 0} → Tools T → (size : T → ℕ) → (same : T → T → Bool) → Tools T

@@ -4,15 +4,15 @@ use Rattle.ac_base.specs.declared.fault.Fault.{Fault}
 use Rattle.ac_model.specs.Containers.{Container}
 use Rattle.ac_syntax.specs.declared.operation.KeyedCall.{KeyedCall}
 use Rattle.ac_syntax.specs.declared.operation.Operation.{Operation}
-use Rattle.ac_meaning.specs.Elements.{Text}
-use Rattle.ac_meaning.specs.KeyedReplies.{of_ordered}
-use Rattle.ac_meaning.specs.KeyedSetReplies.{key_reply, keyed_set_reply}
-use Rattle.ac_meaning.specs.Replies.{itself}
-use Rattle.ac_objects.specs.declared.argument.Arguments.{Arguments}
+use Rattle.ac_calls.specs.Elements.{Text}
+use Rattle.ac_calls.specs.KeyedReplies.{of_ordered}
+use Rattle.ac_calls.specs.KeyedSetReplies.{key_reply, keyed_set_reply}
+use Rattle.ac_calls.specs.Replies.{itself}
+use Rattle.ac_calls.specs.declared.argument.Arguments.{Arguments}
 use Rattle.ac_objects.specs.declared.keyed_set.KeyedSet.{KeyedSet}
-use Rattle.ac_objects.specs.declared.reply.Reply.{Reply}
+use Rattle.ac_calls.specs.declared.reply.Reply.{Reply}
 use Rattle.ac_objects.specs.KeyedSets.{keyed_items, keyed_kind}
-use Rattle.ac_objects.specs.RowCalls.{RowsReplied}
+use Rattle.ac_calls.specs.RowCalls.{RowsReplied}
 
 -- a call by key that sets of both kinds have
 abbrev pub KeyReplied : KeyedCall → Arguments → (old new : KeyedSet) → Result Reply Fault → Type 0

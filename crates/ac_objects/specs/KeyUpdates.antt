@@ -8,9 +8,9 @@ use Rattle.ac_model.specs.Holders.{release_call as released}
 use Rattle.ac_model.specs.Cursors.{plain_mark, seen}
 use Rattle.ac_model.specs.KeyedSets.{end_update_key_call}
 use Rattle.ac_model.specs.Letters.{Mark}
-use Rattle.ac_meaning.specs.Elements.{Text, texts}
-use Rattle.ac_meaning.specs.KeyedReplies.{order_by}
-use Rattle.ac_meaning.specs.Holdings.{Held, Guards, Written, written, of_rows, of_holder, of_queue, a_keyed_set}
+use Rattle.ac_calls.specs.Elements.{Text, texts}
+use Rattle.ac_calls.specs.KeyedReplies.{order_by}
+use Rattle.ac_calls.specs.Holdings.{Held, Guards, Written, written, of_rows, of_holder, of_queue, a_keyed_set}
 use Rattle.ac_meaning.specs.Environment.{State, under, value_at, leaving}
 use Rattle.ac_meaning.specs.Execution.{key_end, end_lines}
 use Rattle.ac_objects.specs.declared.blocks.UpdateKey.{UpdateKey}

@@ -1,8 +1,8 @@
 -- Sets of texts with keys: the items that one has, which kind of set it is, and how its keys are told apart.
 use Rattle.ac_model.specs.Containers.{Container}
 use Rattle.ac_model.specs.Keyed.{Order}
-use Rattle.ac_meaning.specs.Elements.{Text, texts}
-use Rattle.ac_meaning.specs.KeyedReplies.{KeyedKind, order_by}
+use Rattle.ac_calls.specs.Elements.{Text, texts}
+use Rattle.ac_calls.specs.KeyedReplies.{KeyedKind, order_by}
 use Rattle.ac_objects.specs.declared.keyed_set.KeyedSet.{KeyedSet}
 use Rattle.ac_objects.specs.Sets.{items_of, set_kind_of}
 

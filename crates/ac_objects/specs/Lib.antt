@@ -1,5 +1,3 @@
-pub mod Arguments
-pub mod Listed
 pub mod Sequences
 pub mod Maps
 pub mod Sets
@@ -9,9 +7,7 @@ pub mod SetCalls
 pub mod KeyCalls
 pub mod HolderCalls
 pub mod QueueCalls
-pub mod RowCalls
 pub mod MapCalls
-pub mod Replied
 pub mod Shown
 pub mod World
 pub mod Standing

@@ -2,7 +2,7 @@
 use Rattle.std.specs.Prelude.{ℕ, List, ◌-◌, replicate}
 use Rattle.ac_base.specs.declared.cursor.Cursor.{Cursor}
 use Rattle.ac_base.specs.declared.cursor.Cursor.TheVariants.{NoElement, At}
-use Rattle.ac_meaning.specs.Listings.{between_nodes}
+use Rattle.ac_calls.specs.Listings.{between_nodes}
 
 abbrev pub follows : (depth : ℕ) → Cursor → (next : ℕ) → List ℕ
 follows depth NoElement next = replicate (depth - 2) 93

@@ -7,15 +7,15 @@ use Rattle.ac_model.specs.Containers.{Container}
 use Rattle.ac_syntax.specs.declared.operation.Operation.{Operation}
 use Rattle.ac_syntax.specs.declared.operation.MapCall.{MapCall}
 use Rattle.ac_syntax.specs.declared.operation.OrderedMapCall.{OrderedMapCall}
-use Rattle.ac_meaning.specs.Elements.{Tools}
-use Rattle.ac_meaning.specs.KeyedReplies.{of_ordered}
-use Rattle.ac_meaning.specs.MapReplies.{map_alone_reply, ordered_map_reply, map_reply}
-use Rattle.ac_meaning.specs.Replies.{Source}
-use Rattle.ac_objects.specs.declared.argument.Arguments.{Arguments}
+use Rattle.ac_calls.specs.Elements.{Tools}
+use Rattle.ac_calls.specs.KeyedReplies.{of_ordered}
+use Rattle.ac_calls.specs.MapReplies.{map_alone_reply, ordered_map_reply, map_reply}
+use Rattle.ac_calls.specs.Replies.{Source}
+use Rattle.ac_calls.specs.declared.argument.Arguments.{Arguments}
 use Rattle.ac_objects.specs.declared.map.Map.{Map}
-use Rattle.ac_objects.specs.declared.reply.Reply.{Reply}
+use Rattle.ac_calls.specs.declared.reply.Reply.{Reply}
 use Rattle.ac_objects.specs.Maps.{entries_of, map_kind_of}
-use Rattle.ac_objects.specs.RowCalls.{RowsReplied}
+use Rattle.ac_calls.specs.RowCalls.{RowsReplied}
 
 module _ {K V : Type 0} (keys : Tools K) (tools : Tools V) where
   -- a call of maps alone

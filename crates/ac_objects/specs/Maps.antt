@@ -3,7 +3,7 @@ use Rattle.std.specs.Prelude.{Bool}
 use Rattle.ac_model.specs.Rows.{Entry}
 use Rattle.ac_model.specs.Containers.{Container}
 use Rattle.ac_model.specs.Keyed.{Order}
-use Rattle.ac_meaning.specs.KeyedReplies.{KeyedKind, of_hashed, of_ordered, keyed_order}
+use Rattle.ac_calls.specs.KeyedReplies.{KeyedKind, of_hashed, of_ordered, keyed_order}
 use Rattle.ac_objects.specs.declared.map.Map.{Map}
 use Rattle.ac_objects.specs.declared.map.Map.TheVariants.{Hashed, Ordered}
 

@@ -3,9 +3,9 @@ use Rattle.std.specs.Prelude.{◌≡◌, ⊤, ℕ, Result, Ok, Err}
 use Rattle.ac_base.specs.declared.fault.Fault.{Fault}
 use Rattle.ac_base.specs.declared.fault.Fault.TheVariants as fault
 use Rattle.ac_model.specs.Calls.{Done}
-use Rattle.ac_meaning.specs.Answers.{answers_raised}
+use Rattle.ac_calls.specs.Answers.{answers_raised}
 use Rattle.ac_meaning.specs.Commands.{Performed}
-use Rattle.ac_objects.specs.declared.reply.Said.{Said}
+use Rattle.ac_calls.specs.declared.reply.Said.{Said}
 use Rattle.ac_objects.specs.Shown.{Shows}
 use Rattle.ac_objects.specs.World.{World, state_of}
 

@@ -5,13 +5,13 @@ use Rattle.ac_base.specs.declared.fault.Fault.TheVariants as fault
 use Rattle.ac_model.specs.Queues.{TaskQueue}
 use Rattle.ac_queue.specs.declared.any_queue.AnyQueue.{AnyQueue}
 use Rattle.ac_book.specs.Shared.{shared}
-use Rattle.ac_meaning.specs.Answers.{Answer, answers_ok, answers_value, answers_truth, answers_list}
-use Rattle.ac_meaning.specs.QueueReplies.{queue_listing}
-use Rattle.ac_meaning.specs.Replies as replies
-use Rattle.ac_objects.specs.declared.reply.Reply.{Reply}
-use Rattle.ac_objects.specs.declared.reply.Said.{Said}
-use Rattle.ac_objects.specs.declared.reply.Said.TheVariants as said
-use Rattle.ac_objects.specs.Replied.{IsStalled}
+use Rattle.ac_calls.specs.Answers.{Answer, answers_ok, answers_value, answers_truth, answers_list}
+use Rattle.ac_calls.specs.QueueReplies.{queue_listing}
+use Rattle.ac_calls.specs.Replies as replies
+use Rattle.ac_calls.specs.declared.reply.Reply.{Reply}
+use Rattle.ac_calls.specs.declared.reply.Said.{Said}
+use Rattle.ac_calls.specs.declared.reply.Said.TheVariants as said
+use Rattle.ac_calls.specs.Replied.{IsStalled}
 
 -- the answer of a call that didn't wait is the meaning's; a listing's text isn't made yet. No call of a queue answers a cursor
 abbrev pub QueueSays : TaskQueue → Said → Answer → Type 0

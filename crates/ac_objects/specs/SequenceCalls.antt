@@ -7,18 +7,18 @@ use Rattle.ac_syntax.specs.declared.operation.Operation.{Operation}
 use Rattle.ac_syntax.specs.declared.operation.SequenceCall.{SequenceCall}
 use Rattle.ac_syntax.specs.declared.operation.VectorCall.{VectorCall}
 use Rattle.ac_syntax.specs.declared.operation.ListCall.{ListCall}
-use Rattle.ac_meaning.specs.Elements.{Tools}
-use Rattle.ac_meaning.specs.Holdings.{reply_by}
-use Rattle.ac_meaning.specs.Replies as replies
-use Rattle.ac_meaning.specs.Replies.{Source, itself, another}
-use Rattle.ac_meaning.specs.SequenceReplies.{sequence_reply}
-use Rattle.ac_meaning.specs.ListReplies.{list_alone_reply}
-use Rattle.ac_meaning.specs.VectorReplies.{vector_alone_reply}
-use Rattle.ac_objects.specs.declared.argument.Arguments.{Arguments}
-use Rattle.ac_objects.specs.declared.reply.Reply.{Reply}
+use Rattle.ac_calls.specs.Elements.{Tools}
+use Rattle.ac_calls.specs.Holdings.{reply_by}
+use Rattle.ac_calls.specs.Replies as replies
+use Rattle.ac_calls.specs.Replies.{Source, itself, another}
+use Rattle.ac_calls.specs.SequenceReplies.{sequence_reply}
+use Rattle.ac_calls.specs.ListReplies.{list_alone_reply}
+use Rattle.ac_calls.specs.VectorReplies.{vector_alone_reply}
+use Rattle.ac_calls.specs.declared.argument.Arguments.{Arguments}
+use Rattle.ac_calls.specs.declared.reply.Reply.{Reply}
 use Rattle.ac_objects.specs.declared.sequence.Sequence.{Sequence}
-use Rattle.ac_objects.specs.Arguments.{marked}
-use Rattle.ac_objects.specs.Replied.{Replied, RepliedWith}
+use Rattle.ac_calls.specs.Arguments.{marked}
+use Rattle.ac_calls.specs.Replied.{Replied, RepliedWith}
 use Rattle.ac_objects.specs.Sequences.{rows_of, kind_of, reversing, sorting}
 
 -- the reply of a list or a vector

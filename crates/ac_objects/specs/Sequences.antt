@@ -5,8 +5,8 @@ use Rattle.ac_model.specs.Calls.{Call, Done}
 use Rattle.ac_model.specs.Containers.{Container}
 use Rattle.ac_model.specs.Lists as lists
 use Rattle.ac_model.specs.Vectors as vectors
-use Rattle.ac_meaning.specs.Holdings.{SequenceKind, of_list, of_vector}
-use Rattle.ac_meaning.specs.Replies.{Source, itself}
+use Rattle.ac_calls.specs.Holdings.{SequenceKind, of_list, of_vector}
+use Rattle.ac_calls.specs.Replies.{Source, itself}
 use Rattle.ac_objects.specs.declared.sequence.Sequence.{Sequence}
 use Rattle.ac_objects.specs.declared.sequence.Sequence.TheVariants.{List, Vector}
 

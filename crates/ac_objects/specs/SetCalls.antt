@@ -7,16 +7,16 @@ use Rattle.ac_syntax.specs.declared.operation.Operation.{Operation}
 use Rattle.ac_syntax.specs.declared.operation.SetCall.{SetCall}
 use Rattle.ac_syntax.specs.declared.operation.SetPairCall.{SetPairCall}
 use Rattle.ac_syntax.specs.declared.operation.OrderedSetCall.{OrderedSetCall}
-use Rattle.ac_meaning.specs.Elements.{Tools}
-use Rattle.ac_meaning.specs.KeyedReplies.{of_ordered}
-use Rattle.ac_meaning.specs.Replies as replies
-use Rattle.ac_meaning.specs.Replies.{itself, another}
-use Rattle.ac_meaning.specs.SetReplies.{set_alone_reply, set_pair_reply, ordered_set_reply, set_reply}
-use Rattle.ac_objects.specs.declared.argument.Arguments.{Arguments}
-use Rattle.ac_objects.specs.declared.reply.Reply.{Reply}
+use Rattle.ac_calls.specs.Elements.{Tools}
+use Rattle.ac_calls.specs.KeyedReplies.{of_ordered}
+use Rattle.ac_calls.specs.Replies as replies
+use Rattle.ac_calls.specs.Replies.{itself, another}
+use Rattle.ac_calls.specs.SetReplies.{set_alone_reply, set_pair_reply, ordered_set_reply, set_reply}
+use Rattle.ac_calls.specs.declared.argument.Arguments.{Arguments}
+use Rattle.ac_calls.specs.declared.reply.Reply.{Reply}
 use Rattle.ac_objects.specs.declared.set.Set.{Set}
-use Rattle.ac_objects.specs.Replied.{Replied, RepliedWith}
-use Rattle.ac_objects.specs.RowCalls.{RowsReplied}
+use Rattle.ac_calls.specs.Replied.{Replied, RepliedWith}
+use Rattle.ac_calls.specs.RowCalls.{RowsReplied}
 use Rattle.ac_objects.specs.Sets.{items_of, set_kind_of}
 
 -- the tools of an element type with its own tests

@@ -1,11 +1,11 @@
 -- How what the code's call says is the meaning's answer.
 use Rattle.std.specs.Prelude.{◌≡◌, ℕ, Some}
 use Rattle.ac_model.specs.Cursors.{plain_mark}
-use Rattle.ac_meaning.specs.Answers as meant
-use Rattle.ac_meaning.specs.Holdings.{Held, listing_of}
+use Rattle.ac_calls.specs.Answers as meant
+use Rattle.ac_calls.specs.Holdings.{Held, listing_of}
 use Rattle.ac_meaning.specs.Environment.{State, object_at}
-use Rattle.ac_objects.specs.declared.reply.Said.{Said}
-use Rattle.ac_objects.specs.declared.reply.Said.TheVariants.{Done, Value, Truth, Place, Listing, Stalled}
+use Rattle.ac_calls.specs.declared.reply.Said.{Said}
+use Rattle.ac_calls.specs.declared.reply.Said.TheVariants.{Done, Value, Truth, Place, Listing, Stalled}
 
 -- in this environment, where the object of the call has this place
 abbrev pub Shows : State → ℕ → Said → meant.Answer → Type 0

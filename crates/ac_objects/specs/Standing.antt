@@ -2,7 +2,7 @@
 use Rattle.std.specs.Prelude.{◌≡◌, ◌<◌, ◌+◌, ◌⊎◌, ℕ, Bool, List, map, Option, Some, None}
 use Rattle.ac_base.specs.Guards.{GuardCounts}
 use Rattle.ac_model.specs.Letters.{Mark, no_mark}
-use Rattle.ac_meaning.specs.Holdings.{Held, of_rows, of_holder, of_queue, from_rows, takes_guards, element_value}
+use Rattle.ac_calls.specs.Holdings.{Held, of_rows, of_holder, of_queue, from_rows, takes_guards, element_value}
 use Rattle.ac_meaning.specs.Environment.{Bound, binds_type, binds_object, binds_cursor, binds_value, binds_element, State, bound_at, object_at, guarded_at}
 
 -- an object stands at the place

@@ -9,25 +9,25 @@ use Rattle.ac_model.specs.Calls.{Done}
 use Rattle.ac_model.specs.Cursors.{plain_mark}
 use Rattle.ac_syntax.specs.declared.operation.Operation.{Operation}
 use Rattle.ac_check.specs.declared.resolved.ResolvedArg.{ResolvedArg}
-use Rattle.ac_meaning.specs.Answers as meant
+use Rattle.ac_calls.specs.Answers as meant
 use Rattle.ac_meaning.specs.Commands.{Performed, says, Assigned, source_place, source_of, source_set, arguments as meant_arguments, after_call, mark_set, value_set, is_integer, assigned_from}
 use Rattle.ac_meaning.specs.Environment.{State, binds_object, bound_at, object_at, with_bound}
-use Rattle.ac_meaning.specs.Holdings.{Held, number_of, reply_of, element_value, write}
-use Rattle.ac_meaning.specs.Replies as replies
-use Rattle.ac_objects.specs.declared.argument.Argument.{Argument}
-use Rattle.ac_objects.specs.declared.argument.Argument.TheVariants as argument
-use Rattle.ac_objects.specs.declared.argument.Arguments.{Arguments}
+use Rattle.ac_calls.specs.Holdings.{Held, number_of, reply_of, element_value, write}
+use Rattle.ac_calls.specs.Replies as replies
+use Rattle.ac_calls.specs.declared.argument.Argument.{Argument}
+use Rattle.ac_calls.specs.declared.argument.Argument.TheVariants as argument
+use Rattle.ac_calls.specs.declared.argument.Arguments.{Arguments}
 use Rattle.ac_objects.specs.declared.bound.Bound.{Bound}
 use Rattle.ac_objects.specs.declared.bound.Bound.TheVariants as bound
 use Rattle.ac_objects.specs.declared.object.Object.{Object}
-use Rattle.ac_objects.specs.declared.reply.Said.{Said}
-use Rattle.ac_objects.specs.declared.reply.Said.TheVariants as said
-use Rattle.ac_objects.specs.declared.reply.Placed.{Placed}
-use Rattle.ac_objects.specs.declared.reply.Reply.{Reply}
-use Rattle.ac_objects.specs.Arguments as arguments
+use Rattle.ac_calls.specs.declared.reply.Said.{Said}
+use Rattle.ac_calls.specs.declared.reply.Said.TheVariants as said
+use Rattle.ac_calls.specs.declared.reply.Placed.{Placed}
+use Rattle.ac_calls.specs.declared.reply.Reply.{Reply}
+use Rattle.ac_calls.specs.Arguments as arguments
 use Rattle.ac_objects.specs.Shown.{Shows}
 use Rattle.ac_objects.specs.Called.{AgreesWith, Called, CalledWith, Lasts, WritesTo}
-use Rattle.ac_objects.specs.Replied.{Stalls, IsStalled}
+use Rattle.ac_calls.specs.Replied.{Stalls, IsStalled}
 use Rattle.ac_objects.specs.Standing.{IsObject, ElementsStand, counts_in, counts_of}
 use Rattle.std.specs.Option.{ForSome}
 use Rattle.ac_objects.specs.World.{World, Counters, world, state_of, bound_of, held_of, ObjectAgrees, BoundAgrees, IsKnown, IsSound, Persists}

@@ -8,14 +8,14 @@ use Rattle.ac_model.specs.Trees.{tree_mark}
 use Rattle.ac_syntax.specs.declared.operation.Operation.{Operation}
 use Rattle.ac_syntax.specs.declared.operation.TreeCall.{TreeCall}
 use Rattle.ac_syntax.specs.declared.operation.TreeChangeCall.{TreeChangeCall}
-use Rattle.ac_meaning.specs.Elements.{Tools}
-use Rattle.ac_meaning.specs.Replies as replies
-use Rattle.ac_meaning.specs.Replies.{Source, itself, another}
-use Rattle.ac_meaning.specs.TreeReplies.{tree_look_reply, tree_change_reply, tree_reply}
-use Rattle.ac_objects.specs.declared.argument.Arguments.{Arguments}
-use Rattle.ac_objects.specs.declared.reply.Reply.{Reply}
-use Rattle.ac_objects.specs.Arguments.{arguments_marked}
-use Rattle.ac_objects.specs.Replied.{Replied, RepliedWith}
+use Rattle.ac_calls.specs.Elements.{Tools}
+use Rattle.ac_calls.specs.Replies as replies
+use Rattle.ac_calls.specs.Replies.{Source, itself, another}
+use Rattle.ac_calls.specs.TreeReplies.{tree_look_reply, tree_change_reply, tree_reply}
+use Rattle.ac_calls.specs.declared.argument.Arguments.{Arguments}
+use Rattle.ac_calls.specs.declared.reply.Reply.{Reply}
+use Rattle.ac_calls.specs.Arguments.{arguments_marked}
+use Rattle.ac_calls.specs.Replied.{Replied, RepliedWith}
 
 module _ {T : Type 0} where
   -- the arguments as the tree sees them

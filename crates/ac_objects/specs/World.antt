@@ -10,13 +10,13 @@ use Rattle.ac_model.specs.Queues.{TaskQueue}
 use Rattle.ac_book.specs.Shared.{shared}
 use Rattle.ac_syntax.specs.declared.kind.ElemKind.{ElemKind}
 use Rattle.ac_syntax.specs.declared.kind.ElemKind.TheVariants.{Integer, Str}
-use Rattle.ac_meaning.specs.Holdings.{RowKind, RowOf, Held, of_rows, of_holder, of_queue, a_sequence, a_map, a_set, a_keyed_set, a_tree}
-use Rattle.ac_meaning.specs.Elements.{ElementOf}
+use Rattle.ac_calls.specs.Holdings.{RowKind, RowOf, Held, of_rows, of_holder, of_queue, a_sequence, a_map, a_set, a_keyed_set, a_tree}
+use Rattle.ac_calls.specs.Elements.{ElementOf}
 use Rattle.ac_meaning.specs.Environment as meant
 use Rattle.ac_meaning.specs.Numbers.{NumbersDiffer}
 use Rattle.ac_objects.specs.declared.object.Object.{Object}
 use Rattle.ac_objects.specs.declared.object.Object.TheVariants.{Integers, Texts, IntegerSet, TextSet, KeyedSet, IntegersByInteger, IntegersByText, TextsByInteger, TextsByText, IntegerTree, TextTree, IntegerHolder, TextHolder, Queue}
-use Rattle.ac_objects.specs.Arguments.{SlotAgrees}
+use Rattle.ac_calls.specs.Arguments.{SlotAgrees}
 use Rattle.ac_objects.specs.Sequences.{rows_of, kind_of}
 use Rattle.ac_objects.specs.Sets.{items_of, set_kind_of}
 use Rattle.ac_objects.specs.KeyedSets.{keyed_items, keyed_kind}

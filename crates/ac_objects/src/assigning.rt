@@ -14,8 +14,8 @@ ghost use Rattle.ac_base.specs.declared.value.Value.{Value as value_data};
 use crate::bound::Bound;
 use crate::held::write_element;
 use crate::objects::Objects;
-use crate::values;
 use ac_base::{Fault, Value};
+use ac_calls::values;
 use ac_cursor::Cursor;
 use std::alloc::Global;
 

@@ -2,9 +2,9 @@
 ghost use Rattle.std.specs.Prelude.{◌≡◌, ◌<◌, None, Some, length, slice_get};
 ghost use Rattle.ac_meaning.specs.Commands.{source_of};
 ghost use Rattle.ac_meaning.specs.Environment.{object_at};
-ghost use Rattle.ac_meaning.specs.Holdings.{Held, reply_of, number_of};
-ghost use Rattle.ac_objects.specs.Arguments.{arguments_of};
-ghost use Rattle.ac_objects.specs.Replied.{told};
+ghost use Rattle.ac_calls.specs.Holdings.{Held, reply_of, number_of};
+ghost use Rattle.ac_calls.specs.Arguments.{arguments_of};
+ghost use Rattle.ac_calls.specs.Replied.{told};
 ghost use Rattle.ac_objects.specs.Called.{AgreesWith, CalledWith, Lasts};
 ghost use Rattle.ac_objects.specs.Standing.{IsObject, counts_of};
 ghost use Rattle.ac_objects.specs.Steps.{AllKnown, CalledIn, CalledInBoth, CalledAt, CanCall, CalledBounds, CanCallIn, CallsIn};
@@ -13,13 +13,12 @@ ghost use Rattle.ac_objects.specs.declared.object.Object.{Object as AnyObject};
 ghost use Rattle.ac_objects.specs.declared.bound.Bound.TheVariants as bound;
 ghost use Rattle.std.specs.Option.{ForSome};
 
-use crate::argument::Arguments;
 use crate::bound::Bound;
 use crate::held::{call_object, call_objects};
 use crate::object::Object;
 use crate::objects::Objects;
-use crate::reply::Reply;
 use ac_base::Fault;
+use ac_calls::{Arguments, Reply};
 use ac_syntax::Operation;
 use std::alloc::Global;
 

@@ -5,13 +5,12 @@ ghost use Rattle.ac_model.specs.Common as common;
 ghost use Rattle.ac_model.specs.Containers.{Container};
 ghost use Rattle.ac_model.specs.Forms.{Does};
 ghost use Rattle.ac_model.specs.Objects.{plain};
-ghost use Rattle.ac_meaning.specs.SequenceReplies.{capacity_reply};
-ghost use Rattle.ac_objects.specs.Replied.{told};
-ghost use Rattle.ac_objects.specs.RowCalls.{RowsReplied};
+ghost use Rattle.ac_calls.specs.SequenceReplies.{capacity_reply};
+ghost use Rattle.ac_calls.specs.Replied.{told};
+ghost use Rattle.ac_calls.specs.RowCalls.{RowsReplied};
 
-use crate::argument::Arguments;
-use crate::reply::{Reply, Said};
 use ac_base::{Fault, Value};
+use ac_calls::{Arguments, Reply, Said};
 use ac_syntax::CapacityCall;
 
 /// What has a Capacity.

@@ -1,6 +1,6 @@
 //! An answer is given to a target, and the variable among the arguments is set.
 ghost use Rattle.std.specs.Prelude.{◌≡◌, ℕ, ℤ, None, Some};
-ghost use Rattle.ac_meaning.specs.Answers.{Answer, answers_value};
+ghost use Rattle.ac_calls.specs.Answers.{Answer, answers_value};
 ghost use Rattle.ac_meaning.specs.Commands.{assigned, variable_set};
 ghost use Rattle.ac_objects.specs.Called.{NotRaised};
 ghost use Rattle.ac_objects.specs.Shown.{Shows};
@@ -9,9 +9,9 @@ ghost use Rattle.ac_objects.specs.Steps.{AssignsTo, SaidKnown, placed_of, Placed
 ghost use Rattle.ac_objects.specs.World.{state_of, Persists};
 
 use crate::objects::Objects;
-use crate::reply::{Placed, Said};
-use crate::values::copy_value;
 use ac_base::{Fault, Value};
+use ac_calls::values::copy_value;
+use ac_calls::{Placed, Said};
 use ac_check::ResolvedArg;
 
 impl Objects {

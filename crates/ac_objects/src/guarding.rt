@@ -3,7 +3,7 @@ ghost use Rattle.std.specs.Prelude.{◌≡◌, ◌<◌, true, false, None, Some,
 ghost use Rattle.ac_base.specs.Guards.{raised_kind, count_of, one_more, one_less};
 ghost use Rattle.ac_model.specs.Common.{hold_call};
 ghost use Rattle.ac_model.specs.Containers.{guards_of};
-ghost use Rattle.ac_meaning.specs.Holdings.{Held, with_rows_by, is_a_set, guard_on, takes_guards};
+ghost use Rattle.ac_calls.specs.Holdings.{Held, with_rows_by, is_a_set, guard_on, takes_guards};
 ghost use Rattle.ac_meaning.specs.Environment.{object_at, guarded_at, objects_by};
 ghost use Rattle.ac_meaning.specs.UnderGuards.{held_with, held_without};
 ghost use Rattle.ac_objects.specs.Blocks.{HasRoom, HasRoomForTwo, IsHeldAt};
@@ -17,13 +17,13 @@ ghost use Rattle.ac_objects.specs.Standing.{TakesGuards, counts_in_held};
 ghost use Rattle.ac_objects.specs.World.{held_of, state_of, Persists};
 
 use crate::bound::Bound;
-use crate::element::ScriptElement;
 use crate::keyed_set::KeyedSet;
 use crate::map::Map;
 use crate::object::Object;
 use crate::objects::Objects;
 use crate::sequence::Sequence;
 use crate::set::Set;
+use ac_calls::ScriptElement;
 use ac_cursor::{GuardKey, GuardKind, Guarded};
 
 impl<T> Guarded for Sequence<T> {

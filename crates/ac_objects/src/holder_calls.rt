@@ -1,18 +1,16 @@
 //! The calls of holders.
 ghost use Rattle.std.specs.Prelude.{◌≡◌};
-ghost use Rattle.ac_meaning.specs.HolderReplies.{holder_alone_reply, holder_reply};
-ghost use Rattle.ac_meaning.specs.Replies.{without, another};
-ghost use Rattle.ac_objects.specs.Arguments.{arguments_of};
+ghost use Rattle.ac_calls.specs.HolderReplies.{holder_alone_reply, holder_reply};
+ghost use Rattle.ac_calls.specs.Replies.{without, another};
+ghost use Rattle.ac_calls.specs.Arguments.{arguments_of};
 ghost use Rattle.ac_objects.specs.HolderCalls.{HolderReplied, HolderRepliedWith, own_tools};
-ghost use Rattle.ac_objects.specs.Replied.{told};
+ghost use Rattle.ac_calls.specs.Replied.{told};
 
 mod alone;
 mod sources;
 
-use crate::argument::Arguments;
-use crate::element::ScriptElement;
-use crate::reply::{Reply, Said};
 use ac_base::Fault;
+use ac_calls::{Arguments, Reply, Said, ScriptElement};
 use ac_forms::Holder;
 use ac_syntax::{HolderCall, Operation};
 use std::alloc::Global;

@@ -4,12 +4,12 @@ ghost use Rattle.ac_io.specs.declared.pieces.TheConstants.{MOST_WAITING};
 ghost use Rattle.ac_io.specs.Pieces.{Adds};
 ghost use Rattle.ac_model.specs.Holders as holders;
 ghost use Rattle.ac_syntax.specs.Canonical.{literal_text};
-ghost use Rattle.ac_meaning.specs.Listings.{bracketed};
-ghost use Rattle.ac_meaning.specs.HolderReplies.{holder_element, holder_write, holder_listing};
+ghost use Rattle.ac_calls.specs.Listings.{bracketed};
+ghost use Rattle.ac_calls.specs.HolderReplies.{holder_element, holder_write, holder_listing};
 ghost use Rattle.ac_objects.specs.HolderCalls.{ChangesHolder};
 
-use crate::element::ScriptElement;
 use ac_base::{Fault, NoMemory, Reason, Value};
+use ac_calls::ScriptElement;
 use ac_forms::Holder;
 use ac_io::{Sink, WriteFault, add};
 use ac_model::reason_if;

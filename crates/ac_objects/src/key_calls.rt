@@ -3,17 +3,16 @@ ghost use Rattle.std.specs.Prelude.{◌≡◌};
 ghost use Rattle.ac_syntax.specs.declared.operation.Operation.TheVariants.{Keyed};
 ghost use Rattle.ac_objects.specs.KeyCalls.{KeyedOperated};
 ghost use Rattle.ac_objects.specs.KeyedSets.{keyed_kind};
-ghost use Rattle.ac_objects.specs.Replied.{told};
+ghost use Rattle.ac_calls.specs.Replied.{told};
 
 mod changes;
 mod looks;
 mod own_cursors;
 
-use crate::argument::Arguments;
 use crate::keyed_set::KeyedSet;
-use crate::reply::{Reply, Said};
 use crate::set::Set;
 use ac_base::Fault;
+use ac_calls::{Arguments, Reply, Said};
 use ac_syntax::KeyedCall;
 use std::alloc::Global;
 

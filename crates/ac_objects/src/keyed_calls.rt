@@ -3,15 +3,12 @@ ghost use Rattle.std.specs.Prelude.{◌≡◌};
 ghost use Rattle.ac_model.specs.Containers.{slots_of};
 ghost use Rattle.ac_model.specs.Forms.{Sets, seen_by as mark_by};
 ghost use Rattle.ac_model.specs.Keyed as keyed;
-ghost use Rattle.ac_meaning.specs.KeyedReplies.{walk_reply};
-ghost use Rattle.ac_objects.specs.Replied.{told};
-ghost use Rattle.ac_objects.specs.RowCalls.{RowsReplied};
+ghost use Rattle.ac_calls.specs.KeyedReplies.{walk_reply};
+ghost use Rattle.ac_calls.specs.Replied.{told};
+ghost use Rattle.ac_calls.specs.RowCalls.{RowsReplied};
 
-use crate::argument::Arguments;
-use crate::reply::{Reply, Said};
-use crate::row_cursors;
-use crate::row_object::RowObject;
 use ac_base::Fault;
+use ac_calls::{Arguments, Reply, RowObject, Said, row_cursors};
 use ac_cursor::Cursor;
 use ac_syntax::WalkCall;
 

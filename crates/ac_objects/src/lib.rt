@@ -1,15 +1,11 @@
 //! A script's objects and variables, and what becomes of them when its commands and blocks run.
 #![tactic(auto)]
 
-mod argument;
 mod assigning;
 mod blocks;
 mod bound;
 mod calling;
 mod capacity_calls;
-mod common_calls;
-mod element;
-mod frame;
 mod giving;
 mod guarding;
 mod held;
@@ -21,7 +17,6 @@ mod keyed_set;
 mod lending;
 mod list_calls;
 mod listing;
-mod literal;
 mod loops;
 mod map;
 mod map_calls;
@@ -29,16 +24,12 @@ mod new_objects;
 mod numbered_queue;
 mod object;
 mod objects;
-mod operated_rows;
 mod operating;
 mod ordered_calls;
 mod queue_calls;
 mod queue_listing;
 mod ranking;
 mod reading;
-mod reply;
-mod row_cursors;
-mod row_object;
 mod scopes;
 mod sequence;
 mod sequence_calls;
@@ -49,24 +40,21 @@ mod set_pair_calls;
 mod tree_calls;
 mod trees;
 mod updates;
-mod values;
 mod vector_calls;
 mod views;
 mod walking;
 
-pub use argument::{Argument, Arguments};
+pub use ac_calls::{
+    Argument, Arguments, Frame, ListedRows, OperatedRows, Placed, Reply, RowObject, Said,
+    ScriptElement,
+};
 pub use blocks::{DeclareFault, LoopKey, UpdateKey, ViewKey};
 pub use bound::Bound;
-pub use element::ScriptElement;
-pub use frame::Frame;
 pub use keyed_set::KeyedSet;
 pub use map::Map;
 pub use numbered_queue::NumberedQueue;
 pub use object::Object;
 pub use objects::Objects;
-pub use operated_rows::OperatedRows;
 pub use operating::{operate, operate_with};
-pub use reply::{Placed, Reply, Said};
-pub use row_object::{ListedRows, RowObject};
 pub use sequence::Sequence;
 pub use set::Set;

@@ -4,12 +4,10 @@ ghost use Rattle.ac_model.specs.Containers.{slots_of, Grows};
 ghost use Rattle.ac_model.specs.Forms.{Does, DoesBoth, seen_by};
 ghost use Rattle.ac_model.specs.Lists as lists;
 ghost use Rattle.ac_objects.specs.SequenceCalls.{ListAloneReplied, ListAloneRepliedWith};
-ghost use Rattle.ac_objects.specs.Replied.{IsAnswer, told};
+ghost use Rattle.ac_calls.specs.Replied.{IsAnswer, told};
 
-use crate::argument::Arguments;
-use crate::element::ScriptElement;
-use crate::reply::{Reply, Said};
 use ac_base::Fault;
+use ac_calls::{Arguments, Reply, Said, ScriptElement};
 use ac_cursor::Cursor;
 use ac_list::List;
 use ac_syntax::ListCall;

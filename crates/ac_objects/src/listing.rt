@@ -5,18 +5,18 @@ ghost use Rattle.ac_io.specs.Pieces.{Adds};
 ghost use Rattle.ac_model.specs.Forms.{seen_by};
 ghost use Rattle.ac_model.specs.Objects.{plain, contents};
 ghost use Rattle.ac_model.specs.Sequences.{element_call};
-ghost use Rattle.ac_meaning.specs.Listings.{separated, bracketed};
+ghost use Rattle.ac_calls.specs.Listings.{separated, bracketed};
 ghost use Rattle.ac_meaning.specs.Environment.{object_at};
-ghost use Rattle.ac_meaning.specs.Holdings.{Held, listing_of};
-ghost use Rattle.ac_objects.specs.Listed.{comma_at};
+ghost use Rattle.ac_calls.specs.Holdings.{Held, listing_of};
+ghost use Rattle.ac_calls.specs.Listed.{comma_at};
 ghost use Rattle.ac_objects.specs.World.{held_of, state_of};
 
 use crate::holder_elements::write_listing;
 use crate::object::Object;
 use crate::objects::Objects;
 use crate::queue_listing::write_queue;
-use crate::row_object::ListedRows;
 use crate::trees::write_tree;
+use ac_calls::ListedRows;
 use ac_cursor::Cursor;
 use ac_io::{Sink, WriteFault, add};
 

@@ -3,7 +3,7 @@ ghost use Rattle.std.specs.Prelude.{◌≡◌, ◌<◌, ◌≤◌, ◌∷◌, �
 ghost use Rattle.std.specs.Option.{ForSome};
 ghost use Rattle.ac_model.specs.Letters.{no_mark};
 ghost use Rattle.ac_model.specs.Cursors.{plain_mark};
-ghost use Rattle.ac_meaning.specs.Holdings.{Held, names_of, number_of, guard_on};
+ghost use Rattle.ac_calls.specs.Holdings.{Held, names_of, number_of, guard_on};
 ghost use Rattle.ac_meaning.specs.Environment.{object_at, object_in, objects_by, with_name, leaving};
 ghost use Rattle.ac_meaning.specs.Execution.{in_order, turn_bound, guards_of_loop};
 ghost use Rattle.ac_meaning.specs.UnderGuards.{held_without};

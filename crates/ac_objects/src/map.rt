@@ -4,7 +4,7 @@ ghost use Rattle.ac_model.specs.Calls.{Same, Lends};
 ghost use Rattle.ac_model.specs.Containers.{slots_of};
 ghost use Rattle.ac_model.specs.Forms.{Does, Looks, seen_by};
 ghost use Rattle.ac_model.specs.Maps as maps;
-ghost use Rattle.ac_meaning.specs.KeyedReplies.{of_hashed};
+ghost use Rattle.ac_calls.specs.KeyedReplies.{of_hashed};
 ghost use Rattle.ac_objects.specs.Maps.{entries_of, map_kind_of};
 
 mod changes;
@@ -18,8 +18,8 @@ mod row_object;
 mod sources;
 pub mod uncounted;
 
-use crate::element::ScriptElement;
 use ac_base::{Elem, Fault, Hashed, Rank};
+use ac_calls::ScriptElement;
 use ac_cursor::Cursor;
 use ac_hashed::HashedMap;
 use ac_ordered::OrderedMap;

@@ -2,7 +2,7 @@
 ghost use Rattle.std.specs.Prelude.{◌≡◌};
 ghost use Rattle.ac_objects.specs.MapCalls.{MapReplied, OrderedMapReplied};
 ghost use Rattle.ac_objects.specs.Maps.{map_kind_of};
-ghost use Rattle.ac_objects.specs.Replied.{told};
+ghost use Rattle.ac_calls.specs.Replied.{told};
 
 mod deletions;
 mod looks;
@@ -10,11 +10,9 @@ mod ordered;
 mod own_cursors;
 mod puts;
 
-use crate::argument::Arguments;
-use crate::element::ScriptElement;
 use crate::map::Map;
-use crate::reply::Reply;
 use ac_base::Fault;
+use ac_calls::{Arguments, Reply, ScriptElement};
 use ac_ordered::OrderedMap;
 use ac_syntax::{MapCall, OrderedMapCall};
 use std::alloc::Global;

@@ -3,7 +3,7 @@ ghost use Rattle.std.specs.Prelude.{◌≡◌, Bool, true, false, Option, IfOk};
 ghost use Rattle.ac_base.specs.Limits.{IsLimit};
 ghost use Rattle.ac_syntax.specs.Kinds.{has_cursors, is_queue};
 ghost use Rattle.ac_book.specs.Shared.{shared};
-ghost use Rattle.ac_meaning.specs.Holdings.{a_sequence, a_set, a_keyed_set, a_map, kind_by, element_or, discipline_by, limit_by, new_held, new_within, is_vector, is_hashed};
+ghost use Rattle.ac_calls.specs.Holdings.{a_sequence, a_set, a_keyed_set, a_map, kind_by, element_or, discipline_by, limit_by, new_held, new_within, is_vector, is_hashed};
 ghost use Rattle.ac_model.specs.Holders.{empty_holder};
 ghost use Rattle.ac_model.specs.Objects.{plain, empty_object};
 ghost use Rattle.ac_model.specs.Queues.{empty_queue};
@@ -13,14 +13,15 @@ ghost use Rattle.ac_objects.specs.Sequences.{rows_of, kind_of};
 ghost use Rattle.ac_objects.specs.Sets.{items_of, set_kind_of};
 ghost use Rattle.ac_objects.specs.World.{held_of};
 
-use crate::element::ScriptElement;
 use crate::keyed_set::KeyedSet;
 use crate::map::Map;
 use crate::numbered_queue::NumberedQueue;
 use crate::object::Object;
 use crate::sequence::Sequence;
 use crate::set::Set;
+use crate::trees::ScriptTree;
 use ac_base::{Elem, GREATEST_LENGTH, Limit, NoMemory};
+use ac_calls::ScriptElement;
 use ac_cursor::Tag;
 use ac_forms::Holder;
 use ac_hashed::{HashedMap, HashedSet};
@@ -267,12 +268,12 @@ fn new_queue(alloc: Global, kind: Kind, limit: Limit) -> Result<AnyQueue, NoMemo
 }
 
 /// A tree without elements.
-fn new_tree<T: Elem>(alloc: Global, tag: Tag, limit: Limit) -> Result<Tree<T>, NoMemory>
+fn new_tree<T: Elem>(alloc: Global, tag: Tag, limit: Limit) -> Result<ScriptTree<T>, NoMemory>
     requires { IsLimit limit }
     ensures { IfOk result (λ made. plain made.object ≡ empty_object false tag limit) }
 {
     match Tree::new(alloc, tag, limit) {
-        Ok(tree) => Ok(tree),
+        Ok(tree) => Ok(ScriptTree { tree }),
         Err(_) => Err(NoMemory),
     }
 }

@@ -4,9 +4,9 @@ use crate::map::Map;
 use crate::numbered_queue::NumberedQueue;
 use crate::sequence::Sequence;
 use crate::set::Set;
+use crate::trees::ScriptTree;
 use ac_base::Text;
 use ac_forms::Holder;
-use ac_tree::Tree;
 
 /// An object of a script.
 #[derive(Drop)]
@@ -20,8 +20,8 @@ pub enum Object {
     IntegersByText(Map<Text, i64>),
     TextsByInteger(Map<i64, Text>),
     TextsByText(Map<Text, Text>),
-    IntegerTree(Tree<i64>),
-    TextTree(Tree<Text>),
+    IntegerTree(ScriptTree<i64>),
+    TextTree(ScriptTree<Text>),
     IntegerHolder(Holder<i64>),
     TextHolder(Holder<Text>),
     Queue(NumberedQueue),

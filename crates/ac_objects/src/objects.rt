@@ -1,9 +1,9 @@
 //! The names of a script in scope, with what they hold, and its commands.
 ghost use Rattle.std.specs.Prelude.{◌≡◌, [], Some, IfOk};
 ghost use Rattle.ac_meaning.specs.Commands.{called, set_from, summed, sum_of, variable_set};
-ghost use Rattle.ac_meaning.specs.Elements.{integer_in};
+ghost use Rattle.ac_calls.specs.Elements.{integer_in};
 ghost use Rattle.ac_meaning.specs.Environment.{object_at, value_at};
-ghost use Rattle.ac_meaning.specs.Holdings.{Held};
+ghost use Rattle.ac_calls.specs.Holdings.{Held};
 ghost use Rattle.ac_base.specs.declared.reason.Reason.{Reason as Refusal};
 ghost use Rattle.ac_objects.specs.Performs.{Performs, Untouched, answered};
 ghost use Rattle.ac_objects.specs.Standing.{IsObject, ElementsStand, counts_of};
@@ -11,11 +11,10 @@ ghost use Rattle.ac_objects.specs.Steps.{PerformsAt, PlacedKnown, placed_of, rep
 ghost use Rattle.ac_objects.specs.World.{state_of, world, counted_from, Persists};
 
 use crate::bound::Bound;
-use crate::frame::Frame;
 use crate::reading::said_of;
-use crate::reply::{Said, say};
-use crate::values::integer_in;
 use ac_base::{Fault, NoMemory, Reason, Value};
+use ac_calls::values::integer_in;
+use ac_calls::{Frame, Said, say};
 use ac_check::ResolvedArg;
 use ac_cursor::TagMint;
 use ac_syntax::Operation;

@@ -1,24 +1,21 @@
 //! Operations on lists and vectors: each goes to the calls that mean it.
 ghost use Rattle.std.specs.Prelude.{◌≡◌};
 ghost use Rattle.ac_model.specs.Objects.{plain};
-ghost use Rattle.ac_meaning.specs.Holdings.{reply_by};
-ghost use Rattle.ac_meaning.specs.Replies.{itself, another, seen_by};
-ghost use Rattle.ac_objects.specs.Arguments.{AllAgree, arguments_of};
-ghost use Rattle.ac_objects.specs.Replied.{told};
+ghost use Rattle.ac_calls.specs.Holdings.{reply_by};
+ghost use Rattle.ac_calls.specs.Replies.{itself, another, seen_by};
+ghost use Rattle.ac_calls.specs.Arguments.{AllAgree, arguments_of};
+ghost use Rattle.ac_calls.specs.Replied.{told};
 ghost use Rattle.ac_objects.specs.SequenceCalls.{Answered, AnsweredWith, OperationReplied, OperationRepliedWith};
 ghost use Rattle.ac_objects.specs.Sequences.{rows_of, kind_of};
 
-use crate::argument::Arguments;
 use crate::capacity_calls::capacity_call;
-use crate::common_calls::{common_call, common_call_with};
-use crate::element::ScriptElement;
 use crate::list_calls::{list_call, list_call_with};
-use crate::reply::{Reply, Said};
 use crate::sequence::Sequence;
 use crate::sequence_calls::sequence_call;
 use crate::sequence_source_calls::sequence_call_with;
 use crate::vector_calls::{vector_call, vector_call_with};
 use ac_base::Fault;
+use ac_calls::{Arguments, Reply, Said, ScriptElement, common_call, common_call_with};
 use ac_syntax::{CapacityCall, ListCall, Operation, VectorCall};
 use std::alloc::Global;
 

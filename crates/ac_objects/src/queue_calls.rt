@@ -3,16 +3,15 @@ ghost use Rattle.std.specs.Prelude.{◌≡◌};
 ghost use Rattle.ac_model.specs.Queues as queues;
 ghost use Rattle.ac_queue.specs.Kinds.{state_of};
 ghost use Rattle.ac_book.specs.Shared.{shared};
-ghost use Rattle.ac_meaning.specs.Answers.{answers_ok};
-ghost use Rattle.ac_meaning.specs.QueueReplies.{high_reply, item_answer, queue_alone_reply, queue_changes, queue_reply};
-ghost use Rattle.ac_objects.specs.Arguments.{arguments_of};
+ghost use Rattle.ac_calls.specs.Answers.{answers_ok};
+ghost use Rattle.ac_calls.specs.QueueReplies.{high_reply, item_answer, queue_alone_reply, queue_changes, queue_reply};
+ghost use Rattle.ac_calls.specs.Arguments.{arguments_of};
 ghost use Rattle.ac_objects.specs.QueueCalls.{QueueReplied};
-ghost use Rattle.ac_objects.specs.Replied.{told};
+ghost use Rattle.ac_calls.specs.Replied.{told};
 
-use crate::argument::Arguments;
-use crate::reply::{Reply, Said};
-use crate::values::integer_in;
 use ac_base::{Fault, GREATEST_LENGTH, Limit, Reason, Value};
+use ac_calls::values::integer_in;
+use ac_calls::{Arguments, Reply, Said};
 use ac_queue::{AnyQueue, Dequeued};
 use ac_syntax::{Operation, QueueCall};
 

@@ -7,12 +7,12 @@ ghost use Rattle.ac_queue.specs.Kinds.{state_of};
 ghost use Rattle.ac_book.specs.Shared.{shared};
 ghost use Rattle.ac_syntax.specs.Canonical.{literal_text};
 ghost use Rattle.ac_base.specs.declared.value.Value.TheVariants.{Int};
-ghost use Rattle.ac_meaning.specs.Listings.{separated};
-ghost use Rattle.ac_meaning.specs.QueueReplies.{queue_listing};
-ghost use Rattle.ac_objects.specs.Listed.{comma_at};
+ghost use Rattle.ac_calls.specs.Listings.{separated};
+ghost use Rattle.ac_calls.specs.QueueReplies.{queue_listing};
+ghost use Rattle.ac_calls.specs.Listed.{comma_at};
 
-use crate::element::ScriptElement;
 use crate::listing::comma;
+use ac_calls::ScriptElement;
 use ac_io::{Sink, WriteFault, add};
 use ac_queue::AnyQueue;
 

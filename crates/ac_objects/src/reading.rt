@@ -2,24 +2,23 @@
 ghost use Rattle.std.specs.Prelude.{◌≡◌, ◌∷◌, ℕ, List, IfOk, IfSome, OnOk, None, Some, slice_get};
 ghost use Rattle.std.specs.Option.{ForSome};
 ghost use Rattle.ac_meaning.specs.Commands.{source_place, argument_in, argument, argument_of as argument_at, arguments, answer_in, answer_from};
-ghost use Rattle.ac_meaning.specs.Replies.{value_argument};
+ghost use Rattle.ac_calls.specs.Replies.{value_argument};
 ghost use Rattle.ac_objects.specs.Given.{IsVariable, IsAtHand};
 ghost use Rattle.ac_meaning.specs.Environment.{State, bound_at, value_in, binds_element};
 ghost use Rattle.ac_model.specs.Cursors.{plain_mark};
-ghost use Rattle.ac_objects.specs.Arguments.{argument_of, arguments_of, cursor_in};
+ghost use Rattle.ac_calls.specs.Arguments.{argument_of, arguments_of, cursor_in};
 ghost use Rattle.ac_objects.specs.Shown.{Shows};
 ghost use Rattle.ac_objects.specs.Standing.{IsObject, ElementsStand};
 ghost use Rattle.ac_objects.specs.Steps.{AllKnown, CanRead, answer_of, source_or, SaidKnown};
 ghost use Rattle.ac_check.specs.declared.resolved.ResolvedArg.{ResolvedArg as ArgData};
 ghost use Rattle.ac_objects.specs.World.{World, Counters, state_of, world, IsKnown};
 
-use crate::argument::{Argument, Arguments};
 use crate::bound::Bound;
 use crate::held::element_of;
 use crate::objects::Objects;
-use crate::reply::Said;
-use crate::values::{self, copy_value};
 use ac_base::{Elem, NoMemory, Text, Value};
+use ac_calls::values::{self, copy_value};
+use ac_calls::{Argument, Arguments, Said};
 use ac_check::ResolvedArg;
 use ac_cursor::Cursor;
 use std::alloc::Global;

@@ -1,7 +1,7 @@
 //! The names in scope: those that declarations make, and those that go at a block's end.
 ghost use Rattle.std.specs.Prelude.{◌≡◌, ◌++◌, ◌∷◌, [], if◌then◌else◌, ℕ, true, false, is_ok, length, take, None, Some, IfOk, OnErr, Err};
 ghost use Rattle.ac_meaning.specs.Environment.{object_at, object_in, with_name, leaving, after_decl, after_decls, nodes, nodes_in};
-ghost use Rattle.ac_meaning.specs.Holdings.{nodes_of};
+ghost use Rattle.ac_calls.specs.Holdings.{nodes_of};
 ghost use Rattle.ac_meaning.specs.Environment.{declared};
 ghost use Rattle.ac_objects.specs.Declarations.{object_declared, spent_at};
 ghost use Rattle.ac_objects.specs.Given.{Finds};
@@ -13,8 +13,8 @@ use crate::bound::Bound;
 use crate::new_objects::new_object;
 use crate::object::Object;
 use crate::objects::Objects;
-use crate::row_object::RowObject;
 use ac_base::{Elem, NoMemory, Text, Value};
+use ac_calls::RowObject;
 use ac_check::ResolvedDecl;
 use ac_cursor::Cursor;
 use ac_syntax::TypeDef;

@@ -1,6 +1,6 @@
 //! The calls that lists and vectors share, but those with another one.
 ghost use Rattle.std.specs.Prelude.{◌≡◌};
-ghost use Rattle.ac_objects.specs.Replied.{told};
+ghost use Rattle.ac_calls.specs.Replied.{told};
 ghost use Rattle.ac_objects.specs.SequenceCalls.{SequenceReplied};
 ghost use Rattle.ac_objects.specs.Sequences.{kind_of};
 
@@ -10,12 +10,9 @@ mod orders;
 mod own_cursors;
 mod puts;
 
-use crate::argument::Arguments;
-use crate::element::ScriptElement;
-use crate::reply::{Reply, Said};
-use crate::row_cursors;
 use crate::sequence::Sequence;
 use ac_base::Fault;
+use ac_calls::{Arguments, Reply, Said, ScriptElement, row_cursors};
 use ac_syntax::SequenceCall;
 use std::alloc::Global;
 

@@ -2,17 +2,15 @@
 ghost use Rattle.std.specs.Prelude.{◌≡◌};
 ghost use Rattle.ac_model.specs.Objects.{plain};
 ghost use Rattle.ac_model.specs.Sequences as sequences;
-ghost use Rattle.ac_meaning.specs.Replies.{changes_both};
-ghost use Rattle.ac_objects.specs.Replied.{told};
+ghost use Rattle.ac_calls.specs.Replies.{changes_both};
+ghost use Rattle.ac_calls.specs.Replied.{told};
 ghost use Rattle.ac_objects.specs.SequenceCalls.{AnsweredWith, SequenceRepliedWith};
 ghost use Rattle.ac_objects.specs.Sequences.{rows_of, kind_of};
 
-use crate::argument::Arguments;
-use crate::element::ScriptElement;
-use crate::reply::{Reply, Said};
 use crate::sequence::Sequence;
 use crate::sequence_calls::sequence_call;
 use ac_base::Fault;
+use ac_calls::{Arguments, Reply, Said, ScriptElement};
 use ac_syntax::SequenceCall;
 use std::alloc::Global;
 

@@ -3,7 +3,7 @@ ghost use Rattle.std.specs.Prelude.{◌≡◌, true, false};
 ghost use Rattle.ac_model.specs.Calls.{Lends};
 ghost use Rattle.ac_model.specs.Forms.{Looks, seen_by};
 ghost use Rattle.ac_model.specs.Sequences as sequences;
-ghost use Rattle.ac_meaning.specs.KeyedReplies.{of_hashed};
+ghost use Rattle.ac_calls.specs.KeyedReplies.{of_hashed};
 ghost use Rattle.ac_objects.specs.Sets.{items_of, set_kind_of};
 
 mod algebra;
@@ -16,8 +16,8 @@ pub(crate) mod operating;
 mod row_object;
 pub mod uncounted;
 
-use crate::element::ScriptElement;
 use ac_base::Fault;
+use ac_calls::ScriptElement;
 use ac_cursor::Cursor;
 use ac_hashed::HashedSet;
 use ac_ordered::OrderedSet;

@@ -1,6 +1,6 @@
 //! The calls of sets alone, and of ordered ones.
 ghost use Rattle.std.specs.Prelude.{◌≡◌};
-ghost use Rattle.ac_objects.specs.Replied.{told};
+ghost use Rattle.ac_calls.specs.Replied.{told};
 ghost use Rattle.ac_objects.specs.SetCalls.{SetReplied, OrderedSetReplied, tools_by};
 ghost use Rattle.ac_objects.specs.Sets.{set_kind_of};
 
@@ -8,11 +8,9 @@ mod changes;
 mod looks;
 mod own_cursors;
 
-use crate::argument::Arguments;
-use crate::element::ScriptElement;
-use crate::reply::Reply;
 use crate::set::Set;
 use ac_base::Fault;
+use ac_calls::{Arguments, Reply, ScriptElement};
 use ac_ordered::OrderedSet;
 use ac_syntax::{OrderedSetCall, SetCall};
 use std::alloc::Global;

@@ -1,16 +1,15 @@
 //! The calls of two sets.
 ghost use Rattle.std.specs.Prelude.{◌≡◌};
-ghost use Rattle.ac_objects.specs.Replied.{told};
+ghost use Rattle.ac_calls.specs.Replied.{told};
 ghost use Rattle.ac_objects.specs.SetCalls.{SetPairReplied, SetPairRepliedWith, tools_by};
 ghost use Rattle.ac_objects.specs.Sets.{set_kind_of};
 
 mod alone;
 mod sources;
 
-use crate::element::ScriptElement;
-use crate::reply::Reply;
 use crate::set::Set;
 use ac_base::Fault;
+use ac_calls::{Reply, ScriptElement};
 use ac_syntax::SetPairCall;
 
 /// A call of two sets, with the set itself as the source.

@@ -1,6 +1,6 @@
 //! The calls of trees on objects of a script.
 ghost use Rattle.std.specs.Prelude.{◌≡◌};
-ghost use Rattle.ac_objects.specs.Replied.{told};
+ghost use Rattle.ac_calls.specs.Replied.{told};
 ghost use Rattle.ac_objects.specs.TreeCalls.{TreeLooked, TreeChanged, TreeChangedWith};
 
 mod deletions;
@@ -9,10 +9,8 @@ mod looks;
 mod own_cursors;
 mod puts;
 
-use crate::argument::Arguments;
-use crate::element::ScriptElement;
-use crate::reply::{Reply, Said};
 use ac_base::{Fault, Value};
+use ac_calls::{Arguments, Reply, Said, ScriptElement};
 use ac_syntax::{TreeCall, TreeChangeCall};
 use ac_tree::Tree;
 use std::alloc::Global;

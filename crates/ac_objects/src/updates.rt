@@ -3,8 +3,8 @@ ghost use Rattle.std.specs.Prelude.{◌≡◌, ◌<◌, length, Some, None, IfOk
 ghost use Rattle.ac_base.specs.declared.reason.Reason.{Reason as ReasonData};
 ghost use Rattle.ac_model.specs.Cursors.{plain_mark};
 ghost use Rattle.ac_syntax.specs.declared.view_kind.ViewKind.TheVariants as views;
-ghost use Rattle.ac_meaning.specs.Elements.{text_in};
-ghost use Rattle.ac_meaning.specs.Holdings.{Held, element_value, key_update_reason};
+ghost use Rattle.ac_calls.specs.Elements.{text_in};
+ghost use Rattle.ac_calls.specs.Holdings.{Held, element_value, key_update_reason};
 ghost use Rattle.ac_meaning.specs.Environment.{object_at, mark_at, value_at, value_or_zero, objects_by, with_bound, with_name, leaving, binds_object, binds_value};
 ghost use Rattle.ac_meaning.specs.Execution.{head_reason, guards_of_view};
 ghost use Rattle.ac_meaning.specs.UnderGuards.{held_without};
@@ -15,10 +15,10 @@ ghost use Rattle.ac_objects.specs.World.{state_of, IsKnown, Persists};
 
 use crate::blocks::UpdateKey;
 use crate::bound::Bound;
-use crate::element::ScriptElement;
 use crate::objects::Objects;
 use crate::reading::copy_element;
 use ac_base::{Fault, KeyedText, NoMemory, Reason, Value};
+use ac_calls::ScriptElement;
 use ac_cursor::{Cursor, GuardKey, GuardKind};
 use ac_model::allowed;
 

@@ -1,15 +1,13 @@
 //! The calls of vectors alone: by index, and of another vector's elements.
-ghost use Rattle.ac_objects.specs.Replied.{told};
+ghost use Rattle.ac_calls.specs.Replied.{told};
 ghost use Rattle.ac_objects.specs.SequenceCalls.{VectorAloneReplied};
 
 mod copies;
 mod indexes;
 
-use crate::argument::Arguments;
 use crate::capacity_calls::WithCapacity;
-use crate::element::ScriptElement;
-use crate::reply::{Reply, Said};
 use ac_base::{Fault, Value};
+use ac_calls::{Arguments, Reply, Said, ScriptElement};
 use ac_syntax::VectorCall;
 use ac_vector::Vector;
 pub use copies::vector_call_with;

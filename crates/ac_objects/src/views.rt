@@ -2,7 +2,7 @@
 ghost use Rattle.std.specs.Prelude.{◌≡◌, ◌<◌, [], ◌∷◌, length, Some, None, IfOk, OnErr, Err};
 ghost use Rattle.ac_base.specs.declared.reason.Reason.{Reason as ReasonData};
 ghost use Rattle.ac_model.specs.Cursors.{plain_mark};
-ghost use Rattle.ac_meaning.specs.Holdings.{Held, guard_on};
+ghost use Rattle.ac_calls.specs.Holdings.{Held, guard_on};
 ghost use Rattle.ac_meaning.specs.Environment.{object_at, mark_at, with_name, leaving, binds_element};
 ghost use Rattle.ac_meaning.specs.Execution.{head_reason, guards_of_view, guards_of_stable};
 ghost use Rattle.ac_objects.specs.Blocks.{holding, releasing, guards_of_view_key, IsHeldAt};

@@ -5,18 +5,18 @@ ghost use Rattle.ac_model.specs.Objects.{plain};
 ghost use Rattle.ac_model.specs.Cursors.{plain_mark};
 ghost use Rattle.ac_model.specs.Calls.{Marks};
 ghost use Rattle.ac_model.specs.Forms.{Looks, seen_by};
-ghost use Rattle.ac_meaning.specs.Holdings.{names_of, number_of, element_value, seen_in};
+ghost use Rattle.ac_calls.specs.Holdings.{names_of, number_of, element_value, seen_in};
 ghost use Rattle.ac_meaning.specs.Execution.{in_order};
 ghost use Rattle.ac_meaning.specs.Walks.{step_call, first_mark};
 ghost use Rattle.ac_objects.specs.Given.{GivenBy, IsGiven, StepsOn};
 ghost use Rattle.ac_objects.specs.RootFree.{NoRootAmong};
-ghost use Rattle.ac_objects.specs.Arguments.{SlotAgrees};
+ghost use Rattle.ac_calls.specs.Arguments.{SlotAgrees};
 ghost use Rattle.ac_objects.specs.World.{held_of, ObjectAgrees};
 
 use crate::holder_elements::refused;
 use crate::object::Object;
-use crate::row_object::RowObject;
 use ac_base::{Fault, Name, Reason};
+use ac_calls::RowObject;
 use ac_cursor::Cursor;
 
 /// The cursor at which a loop over the object begins.

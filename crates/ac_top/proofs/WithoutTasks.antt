@@ -4,8 +4,8 @@ use Rattle.ac_syntax.specs.declared.script.Script.{Script}
 use Rattle.ac_check.specs.HasTasks.{begins_tasks, has_tasks}
 use Rattle.ac_check.specs.Resolved.{ResolvedHead, loops_at, views_at, stables_at, declares_at, gathers_at, works_at, ResolvedCode, no_statement, a_command, a_block, resolve, resolve_script}
 use Rattle.ac_check.specs.Scopes.{with_decls}
-use Rattle.ac_meaning.specs.Answers.{lines_text}
-use Rattle.ac_meaning.specs.Holdings.{Guards}
+use Rattle.ac_calls.specs.Answers.{lines_text}
+use Rattle.ac_calls.specs.Holdings.{Guards}
 use Rattle.ac_meaning.specs.Environment.{State, first_state, after_decls, guarded_at, nodes, under}
 use Rattle.ac_meaning.specs.Execution.{Outcome, Orders, after_declared, block_on, commanded, exec_resolved, followed, no_orders, on_object, run, run_with, text_of, text_with}
 use Rattle.ac_meaning.specs.Meanings.{Meaning, IsMeaningBy, is_too_long, is_refused, is_faulty, is_sound, ran, written}

@@ -1,18 +1,16 @@
 //! The calls of a holder that is its own source, where the call has one.
 ghost use Rattle.std.specs.Prelude.{◌≡◌};
 ghost use Rattle.ac_model.specs.Holders as holders;
-ghost use Rattle.ac_meaning.specs.Answers.{answers_truth, answers_list};
-ghost use Rattle.ac_meaning.specs.HolderReplies.{holder_element, holder_listing};
-ghost use Rattle.ac_meaning.specs.Replies.{changes_ok, looks, tells, value_answer};
-ghost use Rattle.ac_objects.specs.Arguments.{arguments_of};
+ghost use Rattle.ac_calls.specs.Answers.{answers_truth, answers_list};
+ghost use Rattle.ac_calls.specs.HolderReplies.{holder_element, holder_listing};
+ghost use Rattle.ac_calls.specs.Replies.{changes_ok, looks, tells, value_answer};
+ghost use Rattle.ac_calls.specs.Arguments.{arguments_of};
 ghost use Rattle.ac_objects.specs.HolderCalls.{HolderReplied, own_tools};
-ghost use Rattle.ac_objects.specs.Replied.{told};
+ghost use Rattle.ac_calls.specs.Replied.{told};
 
-use crate::argument::Arguments;
-use crate::element::ScriptElement;
 use crate::holder_elements::{refused, value};
-use crate::reply::{Reply, Said};
 use ac_base::Fault;
+use ac_calls::{Arguments, Reply, Said, ScriptElement};
 use ac_forms::Holder;
 use ac_model::allowed;
 use std::alloc::Global;

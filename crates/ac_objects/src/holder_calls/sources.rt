@@ -1,14 +1,13 @@
 //! The calls of a holder with another one as the source.
 ghost use Rattle.std.specs.Prelude.{◌≡◌};
 ghost use Rattle.ac_model.specs.Holders as holders;
-ghost use Rattle.ac_meaning.specs.Answers.{answers_truth};
-ghost use Rattle.ac_meaning.specs.Replies.{changes_ok, changes_both, tells};
+ghost use Rattle.ac_calls.specs.Answers.{answers_truth};
+ghost use Rattle.ac_calls.specs.Replies.{changes_ok, changes_both, tells};
 ghost use Rattle.ac_objects.specs.HolderCalls.{HolderRepliedWith, own_tools};
-ghost use Rattle.ac_objects.specs.Replied.{told};
+ghost use Rattle.ac_calls.specs.Replied.{told};
 
-use crate::element::ScriptElement;
-use crate::reply::{Reply, Said};
 use ac_base::Fault;
+use ac_calls::{Reply, Said, ScriptElement};
 use ac_forms::Holder;
 
 pub fn assign<T: ScriptElement>(

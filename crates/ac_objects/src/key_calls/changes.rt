@@ -2,13 +2,11 @@
 ghost use Rattle.std.specs.Prelude.{◌≡◌};
 ghost use Rattle.ac_objects.specs.KeyCalls.{KeyReplied};
 ghost use Rattle.ac_objects.specs.KeyedSets.{keyed_kind};
-ghost use Rattle.ac_objects.specs.Replied.{told};
+ghost use Rattle.ac_calls.specs.Replied.{told};
 
-use crate::argument::Arguments;
-use crate::element::ScriptElement;
 use crate::keyed_set::KeyedSet;
-use crate::reply::{Reply, Said};
 use ac_base::{Fault, KeyedText, Text};
+use ac_calls::{Arguments, Reply, Said, ScriptElement};
 use ac_syntax::KeyedCall;
 use std::alloc::Global;
 

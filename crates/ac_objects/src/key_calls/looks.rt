@@ -1,13 +1,11 @@
 //! The calls by a key that look at elements.
 ghost use Rattle.ac_objects.specs.KeyCalls.{KeyReplied, OrderedKeyReplied};
-ghost use Rattle.ac_objects.specs.Replied.{told};
+ghost use Rattle.ac_calls.specs.Replied.{told};
 
 use super::own_cursors;
-use crate::argument::Arguments;
-use crate::element::ScriptElement;
 use crate::keyed_set::KeyedSet;
-use crate::reply::{Reply, Said};
 use ac_base::{Fault, KeyedText, Text};
+use ac_calls::{Arguments, Reply, Said, ScriptElement};
 use ac_ordered::OrderedSet;
 use ac_syntax::KeyedCall;
 use std::alloc::Global;

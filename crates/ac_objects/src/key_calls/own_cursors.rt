@@ -5,7 +5,7 @@ ghost use Rattle.ac_model.specs.Keyed.{ascending};
 ghost use Rattle.ac_model.specs.KeyedSets as by_key;
 ghost use Rattle.ac_model.specs.Objects.{plain};
 ghost use Rattle.ac_objects.specs.KeyedSets.{keyed_items, keys_of};
-ghost use Rattle.ac_objects.specs.Replied.{IsAnswer};
+ghost use Rattle.ac_calls.specs.Replied.{IsAnswer};
 
 use crate::keyed_set::{KeyedSet, uncounted};
 use ac_base::{KeyedText, Text};

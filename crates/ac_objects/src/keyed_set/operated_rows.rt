@@ -1,14 +1,12 @@
 //! Operations on keyed sets as objects with rows: the calls by key, and else those of sets.
-ghost use Rattle.ac_meaning.specs.KeyedSetReplies.{keyed_set_reply};
+ghost use Rattle.ac_calls.specs.KeyedSetReplies.{keyed_set_reply};
 ghost use Rattle.ac_objects.specs.KeyedSets.{keyed_kind};
 
 use super::KeyedSet;
-use crate::argument::Arguments;
 use crate::key_calls::key_call;
-use crate::operated_rows::OperatedRows;
-use crate::reply::Reply;
 use crate::set::operating;
 use ac_base::Fault;
+use ac_calls::{Arguments, OperatedRows, Reply};
 use ac_syntax::Operation;
 use std::alloc::Global;
 

@@ -1,14 +1,14 @@
 //! Keyed sets as objects with rows.
 ghost use Rattle.std.specs.Prelude.{refl};
 ghost use Rattle.ac_syntax.specs.Canonical.{literal_text};
-ghost use Rattle.ac_meaning.specs.Elements.{keyed_texts};
-ghost use Rattle.ac_meaning.specs.Holdings.{a_keyed_set};
-ghost use Rattle.ac_meaning.specs.SetReplies.{set_own};
+ghost use Rattle.ac_calls.specs.Elements.{keyed_texts};
+ghost use Rattle.ac_calls.specs.Holdings.{a_keyed_set};
+ghost use Rattle.ac_calls.specs.SetReplies.{set_own};
 ghost use Rattle.ac_objects.specs.KeyedSets.{keyed_items, keyed_kind};
 
 use super::KeyedSet;
-use crate::row_object::{ListedRows, RowObject};
 use ac_base::{Fault, KeyedText, NoMemory, Reason, Value};
+use ac_calls::{ListedRows, RowObject};
 use ac_cursor::Cursor;
 use ac_io::{Sink, WriteFault};
 use std::alloc::Global;

@@ -7,7 +7,7 @@ ghost use Rattle.ac_model.specs.Forms.{seen_by};
 ghost use Rattle.ac_model.specs.KeyedSets as by_key;
 ghost use Rattle.ac_model.specs.Letters.{tampers_cursors};
 ghost use Rattle.ac_model.specs.Objects.{IsValid, plain};
-ghost use Rattle.ac_meaning.specs.Holdings.{element_value, key_update_reason, number_of};
+ghost use Rattle.ac_calls.specs.Holdings.{element_value, key_update_reason, number_of};
 ghost use Rattle.ac_objects.specs.KeyedSets.{keyed_items, keyed_kind, keys_of};
 ghost use Rattle.ac_objects.specs.Standing.{counts_in_held};
 ghost use Rattle.ac_objects.specs.KeyUpdates.{key_ended};
@@ -16,9 +16,9 @@ ghost use Rattle.ac_setwork.specs.KeyCalls.{DoesAlways, cursor_guard_of};
 
 use super::KeyedSet;
 use crate::object::Object;
-use crate::row_object::RowObject;
 use crate::set::Set;
 use ac_base::{Fault, KeyedText, Reason};
+use ac_calls::RowObject;
 use ac_cursor::{Cursor, GuardKey, GuardKind, Guarded, first_reason};
 
 impl KeyedSet {

@@ -8,8 +8,8 @@ ghost use Rattle.ac_setwork.specs.TableFields.{Places};
 ghost use Rattle.ac_objects.specs.Maps.{entries_of, map_kind_of, keys_in};
 
 use super::Map;
-use crate::element::ScriptElement;
 use ac_base::Fault;
+use ac_calls::ScriptElement;
 use ac_cursor::Cursor;
 
 impl<K: ScriptElement, V: ScriptElement> Map<K, V> {

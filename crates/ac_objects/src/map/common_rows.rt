@@ -1,8 +1,7 @@
 //! The calls that maps have with all kinds of rows.
 use super::Map;
-use crate::common_calls::CommonRows;
-use crate::element::ScriptElement;
 use ac_base::{Fault, Value};
+use ac_calls::{CommonRows, ScriptElement};
 use ac_cursor::Cursor;
 use std::alloc::Global;
 

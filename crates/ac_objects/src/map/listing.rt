@@ -4,9 +4,9 @@ ghost use Rattle.ac_io.specs.declared.pieces.TheConstants.{MOST_WAITING};
 ghost use Rattle.ac_io.specs.Pieces.{Adds};
 ghost use Rattle.ac_model.specs.Rows.{entry};
 ghost use Rattle.ac_syntax.specs.Canonical.{literal_text};
-ghost use Rattle.ac_meaning.specs.Listings.{entry_text};
+ghost use Rattle.ac_calls.specs.Listings.{entry_text};
 
-use crate::element::ScriptElement;
+use ac_calls::ScriptElement;
 use ac_io::{Sink, WriteFault, add};
 
 pub fn add_entry<K: ScriptElement, V: ScriptElement, W: Sink>(

@@ -7,8 +7,8 @@ ghost use Rattle.ac_model.specs.Objects.{plain};
 ghost use Rattle.ac_objects.specs.Maps.{entries_of, map_kind_of, keys_in};
 
 use super::{Map, uncounted};
-use crate::element::ScriptElement;
 use ac_base::Fault;
+use ac_calls::ScriptElement;
 use ac_cursor::Cursor;
 
 impl<K: ScriptElement, V: ScriptElement> Map<K, V> {

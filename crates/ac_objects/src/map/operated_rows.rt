@@ -1,14 +1,11 @@
 //! Operations on maps as objects with rows.
-ghost use Rattle.ac_meaning.specs.MapReplies.{map_reply};
+ghost use Rattle.ac_calls.specs.MapReplies.{map_reply};
 ghost use Rattle.ac_objects.specs.Maps.{map_kind_of};
 
 use super::Map;
 use super::operating::{operate, operate_with};
-use crate::argument::Arguments;
-use crate::element::ScriptElement;
-use crate::operated_rows::OperatedRows;
-use crate::reply::Reply;
 use ac_base::Fault;
+use ac_calls::{Arguments, OperatedRows, Reply, ScriptElement};
 use ac_syntax::Operation;
 use std::alloc::Global;
 

@@ -2,23 +2,20 @@
 ghost use Rattle.std.specs.Prelude.{◌≡◌};
 ghost use Rattle.ac_model.specs.Objects.{plain};
 ghost use Rattle.ac_syntax.specs.declared.operation.CommonCall.{CommonCall as CommonCalls};
-ghost use Rattle.ac_meaning.specs.MapReplies.{map_reply};
-ghost use Rattle.ac_meaning.specs.Replies.{itself, another, seen_by};
-ghost use Rattle.ac_objects.specs.Arguments.{AllAgree, arguments_of};
+ghost use Rattle.ac_calls.specs.MapReplies.{map_reply};
+ghost use Rattle.ac_calls.specs.Replies.{itself, another, seen_by};
+ghost use Rattle.ac_calls.specs.Arguments.{AllAgree, arguments_of};
 ghost use Rattle.ac_objects.specs.MapCalls.{AloneReplied};
 ghost use Rattle.ac_objects.specs.Maps.{entries_of, map_kind_of};
-ghost use Rattle.ac_objects.specs.Replied.{Replied, RepliedWith, told};
+ghost use Rattle.ac_calls.specs.Replied.{Replied, RepliedWith, told};
 
 use super::Map;
-use crate::argument::Arguments;
 use crate::capacity_calls::capacity_call;
-use crate::common_calls::{common_call, common_call_with};
-use crate::element::ScriptElement;
 use crate::keyed_calls::walk_call;
 use crate::map_calls::{map_call, ordered_map_call};
 use crate::ordered_calls::ordered_call;
-use crate::reply::{Reply, Said};
 use ac_base::Fault;
+use ac_calls::{Arguments, Reply, Said, ScriptElement, common_call, common_call_with};
 use ac_syntax::{CapacityCall, Operation, OrderedCall, OrderedMapCall};
 use std::alloc::Global;
 

@@ -1,16 +1,15 @@
 //! Hashed and ordered maps as objects with rows.
 ghost use Rattle.std.specs.Prelude.{refl};
 ghost use Rattle.ac_syntax.specs.Canonical.{literal_text};
-ghost use Rattle.ac_meaning.specs.Holdings.{a_map};
-ghost use Rattle.ac_meaning.specs.MapReplies.{map_own};
-ghost use Rattle.ac_meaning.specs.Listings.{entry_text};
+ghost use Rattle.ac_calls.specs.Holdings.{a_map};
+ghost use Rattle.ac_calls.specs.MapReplies.{map_own};
+ghost use Rattle.ac_calls.specs.Listings.{entry_text};
 ghost use Rattle.ac_objects.specs.Maps.{entries_of, map_kind_of};
 
 use super::Map;
 use super::listing::add_entry;
-use crate::element::ScriptElement;
-use crate::row_object::{ListedRows, RowObject};
 use ac_base::{Fault, NoMemory, Reason, Value};
+use ac_calls::{ListedRows, RowObject, ScriptElement};
 use ac_cursor::Cursor;
 use ac_io::{Sink, WriteFault};
 use ac_setwork::Entry;

@@ -8,8 +8,8 @@ ghost use Rattle.ac_model.specs.Objects.{plain};
 ghost use Rattle.ac_objects.specs.Maps.{entries_of, map_kind_of};
 
 use super::Map;
-use crate::element::ScriptElement;
 use ac_base::Fault;
+use ac_calls::ScriptElement;
 
 impl<K: ScriptElement, V: ScriptElement> Map<K, V> {
     pub fn assign_self(&mut self) -> Result<(), Fault>

@@ -1,16 +1,14 @@
 //! The calls of maps that delete an entry by its key.
 ghost use Rattle.std.specs.Prelude.{◌≡◌};
 ghost use Rattle.ac_model.specs.Maps as maps;
-ghost use Rattle.ac_meaning.specs.Replies.{changes_ok};
+ghost use Rattle.ac_calls.specs.Replies.{changes_ok};
 ghost use Rattle.ac_objects.specs.Maps.{entries_of, keys_in, map_kind_of};
-ghost use Rattle.ac_objects.specs.Replied.{told};
-ghost use Rattle.ac_objects.specs.RowCalls.{RowsReplied};
+ghost use Rattle.ac_calls.specs.Replied.{told};
+ghost use Rattle.ac_calls.specs.RowCalls.{RowsReplied};
 
-use crate::argument::Arguments;
-use crate::element::ScriptElement;
 use crate::map::Map;
-use crate::reply::{Reply, Said};
 use ac_base::Fault;
+use ac_calls::{Arguments, Reply, Said, ScriptElement};
 use std::alloc::Global;
 
 pub fn exclude<K: ScriptElement, V: ScriptElement>(

@@ -1,13 +1,11 @@
 //! The calls of maps that look at their entries.
 ghost use Rattle.ac_objects.specs.MapCalls.{MapReplied};
-ghost use Rattle.ac_objects.specs.Replied.{told};
+ghost use Rattle.ac_calls.specs.Replied.{told};
 
 use super::own_cursors;
-use crate::argument::Arguments;
-use crate::element::ScriptElement;
 use crate::map::Map;
-use crate::reply::{Reply, Said};
 use ac_base::Fault;
+use ac_calls::{Arguments, Reply, Said, ScriptElement};
 use ac_syntax::MapCall;
 use std::alloc::Global;
 

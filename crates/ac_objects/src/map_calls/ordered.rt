@@ -1,15 +1,13 @@
 //! The calls of ordered maps alone.
 ghost use Rattle.ac_model.specs.Maps as maps;
 ghost use Rattle.ac_model.specs.Objects.{plain};
-ghost use Rattle.ac_meaning.specs.Replies.{looks, value_answer, as_value};
+ghost use Rattle.ac_calls.specs.Replies.{looks, value_answer, as_value};
 ghost use Rattle.ac_objects.specs.MapCalls.{OrderedMapReplied};
-ghost use Rattle.ac_objects.specs.Replied.{Replied, told};
+ghost use Rattle.ac_calls.specs.Replied.{Replied, told};
 
 use super::own_cursors;
-use crate::argument::Arguments;
-use crate::element::ScriptElement;
-use crate::reply::{Reply, Said};
 use ac_base::Fault;
+use ac_calls::{Arguments, Reply, Said, ScriptElement};
 use ac_ordered::OrderedMap;
 use ac_syntax::OrderedMapCall;
 use std::alloc::Global;

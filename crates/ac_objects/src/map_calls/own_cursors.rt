@@ -4,14 +4,14 @@ ghost use Rattle.ac_model.specs.Containers.{Grows};
 ghost use Rattle.ac_model.specs.Forms.{Does};
 ghost use Rattle.ac_model.specs.Maps as maps;
 ghost use Rattle.ac_model.specs.Objects.{plain};
-ghost use Rattle.ac_meaning.specs.KeyedReplies.{of_ordered, order_by};
+ghost use Rattle.ac_calls.specs.KeyedReplies.{of_ordered, order_by};
 ghost use Rattle.ac_objects.specs.Maps.{entries_of, keys_in, map_kind_of};
-ghost use Rattle.ac_objects.specs.Replied.{IsAnswer};
-ghost use Rattle.ac_objects.specs.RowCalls.{PlacesOwn};
+ghost use Rattle.ac_calls.specs.Replied.{IsAnswer};
+ghost use Rattle.ac_calls.specs.RowCalls.{PlacesOwn};
 
-use crate::element::ScriptElement;
 use crate::map::{Map, uncounted};
 use ac_base::Fault;
+use ac_calls::ScriptElement;
 use ac_cursor::Cursor;
 use ac_ordered::OrderedMap;
 

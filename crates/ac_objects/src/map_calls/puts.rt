@@ -1,18 +1,16 @@
 //! The calls of maps that put entries into them.
 ghost use Rattle.std.specs.Prelude.{◌≡◌};
 ghost use Rattle.ac_model.specs.Maps as maps;
-ghost use Rattle.ac_meaning.specs.KeyedReplies.{changes_inserting};
-ghost use Rattle.ac_meaning.specs.Replies.{changes_ok};
+ghost use Rattle.ac_calls.specs.KeyedReplies.{changes_inserting};
+ghost use Rattle.ac_calls.specs.Replies.{changes_ok};
 ghost use Rattle.ac_objects.specs.Maps.{entries_of, keys_in, map_kind_of};
-ghost use Rattle.ac_objects.specs.Replied.{told};
-ghost use Rattle.ac_objects.specs.RowCalls.{RowsReplied};
+ghost use Rattle.ac_calls.specs.Replied.{told};
+ghost use Rattle.ac_calls.specs.RowCalls.{RowsReplied};
 
 use super::own_cursors;
-use crate::argument::Arguments;
-use crate::element::ScriptElement;
 use crate::map::Map;
-use crate::reply::{Placed, Reply, Said};
 use ac_base::Fault;
+use ac_calls::{Arguments, Placed, Reply, Said, ScriptElement};
 use ac_cursor::Cursor;
 use std::alloc::Global;
 

@@ -1,14 +1,11 @@
 //! Operations on lists and vectors as objects with rows.
-ghost use Rattle.ac_meaning.specs.Holdings.{reply_by};
+ghost use Rattle.ac_calls.specs.Holdings.{reply_by};
 ghost use Rattle.ac_objects.specs.Sequences.{kind_of};
 
 use super::Sequence;
-use crate::argument::Arguments;
-use crate::element::ScriptElement;
-use crate::operated_rows::OperatedRows;
 use crate::operating::{operate, operate_with};
-use crate::reply::Reply;
 use ac_base::Fault;
+use ac_calls::{Arguments, OperatedRows, Reply, ScriptElement};
 use ac_syntax::Operation;
 use std::alloc::Global;
 

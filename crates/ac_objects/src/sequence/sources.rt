@@ -6,7 +6,7 @@ ghost use Rattle.ac_model.specs.Forms.{Does, DoesBoth};
 ghost use Rattle.ac_model.specs.Objects.{plain};
 ghost use Rattle.ac_model.specs.Common as common;
 ghost use Rattle.ac_model.specs.Sequences as sequences;
-ghost use Rattle.ac_meaning.specs.Holdings.{of_list, of_vector};
+ghost use Rattle.ac_calls.specs.Holdings.{of_list, of_vector};
 ghost use Rattle.ac_objects.specs.Sequences.{rows_of, kind_of};
 
 use super::Sequence;

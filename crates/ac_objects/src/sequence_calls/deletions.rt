@@ -1,14 +1,12 @@
 //! The calls of lists and vectors that delete elements by place.
 ghost use Rattle.std.specs.Prelude.{◌≡◌};
-ghost use Rattle.ac_objects.specs.Replied.{told};
+ghost use Rattle.ac_calls.specs.Replied.{told};
 ghost use Rattle.ac_objects.specs.SequenceCalls.{SequenceReplied};
 ghost use Rattle.ac_objects.specs.Sequences.{kind_of};
 
-use crate::argument::Arguments;
-use crate::element::ScriptElement;
-use crate::reply::{Reply, Said};
 use crate::sequence::Sequence;
 use ac_base::Fault;
+use ac_calls::{Arguments, Reply, Said, ScriptElement};
 use ac_syntax::SequenceCall;
 
 #[inline(never)]

@@ -1,18 +1,15 @@
 //! The calls of lists and vectors that look at its elements.
 ghost use Rattle.ac_model.specs.Objects.{plain};
 ghost use Rattle.ac_model.specs.Sequences as sequences;
-ghost use Rattle.ac_meaning.specs.Replies.{looks, value_answer, as_value};
-ghost use Rattle.ac_objects.specs.Replied.{told};
+ghost use Rattle.ac_calls.specs.Replies.{looks, value_answer, as_value};
+ghost use Rattle.ac_calls.specs.Replied.{told};
 ghost use Rattle.ac_objects.specs.SequenceCalls.{Answered, SequenceReplied};
 ghost use Rattle.ac_objects.specs.Sequences.{rows_of};
 
 use super::own_cursors;
-use crate::argument::Arguments;
-use crate::element::ScriptElement;
-use crate::reply::{Reply, Said};
-use crate::row_cursors;
 use crate::sequence::Sequence;
 use ac_base::Fault;
+use ac_calls::{Arguments, Reply, Said, ScriptElement, row_cursors};
 use ac_syntax::SequenceCall;
 use std::alloc::Global;
 

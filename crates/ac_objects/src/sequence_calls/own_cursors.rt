@@ -4,12 +4,12 @@ ghost use Rattle.ac_model.specs.Objects.{plain};
 ghost use Rattle.ac_model.specs.Containers.{Grows};
 ghost use Rattle.ac_model.specs.Forms.{Does, Looks, seen_by};
 ghost use Rattle.ac_model.specs.Sequences as sequences;
-ghost use Rattle.ac_objects.specs.Replied.{IsAnswer};
+ghost use Rattle.ac_calls.specs.Replied.{IsAnswer};
 ghost use Rattle.ac_objects.specs.Sequences.{rows_of, kind_of};
 
-use crate::element::ScriptElement;
 use crate::sequence::Sequence;
 use ac_base::Fault;
+use ac_calls::ScriptElement;
 use ac_cursor::Cursor;
 
 pub fn find<T: ScriptElement>(

@@ -1,15 +1,13 @@
 //! The calls of lists and vectors that put elements into them.
 ghost use Rattle.std.specs.Prelude.{◌≡◌};
-ghost use Rattle.ac_objects.specs.Replied.{told};
+ghost use Rattle.ac_calls.specs.Replied.{told};
 ghost use Rattle.ac_objects.specs.SequenceCalls.{SequenceReplied};
 ghost use Rattle.ac_objects.specs.Sequences.{kind_of};
 
 use super::own_cursors;
-use crate::argument::Arguments;
-use crate::element::ScriptElement;
-use crate::reply::{Reply, Said};
 use crate::sequence::Sequence;
 use ac_base::Fault;
+use ac_calls::{Arguments, Reply, Said, ScriptElement};
 use ac_syntax::SequenceCall;
 use std::alloc::Global;
 

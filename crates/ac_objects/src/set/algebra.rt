@@ -8,8 +8,8 @@ ghost use Rattle.ac_model.specs.Sets as sets;
 ghost use Rattle.ac_objects.specs.Sets.{items_of, set_kind_of, set_order};
 
 use super::Set;
-use crate::element::ScriptElement;
 use ac_base::Fault;
+use ac_calls::ScriptElement;
 
 impl<T: ScriptElement> Set<T> {
     pub fn union(&mut self, source: &Set<T>) -> Result<(), Fault>

@@ -9,8 +9,8 @@ ghost use Rattle.ac_setwork.specs.TableFields.{Places};
 ghost use Rattle.ac_objects.specs.Sets.{items_of, set_kind_of, set_order};
 
 use super::Set;
-use crate::element::ScriptElement;
 use ac_base::Fault;
+use ac_calls::ScriptElement;
 use ac_cursor::Cursor;
 
 impl<T: ScriptElement> Set<T> {

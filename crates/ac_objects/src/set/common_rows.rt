@@ -1,9 +1,8 @@
 //! Hashed and ordered sets with the calls that all kinds of rows have.
 
 use super::Set;
-use crate::common_calls::CommonRows;
-use crate::element::ScriptElement;
 use ac_base::{Fault, Value};
+use ac_calls::{CommonRows, ScriptElement};
 use ac_cursor::Cursor;
 use std::alloc::Global;
 

@@ -1,13 +1,13 @@
 //! Hashed and ordered sets with the calls of maps and sets, of what has a Capacity and of what is ordered.
 ghost use Rattle.ac_model.specs.Sequences as sequences;
-ghost use Rattle.ac_meaning.specs.Replies.{as_value};
+ghost use Rattle.ac_calls.specs.Replies.{as_value};
 
 use super::Set;
 use crate::capacity_calls::WithCapacity;
-use crate::element::ScriptElement;
 use crate::keyed_calls::KeyedRows;
 use crate::ordered_calls::OrderedRows;
 use ac_base::{Fault, Value};
+use ac_calls::ScriptElement;
 use ac_cursor::Cursor;
 use ac_hashed::HashedSet;
 use ac_ordered::OrderedSet;

@@ -6,7 +6,7 @@ ghost use Rattle.ac_model.specs.Sets as sets;
 ghost use Rattle.ac_objects.specs.Sets.{items_of, set_kind_of, set_order};
 
 use super::{Set, uncounted};
-use crate::element::ScriptElement;
+use ac_calls::ScriptElement;
 use ac_cursor::Cursor;
 
 impl<T: ScriptElement> Set<T> {

@@ -1,14 +1,11 @@
 //! Operations on sets as objects with rows.
-ghost use Rattle.ac_meaning.specs.SetReplies.{set_reply};
+ghost use Rattle.ac_calls.specs.SetReplies.{set_reply};
 ghost use Rattle.ac_objects.specs.Sets.{set_kind_of};
 
 use super::Set;
 use super::operating::{operate, operate_with};
-use crate::argument::Arguments;
-use crate::element::ScriptElement;
-use crate::operated_rows::OperatedRows;
-use crate::reply::Reply;
 use ac_base::Fault;
+use ac_calls::{Arguments, OperatedRows, Reply, ScriptElement};
 use ac_syntax::Operation;
 use std::alloc::Global;
 

@@ -1,24 +1,21 @@
 //! Operations on sets: each goes to the calls that mean it.
 ghost use Rattle.std.specs.Prelude.{◌≡◌};
 ghost use Rattle.ac_model.specs.Objects.{plain};
-ghost use Rattle.ac_meaning.specs.Replies.{itself, another, seen_by};
-ghost use Rattle.ac_meaning.specs.SetReplies.{set_reply};
-ghost use Rattle.ac_objects.specs.Arguments.{AllAgree, arguments_of};
-ghost use Rattle.ac_objects.specs.Replied.{Replied, RepliedWith, told};
+ghost use Rattle.ac_calls.specs.Replies.{itself, another, seen_by};
+ghost use Rattle.ac_calls.specs.SetReplies.{set_reply};
+ghost use Rattle.ac_calls.specs.Arguments.{AllAgree, arguments_of};
+ghost use Rattle.ac_calls.specs.Replied.{Replied, RepliedWith, told};
 ghost use Rattle.ac_objects.specs.SetCalls.{SetOperated};
 ghost use Rattle.ac_objects.specs.Sets.{items_of, set_kind_of};
 
 use super::Set;
-use crate::argument::Arguments;
 use crate::capacity_calls::capacity_call;
-use crate::common_calls::{common_call, common_call_with};
-use crate::element::ScriptElement;
 use crate::keyed_calls::walk_call;
 use crate::ordered_calls::ordered_call;
-use crate::reply::{Reply, Said};
 use crate::set_calls::{ordered_set_call, set_call};
 use crate::set_pair_calls::{set_pair_call, set_pair_call_with};
 use ac_base::Fault;
+use ac_calls::{Arguments, Reply, Said, ScriptElement, common_call, common_call_with};
 use ac_syntax::{CapacityCall, Operation, OrderedCall, OrderedSetCall};
 use std::alloc::Global;
 

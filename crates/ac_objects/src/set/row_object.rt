@@ -1,14 +1,13 @@
 //! Hashed and ordered sets as objects with rows.
 ghost use Rattle.std.specs.Prelude.{refl};
 ghost use Rattle.ac_syntax.specs.Canonical.{literal_text};
-ghost use Rattle.ac_meaning.specs.Holdings.{a_set};
-ghost use Rattle.ac_meaning.specs.SetReplies.{set_own};
+ghost use Rattle.ac_calls.specs.Holdings.{a_set};
+ghost use Rattle.ac_calls.specs.SetReplies.{set_own};
 ghost use Rattle.ac_objects.specs.Sets.{items_of, set_kind_of};
 
 use super::Set;
-use crate::element::ScriptElement;
-use crate::row_object::{ListedRows, RowObject};
 use ac_base::{Fault, NoMemory, Reason, Value};
+use ac_calls::{ListedRows, RowObject, ScriptElement};
 use ac_cursor::Cursor;
 use ac_io::{Sink, WriteFault};
 use std::alloc::Global;

@@ -1,15 +1,13 @@
 //! The calls of sets that put elements into them and take them out.
 ghost use Rattle.std.specs.Prelude.{◌≡◌};
-ghost use Rattle.ac_objects.specs.Replied.{told};
+ghost use Rattle.ac_calls.specs.Replied.{told};
 ghost use Rattle.ac_objects.specs.SetCalls.{SetReplied, tools_by};
 ghost use Rattle.ac_objects.specs.Sets.{set_kind_of};
 
 use super::own_cursors;
-use crate::argument::Arguments;
-use crate::element::ScriptElement;
-use crate::reply::{Placed, Reply, Said};
 use crate::set::Set;
 use ac_base::Fault;
+use ac_calls::{Arguments, Placed, Reply, Said, ScriptElement};
 use ac_cursor::Cursor;
 use ac_syntax::SetCall;
 use std::alloc::Global;

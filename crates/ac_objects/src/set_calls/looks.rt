@@ -1,13 +1,11 @@
 //! The calls of sets that look for an element.
-ghost use Rattle.ac_objects.specs.Replied.{told};
+ghost use Rattle.ac_calls.specs.Replied.{told};
 ghost use Rattle.ac_objects.specs.SetCalls.{SetReplied, OrderedSetReplied, tools_by};
 
 use super::own_cursors;
-use crate::argument::Arguments;
-use crate::element::ScriptElement;
-use crate::reply::{Reply, Said};
 use crate::set::Set;
 use ac_base::Fault;
+use ac_calls::{Arguments, Reply, Said, ScriptElement};
 use ac_ordered::OrderedSet;
 use ac_syntax::{OrderedSetCall, SetCall};
 use std::alloc::Global;

@@ -6,13 +6,13 @@ ghost use Rattle.ac_model.specs.Keyed as keyed;
 ghost use Rattle.ac_model.specs.Keyed.{ascending};
 ghost use Rattle.ac_model.specs.Objects.{plain};
 ghost use Rattle.ac_model.specs.Sets as sets;
-ghost use Rattle.ac_objects.specs.Replied.{IsAnswer};
-ghost use Rattle.ac_objects.specs.RowCalls.{PlacesOwn};
+ghost use Rattle.ac_calls.specs.Replied.{IsAnswer};
+ghost use Rattle.ac_calls.specs.RowCalls.{PlacesOwn};
 ghost use Rattle.ac_objects.specs.Sets.{items_of, set_kind_of, set_order};
 
-use crate::element::ScriptElement;
 use crate::set::{Set, uncounted};
 use ac_base::{Fault, KeyOf};
+use ac_calls::ScriptElement;
 use ac_cursor::Cursor;
 use ac_ordered::OrderedSet;
 

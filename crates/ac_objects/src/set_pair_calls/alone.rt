@@ -2,15 +2,14 @@
 ghost use Rattle.std.specs.Prelude.{◌≡◌};
 ghost use Rattle.ac_model.specs.Objects.{plain};
 ghost use Rattle.ac_model.specs.Sets as sets;
-ghost use Rattle.ac_meaning.specs.Answers.{answers_truth};
-ghost use Rattle.ac_meaning.specs.Replies.{changes_ok, tells};
-ghost use Rattle.ac_objects.specs.Replied.{Replied, told};
+ghost use Rattle.ac_calls.specs.Answers.{answers_truth};
+ghost use Rattle.ac_calls.specs.Replies.{changes_ok, tells};
+ghost use Rattle.ac_calls.specs.Replied.{Replied, told};
 ghost use Rattle.ac_objects.specs.Sets.{items_of, set_kind_of, set_order};
 
-use crate::element::ScriptElement;
-use crate::reply::{Reply, Said};
 use crate::set::Set;
 use ac_base::Fault;
+use ac_calls::{Reply, Said, ScriptElement};
 
 pub fn union<T: ScriptElement>(set: &mut Set<T>, reply: &mut Reply) -> Result<(), Fault>
     ensures replied { Replied (changes_ok (sets.union_self_call (plain (items_of set.old).object)))

@@ -1,11 +1,9 @@
 //! The calls of trees that take nodes out, and the one that exchanges two elements.
-ghost use Rattle.ac_objects.specs.Replied.{told};
+ghost use Rattle.ac_calls.specs.Replied.{told};
 ghost use Rattle.ac_objects.specs.TreeCalls.{TreeChanged};
 
-use crate::argument::Arguments;
-use crate::element::ScriptElement;
-use crate::reply::{Reply, Said};
 use ac_base::Fault;
+use ac_calls::{Arguments, Reply, Said, ScriptElement};
 use ac_syntax::TreeChangeCall;
 use ac_tree::Tree;
 

@@ -1,12 +1,10 @@
 //! The calls of trees that look at their nodes.
-ghost use Rattle.ac_objects.specs.Replied.{told};
+ghost use Rattle.ac_calls.specs.Replied.{told};
 ghost use Rattle.ac_objects.specs.TreeCalls.{TreeLooked};
 
 use super::own_cursors;
-use crate::argument::Arguments;
-use crate::element::ScriptElement;
-use crate::reply::{Reply, Said};
 use ac_base::{Fault, Value};
+use ac_calls::{Arguments, Reply, Said, ScriptElement};
 use ac_syntax::TreeCall;
 use ac_tree::Tree;
 use std::alloc::Global;

@@ -5,10 +5,10 @@ ghost use Rattle.ac_model.specs.Forms.{Does, DoesBoth, Looks};
 ghost use Rattle.ac_model.specs.Objects.{plain};
 ghost use Rattle.ac_model.specs.Trees as trees;
 ghost use Rattle.ac_tree.specs.TreeCursors.{seen_by};
-ghost use Rattle.ac_objects.specs.Replied.{IsAnswer};
+ghost use Rattle.ac_calls.specs.Replied.{IsAnswer};
 
-use crate::element::ScriptElement;
 use ac_base::Fault;
+use ac_calls::ScriptElement;
 use ac_cursor::Cursor;
 use ac_tree::Tree;
 

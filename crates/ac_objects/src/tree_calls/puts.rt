@@ -1,12 +1,10 @@
 //! The calls of trees that put new nodes into them.
-ghost use Rattle.ac_objects.specs.Replied.{told};
+ghost use Rattle.ac_calls.specs.Replied.{told};
 ghost use Rattle.ac_objects.specs.TreeCalls.{TreeChanged};
 
 use super::own_cursors;
-use crate::argument::Arguments;
-use crate::element::ScriptElement;
-use crate::reply::{Reply, Said};
 use ac_base::Fault;
+use ac_calls::{Arguments, Reply, Said, ScriptElement};
 use ac_syntax::TreeChangeCall;
 use ac_tree::Tree;
 use std::alloc::Global;

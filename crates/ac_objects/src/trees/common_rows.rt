@@ -1,54 +1,53 @@
 //! The calls that trees have with all kinds of rows.
-use crate::common_calls::CommonRows;
-use crate::element::ScriptElement;
+use super::ScriptTree;
 use ac_base::{Fault, Value};
+use ac_calls::{CommonRows, ScriptElement};
 use ac_cursor::Cursor;
-use ac_tree::Tree;
 use std::alloc::Global;
 
-impl<T: ScriptElement> CommonRows for Tree<T> {
+impl<T: ScriptElement> CommonRows for ScriptTree<T> {
     fn length(&self) -> i64 {
-        self.live_nodes() as i64
+        self.tree.live_nodes() as i64
     }
 
     fn is_empty(&self) -> bool {
-        Tree::is_empty(self)
+        self.tree.is_empty()
     }
 
     fn has_element(&self, c: Cursor) -> bool {
-        Tree::has_element(self, c)
+        self.tree.has_element(c)
     }
 
-    fn equal(&self, other: &Tree<T>) -> bool {
-        Tree::equal(self, other)
+    fn equal(&self, other: &ScriptTree<T>) -> bool {
+        self.tree.equal(&other.tree)
     }
 
     fn equal_self(&self) -> bool {
-        Tree::equal_self(self)
+        self.tree.equal_self()
     }
 
     fn clear(&mut self) -> Result<(), Fault> {
-        Tree::clear(self)
+        self.tree.clear()
     }
 
     fn replace_value(&mut self, alloc: Global, c: Cursor, value: Value) -> Result<(), Fault> {
         let element = T::from_value(alloc, value)?;
-        self.replace_element(c, element)
+        self.tree.replace_element(c, element)
     }
 
     fn assign_self(&mut self) -> Result<(), Fault> {
-        Tree::assign_self(self)
+        self.tree.assign_self()
     }
 
     fn move_from_self(&mut self) -> Result<(), Fault> {
-        Tree::move_from_self(self)
+        self.tree.move_from_self()
     }
 
-    fn assign(&mut self, source: &Tree<T>) -> Result<(), Fault> {
-        Tree::assign(self, source)
+    fn assign(&mut self, source: &ScriptTree<T>) -> Result<(), Fault> {
+        self.tree.assign(&source.tree)
     }
 
-    fn move_from(&mut self, source: &mut Tree<T>) -> Result<(), Fault> {
-        Tree::move_from(self, source)
+    fn move_from(&mut self, source: &mut ScriptTree<T>) -> Result<(), Fault> {
+        self.tree.move_from(&mut source.tree)
     }
 }

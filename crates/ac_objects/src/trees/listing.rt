@@ -4,11 +4,12 @@ ghost use Rattle.ac_io.specs.declared.pieces.TheConstants.{MOST_WAITING};
 ghost use Rattle.ac_io.specs.Pieces.{Adds};
 ghost use Rattle.ac_model.specs.Objects.{contents, plain};
 ghost use Rattle.ac_syntax.specs.Canonical.{literal_text};
-ghost use Rattle.ac_meaning.specs.Listings.{between_nodes, nodes_listing, tree_listing};
+ghost use Rattle.ac_calls.specs.Listings.{between_nodes, nodes_listing, tree_listing};
 ghost use Rattle.ac_objects.specs.ListedNodes.{follows};
 ghost use Rattle.ac_tree.specs.Meeting.{IsMet};
 
-use crate::element::ScriptElement;
+use super::ScriptTree;
+use ac_calls::ScriptElement;
 use ac_cursor::Cursor;
 use ac_io::{Sink, WriteFault, add};
 use ac_tree::Tree;
@@ -121,7 +122,7 @@ fn add_nodes<T: ScriptElement, K: Sink>(
 
 /// Adds the listing of a tree to a text that is written in pieces.
 pub(crate) fn write_tree<T: ScriptElement, K: Sink>(
-    tree: &Tree<T>,
+    tree: &ScriptTree<T>,
     text: &mut Vec<u8>,
     sink: &mut K,
 ) -> Result<(), WriteFault>
@@ -130,6 +131,6 @@ pub(crate) fn write_tree<T: ScriptElement, K: Sink>(
     ensures short { length text.old.items ≤ MOST_WAITING → length text.new.items ≤ MOST_WAITING }
 {
     add(text, b"[", sink)?;
-    add_nodes(tree, text, sink)?;
+    add_nodes(&tree.tree, text, sink)?;
     add(text, b"]", sink)
 }

@@ -1,19 +1,17 @@
 //! Operations on trees as objects with rows: each goes to the calls that mean it.
 ghost use Rattle.std.specs.Prelude.{◌≡◌};
-ghost use Rattle.ac_meaning.specs.TreeReplies.{tree_reply};
+ghost use Rattle.ac_calls.specs.TreeReplies.{tree_reply};
 
-use crate::argument::Arguments;
-use crate::common_calls::{common_call, common_call_with};
-use crate::element::ScriptElement;
-use crate::operated_rows::OperatedRows;
-use crate::reply::{Reply, Said};
+use super::ScriptTree;
 use crate::tree_calls::{tree_change, tree_change_with, tree_look};
 use ac_base::Fault;
+use ac_calls::{
+    Arguments, OperatedRows, Reply, Said, ScriptElement, common_call, common_call_with,
+};
 use ac_syntax::Operation;
-use ac_tree::Tree;
 use std::alloc::Global;
 
-impl<T: ScriptElement> OperatedRows for Tree<T> {
+impl<T: ScriptElement> OperatedRows for ScriptTree<T> {
     ghost comes_to = { λ _ o source args operation. tree_reply T.tools o source args operation };
 
     fn operate(
@@ -25,8 +23,8 @@ impl<T: ScriptElement> OperatedRows for Tree<T> {
     ) -> Result<(), Fault> {
         match operation {
             Operation::Common(call) => common_call(self, alloc, call, args, reply),
-            Operation::Tree(call) => tree_look(self, alloc, call, args, reply),
-            Operation::TreeChange(call) => tree_change(self, alloc, call, args, reply),
+            Operation::Tree(call) => tree_look(&self.tree, alloc, call, args, reply),
+            Operation::TreeChange(call) => tree_change(&mut self.tree, alloc, call, args, reply),
             _ => {
                 *reply = Reply::says(Said::Done);
                 Ok(())
@@ -36,7 +34,7 @@ impl<T: ScriptElement> OperatedRows for Tree<T> {
 
     fn operate_with(
         &mut self,
-        source: &mut Tree<T>,
+        source: &mut ScriptTree<T>,
         alloc: Global,
         operation: Operation,
         args: &mut Arguments,
@@ -44,8 +42,10 @@ impl<T: ScriptElement> OperatedRows for Tree<T> {
     ) -> Result<(), Fault> {
         match operation {
             Operation::Common(call) => common_call_with(self, source, alloc, call, args, reply),
-            Operation::Tree(call) => tree_look(self, alloc, call, args, reply),
-            Operation::TreeChange(call) => tree_change_with(self, source, alloc, call, args, reply),
+            Operation::Tree(call) => tree_look(&self.tree, alloc, call, args, reply),
+            Operation::TreeChange(call) => {
+                tree_change_with(&mut self.tree, &mut source.tree, alloc, call, args, reply)
+            },
             _ => {
                 *reply = Reply::says(Said::Done);
                 Ok(())

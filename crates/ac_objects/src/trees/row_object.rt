@@ -1,16 +1,14 @@
 //! A tree as an object with rows: a walk in preorder, and views of its elements.
-ghost use Rattle.ac_meaning.specs.Holdings.{a_tree};
-ghost use Rattle.ac_meaning.specs.TreeReplies.{tree_own};
+ghost use Rattle.ac_calls.specs.Holdings.{a_tree};
+ghost use Rattle.ac_calls.specs.TreeReplies.{tree_own};
 
-use super::TreeRow;
-use crate::element::ScriptElement;
-use crate::row_object::RowObject;
+use super::{ScriptTree, TreeRow};
 use ac_base::{Fault, NoMemory, Reason, Value};
+use ac_calls::{RowObject, ScriptElement};
 use ac_cursor::Cursor;
-use ac_tree::Tree;
 use std::alloc::Global;
 
-impl<T: ScriptElement> RowObject for Tree<T> {
+impl<T: ScriptElement> RowObject for ScriptTree<T> {
     type Row = TreeRow<T>;
 
     ghost rows = { λ t. t };
@@ -20,35 +18,35 @@ impl<T: ScriptElement> RowObject for Tree<T> {
     ghost own = { λ _ o. tree_own T.tools o };
 
     fn law(&self) {
-        Tree::law(self)
+        self.tree.law()
     }
 
     fn live_nodes(&self) -> u64 {
-        Tree::live_nodes(self)
+        self.tree.live_nodes()
     }
 
     fn first(&self) -> Cursor {
-        Tree::law(self);
-        Tree::first(self)
+        self.tree.law();
+        self.tree.first()
     }
 
     fn last(&self) -> Cursor {
-        Tree::law(self);
-        Tree::last(self)
+        self.tree.law();
+        self.tree.last()
     }
 
     fn next(&self, c: Cursor) -> Result<Cursor, Fault> {
-        Tree::law(self);
-        Tree::next(self, c)
+        self.tree.law();
+        self.tree.next(c)
     }
 
     fn previous(&self, c: Cursor) -> Result<Cursor, Fault> {
-        Tree::law(self);
-        Tree::previous(self, c)
+        self.tree.law();
+        self.tree.previous(c)
     }
 
     fn refused(&self, c: Cursor) -> Option<Reason> {
-        match self.element(c) {
+        match self.tree.element(c) {
             Ok(_) => None,
             Err(Fault::Raised(reason)) => Some(reason),
             Err(Fault::NoMemory) => unreachable!(),
@@ -56,7 +54,7 @@ impl<T: ScriptElement> RowObject for Tree<T> {
     }
 
     fn element_value(&self, alloc: Global, c: Cursor) -> Result<Value, NoMemory> {
-        match self.element(c) {
+        match self.tree.element(c) {
             Ok(element) => element.to_value(alloc),
             Err(_) => unreachable!(),
         }
@@ -64,11 +62,11 @@ impl<T: ScriptElement> RowObject for Tree<T> {
 
     fn write_value(&mut self, alloc: Global, c: Cursor, value: Value) -> Result<(), Fault> {
         let element = T::from_value(alloc, value)?;
-        self.write(c, element)
+        self.tree.write(c, element)
     }
 
     /// A type of elements has one kind of trees.
-    fn is_like(&self, _other: &Tree<T>) -> bool {
+    fn is_like(&self, _other: &ScriptTree<T>) -> bool {
         true
     }
 }

@@ -3,15 +3,13 @@ ghost use Rattle.ac_model.specs.Containers.{Grows};
 ghost use Rattle.ac_model.specs.Forms.{Does, seen_by};
 ghost use Rattle.ac_model.specs.Objects.{plain};
 ghost use Rattle.ac_model.specs.Vectors as vectors;
-ghost use Rattle.ac_meaning.specs.Replies.{changes_ok};
-ghost use Rattle.ac_objects.specs.Replied.{IsAnswer, Replied, RepliedWith, told};
+ghost use Rattle.ac_calls.specs.Replies.{changes_ok};
+ghost use Rattle.ac_calls.specs.Replied.{IsAnswer, Replied, RepliedWith, told};
 ghost use Rattle.ac_objects.specs.SequenceCalls.{VectorAloneReplied, VectorAloneRepliedWith};
 
 use super::vector_call;
-use crate::argument::Arguments;
-use crate::element::ScriptElement;
-use crate::reply::{Reply, Said};
 use ac_base::Fault;
+use ac_calls::{Arguments, Reply, Said, ScriptElement};
 use ac_cursor::Cursor;
 use ac_syntax::VectorCall;
 use ac_vector::Vector;

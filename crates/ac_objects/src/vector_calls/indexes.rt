@@ -3,14 +3,12 @@ ghost use Rattle.ac_model.specs.Calls.{Same};
 ghost use Rattle.ac_model.specs.Forms.{Looks};
 ghost use Rattle.ac_model.specs.Objects.{plain};
 ghost use Rattle.ac_model.specs.Vectors as vectors;
-ghost use Rattle.ac_objects.specs.Arguments.{argument_of};
-ghost use Rattle.ac_objects.specs.Replied.{IsAnswer, told};
+ghost use Rattle.ac_calls.specs.Arguments.{argument_of};
+ghost use Rattle.ac_calls.specs.Replied.{IsAnswer, told};
 ghost use Rattle.ac_objects.specs.SequenceCalls.{VectorAloneReplied};
 
-use crate::argument::{Argument, Arguments};
-use crate::element::ScriptElement;
-use crate::reply::{Reply, Said};
 use ac_base::{Fault, Value};
+use ac_calls::{Argument, Arguments, Reply, Said, ScriptElement};
 use ac_cursor::Cursor;
 use ac_syntax::VectorCall;
 use ac_vector::Vector;

@@ -1,6 +1,6 @@
 use Rattle.std.proofs.Common.{subst}
 use Rattle.ac_history.specs.Blocks.{present}
-use Rattle.ac_meaning.specs.Answers.{lines_text}
+use Rattle.ac_calls.specs.Answers.{lines_text}
 use Rattle.ac_meaning.specs.TaskBlocks.{history_lines, stalled_lines}
 use Rattle.ac_host.specs.Writing.{Wrote}
 use Rattle.ac_host.proofs.LinesOfTasks.{writes_then}

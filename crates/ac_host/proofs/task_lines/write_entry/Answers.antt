@@ -1,7 +1,7 @@
 use Rattle.std.proofs.Common.{◌≡◌, length, slice_get, sym, subst, None}
 use Rattle.std.proofs.lemmas.Bool.{ltb-false}
 use Rattle.std.proofs.lemmas.Option.{slice_get_past}
-use Rattle.ac_meaning.specs.Answers.{lines_text}
+use Rattle.ac_calls.specs.Answers.{lines_text}
 use Rattle.ac_meaning.specs.TaskBlocks.{lines_at, reply_answer}
 use Rattle.ac_host.specs.Writing.{Wrote}
 use Rattle.ac_host.proofs.Telling.{wrote_nothing}

@@ -1,6 +1,6 @@
 use Rattle.std.proofs.Common.{◌+◌, ◌<◌, arith, drop, length, Some}
 use Rattle.ac_history.specs.Blocks.{present}
-use Rattle.ac_meaning.specs.Answers.{answers_stalled}
+use Rattle.ac_calls.specs.Answers.{answers_stalled}
 use Rattle.ac_meaning.specs.TaskBlocks.{lines_at, stalled_lines}
 use Rattle.ac_host.proofs.LinesOfTasks.{told, stalled_next, many_tasks}
 use Rattle.ac_host.proofs.OneLine.{leaves_broken}

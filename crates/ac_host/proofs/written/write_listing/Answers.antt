@@ -1,5 +1,5 @@
 use Rattle.std.proofs.Common.{◌∷◌, []}
-use Rattle.ac_meaning.specs.Holdings.{listing_of}
+use Rattle.ac_calls.specs.Holdings.{listing_of}
 use Rattle.ac_io.proofs.Telling.{adds_then}
 use Rattle.ac_host.proofs.OneLine.{wrote_added, broke_added, broke_before_end, leaves_broken, listed_line}
 use Rattle.ac_host.proofs.written.write_listing.Goals as goal

@@ -1,5 +1,5 @@
 use Rattle.std.proofs.Common.{sym, subst}
-use Rattle.ac_objects.specs.Replied.{told}
+use Rattle.ac_calls.specs.Replied.{told}
 use Rattle.ac_objects.specs.Steps.{CanCallIn, CallsIn}
 use Rattle.ac_objects.proofs.InPlaces.{object_ready, calls_without}
 use Rattle.ac_objects.proofs.calling.call_in.Goals as goal

@@ -1,5 +1,5 @@
 use Rattle.std.proofs.Common.{Some}
-use Rattle.ac_objects.specs.Replied.{told}
+use Rattle.ac_calls.specs.Replied.{told}
 use Rattle.ac_objects.proofs.InPlaces.{object_ready, source_ready, numbers_apart, calls_self, calls_with}
 use Rattle.ac_objects.proofs.calling.call_source.Goals as goal
 

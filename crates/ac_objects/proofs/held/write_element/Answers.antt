@@ -1,9 +1,9 @@
 use Rattle.std.proofs.Common.{sym, ap, ◌∙◌}
 use Rattle.ac_model.specs.Forms.{seen_by}
 use Rattle.ac_syntax.specs.declared.kind.ElemKind.TheVariants.{Integer, Str}
-use Rattle.ac_meaning.specs.Holdings.{a_sequence, a_map, a_set, a_keyed_set, a_tree}
+use Rattle.ac_calls.specs.Holdings.{a_sequence, a_map, a_set, a_keyed_set, a_tree}
 use Rattle.ac_objects.specs.declared.object.Object.TheVariants.{Integers, Texts, IntegerSet, TextSet, KeyedSet, IntegersByInteger, IntegersByText, TextsByInteger, TextsByText, IntegerTree, TextTree, IntegerHolder, TextHolder}
-use Rattle.ac_objects.specs.Arguments.{mark_in}
+use Rattle.ac_calls.specs.Arguments.{mark_in}
 use Rattle.ac_objects.specs.KeyedSets.{keyed_items, keyed_kind}
 use Rattle.ac_objects.specs.Maps.{entries_of, map_kind_of}
 use Rattle.ac_objects.specs.Sequences.{rows_of, kind_of}

@@ -1,6 +1,6 @@
 use Rattle.std.proofs.Common.{refl}
 use Rattle.ac_syntax.specs.declared.operation.KeyedCall.TheVariants.{Key, KeyElement, KeyFind, KeyContains, KeyExclude, KeyDelete, KeyReplace, KeyFloor, KeyCeiling}
-use Rattle.ac_objects.specs.Replied.{told}
+use Rattle.ac_calls.specs.Replied.{told}
 use Rattle.ac_objects.proofs.KeyedOperations.{operated, operated_as}
 use Rattle.ac_objects.proofs.key_calls.key_call.Goals as goal
 

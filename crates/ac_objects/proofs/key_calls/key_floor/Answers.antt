@@ -2,7 +2,7 @@ use Rattle.std.proofs.Common.{sym, subst}
 use Rattle.ac_syntax.specs.declared.operation.KeyedCall.TheVariants.{KeyFloor}
 use Rattle.ac_syntax.specs.declared.operation.Operation.TheVariants.{Keyed}
 use Rattle.ac_objects.specs.KeyCalls.{KeyedOperated}
-use Rattle.ac_objects.specs.Replied.{told}
+use Rattle.ac_calls.specs.Replied.{told}
 use Rattle.ac_objects.proofs.KeyedOperations.{of_set}
 use Rattle.ac_objects.proofs.key_calls.key_floor.Goals as goal
 

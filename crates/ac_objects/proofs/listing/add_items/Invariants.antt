@@ -4,8 +4,8 @@ use Rattle.ac_io.specs.Pieces.{AddsSoFar}
 use Rattle.ac_model.specs.Objects.{plain, contents}
 use Rattle.ac_model.specs.Letters.{mark_in}
 use Rattle.ac_model.specs.Calls.{Marks}
-use Rattle.ac_meaning.specs.Listings.{separated}
-use Rattle.ac_objects.proofs.Listed.{listed_from}
+use Rattle.ac_calls.specs.Listings.{separated}
+use Rattle.ac_calls.proofs.Listed.{listed_from}
 use Rattle.ac_objects.proofs.listing.add_items.Given as goal
 
 abbrev pub invariant-loop-place : goal.invariant-loop-place

@@ -2,7 +2,7 @@ use Rattle.std.proofs.Common.{◌++◌, [], ◌∷◌}
 use Rattle.std.proofs.lemmas.Result.{err_from_is_err_and}
 use Rattle.ac_io.proofs.Telling.{adds_then, adds_broken}
 use Rattle.ac_model.specs.Objects.{plain, contents}
-use Rattle.ac_meaning.specs.Listings.{separated}
+use Rattle.ac_calls.specs.Listings.{separated}
 use Rattle.ac_objects.proofs.listing.write_rows.Goals as goal
 
 pub returns-in_err-add-clause-adds : goal.returns-in_err-add-clause-adds

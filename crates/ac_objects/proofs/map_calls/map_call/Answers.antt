@@ -1,11 +1,11 @@
 use Rattle.std.proofs.Common.{subst, sym}
 use Rattle.ac_model.specs.Maps.{insert_call, insert_pos_call, include_call, replace_call, exclude_call, delete_key_call}
-use Rattle.ac_meaning.specs.KeyedReplies.{changes_inserting}
-use Rattle.ac_meaning.specs.Replies.{changes_ok}
+use Rattle.ac_calls.specs.KeyedReplies.{changes_inserting}
+use Rattle.ac_calls.specs.Replies.{changes_ok}
 use Rattle.ac_objects.specs.MapCalls.{MapReplied}
 use Rattle.ac_objects.specs.Maps.{entries_of, map_kind_of}
-use Rattle.ac_objects.specs.Replied.{told}
-use Rattle.ac_objects.specs.RowCalls.{RowsReplied}
+use Rattle.ac_calls.specs.Replied.{told}
+use Rattle.ac_calls.specs.RowCalls.{RowsReplied}
 use Rattle.ac_objects.proofs.Entries.{order_is}
 use Rattle.ac_objects.proofs.map_calls.map_call.Goals as goal
 

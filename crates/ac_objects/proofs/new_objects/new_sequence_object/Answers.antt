@@ -1,7 +1,7 @@
 use Rattle.std.proofs.Common.{ap, ◌∙◌}
 use Rattle.ac_model.specs.Objects.{plain}
 use Rattle.ac_syntax.specs.declared.kind.ElemKind.TheVariants.{Integer, Str}
-use Rattle.ac_meaning.specs.Holdings.{a_sequence}
+use Rattle.ac_calls.specs.Holdings.{a_sequence}
 use Rattle.ac_objects.specs.Sequences.{rows_of, kind_of}
 use Rattle.ac_objects.specs.World.{held_in}
 use Rattle.ac_objects.proofs.Families.{integers, texts}

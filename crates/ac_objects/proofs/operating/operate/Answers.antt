@@ -1,12 +1,12 @@
 use Rattle.std.proofs.Common.{rules, subst, sym}
 use Rattle.ac_syntax.specs.declared.operation.Operation.TheVariants.{Common, Sequence, Capacity, Vector, List}
 use Rattle.ac_model.specs.Objects.{plain}
-use Rattle.ac_meaning.specs.Holdings.{reply_by}
-use Rattle.ac_meaning.specs.Replies.{itself, seen_by}
-use Rattle.ac_objects.specs.Arguments.{arguments_of, marked}
-use Rattle.ac_objects.specs.Replied.{IsMade, Replied, told}
+use Rattle.ac_calls.specs.Holdings.{reply_by}
+use Rattle.ac_calls.specs.Replies.{itself, seen_by}
+use Rattle.ac_calls.specs.Arguments.{arguments_of, marked}
+use Rattle.ac_calls.specs.Replied.{IsMade, Replied, told}
 use Rattle.ac_objects.specs.Sequences.{rows_of, kind_of}
-use Rattle.ac_objects.proofs.Made.{unchanged}
+use Rattle.ac_calls.proofs.Made.{unchanged}
 use Rattle.ac_objects.proofs.Operations.{replied_by}
 use Rattle.ac_objects.proofs.SequenceOperations.{common_by, sequence_by, no_sequence_call}
 use Rattle.ac_objects.proofs.operating.operate.Goals as goal

@@ -1,5 +1,5 @@
 use Rattle.ac_model.specs.Objects.{plain}
-use Rattle.ac_objects.proofs.Own.{own_cursor, mark_in_own}
+use Rattle.ac_calls.proofs.Own.{own_cursor, mark_in_own}
 use Rattle.ac_objects.proofs.ordered_calls.own_last.Goals as goal
 
 pub returns : goal.returns

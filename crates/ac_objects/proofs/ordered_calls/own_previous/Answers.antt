@@ -1,5 +1,5 @@
 use Rattle.ac_model.specs.Objects.{plain}
-use Rattle.ac_objects.proofs.Own.{own_look, previous_own}
+use Rattle.ac_calls.proofs.Own.{own_look, previous_own}
 use Rattle.ac_objects.proofs.ordered_calls.own_previous.Goals as goal
 
 pub returns : goal.returns

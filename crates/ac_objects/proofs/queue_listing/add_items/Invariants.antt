@@ -4,8 +4,8 @@ use Rattle.ac_io.specs.Pieces.{AddsSoFar}
 use Rattle.ac_base.specs.declared.value.Value.TheVariants.{Int}
 use Rattle.ac_syntax.specs.Canonical.{literal_text}
 use Rattle.ac_queue.specs.Kinds.{state_of}
-use Rattle.ac_meaning.specs.Listings.{separated}
-use Rattle.ac_objects.proofs.Listed.{listed_from}
+use Rattle.ac_calls.specs.Listings.{separated}
+use Rattle.ac_calls.proofs.Listed.{listed_from}
 use Rattle.ac_objects.proofs.queue_listing.add_items.Given as goal
 
 abbrev pub invariant-loop-place : goal.invariant-loop-place

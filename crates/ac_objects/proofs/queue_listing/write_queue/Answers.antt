@@ -3,7 +3,7 @@ use Rattle.std.proofs.lemmas.Result.{err_from_is_err_and}
 use Rattle.ac_base.specs.declared.value.Value.TheVariants.{Int}
 use Rattle.ac_io.proofs.Telling.{adds_then, adds_broken}
 use Rattle.ac_queue.specs.Kinds.{state_of}
-use Rattle.ac_meaning.specs.Listings.{separated}
+use Rattle.ac_calls.specs.Listings.{separated}
 use Rattle.ac_syntax.specs.Canonical.{literal_text}
 use Rattle.ac_objects.proofs.queue_listing.write_queue.Goals as goal
 

@@ -1,6 +1,6 @@
 use Rattle.std.proofs.Common.{◌≡◌, None, Some, sym, subst}
 use Rattle.ac_model.specs.Cursors.{plain_mark}
-use Rattle.ac_meaning.specs.Holdings.{element_value}
+use Rattle.ac_calls.specs.Holdings.{element_value}
 use Rattle.ac_objects.specs.World.{held_of, ObjectAgrees}
 use Rattle.ac_objects.proofs.Names.{read_object, reads_value}
 use Rattle.ac_objects.proofs.reading.copy_element.Goals as goal

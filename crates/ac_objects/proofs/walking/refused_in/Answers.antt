@@ -1,7 +1,7 @@
 use Rattle.std.proofs.Common.{ap, ◌∙◌}
-use Rattle.ac_meaning.specs.Holdings.{have_root}
+use Rattle.ac_calls.specs.Holdings.{have_root}
 use Rattle.ac_model.specs.Objects.{plain}
-use Rattle.ac_objects.proofs.Made.{seen_marks_by}
+use Rattle.ac_calls.proofs.Made.{seen_marks_by}
 use Rattle.ac_objects.proofs.walking.refused_in.Goals as goal
 
 pub returns : goal.returns

@@ -2,7 +2,7 @@ use Rattle.std.proofs.Common.{◌≡◌, ◌+◌, ◌*◌, ◌++◌, ℕ, List, 
 use Rattle.ac_model.specs.Cursors.{plain_mark}
 use Rattle.ac_check.specs.Resolved.{resolved_size, no_statement}
 use Rattle.ac_check.specs.ResolvedStatements.{resolved_before, resolved_of}
-use Rattle.ac_meaning.specs.Holdings.{Guards, Held, number_of, names_of}
+use Rattle.ac_calls.specs.Holdings.{Guards, Held, number_of, names_of}
 use Rattle.ac_meaning.specs.Environment.{State}
 use Rattle.ac_meaning.specs.Execution.{exec_resolved, turns, guards_of_loop}
 use Rattle.ac_objects.specs.Blocks.{guards_of_loop_key}

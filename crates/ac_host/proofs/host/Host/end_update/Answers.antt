@@ -2,7 +2,7 @@ use Rattle.std.proofs.Common.{◌++◌, subst}
 use Rattle.ac_objects.specs.Blocks.{guards_of_update_key}
 use Rattle.ac_objects.specs.KeyUpdates.{UpdateEnds}
 use Rattle.ac_objects.specs.World.{state_of}
-use Rattle.ac_meaning.specs.Answers.{lines_text}
+use Rattle.ac_calls.specs.Answers.{lines_text}
 use Rattle.ac_host.specs.declared.end.HostEnd.TheVariants.{NoMemory}
 use Rattle.ac_host.specs.Running.{key_ending}
 use Rattle.ac_host.proofs.Blocks.{ran_broke}

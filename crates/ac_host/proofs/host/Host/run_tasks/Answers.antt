@@ -2,7 +2,7 @@ use Rattle.std.proofs.Common.{◌+◌, ap, length, map, subst, sym, refl, ◌∙
 use Rattle.ac_book.specs.Shared.{shared}
 use Rattle.ac_history.specs.Blocks.{new_block}
 use Rattle.ac_history.specs.Orders.{run_of}
-use Rattle.ac_meaning.specs.Answers.{lines_text}
+use Rattle.ac_calls.specs.Answers.{lines_text}
 use Rattle.ac_meaning.specs.Execution.{gathered}
 use Rattle.ac_meaning.specs.TaskBlocks.{block_fits, block_lines, is_ranked, queues_at, queues_left, tasks_from}
 use Rattle.ac_objects.proofs.Lent.{places_stand_once}

@@ -4,9 +4,9 @@ use Rattle.ac_base.specs.Key.{key_of_text}
 use Rattle.ac_model.specs.Calls.{Done, Same}
 use Rattle.ac_model.specs.KeyedSets.{key_delete_call}
 use Rattle.ac_model.specs.Objects.{plain}
-use Rattle.ac_meaning.specs.Elements.{Text, text_in}
+use Rattle.ac_calls.specs.Elements.{Text, text_in}
 use Rattle.ac_objects.specs.KeyedSets.{keyed_items, keys_of}
-use Rattle.ac_objects.proofs.Kept.{failed}
+use Rattle.ac_calls.proofs.Kept.{failed}
 use Rattle.ac_objects.proofs.key_calls.changes.key_delete.Goals as goal
 
 pub returns-in_err-key_delete-clause-replied : goal.returns-in_err-key_delete-clause-replied

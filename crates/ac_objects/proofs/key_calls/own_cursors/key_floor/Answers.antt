@@ -1,4 +1,4 @@
-use Rattle.ac_objects.proofs.Own.{own_cursor, mark_for_own}
+use Rattle.ac_calls.proofs.Own.{own_cursor, mark_for_own}
 use Rattle.ac_objects.proofs.key_calls.own_cursors.key_floor.Goals as goal
 
 pub returns : goal.returns

@@ -1,9 +1,9 @@
 use Rattle.std.proofs.Common.{refl}
 use Rattle.ac_syntax.specs.declared.operation.Operation.TheVariants.{Common}
 use Rattle.ac_model.specs.Objects.{plain}
-use Rattle.ac_meaning.specs.MapReplies.{map_reply}
-use Rattle.ac_meaning.specs.Replies.{itself}
-use Rattle.ac_objects.specs.Arguments.{marked}
+use Rattle.ac_calls.specs.MapReplies.{map_reply}
+use Rattle.ac_calls.specs.Replies.{itself}
+use Rattle.ac_calls.specs.Arguments.{marked}
 use Rattle.ac_objects.specs.Maps.{entries_of, map_kind_of}
 use Rattle.ac_objects.proofs.Operations.{replied_by}
 use Rattle.ac_objects.proofs.MapOperations.{in_words, common_by}

@@ -1,10 +1,10 @@
 use Rattle.std.proofs.Common.{rules, subst, sym}
 use Rattle.ac_syntax.specs.declared.operation.Operation.TheVariants.{Walk, Map, Capacity, Ordered, OrderedMap}
 use Rattle.ac_model.specs.Objects.{plain}
-use Rattle.ac_objects.specs.Arguments.{marked}
+use Rattle.ac_calls.specs.Arguments.{marked}
 use Rattle.ac_objects.specs.Maps.{entries_of, map_kind_of}
-use Rattle.ac_objects.specs.Replied.{IsMade}
-use Rattle.ac_objects.proofs.Made.{unchanged}
+use Rattle.ac_calls.specs.Replied.{IsMade}
+use Rattle.ac_calls.proofs.Made.{unchanged}
 use Rattle.ac_objects.proofs.MapOperations.{in_words, given_by, walk_by, map_by, no_map_call}
 use Rattle.ac_objects.proofs.map.operating.operate_alone.Goals as goal
 

@@ -2,8 +2,8 @@ use Rattle.std.proofs.Common.{subst, sym}
 use Rattle.ac_model.specs.Keyed.{ascending}
 use Rattle.ac_model.specs.Maps.{floor_call}
 use Rattle.ac_model.specs.Objects.{plain}
-use Rattle.ac_objects.specs.Replied.{IsAnswer}
-use Rattle.ac_objects.proofs.Own.{own_cursor, mark_for_own}
+use Rattle.ac_calls.specs.Replied.{IsAnswer}
+use Rattle.ac_calls.proofs.Own.{own_cursor, mark_for_own}
 use Rattle.ac_objects.proofs.map_calls.own_cursors.floor.Goals as goal
 
 pub returns : goal.returns

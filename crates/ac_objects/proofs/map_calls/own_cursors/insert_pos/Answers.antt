@@ -2,7 +2,7 @@ use Rattle.std.proofs.Common.{refl}
 use Rattle.ac_model.specs.Maps.{insert_pos_call}
 use Rattle.ac_model.specs.Objects.{plain}
 use Rattle.ac_objects.specs.Maps.{entries_of, keys_in}
-use Rattle.ac_objects.proofs.Made.{own_inserted}
+use Rattle.ac_objects.proofs.OwnInserted.{own_inserted}
 use Rattle.ac_objects.proofs.map_calls.own_cursors.insert_pos.Goals as goal
 
 pub returns-clause-changed : goal.returns-clause-changed

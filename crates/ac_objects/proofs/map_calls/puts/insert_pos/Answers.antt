@@ -3,8 +3,8 @@ use Rattle.std.proofs.lemmas.Result.{err_from_is_err_and}
 use Rattle.ac_model.specs.Maps.{insert_pos_call}
 use Rattle.ac_model.specs.Objects.{plain}
 use Rattle.ac_objects.specs.Maps.{entries_of, keys_in}
-use Rattle.ac_objects.specs.RowCalls.{PlacesOwn}
-use Rattle.ac_objects.proofs.Kept.{failed}
+use Rattle.ac_calls.specs.RowCalls.{PlacesOwn}
+use Rattle.ac_calls.proofs.Kept.{failed}
 use Rattle.ac_objects.proofs.PutEntries.{put_inserted}
 use Rattle.ac_objects.proofs.map_calls.puts.insert_pos.Goals as goal
 

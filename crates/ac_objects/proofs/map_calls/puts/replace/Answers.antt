@@ -4,7 +4,7 @@ use Rattle.ac_model.specs.Calls.{Done, Same}
 use Rattle.ac_model.specs.Maps.{replace_call}
 use Rattle.ac_model.specs.Objects.{plain}
 use Rattle.ac_objects.specs.Maps.{entries_of, keys_in}
-use Rattle.ac_objects.proofs.Kept.{failed}
+use Rattle.ac_calls.proofs.Kept.{failed}
 use Rattle.ac_objects.proofs.map_calls.puts.replace.Goals as goal
 
 pub returns-in_err-replace-clause-replied : goal.returns-in_err-replace-clause-replied

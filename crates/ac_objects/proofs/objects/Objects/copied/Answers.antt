@@ -1,6 +1,6 @@
 use Rattle.std.proofs.Common.{ap, ◌∙◌}
 use Rattle.ac_meaning.specs.Environment.{bound_at}
-use Rattle.ac_meaning.specs.Replies.{Argument}
+use Rattle.ac_calls.specs.Replies.{Argument}
 use Rattle.ac_objects.specs.World.{state_of}
 use Rattle.ac_objects.proofs.Names.{value_read}
 use Rattle.ac_objects.proofs.Updating.{element_copied}

@@ -6,7 +6,7 @@ use Rattle.ac_model.proofs.Reasons.{passed}
 use Rattle.ac_syntax.specs.declared.view_kind.ViewKind.TheVariants.{UpdateKey}
 use Rattle.ac_meaning.specs.Environment.{binds_value, mark_at, objects_by, object_at, value_or_zero, with_name}
 use Rattle.ac_meaning.specs.Execution.{head_reason, guards_of_view}
-use Rattle.ac_meaning.specs.Holdings.{element_value, guard_on, is_a_set, key_update_reason}
+use Rattle.ac_calls.specs.Holdings.{element_value, guard_on, is_a_set, key_update_reason}
 use Rattle.ac_meaning.specs.UnderGuards.{held_with}
 use Rattle.ac_meaning.proofs.GuardedPlaces.{guarded_is_there}
 use Rattle.ac_objects.specs.Blocks.{holding}

@@ -3,7 +3,7 @@ use Rattle.ac_model.specs.Cursors.{plain_mark}
 use Rattle.ac_model.proofs.Reasons.{passed}
 use Rattle.ac_meaning.specs.Environment.{binds_element, mark_at, objects_by, object_at, with_name}
 use Rattle.ac_meaning.specs.Execution.{head_reason, guards_of_view}
-use Rattle.ac_meaning.specs.Holdings.{guard_on}
+use Rattle.ac_calls.specs.Holdings.{guard_on}
 use Rattle.ac_meaning.specs.UnderGuards.{held_with}
 use Rattle.ac_objects.specs.Blocks.{holding}
 use Rattle.ac_objects.specs.World.{state_of}

@@ -1,7 +1,7 @@
 use Rattle.std.proofs.Common.{◌≡◌, subst}
 use Rattle.ac_model.specs.Cursors.{plain_mark}
 use Rattle.ac_meaning.specs.Execution.{in_order}
-use Rattle.ac_meaning.specs.Holdings.{names_of, number_of}
+use Rattle.ac_calls.specs.Holdings.{names_of, number_of}
 use Rattle.ac_meaning.specs.Walks.{first_mark}
 use Rattle.ac_objects.specs.RootFree.{NoRootAmong}
 use Rattle.ac_objects.specs.World.{IsSound}

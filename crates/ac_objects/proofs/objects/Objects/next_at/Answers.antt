@@ -1,5 +1,5 @@
 use Rattle.std.proofs.Common.{subst}
-use Rattle.ac_meaning.specs.Holdings.{names_of, number_of}
+use Rattle.ac_calls.specs.Holdings.{names_of, number_of}
 use Rattle.ac_objects.specs.Given.{StepsOn}
 use Rattle.ac_objects.specs.World.{IsSound}
 use Rattle.ac_objects.proofs.Found.{holds_there, found_agrees}

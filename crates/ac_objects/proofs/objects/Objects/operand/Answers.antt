@@ -1,8 +1,8 @@
 use Rattle.std.proofs.Common.{ap, subst, ◌∙◌, rules, to_z-of_z, w64}
 use mir.Val.{SFits}
-use Rattle.ac_meaning.specs.Elements.{integer_in}
+use Rattle.ac_calls.specs.Elements.{integer_in}
 use Rattle.ac_meaning.specs.Environment.{bound_at}
-use Rattle.ac_meaning.specs.Replies.{Argument}
+use Rattle.ac_calls.specs.Replies.{Argument}
 use Rattle.ac_objects.specs.Given.{IsVariable}
 use Rattle.ac_objects.specs.World.{state_of}
 use Rattle.ac_objects.proofs.Names.{value_read, variable_integer}

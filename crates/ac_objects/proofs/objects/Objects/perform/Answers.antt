@@ -1,7 +1,7 @@
 use Rattle.std.proofs.Common.{subst, Ok}
 use Rattle.ac_meaning.specs.Commands.{arguments, source_of}
-use Rattle.ac_meaning.specs.Holdings.{reply_of}
-use Rattle.ac_objects.specs.Arguments.{arguments_of}
+use Rattle.ac_calls.specs.Holdings.{reply_of}
+use Rattle.ac_calls.specs.Arguments.{arguments_of}
 use Rattle.ac_objects.specs.Steps.{CalledAt, reply_in}
 use Rattle.ac_objects.specs.World.{state_of}
 use Rattle.ac_objects.proofs.Performing.{is_performed, sets_known}

@@ -1,8 +1,8 @@
 use Rattle.std.proofs.Common.{◌≡◌, Some, rules, sym, ap, subst, to_z, of_z, w64}
 use Rattle.ac_base.specs.declared.value.Value.TheVariants as value
-use Rattle.ac_meaning.specs.Answers.{answers_integer}
+use Rattle.ac_calls.specs.Answers.{answers_integer}
 use Rattle.ac_meaning.specs.Commands.{assigned}
-use Rattle.ac_objects.specs.declared.reply.Said.TheVariants as said
+use Rattle.ac_calls.specs.declared.reply.Said.TheVariants as said
 use Rattle.ac_objects.specs.Performs.{Performs, answered}
 use Rattle.ac_objects.specs.Shown.{Shows}
 use Rattle.ac_objects.specs.Steps.{sum_given}

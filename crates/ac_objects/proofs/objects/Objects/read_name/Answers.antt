@@ -2,8 +2,8 @@ use Rattle.std.proofs.Common.{length, sym, ap, ◌∙◌}
 use Rattle.std.proofs.lemmas.Bool.{ltb-false}
 use Rattle.ac_model.specs.Cursors.{plain_mark}
 use Rattle.ac_meaning.specs.Environment.{value_in, binds_element}
-use Rattle.ac_meaning.specs.Answers.{answers_value}
-use Rattle.ac_meaning.specs.Replies.{value_argument}
+use Rattle.ac_calls.specs.Answers.{answers_value}
+use Rattle.ac_calls.specs.Replies.{value_argument}
 use Rattle.ac_objects.specs.World.{counted, state_of}
 use Rattle.ac_objects.specs.declared.bound.Bound.TheVariants as bound
 use Rattle.ac_objects.proofs.Places.{seen_there, seen_past}

@@ -1,6 +1,6 @@
 use Rattle.std.proofs.Common.{◌≡◌}
 use Rattle.ac_model.specs.Cursors.{plain_mark}
-use Rattle.ac_meaning.specs.Holdings.{key_update_reason}
+use Rattle.ac_calls.specs.Holdings.{key_update_reason}
 use Rattle.ac_objects.proofs.Found.{holds_there, found_agrees}
 use Rattle.ac_objects.proofs.objects.Objects.refuses_update.Goals as goal
 

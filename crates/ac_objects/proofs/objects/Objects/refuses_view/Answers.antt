@@ -4,7 +4,7 @@ use Rattle.ac_model.specs.Letters.{Mark}
 use Rattle.ac_syntax.specs.declared.view_kind.ViewKind.{ViewKind}
 use Rattle.ac_syntax.specs.declared.view_kind.ViewKind.TheVariants.{Query, Update, Reference, UpdateKey}
 use Rattle.ac_meaning.specs.Execution.{head_reason}
-use Rattle.ac_meaning.specs.Holdings.{Held, element_value}
+use Rattle.ac_calls.specs.Holdings.{Held, element_value}
 use Rattle.ac_objects.specs.World.{held_of}
 use Rattle.ac_objects.proofs.Found.{holds_there, found_agrees}
 use Rattle.ac_objects.proofs.objects.Objects.refuses_view.Goals as goal

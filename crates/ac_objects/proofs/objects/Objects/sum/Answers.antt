@@ -1,7 +1,7 @@
 use Rattle.std.proofs.Common.{ap, subst, ◌∙◌, rules, to_z-of_z, w64}
 use mir.Val.{SFits}
 use Rattle.ac_meaning.specs.Commands.{sum_of}
-use Rattle.ac_meaning.specs.Elements.{integer_in}
+use Rattle.ac_calls.specs.Elements.{integer_in}
 use Rattle.ac_meaning.specs.Environment.{value_at}
 use Rattle.ac_objects.specs.Performs.{Performs, answered}
 use Rattle.ac_objects.specs.Steps.{if_integer, sum_given}

@@ -1,7 +1,7 @@
 use Rattle.std.proofs.Common.{◌≡◌, IfSome, sym, subst}
 use Rattle.ac_meaning.specs.Commands.{argument}
 use Rattle.ac_meaning.specs.Environment.{bound_at}
-use Rattle.ac_meaning.specs.Replies.{value_argument}
+use Rattle.ac_calls.specs.Replies.{value_argument}
 use Rattle.ac_objects.specs.Given.{IsAtHand}
 use Rattle.ac_objects.specs.World.{state_of}
 use Rattle.ac_objects.proofs.Names.{variable_argument}

@@ -3,7 +3,7 @@ use Rattle.ac_model.specs.Objects.{plain}
 use Rattle.ac_model.specs.Cursors.{mark}
 use Rattle.ac_model.specs.Calls.{Looking, Marks}
 use Rattle.ac_model.specs.Sequences.{find_call}
-use Rattle.ac_objects.proofs.Own.{own_look, mark_for_own}
+use Rattle.ac_calls.proofs.Own.{own_look, mark_for_own}
 use Rattle.ac_objects.specs.Sequences.{rows_of}
 use Rattle.ac_objects.proofs.sequence_calls.own_cursors.find.Goals as goal
 

@@ -5,8 +5,8 @@ use Rattle.ac_model.specs.Calls.{Changing, Marks}
 use Rattle.ac_model.specs.Cursors.{mark}
 use Rattle.ac_model.specs.Sequences.{insert_pos_call}
 use Rattle.ac_model.proofs.Changes.{place_none}
-use Rattle.ac_objects.proofs.Made.{own_change}
-use Rattle.ac_objects.proofs.Own.{first_new_own}
+use Rattle.ac_calls.proofs.Made.{own_change}
+use Rattle.ac_calls.proofs.Own.{first_new_own}
 use Rattle.ac_objects.specs.Sequences.{rows_of}
 use Rattle.ac_objects.proofs.sequence_calls.own_cursors.insert_pos.Goals as goal
 

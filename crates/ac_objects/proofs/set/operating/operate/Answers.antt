@@ -1,13 +1,13 @@
 use Rattle.std.proofs.Common.{rules, subst, sym}
 use Rattle.ac_syntax.specs.declared.operation.Operation.TheVariants.{Common, Walk, Set, SetPair, Capacity, Ordered, OrderedSet}
 use Rattle.ac_model.specs.Objects.{plain}
-use Rattle.ac_meaning.specs.Replies.{itself, seen_by}
-use Rattle.ac_meaning.specs.SetReplies.{set_reply}
-use Rattle.ac_objects.specs.Arguments.{arguments_of}
-use Rattle.ac_objects.specs.Replied.{IsMade, told}
+use Rattle.ac_calls.specs.Replies.{itself, seen_by}
+use Rattle.ac_calls.specs.SetReplies.{set_reply}
+use Rattle.ac_calls.specs.Arguments.{arguments_of}
+use Rattle.ac_calls.specs.Replied.{IsMade, told}
 use Rattle.ac_objects.specs.SetCalls.{SetReplied, SetPairReplied}
 use Rattle.ac_objects.specs.Sets.{items_of, set_kind_of}
-use Rattle.ac_objects.proofs.Made.{unchanged}
+use Rattle.ac_calls.proofs.Made.{unchanged}
 use Rattle.ac_objects.proofs.Operations.{replied_by}
 use Rattle.ac_objects.proofs.SetOperations.{no_set_call, own_tools}
 use Rattle.ac_objects.proofs.set.operating.operate.Goals as goal

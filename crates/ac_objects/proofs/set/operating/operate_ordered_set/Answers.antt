@@ -1,6 +1,6 @@
 use Rattle.std.proofs.Common.{sym, subst}
 use Rattle.ac_syntax.specs.declared.operation.Operation.TheVariants.{OrderedSet}
-use Rattle.ac_objects.specs.Replied.{told}
+use Rattle.ac_calls.specs.Replied.{told}
 use Rattle.ac_objects.specs.SetCalls.{OrderedSetReplied, SetOperated}
 use Rattle.ac_objects.proofs.SetOperations.{own_tools}
 use Rattle.ac_objects.proofs.set.operating.operate_ordered_set.Goals as goal

@@ -1,10 +1,10 @@
 use Rattle.std.proofs.Common.{subst, sym}
 use Rattle.ac_syntax.specs.declared.operation.Operation.TheVariants.{Common, SetPair}
 use Rattle.ac_model.specs.Objects.{plain}
-use Rattle.ac_meaning.specs.Replies.{another, seen_by}
-use Rattle.ac_meaning.specs.SetReplies.{set_reply}
-use Rattle.ac_objects.specs.Arguments.{arguments_of, marked}
-use Rattle.ac_objects.specs.Replied.{RepliedWith, told}
+use Rattle.ac_calls.specs.Replies.{another, seen_by}
+use Rattle.ac_calls.specs.SetReplies.{set_reply}
+use Rattle.ac_calls.specs.Arguments.{arguments_of, marked}
+use Rattle.ac_calls.specs.Replied.{RepliedWith, told}
 use Rattle.ac_objects.specs.SetCalls.{SetPairRepliedWith}
 use Rattle.ac_objects.specs.Sets.{items_of, set_kind_of}
 use Rattle.ac_objects.proofs.Operations.{replied_beside, replied_with_by}

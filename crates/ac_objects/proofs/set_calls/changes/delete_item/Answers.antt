@@ -3,10 +3,10 @@ use Rattle.std.proofs.lemmas.Result.{err_from_is_err_and}
 use Rattle.ac_model.specs.Calls.{Same}
 use Rattle.ac_model.specs.Objects.{plain}
 use Rattle.ac_model.specs.Sets.{delete_item_call}
-use Rattle.ac_meaning.specs.Replies.{changes_ok}
-use Rattle.ac_objects.specs.Arguments.{argument_of}
+use Rattle.ac_calls.specs.Replies.{changes_ok}
+use Rattle.ac_calls.specs.Arguments.{argument_of}
 use Rattle.ac_objects.specs.Sets.{items_of, set_order}
-use Rattle.ac_objects.proofs.Kept.{failed}
+use Rattle.ac_calls.proofs.Kept.{failed}
 use Rattle.ac_objects.proofs.set_calls.changes.delete_item.Goals as goal
 
 pub returns-in_err-delete_item-clause-replied : goal.returns-in_err-delete_item-clause-replied

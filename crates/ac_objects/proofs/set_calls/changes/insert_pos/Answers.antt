@@ -2,11 +2,11 @@ use Rattle.std.proofs.Common.{refl, ap, ◌∙◌, Err}
 use Rattle.std.proofs.lemmas.Result.{err_from_is_err_and}
 use Rattle.ac_model.specs.Objects.{plain}
 use Rattle.ac_model.specs.Keyed.{insert_pos_call}
-use Rattle.ac_meaning.specs.KeyedReplies.{changes_inserting}
-use Rattle.ac_objects.specs.Arguments.{argument_of}
-use Rattle.ac_objects.specs.RowCalls.{PlacesOwn}
+use Rattle.ac_calls.specs.KeyedReplies.{changes_inserting}
+use Rattle.ac_calls.specs.Arguments.{argument_of}
+use Rattle.ac_calls.specs.RowCalls.{PlacesOwn}
 use Rattle.ac_objects.specs.Sets.{items_of, set_order}
-use Rattle.ac_objects.proofs.Kept.{failed}
+use Rattle.ac_calls.proofs.Kept.{failed}
 use Rattle.ac_objects.proofs.set_calls.changes.insert_pos.Goals as goal
 
 pub returns-in_err-inserted-clause-replied : goal.returns-in_err-inserted-clause-replied

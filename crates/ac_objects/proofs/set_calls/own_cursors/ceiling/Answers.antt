@@ -1,4 +1,4 @@
-use Rattle.ac_objects.proofs.Own.{own_cursor, mark_for_own}
+use Rattle.ac_calls.proofs.Own.{own_cursor, mark_for_own}
 use Rattle.ac_objects.proofs.set_calls.own_cursors.ceiling.Goals as goal
 
 pub returns : goal.returns

@@ -1,6 +1,6 @@
 use Rattle.ac_model.specs.Objects.{plain}
 use Rattle.ac_model.specs.Sets.{find_call}
-use Rattle.ac_objects.proofs.Own.{own_cursor, mark_for_own}
+use Rattle.ac_calls.proofs.Own.{own_cursor, mark_for_own}
 use Rattle.ac_objects.specs.Sets.{items_of, set_order}
 use Rattle.ac_objects.proofs.set_calls.own_cursors.find.Goals as goal
 

@@ -1,7 +1,7 @@
 use Rattle.std.proofs.Common.{refl}
 use Rattle.ac_model.specs.Keyed.{insert_pos_call}
 use Rattle.ac_model.specs.Objects.{plain}
-use Rattle.ac_objects.proofs.Made.{own_inserted}
+use Rattle.ac_objects.proofs.OwnInserted.{own_inserted}
 use Rattle.ac_objects.specs.Sets.{items_of, set_order}
 use Rattle.ac_objects.proofs.set_calls.own_cursors.insert_pos.Goals as goal
 

@@ -3,10 +3,10 @@ use Rattle.ac_base.specs.declared.cursor.Cursor.{Cursor}
 use Rattle.ac_model.specs.Objects.{plain}
 use Rattle.ac_model.specs.Trees.{ancestor_find_call}
 use Rattle.ac_tree.specs.TreeCursors.{seen_by}
-use Rattle.ac_meaning.specs.Answers.{answers_place}
-use Rattle.ac_meaning.specs.Replies.{looks}
-use Rattle.ac_objects.specs.Arguments.{argument_of}
-use Rattle.ac_objects.specs.Replied.{IsMade}
+use Rattle.ac_calls.specs.Answers.{answers_place}
+use Rattle.ac_calls.specs.Replies.{looks}
+use Rattle.ac_calls.specs.Arguments.{argument_of}
+use Rattle.ac_calls.specs.Replied.{IsMade}
 use Rattle.ac_objects.proofs.TreeLooks.{place_looked}
 use Rattle.ac_objects.proofs.tree_calls.looks.ancestor_find.Goals as goal
 

@@ -6,7 +6,7 @@ use Rattle.ac_io.specs.Pieces.{AddsSoFar}
 use Rattle.ac_model.specs.Objects.{plain, contents}
 use Rattle.ac_model.specs.Rows.{Node}
 use Rattle.ac_syntax.specs.Canonical.{literal_text}
-use Rattle.ac_meaning.specs.Listings.{nodes_listing}
+use Rattle.ac_calls.specs.Listings.{nodes_listing}
 use Rattle.ac_tree.specs.Meeting.{StandsBefore}
 use Rattle.ac_objects.proofs.NodesListed.{still_listed}
 use Rattle.ac_objects.proofs.trees.listing.add_nodes.Given as goal

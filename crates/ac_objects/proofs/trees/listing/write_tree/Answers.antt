@@ -3,7 +3,7 @@ use Rattle.std.proofs.lemmas.Result.{err_from_is_err_and}
 use Rattle.ac_io.proofs.Telling.{adds_then, adds_broken}
 use Rattle.ac_model.specs.Objects.{plain, contents}
 use Rattle.ac_syntax.specs.Canonical.{literal_text}
-use Rattle.ac_meaning.specs.Listings.{nodes_listing}
+use Rattle.ac_calls.specs.Listings.{nodes_listing}
 use Rattle.ac_objects.proofs.trees.listing.write_tree.Goals as goal
 
 pub returns-in_err-add-clause-adds : goal.returns-in_err-add-clause-adds

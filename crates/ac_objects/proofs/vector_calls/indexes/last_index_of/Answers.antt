@@ -2,7 +2,7 @@ use Rattle.std.proofs.Common.{subst, sym, ◌∙◌, to_z-of_z, w64, rules, SFit
 use Rattle.ac_model.specs.Calls.{Same}
 use Rattle.ac_model.specs.Forms.{Looks}
 use Rattle.ac_model.specs.Vectors.{reverse_find_index_call}
-use Rattle.ac_objects.specs.Arguments.{argument_of}
+use Rattle.ac_calls.specs.Arguments.{argument_of}
 use Rattle.ac_objects.proofs.vector_calls.indexes.last_index_of.Goals as goal
 
 pub returns : goal.returns

@@ -1,11 +1,11 @@
 use Rattle.std.proofs.Common.{subst, sym}
 use Rattle.ac_syntax.specs.declared.operation.Operation.TheVariants.{Keyed}
 use Rattle.ac_model.specs.Objects.{plain}
-use Rattle.ac_meaning.specs.KeyedSetReplies.{keyed_set_reply}
-use Rattle.ac_meaning.specs.Replies.{itself, seen_by}
-use Rattle.ac_objects.specs.Arguments.{arguments_of}
+use Rattle.ac_calls.specs.KeyedSetReplies.{keyed_set_reply}
+use Rattle.ac_calls.specs.Replies.{itself, seen_by}
+use Rattle.ac_calls.specs.Arguments.{arguments_of}
 use Rattle.ac_objects.specs.KeyedSets.{keyed_items, keyed_kind}
-use Rattle.ac_objects.specs.Replied.{Replied, told}
+use Rattle.ac_calls.specs.Replied.{Replied, told}
 use Rattle.ac_objects.specs.Sets.{items_of}
 use Rattle.ac_objects.proofs.KeyedOperations.{not_by_key}
 use Rattle.ac_objects.proofs.Operations.{replied_by}

@@ -1,11 +1,11 @@
 use Rattle.std.proofs.Common.{ap, subst, sym}
 use Rattle.ac_syntax.specs.declared.operation.Operation.TheVariants.{Keyed}
 use Rattle.ac_model.specs.Objects.{plain}
-use Rattle.ac_meaning.specs.KeyedSetReplies.{keyed_set_reply}
-use Rattle.ac_meaning.specs.Replies.{itself, another, seen_by}
-use Rattle.ac_objects.specs.Arguments.{arguments_of, marked}
+use Rattle.ac_calls.specs.KeyedSetReplies.{keyed_set_reply}
+use Rattle.ac_calls.specs.Replies.{itself, another, seen_by}
+use Rattle.ac_calls.specs.Arguments.{arguments_of, marked}
 use Rattle.ac_objects.specs.KeyedSets.{keyed_items, keyed_kind}
-use Rattle.ac_objects.specs.Replied.{RepliedWith, told}
+use Rattle.ac_calls.specs.Replied.{RepliedWith, told}
 use Rattle.ac_objects.specs.Sets.{items_of}
 use Rattle.ac_objects.proofs.Families.{keyed_in}
 use Rattle.ac_objects.proofs.KeyedOperations.{key_alone, not_by_key}

@@ -1,7 +1,7 @@
 use Rattle.std.proofs.Common.{subst}
 use Rattle.ac_io.specs.Pieces.{Adds}
 use Rattle.ac_syntax.specs.Canonical.{literal_text}
-use Rattle.ac_meaning.specs.Listings.{entry_text}
+use Rattle.ac_calls.specs.Listings.{entry_text}
 use Rattle.ac_objects.proofs.Entries.{entry_is}
 use Rattle.ac_objects.proofs.map.row_object.MapListedRows.add_row.Goals as goal
 

@@ -3,7 +3,7 @@ use Rattle.ac_model.specs.Calls.{Same}
 use Rattle.ac_model.specs.Forms.{Does, seen_by}
 use Rattle.ac_model.specs.Maps.{write_call}
 use Rattle.ac_objects.specs.Maps.{entries_of}
-use Rattle.ac_objects.proofs.Kept.{writes_in}
+use Rattle.ac_calls.proofs.Kept.{writes_in}
 use Rattle.ac_objects.proofs.map.row_object.MapRowObject.write_value.Goals as goal
 
 pub returns-clause-written : goal.returns-clause-written

@@ -2,10 +2,10 @@ use Rattle.std.proofs.Common.{sym, subst}
 use Rattle.ac_model.specs.Calls.{Same}
 use Rattle.ac_model.specs.Forms.{Does, seen_by}
 use Rattle.ac_model.specs.Keyed.{replace_element_call}
-use Rattle.ac_meaning.specs.KeyedReplies.{order_by}
+use Rattle.ac_calls.specs.KeyedReplies.{order_by}
 use Rattle.ac_objects.specs.SetCalls.{tools_by}
 use Rattle.ac_objects.specs.Sets.{items_of, set_kind_of}
-use Rattle.ac_objects.proofs.Kept.{writes_in}
+use Rattle.ac_calls.proofs.Kept.{writes_in}
 use Rattle.ac_objects.proofs.SetOperations.{own_tools}
 use Rattle.ac_objects.proofs.set.common_rows.SetCommonRows.replace_value.Goals as goal
 

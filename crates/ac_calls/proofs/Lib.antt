@@ -1,0 +1,5 @@
+pub mod Kept
+pub mod Listed
+pub mod Made
+pub mod Own
+pub mod Quoted

@@ -1,0 +1,22 @@
+//! The calls of a script, whatever they are made on: their arguments, their replies, the elements that values become, and the calls that all
+//! kinds of objects with rows have.
+#![tactic(auto)]
+
+mod argument;
+mod common_calls;
+mod element;
+mod frame;
+mod literal;
+mod operated_rows;
+mod reply;
+pub mod row_cursors;
+mod row_object;
+pub mod values;
+
+pub use argument::{Argument, Arguments};
+pub use common_calls::{CommonRows, common_call, common_call_with};
+pub use element::ScriptElement;
+pub use frame::Frame;
+pub use operated_rows::OperatedRows;
+pub use reply::{Placed, Reply, Said, say};
+pub use row_object::{ListedRows, RowObject};
