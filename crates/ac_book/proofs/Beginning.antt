@@ -17,7 +17,7 @@ use Rattle.ac_model.specs.Queues.{TaskQueue}
 use Rattle.ac_history.proofs.Left.{left_begun, all_ones}
 use Rattle.ac_book.specs.Books.{IsBook, block_of, CodeFits, TaskFits}
 use Rattle.ac_book.specs.Running.{Fits, HaveSpare, added_by}
-use Rattle.ac_book.specs.Shared.{shared}
+use Rattle.ac_queue.specs.Shared.{shared}
 use Rattle.ac_book.specs.Tasks.{code_of}
 use Rattle.ac_book.proofs.Turning.{written_back}
 

@@ -5,7 +5,7 @@ use Rattle.ac_queue.specs.declared.any_queue.AnyQueue.{AnyQueue}
 use Rattle.ac_model.specs.Queues.{by_arrival, empty_queue, TaskQueue}
 use Rattle.ac_base.specs.declared.limit.Limit.TheVariants.{Unbounded}
 use Rattle.ac_history.specs.Steps.{QueueStep, queue_at, on_queue}
-use Rattle.ac_book.specs.Shared.{shared}
+use Rattle.ac_queue.specs.Shared.{shared}
 use Rattle.ac_book.specs.Running.{queue_after, queues_after}
 
 pub shared_at : (queues : List AnyQueue) (i : ℕ) (d : AnyQueue) → i < length queues → queue_at (map shared queues) i ≡ shared (get_or queues i d)

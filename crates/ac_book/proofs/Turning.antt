@@ -19,7 +19,7 @@ use Rattle.ac_history.specs.Steps.{step_call, advanced, kept, target_of}
 use Rattle.ac_history.proofs.LegalHistories.{turn_more}
 use Rattle.ac_book.specs.Books.{IsBook, block_of, TaskFits, state_now, entries_in, told_in}
 use Rattle.ac_book.specs.Running.{Fits, HaveSpare, added_by, added_next}
-use Rattle.ac_book.specs.Shared.{shared}
+use Rattle.ac_queue.specs.Shared.{shared}
 use Rattle.ac_book.specs.Tasks.{code_of, next_of, GoesBy, TakesTurn, Stays, Goes}
 use Rattle.ac_book.proofs.KindsKept.{kind, step_keeps, fits_kept}
 use Rattle.ac_history.proofs.Left.{found_within, found_at, left_falls}

@@ -11,7 +11,7 @@ use Rattle.ac_history.specs.Histories.{Explains}
 use Rattle.ac_history.specs.States.{State, TaskState, opening_state, left, one_each}
 use Rattle.ac_model.specs.Queues.{TaskQueue}
 use Rattle.ac_book.specs.Running.{Fits, HaveSpare, added_by}
-use Rattle.ac_book.specs.Shared.{shared}
+use Rattle.ac_queue.specs.Shared.{shared}
 use Rattle.ac_book.specs.Tasks.{code_of}
 
 abbrev pub block_of : List AnyQueue → List TaskState → List Entry → Block

@@ -7,7 +7,7 @@ ghost use Rattle.ac_history.specs.Blocks.{IsComplete, SameStart, commands_in, ne
 ghost use Rattle.ac_history.specs.Histories.{IsLegal, entries_of, is_able, outcome, turn_told};
 ghost use Rattle.ac_history.specs.States.{TaskState};
 ghost use Rattle.ac_book.specs.Books.{CodeFits};
-ghost use Rattle.ac_book.specs.Shared.{shared};
+ghost use Rattle.ac_queue.specs.Shared.{shared};
 
 use crate::copies::{copy_entries, copy_queues, copy_tasks};
 use crate::prepare::{begin, items_added, reserve_all, steps_in};
@@ -35,7 +35,7 @@ impl Model for Book {
     ghost use Rattle.std.specs.Vec.{vec_capacity};
     ghost use Rattle.ac_history.specs.Blocks.{Block, coded_block};
     ghost use Rattle.ac_book.specs.Books.{IsBook, block_of};
-    ghost use Rattle.ac_book.specs.Shared.{shared};
+    ghost use Rattle.ac_queue.specs.Shared.{shared};
 
     ghost Value = { Block };
 

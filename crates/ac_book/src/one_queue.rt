@@ -3,7 +3,7 @@ ghost use Rattle.std.specs.Prelude.{◌≡◌, ◌+◌, ◌<◌, ◌≤◌, IfNo
 ghost use Rattle.ac_model.specs.Queues.{by_priority, dequeue_call, high_only_call};
 ghost use Rattle.ac_queue.specs.Kinds.{discipline_of, state_of};
 ghost use Rattle.ac_history.specs.Steps.{enqueue_step, taking_step};
-ghost use Rattle.ac_book.specs.Shared.{shared};
+ghost use Rattle.ac_queue.specs.Shared.{shared};
 ghost use Rattle.ac_book.specs.Running.{answered, queue_after};
 
 use ac_base::Reason;

@@ -6,7 +6,7 @@ ghost use Rattle.ac_queue.specs.Kinds.{state_of};
 ghost use Rattle.ac_history.specs.Blocks.{commands_in};
 ghost use Rattle.ac_history.specs.States.{begun};
 ghost use Rattle.ac_book.specs.Running.{HaveSpare, added_by};
-ghost use Rattle.ac_book.specs.Shared.{shared};
+ghost use Rattle.ac_queue.specs.Shared.{shared};
 
 use crate::task::Task;
 use ac_base::NoMemory;

@@ -1,7 +1,7 @@
 //! Whether two blocks began alike.
 ghost use Rattle.std.specs.Prelude.{◌≡◌, map};
 ghost use Rattle.std.specs.Bool.{Decides};
-ghost use Rattle.ac_book.specs.Shared.{shared};
+ghost use Rattle.ac_queue.specs.Shared.{shared};
 ghost use Rattle.ac_book.specs.Tasks.{code_of};
 
 use crate::task::Task;

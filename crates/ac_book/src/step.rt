@@ -4,7 +4,7 @@ ghost use Rattle.ac_model.specs.Queues.{by_priority, is_full, is_without_items, 
 ghost use Rattle.ac_queue.specs.Kinds.{discipline_of, state_of};
 ghost use Rattle.ac_history.specs.declared.entry.Reply.TheVariants as reply;
 ghost use Rattle.ac_history.specs.Steps.{dequeue_on, enqueue_on, high_on, queue_at, step_call, value_of};
-ghost use Rattle.ac_book.specs.Shared.{shared};
+ghost use Rattle.ac_queue.specs.Shared.{shared};
 ghost use Rattle.ac_book.specs.Running.{HaveSpare, Fits, IsArg, added_by, answered, queues_after};
 
 use crate::one_queue::{dequeue, enqueue, high_only};

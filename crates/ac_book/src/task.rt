@@ -4,7 +4,7 @@ ghost use Rattle.std.specs.Bool.{Decides};
 ghost use Rattle.ac_history.specs.States.{begun};
 ghost use Rattle.ac_history.specs.Steps.{advanced, kept, target_of};
 ghost use Rattle.ac_book.specs.Running.{Fits, HaveSpare, IsTarget, added_next};
-ghost use Rattle.ac_book.specs.Shared.{shared};
+ghost use Rattle.ac_queue.specs.Shared.{shared};
 ghost use Rattle.ac_book.specs.Tasks.{TakesTurn, code_of, next_of};
 
 use crate::same::same_steps;

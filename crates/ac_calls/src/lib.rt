@@ -3,6 +3,7 @@
 #![tactic(auto)]
 
 mod argument;
+mod commas;
 mod common_calls;
 mod element;
 mod frame;
@@ -14,6 +15,7 @@ mod row_object;
 pub mod values;
 
 pub use argument::{Argument, Arguments};
+pub use commas::comma;
 pub use common_calls::{CommonRows, common_call, common_call_with};
 pub use element::ScriptElement;
 pub use frame::Frame;

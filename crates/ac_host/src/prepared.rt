@@ -2,7 +2,7 @@
 ghost use Rattle.std.specs.Prelude.{◌≡◌, ◌<◌, ◌^◌, true, IfOk, length, map};
 ghost use Rattle.std.specs.List.{All};
 ghost use Rattle.ac_history.specs.Blocks.{new_block};
-ghost use Rattle.ac_book.specs.Shared.{shared};
+ghost use Rattle.ac_queue.specs.Shared.{shared};
 ghost use Rattle.ac_meaning.specs.TaskBlocks.{block_fits};
 ghost use Rattle.ac_host.specs.Gathered.{code_of};
 ghost use Rattle.ac_host.specs.Runners.{IsRunBy};

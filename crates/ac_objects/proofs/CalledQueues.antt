@@ -7,7 +7,7 @@ use Rattle.ac_model.specs.Queues.{TaskQueue}
 use Rattle.ac_queue.specs.declared.any_queue.AnyQueue.{AnyQueue}
 use Rattle.ac_queue.specs.declared.any_queue.AnyQueue.TheVariants.{Plain, Ranked}
 use Rattle.ac_queue.specs.Kinds.{discipline_of, state_of}
-use Rattle.ac_book.specs.Shared.{shared}
+use Rattle.ac_queue.specs.Shared.{shared}
 use Rattle.ac_syntax.specs.declared.operation.Operation.{Operation}
 use Rattle.ac_calls.specs.Answers.{Answer, answers_list}
 use Rattle.ac_calls.specs.QueueReplies.{queue_reply}
@@ -24,7 +24,7 @@ use Rattle.ac_calls.specs.declared.reply.Said.{Said}
 use Rattle.ac_calls.specs.declared.reply.Said.TheVariants as said
 use Rattle.ac_objects.specs.Called.{Tells, Places, HeldAfter, Called, CalledWith, Lasts}
 use Rattle.ac_objects.specs.Given.{StepsOn}
-use Rattle.ac_objects.specs.QueueCalls.{QueueSays, QueueReplied}
+use Rattle.ac_queue_calls.specs.QueueCalls.{QueueSays, QueueReplied}
 use Rattle.ac_objects.specs.Standing.{held_counts}
 use Rattle.ac_objects.specs.World.{in_queue, memory_of, held_in, held_of, AgreesIn}
 use Rattle.ac_objects.proofs.CalledHolders.{no_turn}

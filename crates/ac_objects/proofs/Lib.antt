@@ -29,7 +29,6 @@ pub mod Apart
 pub mod CalledRows
 pub mod CalledHolders
 pub mod CalledQueues
-pub mod HolderOperations
 pub mod NewObjects
 pub mod Declaring
 pub mod Places

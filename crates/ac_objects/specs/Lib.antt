@@ -5,8 +5,6 @@ pub mod KeyedSets
 pub mod SequenceCalls
 pub mod SetCalls
 pub mod KeyCalls
-pub mod HolderCalls
-pub mod QueueCalls
 pub mod MapCalls
 pub mod Shown
 pub mod World

@@ -10,13 +10,12 @@ ghost use Rattle.ac_objects.specs.Called.{AgreesWith, IsWithinLimit, Called, Cal
 ghost use Rattle.ac_calls.specs.RowWrites.{WritesIn};
 ghost use Rattle.ac_objects.specs.World.{held_of, ObjectAgrees};
 
-use crate::holder_calls::{operate_holder, operate_holders};
-use crate::holder_elements::{value, write};
 use crate::object::Object;
-use crate::queue_calls::operate_queue;
 use ac_base::{Fault, NoMemory, Reason, Value};
 use ac_calls::{Arguments, OperatedRows, Reply, RowObject};
 use ac_cursor::Cursor;
+use ac_holder_calls::{operate_holder, operate_holders, value, write};
+use ac_queue_calls::operate_queue;
 use ac_syntax::Operation;
 use std::alloc::Global;
 

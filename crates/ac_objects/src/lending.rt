@@ -1,6 +1,6 @@
 //! The queues of a block of tasks, which are lent to it while it runs.
 ghost use Rattle.std.specs.Prelude.{◌≡◌, ◌+◌, map, replicate, IfOk, OnErr, Some};
-ghost use Rattle.ac_book.specs.Shared.{shared};
+ghost use Rattle.ac_queue.specs.Shared.{shared};
 ghost use Rattle.ac_meaning.specs.TaskBlocks.{queues_at, queues_left, no_queue};
 ghost use Rattle.ac_objects.specs.Lent.{StandOnce, QueuesLent, bound_with, put_queue, put_queues, queue_held, queue_or, queue_out, queues_out};
 ghost use Rattle.ac_objects.specs.Standing.{counts_of};

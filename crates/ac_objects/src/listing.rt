@@ -11,21 +11,13 @@ ghost use Rattle.ac_calls.specs.Holdings.{Held, listing_of};
 ghost use Rattle.ac_calls.specs.Listed.{comma_at};
 ghost use Rattle.ac_objects.specs.World.{held_of, state_of};
 
-use crate::holder_elements::write_listing;
 use crate::object::Object;
 use crate::objects::Objects;
-use crate::queue_listing::write_queue;
-use crate::trees::write_tree;
-use ac_calls::ListedRows;
+use ac_calls::{ListedRows, comma};
 use ac_cursor::Cursor;
+use ac_holder_calls::write_listing;
 use ac_io::{Sink, WriteFault, add};
-
-/// What stands before an item.
-pub(crate) fn comma(is_first: bool) -> &'static [u8]
-    ensures { result.now ≡ comma_at is_first }
-{
-    if is_first { b"" } else { b", " }
-}
+use ac_queue_calls::write_queue;
 
 /// Adds the row at the cursor, with a comma before it unless it is the first.
 fn add_item<C: ListedRows, K: Sink>(
@@ -101,8 +93,8 @@ fn write_object<K: Sink>(
         Object::IntegersByText(map) => write_rows(map, text, sink),
         Object::TextsByInteger(map) => write_rows(map, text, sink),
         Object::TextsByText(map) => write_rows(map, text, sink),
-        Object::IntegerTree(tree) => write_tree(tree, text, sink),
-        Object::TextTree(tree) => write_tree(tree, text, sink),
+        Object::IntegerTree(tree) => tree.write_listing(text, sink),
+        Object::TextTree(tree) => tree.write_listing(text, sink),
         Object::IntegerHolder(holder) => write_listing(holder, text, sink),
         Object::TextHolder(holder) => write_listing(holder, text, sink),
         Object::Queue(queue) => write_queue(&queue.queue, text, sink),

@@ -2,7 +2,7 @@
 ghost use Rattle.std.specs.Prelude.{◌≡◌, Bool, true, false, Option, IfOk};
 ghost use Rattle.ac_base.specs.Limits.{IsLimit};
 ghost use Rattle.ac_syntax.specs.Kinds.{has_cursors, is_queue};
-ghost use Rattle.ac_book.specs.Shared.{shared};
+ghost use Rattle.ac_queue.specs.Shared.{shared};
 ghost use Rattle.ac_calls.specs.Holdings.{a_sequence, a_set, a_keyed_set, a_map, kind_by, element_or, discipline_by, limit_by, new_held, new_within, is_vector, is_hashed};
 ghost use Rattle.ac_model.specs.Holders.{empty_holder};
 ghost use Rattle.ac_model.specs.Objects.{plain, empty_object};

@@ -9,7 +9,6 @@ mod row_object;
 
 use ac_cursor::{GuardKey, GuardKind, Guarded};
 use ac_tree::Tree;
-pub(crate) use listing::write_tree;
 use std::marker::Model;
 
 /// A tree of a script.

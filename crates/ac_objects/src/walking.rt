@@ -13,11 +13,11 @@ ghost use Rattle.ac_objects.specs.RootFree.{NoRootAmong};
 ghost use Rattle.ac_calls.specs.Arguments.{SlotAgrees};
 ghost use Rattle.ac_objects.specs.World.{held_of, ObjectAgrees};
 
-use crate::holder_elements::refused;
 use crate::object::Object;
 use ac_base::{Fault, Name, Reason};
 use ac_calls::RowObject;
 use ac_cursor::Cursor;
+use ac_holder_calls::refused;
 
 /// The cursor at which a loop over the object begins.
 fn first_in<C: RowObject>(object: &C, backward: bool) -> Cursor

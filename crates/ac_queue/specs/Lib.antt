@@ -2,3 +2,4 @@
 pub mod Kinds
 pub mod QueueStates
 pub mod QueueCalls
+pub mod Shared

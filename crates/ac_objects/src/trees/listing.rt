@@ -121,8 +121,8 @@ fn add_nodes<T: ScriptElement, K: Sink>(
 }
 
 /// Adds the listing of a tree to a text that is written in pieces.
-pub(crate) fn write_tree<T: ScriptElement, K: Sink>(
-    tree: &ScriptTree<T>,
+fn write_tree<T: ScriptElement, K: Sink>(
+    tree: &Tree<T>,
     text: &mut Vec<u8>,
     sink: &mut K,
 ) -> Result<(), WriteFault>
@@ -131,6 +131,21 @@ pub(crate) fn write_tree<T: ScriptElement, K: Sink>(
     ensures short { length text.old.items ≤ MOST_WAITING → length text.new.items ≤ MOST_WAITING }
 {
     add(text, b"[", sink)?;
-    add_nodes(&tree.tree, text, sink)?;
+    add_nodes(tree, text, sink)?;
     add(text, b"]", sink)
+}
+
+impl<T: ScriptElement> ScriptTree<T> {
+    /// Adds the listing to a text that is written in pieces.
+    pub(crate) fn write_listing<K: Sink>(
+        &self,
+        text: &mut Vec<u8>,
+        sink: &mut K,
+    ) -> Result<(), WriteFault>
+        ensures adds { Adds K.held K.faults K.room K.counts_failures sink.old sink.new text.old.items text.new.items
+            (tree_listing (λ e. literal_text (T.tools.to_value e)) (contents (plain self.now.object))) result }
+        ensures short { length text.old.items ≤ MOST_WAITING → length text.new.items ≤ MOST_WAITING }
+    {
+        write_tree(&self.tree, text, sink)
+    }
 }

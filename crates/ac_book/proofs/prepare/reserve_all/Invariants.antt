@@ -1,7 +1,7 @@
 use Rattle.std.proofs.Common.{◌≡◌, ◌<◌, ◌≤◌, ℕ, map, get_or}
 use Rattle.ac_queue.specs.declared.any_queue.AnyQueue.{AnyQueue}
 use Rattle.ac_queue.specs.Kinds.{state_of}
-use Rattle.ac_book.specs.Shared.{shared}
+use Rattle.ac_queue.specs.Shared.{shared}
 use Rattle.ac_book.proofs.prepare.reserve_all.Given as goal
 
 abbrev pub invariant-loop-i : goal.invariant-loop-i

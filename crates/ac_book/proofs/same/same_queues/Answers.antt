@@ -1,5 +1,5 @@
 use Rattle.std.proofs.Common.{rules}
-use Rattle.ac_book.specs.Shared.{shared}
+use Rattle.ac_queue.specs.Shared.{shared}
 use Rattle.ac_book.proofs.Alike.{refuted, differ_at}
 use Rattle.ac_book.proofs.same.same_queues.Goals as goal
 

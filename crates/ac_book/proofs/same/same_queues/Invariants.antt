@@ -1,5 +1,5 @@
 use Rattle.std.proofs.Common.{◌≡◌, map, take}
-use Rattle.ac_book.specs.Shared.{shared}
+use Rattle.ac_queue.specs.Shared.{shared}
 use Rattle.ac_book.proofs.same.same_queues.Given as goal
 
 abbrev pub invariant-loop-i : goal.invariant-loop-i

@@ -1,6 +1,6 @@
 use Rattle.std.proofs.Common.{rules, ◌≡◌, map, subst}
 use Rattle.ac_history.specs.Steps.{on_queue, enqueue_step}
-use Rattle.ac_book.specs.Shared.{shared}
+use Rattle.ac_queue.specs.Shared.{shared}
 use Rattle.ac_book.specs.Running.{answered}
 use Rattle.ac_book.proofs.step.run.Goals as goal
 

@@ -1,6 +1,6 @@
 use Rattle.std.proofs.Common.{map, ap, ◌∙◌}
 use Rattle.std.specs.List.{list_all}
-use Rattle.ac_book.specs.Shared.{shared}
+use Rattle.ac_queue.specs.Shared.{shared}
 use Rattle.ac_meaning.specs.TaskBlocks.{code_fits, is_ranked}
 use Rattle.ac_host.proofs.StepsFit.{code_is_fit}
 use Rattle.ac_host.proofs.prepared.prepared.Goals as goal

@@ -1,6 +1,6 @@
 use Rattle.std.proofs.Common.{◌≡◌, map, replicate, vec_len}
 use Rattle.std.specs.Vec.{vec_capacity}
-use Rattle.ac_book.specs.Shared.{shared}
+use Rattle.ac_queue.specs.Shared.{shared}
 use Rattle.ac_meaning.specs.TaskBlocks.{no_queue}
 use Rattle.ac_objects.proofs.lending.stand_ins.Given as goal
 

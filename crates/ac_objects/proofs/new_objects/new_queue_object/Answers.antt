@@ -1,5 +1,5 @@
 use Rattle.std.proofs.Common.{ap, ◌∙◌}
-use Rattle.ac_book.specs.Shared.{shared}
+use Rattle.ac_queue.specs.Shared.{shared}
 use Rattle.ac_objects.specs.World.{held_in}
 use Rattle.ac_objects.proofs.CalledQueues.{queue_memory}
 use Rattle.ac_objects.proofs.NewObjects.{of_queue_type}

@@ -2,7 +2,7 @@ use Rattle.std.proofs.Common.{rules, ◌≡◌, ◌<◌, map, subst}
 use Rattle.std.specs.Vec.{vec_capacity}
 use Rattle.ac_history.specs.Blocks.{present}
 use Rattle.ac_history.specs.Histories.{outcome, turn_told}
-use Rattle.ac_book.specs.Shared.{shared}
+use Rattle.ac_queue.specs.Shared.{shared}
 use Rattle.ac_book.specs.Books.{told_in}
 use Rattle.ac_book.proofs.Turning.{spare_lent, in_tasks, whole_turn, stood_still, stands_still, moved_on, moves_on, room_for_entry}
 use Rattle.ac_book.proofs.book.Book.turn.Goals as goal

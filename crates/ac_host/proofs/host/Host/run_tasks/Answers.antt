@@ -1,5 +1,5 @@
 use Rattle.std.proofs.Common.{◌+◌, ap, length, map, subst, sym, refl, ◌∙◌}
-use Rattle.ac_book.specs.Shared.{shared}
+use Rattle.ac_queue.specs.Shared.{shared}
 use Rattle.ac_history.specs.Blocks.{new_block}
 use Rattle.ac_history.specs.Orders.{run_of}
 use Rattle.ac_calls.specs.Answers.{lines_text}

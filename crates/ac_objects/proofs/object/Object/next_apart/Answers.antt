@@ -1,6 +1,6 @@
 use Rattle.std.proofs.Common.{ap, ◌∙◌}
 use Rattle.ac_syntax.specs.declared.kind.ElemKind.TheVariants.{Integer, Str}
-use Rattle.ac_book.specs.Shared.{shared}
+use Rattle.ac_queue.specs.Shared.{shared}
 use Rattle.ac_objects.specs.World.{memory_of}
 use Rattle.ac_objects.proofs.CalledHolders.{integer_holder, text_holder, ends}
 use Rattle.ac_objects.proofs.CalledQueues as queues

@@ -23,14 +23,14 @@ returns-in-Tree-clause-replied g c =
     let tools = g.T.ScriptElement.tools in
     let old = c.args.self.now in
     replied_by_root true (tree_reply tools (plain old.object)) old _ c.args.args.now c.args.operation (Tree c.in-Tree.call) _ c.requires.agree c.in-Tree.is
-    c.tree_look.ensures
+    c.look.ensures
 
 pub returns-in-TreeChange-clause-replied : goal.returns-in-TreeChange-clause-replied
 returns-in-TreeChange-clause-replied g c =
     let tools = g.T.ScriptElement.tools in
     let old = c.args.self.now in
     replied_by_root true (tree_reply tools (plain old.object)) old _ c.args.args.now c.args.operation (TreeChange c.in-TreeChange.call) _ c.requires.agree c.in-TreeChange.is
-    c.tree_change.ensures
+    c.change.ensures
 
 pub returns-in_default-clause-replied : goal.returns-in_default-clause-replied
 returns-in_default-clause-replied g c =

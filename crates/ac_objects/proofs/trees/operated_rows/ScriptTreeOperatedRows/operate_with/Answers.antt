@@ -27,7 +27,7 @@ returns-in-Tree-clause-replied g c =
     let source = c.args.source.now in
     replied_with_by_root true (tree_reply tools (plain old.object)) old source _ _ c.args.args.now c.args.operation (Tree c.in-Tree.call) _
     c.requires.agree c.requires.agree_with_source c.in-Tree.is
-    (replied_beside (tree_reply tools (plain old.object) (another (plain source.object) (arguments_marked (tree_mark source.object) c.args.args.now)) (arguments_marked (tree_mark old.object) c.args.args.now) (Tree c.in-Tree.call)) old source old _ c.tree_look.ensures)
+    (replied_beside (tree_reply tools (plain old.object) (another (plain source.object) (arguments_marked (tree_mark source.object) c.args.args.now)) (arguments_marked (tree_mark old.object) c.args.args.now) (Tree c.in-Tree.call)) old source old _ c.look.ensures)
 
 pub returns-in-TreeChange-clause-replied : goal.returns-in-TreeChange-clause-replied
 returns-in-TreeChange-clause-replied g c =
@@ -36,7 +36,7 @@ returns-in-TreeChange-clause-replied g c =
     let source = c.args.source.now in
     replied_with_by_root true (tree_reply tools (plain old.object)) old source _ _ c.args.args.now c.args.operation (TreeChange c.in-TreeChange.call) _
     c.requires.agree c.requires.agree_with_source c.in-TreeChange.is
-    c.tree_change_with.ensures
+    c.change_with.ensures
 
 pub returns-in_default-clause-replied : goal.returns-in_default-clause-replied
 returns-in_default-clause-replied g c =

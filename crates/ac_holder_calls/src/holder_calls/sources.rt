@@ -3,7 +3,7 @@ ghost use Rattle.std.specs.Prelude.{◌≡◌};
 ghost use Rattle.ac_model.specs.Holders as holders;
 ghost use Rattle.ac_calls.specs.Answers.{answers_truth};
 ghost use Rattle.ac_calls.specs.Replies.{changes_ok, changes_both, tells};
-ghost use Rattle.ac_objects.specs.HolderCalls.{HolderRepliedWith, own_tools};
+ghost use Rattle.ac_holder_calls.specs.HolderCalls.{HolderRepliedWith, own_tools};
 ghost use Rattle.ac_calls.specs.Replied.{told};
 
 use ac_base::Fault;

@@ -6,7 +6,7 @@ ghost use Rattle.ac_model.specs.Holders as holders;
 ghost use Rattle.ac_syntax.specs.Canonical.{literal_text};
 ghost use Rattle.ac_calls.specs.Listings.{bracketed};
 ghost use Rattle.ac_calls.specs.HolderReplies.{holder_element, holder_write, holder_listing};
-ghost use Rattle.ac_objects.specs.HolderCalls.{ChangesHolder};
+ghost use Rattle.ac_holder_calls.specs.HolderCalls.{ChangesHolder};
 
 use ac_base::{Fault, NoMemory, Reason, Value};
 use ac_calls::ScriptElement;
@@ -16,14 +16,14 @@ use ac_model::reason_if;
 use std::alloc::Global;
 
 /// Why the element can't be read or viewed.
-pub(crate) fn refused<T: ScriptElement>(holder: &Holder<T>) -> Option<Reason>
+pub fn refused<T: ScriptElement>(holder: &Holder<T>) -> Option<Reason>
     ensures { result ≡ holders.view_reason holder.now }
 {
     reason_if(holder.is_empty(), Reason::Empty)
 }
 
 /// A copy of the element.
-pub(crate) fn value<T: ScriptElement>(holder: &Holder<T>, alloc: Global) -> Result<Value, NoMemory>
+pub fn value<T: ScriptElement>(holder: &Holder<T>, alloc: Global) -> Result<Value, NoMemory>
     requires { (holder_element T.tools holder.now).reason ≡ None }
     ensures { IfOk result (λ value. (holder_element T.tools holder.now).answer ≡ Some value) }
 {
@@ -34,7 +34,7 @@ pub(crate) fn value<T: ScriptElement>(holder: &Holder<T>, alloc: Global) -> Resu
 }
 
 /// Writes a value through a name that stands for the element.
-pub(crate) fn write<T: ScriptElement>(
+pub fn write<T: ScriptElement>(
     holder: &mut Holder<T>,
     alloc: Global,
     value: Value,
@@ -52,7 +52,7 @@ fn put<T: ScriptElement>(holder: &mut Holder<T>, element: T) -> Result<(), Fault
 }
 
 /// Adds the listing to a text that is written in pieces.
-pub(crate) fn write_listing<T: ScriptElement, K: Sink>(
+pub fn write_listing<T: ScriptElement, K: Sink>(
     holder: &Holder<T>,
     text: &mut Vec<u8>,
     sink: &mut K,

@@ -5,7 +5,7 @@ use Rattle.ac_io.proofs.Telling.{goes_on, ends, breaks, still, adds_nothing}
 use Rattle.ac_queue.specs.Kinds.{state_of}
 use Rattle.ac_syntax.specs.Canonical.{literal_text}
 use Rattle.ac_calls.proofs.Listed.{listed_from, from_place, at_end}
-use Rattle.ac_objects.proofs.queue_listing.add_items.Goals as goal
+use Rattle.ac_queue_calls.proofs.queue_listing.add_items.Goals as goal
 
 same_count : (n m : ℕ) → pos n ≡ pos m → n ≡ m
 same_count n m e = cc

@@ -4,7 +4,7 @@ use Rattle.ac_base.specs.declared.fault.Fault.{Fault}
 use Rattle.ac_base.specs.declared.fault.Fault.TheVariants as fault
 use Rattle.ac_model.specs.Queues.{TaskQueue}
 use Rattle.ac_queue.specs.declared.any_queue.AnyQueue.{AnyQueue}
-use Rattle.ac_book.specs.Shared.{shared}
+use Rattle.ac_queue.specs.Shared.{shared}
 use Rattle.ac_calls.specs.Answers.{Answer, answers_ok, answers_value, answers_truth, answers_list}
 use Rattle.ac_calls.specs.QueueReplies.{queue_listing}
 use Rattle.ac_calls.specs.Replies as replies

@@ -2,11 +2,11 @@
 ghost use Rattle.std.specs.Prelude.{◌≡◌};
 ghost use Rattle.ac_model.specs.Queues as queues;
 ghost use Rattle.ac_queue.specs.Kinds.{state_of};
-ghost use Rattle.ac_book.specs.Shared.{shared};
+ghost use Rattle.ac_queue.specs.Shared.{shared};
 ghost use Rattle.ac_calls.specs.Answers.{answers_ok};
 ghost use Rattle.ac_calls.specs.QueueReplies.{high_reply, item_answer, queue_alone_reply, queue_changes, queue_reply};
 ghost use Rattle.ac_calls.specs.Arguments.{arguments_of};
-ghost use Rattle.ac_objects.specs.QueueCalls.{QueueReplied};
+ghost use Rattle.ac_queue_calls.specs.QueueCalls.{QueueReplied};
 ghost use Rattle.ac_calls.specs.Replied.{told};
 
 use ac_base::{Fault, GREATEST_LENGTH, Limit, Reason, Value};

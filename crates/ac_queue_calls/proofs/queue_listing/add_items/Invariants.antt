@@ -6,7 +6,7 @@ use Rattle.ac_syntax.specs.Canonical.{literal_text}
 use Rattle.ac_queue.specs.Kinds.{state_of}
 use Rattle.ac_calls.specs.Listings.{separated}
 use Rattle.ac_calls.proofs.Listed.{listed_from}
-use Rattle.ac_objects.proofs.queue_listing.add_items.Given as goal
+use Rattle.ac_queue_calls.proofs.queue_listing.add_items.Given as goal
 
 abbrev pub invariant-loop-place : goal.invariant-loop-place
 invariant-loop-place g l =

@@ -5,7 +5,7 @@ use Rattle.ac_io.proofs.Telling.{adds_then, adds_broken}
 use Rattle.ac_queue.specs.Kinds.{state_of}
 use Rattle.ac_calls.specs.Listings.{separated}
 use Rattle.ac_syntax.specs.Canonical.{literal_text}
-use Rattle.ac_objects.proofs.queue_listing.write_queue.Goals as goal
+use Rattle.ac_queue_calls.proofs.queue_listing.write_queue.Goals as goal
 
 pub returns-in_err-add-clause-adds : goal.returns-in_err-add-clause-adds
 returns-in_err-add-clause-adds g c =

@@ -5,7 +5,7 @@ ghost use Rattle.ac_calls.specs.Answers.{answers_truth, answers_list};
 ghost use Rattle.ac_calls.specs.HolderReplies.{holder_element, holder_listing};
 ghost use Rattle.ac_calls.specs.Replies.{changes_ok, looks, tells, value_answer};
 ghost use Rattle.ac_calls.specs.Arguments.{arguments_of};
-ghost use Rattle.ac_objects.specs.HolderCalls.{HolderReplied, own_tools};
+ghost use Rattle.ac_holder_calls.specs.HolderCalls.{HolderReplied, own_tools};
 ghost use Rattle.ac_calls.specs.Replied.{told};
 
 use crate::holder_elements::{refused, value};

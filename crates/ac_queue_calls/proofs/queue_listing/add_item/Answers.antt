@@ -3,7 +3,7 @@ use Rattle.ac_base.specs.declared.value.Value.TheVariants.{Int}
 use Rattle.ac_io.specs.Pieces.{Adds}
 use Rattle.ac_io.proofs.Telling.{adds_then, adds_text}
 use Rattle.ac_syntax.specs.Canonical.{literal_text}
-use Rattle.ac_objects.proofs.queue_listing.add_item.Goals as goal
+use Rattle.ac_queue_calls.proofs.queue_listing.add_item.Goals as goal
 
 pub returns-clause-adds : goal.returns-clause-adds
 returns-clause-adds g c =

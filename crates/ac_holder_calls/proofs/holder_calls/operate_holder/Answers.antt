@@ -2,10 +2,10 @@ use Rattle.std.proofs.Common.{subst, sym}
 use Rattle.ac_calls.specs.HolderReplies.{holder_alone_reply, holder_reply}
 use Rattle.ac_calls.specs.Replies.{without}
 use Rattle.ac_calls.specs.Arguments.{arguments_of}
-use Rattle.ac_objects.specs.HolderCalls.{HolderReplied}
+use Rattle.ac_holder_calls.specs.HolderCalls.{HolderReplied}
 use Rattle.ac_calls.specs.Replied.{told}
-use Rattle.ac_objects.proofs.HolderOperations.{same_tools}
-use Rattle.ac_objects.proofs.holder_calls.operate_holder.Goals as goal
+use Rattle.ac_holder_calls.proofs.HolderOperations.{same_tools}
+use Rattle.ac_holder_calls.proofs.holder_calls.operate_holder.Goals as goal
 
 pub returns-in-Holder : goal.returns-in-Holder
 returns-in-Holder g c =

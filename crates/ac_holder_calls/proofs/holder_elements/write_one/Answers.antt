@@ -3,7 +3,7 @@ use Rattle.std.proofs.lemmas.Result.{err_from_is_err_and}
 use Rattle.std.proofs.lemmas.List.{append-nil}
 use Rattle.ac_io.proofs.Telling.{adds_then, adds_broken, adds_text}
 use Rattle.ac_syntax.specs.Canonical.{literal_text}
-use Rattle.ac_objects.proofs.holder_elements.write_one.Goals as goal
+use Rattle.ac_holder_calls.proofs.holder_elements.write_one.Goals as goal
 
 pub returns-in_err-add-clause-adds : goal.returns-in_err-add-clause-adds
 returns-in_err-add-clause-adds g c =

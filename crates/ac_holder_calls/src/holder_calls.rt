@@ -3,7 +3,7 @@ ghost use Rattle.std.specs.Prelude.{◌≡◌};
 ghost use Rattle.ac_calls.specs.HolderReplies.{holder_alone_reply, holder_reply};
 ghost use Rattle.ac_calls.specs.Replies.{without, another};
 ghost use Rattle.ac_calls.specs.Arguments.{arguments_of};
-ghost use Rattle.ac_objects.specs.HolderCalls.{HolderReplied, HolderRepliedWith, own_tools};
+ghost use Rattle.ac_holder_calls.specs.HolderCalls.{HolderReplied, HolderRepliedWith, own_tools};
 ghost use Rattle.ac_calls.specs.Replied.{told};
 
 mod alone;

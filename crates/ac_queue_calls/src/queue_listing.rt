@@ -4,20 +4,19 @@ ghost use Rattle.std.specs.List.{slice_get};
 ghost use Rattle.ac_io.specs.declared.pieces.TheConstants.{MOST_WAITING};
 ghost use Rattle.ac_io.specs.Pieces.{Adds};
 ghost use Rattle.ac_queue.specs.Kinds.{state_of};
-ghost use Rattle.ac_book.specs.Shared.{shared};
+ghost use Rattle.ac_queue.specs.Shared.{shared};
 ghost use Rattle.ac_syntax.specs.Canonical.{literal_text};
 ghost use Rattle.ac_base.specs.declared.value.Value.TheVariants.{Int};
 ghost use Rattle.ac_calls.specs.Listings.{separated};
 ghost use Rattle.ac_calls.specs.QueueReplies.{queue_listing};
 ghost use Rattle.ac_calls.specs.Listed.{comma_at};
 
-use crate::listing::comma;
-use ac_calls::ScriptElement;
+use ac_calls::{ScriptElement, comma};
 use ac_io::{Sink, WriteFault, add};
 use ac_queue::AnyQueue;
 
 /// Adds the listing of a queue to a text that is written in pieces: its items, the front one first.
-pub(crate) fn write_queue<K: Sink>(
+pub fn write_queue<K: Sink>(
     queue: &AnyQueue,
     text: &mut Vec<u8>,
     sink: &mut K,
