@@ -15,6 +15,8 @@ mod long;
 #[cfg(test)]
 mod maps;
 #[cfg(test)]
+mod outcome;
+#[cfg(test)]
 mod queues;
 #[cfg(test)]
 mod refusals;

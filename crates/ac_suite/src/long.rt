@@ -1,5 +1,7 @@
 //! A run of 1,400,002 lines, whose text stands in memory: searches that read every row wouldn't end in a test's time.
 
+use crate::outcome::WHOLE;
+use crate::rows::lines_of;
 use ac_io::{GrowSink, MemorySource};
 use ac_top::{FreeGate, run};
 use std::alloc::Global;
@@ -7,41 +9,12 @@ use std::sync::Wait;
 use std::test::Fail;
 use std::thread::Threads;
 
-const WHOLE: usize = 1 << 30;
+const SEARCHES: &str =
+    "type V is vector (integer); / type S is ordered_set (integer); / A : V; / B : S; / C : S.cursor; / N : integer; / A.Append (0, 200000); / for I in A loop / N := N + 1; / B.Insert (N); / end loop; / for I in A loop / C := B.Find (N); / B.Contains (N); / C := B.Floor (N); / C := B.Ceiling (N); / N := N - 1; / end loop; / B.Length;";
 
-const SEARCHES: &str = "type V is vector (integer);
-type S is ordered_set (integer);
-A : V;
-B : S;
-C : S.cursor;
-N : integer;
-A.Append (0, 200000);
-for I in A loop
-N := N + 1;
-B.Insert (N);
-end loop;
-for I in A loop
-C := B.Find (N);
-B.Contains (N);
-C := B.Floor (N);
-C := B.Ceiling (N);
-N := N - 1;
-end loop;
-B.Length;
-";
+const FIRST: &str = "7: ok / 9: 1 / 10: ok";
 
-const FIRST: &str = "7: ok
-9: 1
-10: ok
-";
-
-const LAST: &str = "13: cursor
-14: true
-15: cursor
-16: cursor
-17: 0
-19: 200000
-";
+const LAST: &str = "13: cursor / 14: true / 15: cursor / 16: cursor / 17: 0 / 19: 200000";
 
 /// Whether a script runs to its end with so many lines, and these the first and the last.
 fn runs_to<R: Threads + Wait + Sync>(
@@ -51,8 +24,9 @@ fn runs_to<R: Threads + Wait + Sync>(
     lines: usize,
     ends: (&str, &str),
 ) -> Result<bool, Fail> {
-    let (first, last) = ends;
-    let mut source = MemorySource::new(script.as_bytes().to_vec(alloc)?, WHOLE, Vec::new(alloc));
+    let (first, last) = (lines_of(alloc, ends.0)?, lines_of(alloc, ends.1)?);
+    let script = lines_of(alloc, script)?.as_bytes().to_vec(alloc)?;
+    let mut source = MemorySource::new(script, WHOLE, Vec::new(alloc));
     let mut sink = GrowSink::new(alloc);
     let ended = run(rt, alloc, &[], &mut source, &mut sink, &FreeGate);
     let text = sink.bytes();

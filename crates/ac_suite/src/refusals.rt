@@ -1,7 +1,7 @@
 //! Refused scripts and taken ones, each through `--check`.
-//! A table has a row for each script, with `====` between two rows: the script, and `==> ` with the line of its refusal, or `taken`.
-use ac_io::{MemorySink, MemorySource};
-use ac_top::{FreeGate, Status, run};
+//! A table is as in `rows`, but behind `==> ` stands the line of the refusal, or `taken`.
+use crate::outcome::end_of_plain_run;
+use crate::rows::{is_row, lines_of, with_whole_rows};
 use itoa::Buffer;
 use std::alloc::Global;
 use std::process::Abort;
@@ -15,29 +15,23 @@ const TAKEN: &[u8] = b"taken\n";
 fn is_answered<R: Threads + Wait + Sync>(
     rt: &R,
     alloc: Global,
-    script: Vec<u8>,
+    script: &[u8],
     wanted: &[u8],
 ) -> Result<bool, Fail> {
-    let words = vec![in alloc; String::from_str(alloc, "--check")?]?;
-    let mut source = MemorySource::new(script, 1 << 30, Vec::new(alloc));
-    let mut sink = MemorySink::with_room(alloc, 40_000, 1 << 30, Vec::new(alloc))?;
-    let status = run(rt, alloc, &words, &mut source, &mut sink, &FreeGate);
+    let ended = end_of_plain_run(rt, alloc, "--check", script)?;
     if wanted == TAKEN {
-        return Ok(status == Status::Done);
+        return Ok(ended.status == 0);
     }
-    Ok(status == Status::Refused && sink.bytes() == wanted)
+    Ok(ended.is(1, wanted))
 }
 
 fn is_met<R: Threads + Wait + Sync>(rt: &R, alloc: Global, row: &str) -> Result<bool, Fail> {
     let Some((script, answer)) = row.split_once("==> ") else {
         return Ok(false);
     };
-    is_answered(
-        rt,
-        alloc,
-        script.as_bytes().to_vec(alloc)?,
-        answer.as_bytes(),
-    )
+    let script = lines_of(alloc, script.trim_end())?;
+    let wanted = lines_of(alloc, answer)?;
+    is_answered(rt, alloc, script.as_bytes(), wanted.as_bytes())
 }
 
 fn each_row_is_met<R: Threads + Wait + Abort + Sync>(
@@ -45,539 +39,124 @@ fn each_row_is_met<R: Threads + Wait + Abort + Sync>(
     alloc: Global,
     table: &str,
 ) -> Result<(), Fail> {
-    for row in table.split("====\n") {
-        assert!(rt; is_met(rt, alloc, row)?, "{row}");
+    let rows = with_whole_rows(alloc, table)?;
+    for row in rows.split('\n') {
+        assert!(rt; !is_row(row) || is_met(rt, alloc, row)?, "{row}");
     }
     Ok(())
 }
 
-const NO_SCRIPT_BEGINS_SO: &str = r#"type L is list (integer);
-A : L;
-for C in A loop
-==> line 3: syntax
-====
-A.Append (12a);
-==> line 1: syntax
-====
-X := "abc
-==> line 1: syntax
-====
-;
-==> line 1: syntax
-====
-tasks
-==> line 1: syntax
-====
-type Q is bounded queue (integer);
-A : Q (1);
-tasks
-A.Enqueue (1);
-end tasks;
-==> line 4: syntax
-====
-end;
-==> line 1: syntax
-====
-type L is list (integer);
-type L
-==> line 2: syntax
-====
-A.Append (1)
-A.Print;
-==> line 2: syntax
-====
-A.Append ();
-==> line 1: syntax
-====
-A := - X;
-==> line 1: syntax
-====
-A := B + C;
-==> line 1: syntax
-====
-N : integer (5);
-==> line 1: syntax
-====
-declare
-X : integer;
-begin
-X := 1;
-==> line 4: syntax
-====
-stable A do
-end loop;
-==> line 2: syntax
-====
-for C in A loop
-end;
-==> line 2: syntax
-====
-A.Print;
-N : integer;
-==> line 2: syntax
-====
-update_key A as X do
-==> line 1: syntax
-====
-query A at C X do
-==> line 1: syntax
-====
-type L is bounded (integer);
-==> line 1: syntax
-====
-type list is list (integer);
-==> line 1: syntax
+const ROWS: &str = r#"# no script begins so
+type L is list (integer); / A : L; / for C in A loop ==> line 3: syntax
+A.Append (12a); ==> line 1: syntax
+X := "abc ==> line 1: syntax
+; ==> line 1: syntax
+tasks ==> line 1: syntax
+type Q is bounded queue (integer); / A : Q (1); / tasks / A.Enqueue (1); / end tasks; ==> line 4: syntax
+end; ==> line 1: syntax
+type L is list (integer); / type L ==> line 2: syntax
+A.Append (1) / A.Print; ==> line 2: syntax
+A.Append (); ==> line 1: syntax
+A := - X; ==> line 1: syntax
+A := B + C; ==> line 1: syntax
+N : integer (5); ==> line 1: syntax
+declare / X : integer; / begin / X := 1; ==> line 4: syntax
+stable A do / end loop; ==> line 2: syntax
+for C in A loop / end; ==> line 2: syntax
+A.Print; / N : integer; ==> line 2: syntax
+update_key A as X do ==> line 1: syntax
+query A at C X do ==> line 1: syntax
+type L is bounded (integer); ==> line 1: syntax
+type list is list (integer); ==> line 1: syntax
+# limits of the text
+N : integer; / N := 9223372036854775807; ==> taken
+N : integer; / N := 9223372036854775808; ==> line 2: limit
+N : integer; / N := -9223372036854775808; ==> taken
+N : integer; / N := -9223372036854775809; ==> line 2: limit
+N : integer; / N := N - 9223372036854775807; ==> taken
+N : integer; / N := N - 9223372036854775808; ==> line 2: limit
+type L is bounded list (integer); / A : L (9223372036854775808); ==> line 2: limit
+) 99999999999999999999; ==> line 1: syntax
+# limits of names and of room
+type L is bounded list (integer); / A : L (1000000); ==> taken
+type L is bounded list (integer); / A : L (1000001); ==> line 2: limit
+type L is bounded list (integer); / A : L (600000); / B : L (400000); ==> taken
+type L is bounded list (integer); / A : L (600000); / B : L (400001); ==> line 3: limit
+type L is bounded list (integer); / declare / A : L (600000); / begin / end; / declare / B : L (400001); / begin / end; ==> line 7: limit
+# names that are not in scope
+A.Append (1); ==> line 1: unknown name
+A : L; ==> line 1: unknown name
+A : A; ==> line 1: unknown name
+C : L.cursor; ==> line 1: unknown name
+type L is list (integer); / A : L; / A.Append (X); ==> line 3: unknown name
+type L is list (integer); / A : L; / X := A.Length; ==> line 3: unknown name
+for C in A loop / end loop; ==> line 1: unknown name
+stable A do / end; ==> line 1: unknown name
+X := 1; ==> line 1: unknown name
+N : integer; / N := M + 1; ==> line 2: unknown name
+type L is list (integer); / A : L; / query A at C as X do / end; ==> line 3: unknown name
+declare / X : integer; / begin / X := 1; / end; / X := 2; ==> line 6: unknown name
+type L is list (integer); / A : L; / for C in A loop / A.Element (C); / end loop; / A.Element (C); ==> line 6: unknown name
+type L is list (integer); / A : L; / C : L.cursor; / query A at C as X do / A.Contains (X); / end; / A.Contains (X); ==> line 7: unknown name
+# rules of types
+type W is queue (string); ==> line 1: wrong type
+type T is vector (integer); / A : T; / A.Splice (no_element, A); ==> line 3: wrong type
+type L is list (integer, integer); ==> line 1: wrong type
+type L is list (integer) keyed; ==> line 1: wrong type
+type L is list (integer); / A : L (5); ==> line 2: wrong type
+type L is bounded list (integer); / A : L; ==> line 2: wrong type
+N : integer; / A : N; ==> line 2: wrong type
+N : integer; / C : N.cursor; ==> line 2: wrong type
+type L is list (integer); / A : L; / A.Append (1); ==> taken
+type L is list (integer); / A : L; / A.Append ("x"); ==> line 3: wrong type
+type L is list (string); / A : L; / A.Append ("x", 2); ==> taken
+type L is list (integer); / A : L; / A.Append (1, 2, 3); ==> line 3: wrong type
+type L is list (integer); / A : L; / A.Frob; ==> line 3: wrong type
+type L is list (integer); / A : L; / A.Capacity; ==> line 3: wrong type
+type L is list (integer); / A : L; / C : L.cursor; / A.Delete (C); ==> taken
+type L is list (integer); / A : L; / A.Delete (no_element); ==> line 3: wrong type
+type L is list (integer); / A : L; / for C in A loop / A.Delete (C); / end loop; ==> line 4: wrong type
+type L is list (integer); / A : L; / for C in reverse A loop / A.Element (C); / end loop; ==> taken
+type L is list (integer); / A : L; / N : integer; / N := A.Length; ==> taken
+type L is list (integer); / A : L; / N : integer; / N := A.Is_Empty; ==> line 4: wrong type
+type L is list (integer); / A : L; / N : integer; / N := A.First; ==> line 4: wrong type
+# rules of types of calls
+type L is list (integer); / A : L; / C : L.cursor; / C := A.First; ==> taken
+type L is list (integer); / A : L; / C : L.cursor; / C := no_element; ==> taken
+type L is list (integer); / A : L; / C : L.cursor; / C := A.Length; ==> line 4: wrong type
+type L is list (integer); / A : L; / S : string; / S := A.First_Element; ==> line 4: wrong type
+N : integer; / N := "x"; ==> line 2: wrong type
+S : string; / S := S + 1; ==> line 2: wrong type
+N : integer; / N := N + 1; ==> taken
+type L is list (integer); / A : L; / A := 1; ==> line 3: wrong type
+N : integer; / N.Append (1); ==> line 2: wrong type
+type L is list (integer); / type M is list (integer); / A : L; / C : M.cursor; / A.Element (C); ==> line 5: wrong type
+type L is list (integer); / A : L; / B : L; / A.Splice (no_element, B); ==> taken
+type L is list (integer); / type M is list (integer); / A : L; / B : M; / A.Splice (no_element, B); ==> line 5: wrong type
+N : integer; / for C in N loop / end loop; ==> line 2: wrong type
+N : integer; / stable N do / end; ==> line 2: wrong type
+type L is list (integer); / A : L; / C : L.cursor; / query A at C as X do / X := 1; / end; ==> line 5: wrong type
+type L is list (integer); / A : L; / C : L.cursor; / update A at C as X do / X := X + 1; / end; ==> taken
+type L is list (integer); / A : L; / C : L.cursor; / reference X of A at C do / X := 1; / end; ==> taken
+type L is list (integer); / A : L; / update A as X do / end; ==> line 3: wrong type
+type L is list (integer); / A : L; / C : L.cursor; / update_key A at C as X do / end; ==> line 4: wrong type
+type L is list (integer); / A : L; / for E of A loop / E := 1; / end loop; ==> taken
+# names declared twice
+N : integer; / N : string; ==> line 2: twice
+type L is list (integer); / L : L; ==> line 2: twice
+type L is list (integer); / A : L; / for A in A loop / end loop; ==> line 3: twice
+N : integer; / declare / N : integer; / begin / end; ==> line 3: twice
+type L is list (integer); / A : L; / C : L.cursor; / N : integer; / query A at C as N do / end; ==> line 5: twice
+declare / X : integer; / begin / end; / declare / X : integer; / begin / end; ==> taken
+# the first of two faults
+type L is list (integer); / A : L; / A.Append (X, Y); / A.Frob; ==> line 3: unknown name
+type L is list (integer); / A : L; / A : N; ==> line 3: unknown name
+N : integer; / N : N; ==> line 2: wrong type
 "#;
 
 #[test]
-fn no_script_begins_so(rt: HostRuntime) -> Result<(), Fail> {
-    each_row_is_met(&rt, rt.alloc(), NO_SCRIPT_BEGINS_SO)
-}
-
-const LIMITS_OF_THE_TEXT: &str = "N : integer;
-N := 9223372036854775807;
-==> taken
-====
-N : integer;
-N := 9223372036854775808;
-==> line 2: limit
-====
-N : integer;
-N := -9223372036854775808;
-==> taken
-====
-N : integer;
-N := -9223372036854775809;
-==> line 2: limit
-====
-N : integer;
-N := N - 9223372036854775807;
-==> taken
-====
-N : integer;
-N := N - 9223372036854775808;
-==> line 2: limit
-====
-type L is bounded list (integer);
-A : L (9223372036854775808);
-==> line 2: limit
-====
-) 99999999999999999999;
-==> line 1: syntax
-";
-
-#[test]
-fn limits_of_the_text(rt: HostRuntime) -> Result<(), Fail> {
-    each_row_is_met(&rt, rt.alloc(), LIMITS_OF_THE_TEXT)
-}
-
-const LIMITS_OF_NAMES_AND_OF_ROOM: &str = "type L is bounded list (integer);
-A : L (1000000);
-==> taken
-====
-type L is bounded list (integer);
-A : L (1000001);
-==> line 2: limit
-====
-type L is bounded list (integer);
-A : L (600000);
-B : L (400000);
-==> taken
-====
-type L is bounded list (integer);
-A : L (600000);
-B : L (400001);
-==> line 3: limit
-====
-type L is bounded list (integer);
-declare
-A : L (600000);
-begin
-end;
-declare
-B : L (400001);
-begin
-end;
-==> line 7: limit
-";
-
-#[test]
-fn limits_of_names_and_of_room(rt: HostRuntime) -> Result<(), Fail> {
-    each_row_is_met(&rt, rt.alloc(), LIMITS_OF_NAMES_AND_OF_ROOM)
-}
-
-const NAMES_THAT_ARE_NOT_IN_SCOPE: &str = "A.Append (1);
-==> line 1: unknown name
-====
-A : L;
-==> line 1: unknown name
-====
-A : A;
-==> line 1: unknown name
-====
-C : L.cursor;
-==> line 1: unknown name
-====
-type L is list (integer);
-A : L;
-A.Append (X);
-==> line 3: unknown name
-====
-type L is list (integer);
-A : L;
-X := A.Length;
-==> line 3: unknown name
-====
-for C in A loop
-end loop;
-==> line 1: unknown name
-====
-stable A do
-end;
-==> line 1: unknown name
-====
-X := 1;
-==> line 1: unknown name
-====
-N : integer;
-N := M + 1;
-==> line 2: unknown name
-====
-type L is list (integer);
-A : L;
-query A at C as X do
-end;
-==> line 3: unknown name
-====
-declare
-X : integer;
-begin
-X := 1;
-end;
-X := 2;
-==> line 6: unknown name
-====
-type L is list (integer);
-A : L;
-for C in A loop
-A.Element (C);
-end loop;
-A.Element (C);
-==> line 6: unknown name
-====
-type L is list (integer);
-A : L;
-C : L.cursor;
-query A at C as X do
-A.Contains (X);
-end;
-A.Contains (X);
-==> line 7: unknown name
-";
-
-#[test]
-fn names_that_are_not_in_scope(rt: HostRuntime) -> Result<(), Fail> {
-    each_row_is_met(&rt, rt.alloc(), NAMES_THAT_ARE_NOT_IN_SCOPE)
-}
-
-const RULES_OF_TYPES: &str = r#"type W is queue (string);
-==> line 1: wrong type
-====
-type T is vector (integer);
-A : T;
-A.Splice (no_element, A);
-==> line 3: wrong type
-====
-type L is list (integer, integer);
-==> line 1: wrong type
-====
-type L is list (integer) keyed;
-==> line 1: wrong type
-====
-type L is list (integer);
-A : L (5);
-==> line 2: wrong type
-====
-type L is bounded list (integer);
-A : L;
-==> line 2: wrong type
-====
-N : integer;
-A : N;
-==> line 2: wrong type
-====
-N : integer;
-C : N.cursor;
-==> line 2: wrong type
-====
-type L is list (integer);
-A : L;
-A.Append (1);
-==> taken
-====
-type L is list (integer);
-A : L;
-A.Append ("x");
-==> line 3: wrong type
-====
-type L is list (string);
-A : L;
-A.Append ("x", 2);
-==> taken
-====
-type L is list (integer);
-A : L;
-A.Append (1, 2, 3);
-==> line 3: wrong type
-====
-type L is list (integer);
-A : L;
-A.Frob;
-==> line 3: wrong type
-====
-type L is list (integer);
-A : L;
-A.Capacity;
-==> line 3: wrong type
-====
-type L is list (integer);
-A : L;
-C : L.cursor;
-A.Delete (C);
-==> taken
-====
-type L is list (integer);
-A : L;
-A.Delete (no_element);
-==> line 3: wrong type
-====
-type L is list (integer);
-A : L;
-for C in A loop
-A.Delete (C);
-end loop;
-==> line 4: wrong type
-====
-type L is list (integer);
-A : L;
-for C in reverse A loop
-A.Element (C);
-end loop;
-==> taken
-====
-type L is list (integer);
-A : L;
-N : integer;
-N := A.Length;
-==> taken
-====
-type L is list (integer);
-A : L;
-N : integer;
-N := A.Is_Empty;
-==> line 4: wrong type
-====
-type L is list (integer);
-A : L;
-N : integer;
-N := A.First;
-==> line 4: wrong type
-"#;
-
-#[test]
-fn rules_of_types(rt: HostRuntime) -> Result<(), Fail> {
-    each_row_is_met(&rt, rt.alloc(), RULES_OF_TYPES)
-}
-
-const RULES_OF_TYPES_OF_CALLS: &str = r#"type L is list (integer);
-A : L;
-C : L.cursor;
-C := A.First;
-==> taken
-====
-type L is list (integer);
-A : L;
-C : L.cursor;
-C := no_element;
-==> taken
-====
-type L is list (integer);
-A : L;
-C : L.cursor;
-C := A.Length;
-==> line 4: wrong type
-====
-type L is list (integer);
-A : L;
-S : string;
-S := A.First_Element;
-==> line 4: wrong type
-====
-N : integer;
-N := "x";
-==> line 2: wrong type
-====
-S : string;
-S := S + 1;
-==> line 2: wrong type
-====
-N : integer;
-N := N + 1;
-==> taken
-====
-type L is list (integer);
-A : L;
-A := 1;
-==> line 3: wrong type
-====
-N : integer;
-N.Append (1);
-==> line 2: wrong type
-====
-type L is list (integer);
-type M is list (integer);
-A : L;
-C : M.cursor;
-A.Element (C);
-==> line 5: wrong type
-====
-type L is list (integer);
-A : L;
-B : L;
-A.Splice (no_element, B);
-==> taken
-====
-type L is list (integer);
-type M is list (integer);
-A : L;
-B : M;
-A.Splice (no_element, B);
-==> line 5: wrong type
-====
-N : integer;
-for C in N loop
-end loop;
-==> line 2: wrong type
-====
-N : integer;
-stable N do
-end;
-==> line 2: wrong type
-====
-type L is list (integer);
-A : L;
-C : L.cursor;
-query A at C as X do
-X := 1;
-end;
-==> line 5: wrong type
-====
-type L is list (integer);
-A : L;
-C : L.cursor;
-update A at C as X do
-X := X + 1;
-end;
-==> taken
-====
-type L is list (integer);
-A : L;
-C : L.cursor;
-reference X of A at C do
-X := 1;
-end;
-==> taken
-====
-type L is list (integer);
-A : L;
-update A as X do
-end;
-==> line 3: wrong type
-====
-type L is list (integer);
-A : L;
-C : L.cursor;
-update_key A at C as X do
-end;
-==> line 4: wrong type
-====
-type L is list (integer);
-A : L;
-for E of A loop
-E := 1;
-end loop;
-==> taken
-"#;
-
-#[test]
-fn rules_of_types_of_calls(rt: HostRuntime) -> Result<(), Fail> {
-    each_row_is_met(&rt, rt.alloc(), RULES_OF_TYPES_OF_CALLS)
-}
-
-const NAMES_DECLARED_TWICE: &str = "N : integer;
-N : string;
-==> line 2: twice
-====
-type L is list (integer);
-L : L;
-==> line 2: twice
-====
-type L is list (integer);
-A : L;
-for A in A loop
-end loop;
-==> line 3: twice
-====
-N : integer;
-declare
-N : integer;
-begin
-end;
-==> line 3: twice
-====
-type L is list (integer);
-A : L;
-C : L.cursor;
-N : integer;
-query A at C as N do
-end;
-==> line 5: twice
-====
-declare
-X : integer;
-begin
-end;
-declare
-X : integer;
-begin
-end;
-==> taken
-";
-
-#[test]
-fn names_declared_twice(rt: HostRuntime) -> Result<(), Fail> {
-    each_row_is_met(&rt, rt.alloc(), NAMES_DECLARED_TWICE)
-}
-
-const THE_FIRST_OF_TWO_FAULTS: &str = "type L is list (integer);
-A : L;
-A.Append (X, Y);
-A.Frob;
-==> line 3: unknown name
-====
-type L is list (integer);
-A : L;
-A : N;
-==> line 3: unknown name
-====
-N : integer;
-N : N;
-==> line 2: wrong type
-";
-
-#[test]
-fn the_first_of_two_faults(rt: HostRuntime) -> Result<(), Fail> {
-    each_row_is_met(&rt, rt.alloc(), THE_FIRST_OF_TWO_FAULTS)
+fn scripts_are_refused_or_taken(rt: HostRuntime) -> Result<(), Fail> {
+    each_row_is_met(&rt, rt.alloc(), ROWS)
 }
 
 /// A front, a piece as often as this, and an end.
@@ -611,27 +190,26 @@ fn thousand_names(alloc: Global, end: &[u8]) -> Result<Vec<u8>, Fail> {
 const LIST: &[u8] = b"type L is list (integer);\nA : L;\n";
 
 #[test]
-fn long_names_and_strings(rt: HostRuntime) -> Result<(), Fail> {
-    let rows: [(&[u8], usize, &[u8], &[u8]); 4] = [
-        (b"", 64, b" : integer;\n", TAKEN),
-        (b"", 65, b" : integer;\n", b"line 1: limit\n"),
-        (b"S : string;\nS := \"", 1000, b"\";\n", TAKEN),
-        (b"S : string;\nS := \"", 1001, b"\";\n", b"line 2: limit\n"),
+fn limits_of_length_and_of_depth(rt: HostRuntime) -> Result<(), Fail> {
+    let ends = repeated(rt.alloc(), b"", b"end;\n", 16, b"")?;
+    let rows: [(&[u8], &[u8], usize, &[u8], &[u8]); 6] = [
+        (b"", b"x", 64, b" : integer;\n", TAKEN),
+        (b"", b"x", 65, b" : integer;\n", b"line 1: limit\n"),
+        (b"S : string;\nS := \"", b"x", 1000, b"\";\n", TAKEN),
+        (
+            b"S : string;\nS := \"",
+            b"x",
+            1001,
+            b"\";\n",
+            b"line 2: limit\n",
+        ),
+        (LIST, b"stable A do\n", 16, &ends, TAKEN),
+        (LIST, b"stable A do\n", 17, b"", b"line 19: limit\n"),
     ];
-    for (front, count, end, wanted) in &rows {
-        let script = repeated(rt.alloc(), front, b"x", *count, end)?;
-        assert!(rt; is_answered(&rt, rt.alloc(), script, wanted)?);
+    for (front, piece, count, end, wanted) in &rows {
+        let script = repeated(rt.alloc(), front, piece, *count, end)?;
+        assert!(rt; is_answered(&rt, rt.alloc(), &script, wanted)?);
     }
-    Ok(())
-}
-
-#[test]
-fn blocks_within_blocks(rt: HostRuntime) -> Result<(), Fail> {
-    let within = repeated(rt.alloc(), LIST, b"stable A do\n", 16, b"")?;
-    let within = repeated(rt.alloc(), &within, b"end;\n", 16, b"")?;
-    assert!(rt; is_answered(&rt, rt.alloc(), within, TAKEN)?);
-    let past = repeated(rt.alloc(), LIST, b"stable A do\n", 17, b"")?;
-    assert!(rt; is_answered(&rt, rt.alloc(), past, b"line 19: limit\n")?);
     Ok(())
 }
 
@@ -644,7 +222,7 @@ fn a_thousand_names(rt: HostRuntime) -> Result<(), Fail> {
     ];
     for (end, wanted) in &rows {
         let script = thousand_names(rt.alloc(), end)?;
-        assert!(rt; is_answered(&rt, rt.alloc(), script, wanted)?);
+        assert!(rt; is_answered(&rt, rt.alloc(), &script, wanted)?);
     }
     Ok(())
 }

@@ -1,13 +1,10 @@
-ghost use Rattle.std.specs.Prelude.{◌<◌};
-
-use ac_io::{MemorySink, MemorySource};
-use ac_top::{FreeGate, Gate, Status, run};
+//! How a run ends over sources and sinks that move pieces, and over such as fail.
+use crate::outcome::{Given, WHOLE, end_of_plain_run, end_of_run};
+use ac_top::{FreeGate, Gate};
 use std::alloc::Global;
 use std::sync::Wait;
 use std::test::Fail;
 use std::thread::Threads;
-
-const WHOLE: usize = 1 << 30;
 
 const ONE_LIST: &[u8] =
     b"type L is list (integer);\nA : L;\nA.Append (5);\nA.Append (-7);\nA.Print;\n";
@@ -16,167 +13,127 @@ const ONE_LIST_LINES: &[u8] = b"3: ok\n4: ok\n5: [5, -7]\n";
 
 const WRONG_TYPE: &[u8] = b"type L is list (integer);\nA : L;\nA.Append (\"7\");\n";
 
-/// Whether an input, moved in pieces of this size, ends so and writes just this.
-fn answers<R: Threads + Wait + Sync>(
-    rt: &R,
-    alloc: Global,
-    input: Vec<u8>,
-    piece: usize,
-    wanted: (Status, &[u8]),
-) -> Result<bool, Fail>
-    requires { 0 < piece }
-{
-    let (status, text) = wanted;
-    let mut source = MemorySource::new(input, piece, Vec::new(alloc));
-    let mut sink = MemorySink::with_room(alloc, 1000, piece, Vec::new(alloc))?;
-    let ended = run(rt, alloc, &[], &mut source, &mut sink, &FreeGate);
-    Ok(ended == status && sink.bytes() == text)
-}
-
-/// The same of the whole input at once, and of one byte after another.
+/// Whether an input ends with this status and writes just this, at once and byte after byte.
 fn answers_in_pieces<R: Threads + Wait + Sync>(
     rt: &R,
     alloc: Global,
-    input: &[u8],
-    wanted: (Status, &[u8]),
+    script: &[u8],
+    status: u8,
+    text: &[u8],
 ) -> Result<bool, Fail> {
-    let whole = answers(rt, alloc, input.to_vec(alloc)?, WHOLE, wanted)?;
-    let bytes = answers(rt, alloc, input.to_vec(alloc)?, 1, wanted)?;
-    Ok(whole && bytes)
+    let mut holds = true;
+    for piece in [WHOLE, 1] {
+        let given = Given {
+            words: "",
+            script,
+            piece,
+            failing: (&[], &[]),
+        };
+        holds &= end_of_run(rt, alloc, &given, &FreeGate)?.is(status, text);
+    }
+    Ok(holds)
 }
 
 #[test]
-fn answers_in_place_of_no_memory(rt: HostRuntime) -> Result<(), Fail> {
-    let rows = [
-        (ONE_LIST, Status::Done, ONE_LIST_LINES),
-        (WRONG_TYPE, Status::Refused, b"line 3: wrong type\n"),
-        (b"", Status::Done, b""),
+fn inputs_at_once_and_byte_after_byte(rt: HostRuntime) -> Result<(), Fail> {
+    let rows: [(&[u8], u8, &[u8]); 3] = [
+        (ONE_LIST, 0, ONE_LIST_LINES),
+        (WRONG_TYPE, 1, b"line 3: wrong type\n"),
+        (b"", 0, b""),
     ];
-    for (input, status, text) in rows {
-        assert!(rt; answers_in_pieces(&rt, rt.alloc(), input, (status, text))?);
+    for (script, status, text) in &rows {
+        assert!(rt; answers_in_pieces(&rt, rt.alloc(), script, *status, text)?);
     }
     Ok(())
 }
 
 #[test]
-fn takes_the_longest_input_and_no_longer_one(rt: HostRuntime) -> Result<(), Fail> {
-    let rows = [
-        (1048576, Status::Done, b"".as_slice()),
-        (1048577, Status::Refused, b"input: limit\n".as_slice()),
-    ];
-    for (len, status, text) in rows {
-        let input = vec![in rt.alloc(); b' '; len]?;
-        assert!(rt; answers_in_pieces(&rt, rt.alloc(), &input, (status, text))?);
+fn the_longest_input_and_no_longer_one(rt: HostRuntime) -> Result<(), Fail> {
+    let rows: [(usize, u8, &[u8]); 2] = [(1_048_576, 0, b""), (1_048_577, 1, b"input: limit\n")];
+    for (len, status, text) in &rows {
+        let input = vec![in rt.alloc(); b' '; *len]?;
+        assert!(rt; answers_in_pieces(&rt, rt.alloc(), &input, *status, text)?);
     }
     Ok(())
 }
 
-/// Whether the list ends with this status and these bytes held, over a source that fails at the calls `reads`, and a sink that takes
-/// pieces of this size and fails at the calls `writes`.
-fn ends_so<R: Threads + Wait + Sync>(
-    rt: &R,
-    alloc: Global,
-    reads: &[u64],
-    piece: usize,
-    writes: &[u64],
-    wanted: (u8, &[u8]),
-) -> Result<bool, Fail>
-    requires { 0 < piece }
-{
-    let (status, held) = wanted;
-    let mut source = MemorySource::new(ONE_LIST.to_vec(alloc)?, WHOLE, reads.to_vec(alloc)?);
-    let mut sink = MemorySink::with_room(alloc, 100, piece, writes.to_vec(alloc)?)?;
-    let ended = run(rt, alloc, &[], &mut source, &mut sink, &FreeGate);
-    Ok(ended.number() == status && sink.bytes() == held)
-}
+const INNER_SCOPE: &[u8] =
+    b"type L is list (integer);\nA : L;\nA.Append (5);\ndeclare\nB : L;\nbegin\nB.Append (7, 2);\nend;\n";
 
+const HOLDER: &[u8] = b"type H is holder (integer);\nA : H;\nA.Replace_Element (5);\n";
+
+const ODD_LAYOUT: &[u8] = b"TYPE L is list(Integer);A:L; -- x\nA.Append( - 007 );";
+
+const ODD_LAYOUT_PRINTED: &[u8] = b"type l is list (integer); a : l;\na.append (-7);\n";
+
+const LEFT_OPEN: &[u8] = b"type L is list (integer);\nA : L;\nfor C in A loop\n";
+
+const UNKNOWN: &[u8] = b"A.Append (1);\n";
+
+/// An audit is of what ran, and of the outermost objects.
 #[test]
-fn ends_where_a_line_is_cut(rt: HostRuntime) -> Result<(), Fail> {
-    assert!(rt; ends_so(&rt, rt.alloc(), &[], 4, &[2], (4, b"3: o"))?);
-    Ok(())
-}
-
-// Each line is one piece, handed over as soon as its command has run.
-#[test]
-fn ends_where_the_sink_fails(rt: HostRuntime) -> Result<(), Fail> {
-    assert!(rt; ends_so(&rt, rt.alloc(), &[], WHOLE, &[3], (4, b"3: ok\n4: ok\n"))?);
-    Ok(())
-}
-
-#[test]
-fn ends_where_the_source_fails(rt: HostRuntime) -> Result<(), Fail> {
-    assert!(rt; ends_so(&rt, rt.alloc(), &[1], WHOLE, &[], (3, b""))?);
-    Ok(())
-}
-
-/// Whether a word is refused with nothing read or written.
-fn is_refused<R: Threads + Wait + Sync>(rt: &R, alloc: Global, word: &str) -> Result<bool, Fail> {
-    let words = vec![in alloc; String::from_str(alloc, word)?]?;
-    let mut source = MemorySource::new(ONE_LIST.to_vec(alloc)?, WHOLE, Vec::new(alloc));
-    let mut sink = MemorySink::with_room(alloc, 100, WHOLE, Vec::new(alloc))?;
-    let ended = run(rt, alloc, &words, &mut source, &mut sink, &FreeGate);
-    Ok(ended.number() == 2 && source.rest() == ONE_LIST && sink.bytes().is_empty())
-}
-
-#[test]
-fn refuses_words_that_it_does_not_know(rt: HostRuntime) -> Result<(), Fail> {
-    assert!(rt; is_refused(&rt, rt.alloc(), "--bad")?);
+fn checks_and_audits(rt: HostRuntime) -> Result<(), Fail> {
+    let rows: [(&str, &[u8], u8, &[u8]); 6] = [
+        ("--check", ODD_LAYOUT, 0, ODD_LAYOUT_PRINTED),
+        ("--check", LEFT_OPEN, 1, b"line 3: syntax\n"),
+        ("--check", UNKNOWN, 1, b"line 1: unknown name\n"),
+        ("--audit", INNER_SCOPE, 0, b"3: ok\n7: ok\nnodes 1\n"),
+        ("--audit", HOLDER, 0, b"3: ok\nnodes 0\n"),
+        ("--audit", WRONG_TYPE, 1, b"line 3: wrong type\n"),
+    ];
+    for (words, script, status, text) in &rows {
+        let ended = end_of_plain_run(&rt, rt.alloc(), words, script)?;
+        assert!(rt; ended.is(*status, text) && ended.left.is_empty(), "{words}");
+    }
     FreeGate.before(1);
     Ok(())
 }
 
-/// Whether a check of an input ends so and writes just this, into a sink that takes pieces of this size and fails at the calls `writes`.
-fn checks<R: Threads + Wait + Sync>(
+/// Whether a run over a sink that takes pieces of this size, and fails at these calls, ends with a write fault and just this written.
+fn breaks<'a, R: Threads + Wait + Sync>(
     rt: &R,
     alloc: Global,
-    input: &[u8],
+    words: &'a str,
+    script: &'a [u8],
     piece: usize,
-    writes: &[u64],
-    wanted: (Status, &[u8]),
-) -> Result<bool, Fail>
-    requires { 0 < piece }
-{
-    let (status, text) = wanted;
-    let words = vec![in alloc; String::from_str(alloc, "--check")?]?;
-    let mut source = MemorySource::new(input.to_vec(alloc)?, WHOLE, Vec::new(alloc));
-    let mut sink = MemorySink::with_room(alloc, 100, piece, writes.to_vec(alloc)?)?;
-    let ended = run(rt, alloc, &words, &mut source, &mut sink, &FreeGate);
-    Ok(ended == status && sink.bytes() == text)
+    fails: &'a [u64],
+    text: &[u8],
+) -> Result<bool, Fail> {
+    let given = Given {
+        words,
+        script,
+        piece,
+        failing: (&[], fails),
+    };
+    Ok(end_of_run(rt, alloc, &given, &FreeGate)?.is(4, text))
 }
 
+/// Each line that a run writes is one piece, handed over as soon as its command has run.
 #[test]
-fn checks_in_place_of_no_memory(rt: HostRuntime) -> Result<(), Fail> {
-    let rows = [
-        (
-            b"TYPE L is list(Integer);A:L; -- x\nA.Append( - 007 );".as_slice(),
-            Status::Done,
-            b"type l is list (integer); a : l;\na.append (-7);\n".as_slice(),
-        ),
-        (
-            b"type L is list (integer);\nA : L;\nfor C in A loop\n",
-            Status::Refused,
-            b"line 3: syntax\n",
-        ),
-        (
-            b"A.Append (1);\n",
-            Status::Refused,
-            b"line 1: unknown name\n",
-        ),
+fn a_run_ends_where_the_sink_fails(rt: HostRuntime) -> Result<(), Fail> {
+    let rows: [(&str, &[u8], usize, &[u64], &[u8]); 6] = [
+        ("", ONE_LIST, 4, &[2], b"3: o"),
+        ("", ONE_LIST, WHOLE, &[3], b"3: ok\n4: ok\n"),
+        ("--check", ONE_LIST, 4, &[2], b"type"),
+        ("--check", UNKNOWN, 4, &[2], b"line"),
+        ("--generate 3", ONE_LIST, 4, &[2], b"line"),
+        ("--audit", ONE_LIST, WHOLE, &[4], ONE_LIST_LINES),
     ];
-    for (input, status, text) in rows {
-        assert!(rt; checks(&rt, rt.alloc(), input, WHOLE, &[], (status, text))?);
+    for (words, script, piece, fails, text) in &rows {
+        let holds = breaks(&rt, rt.alloc(), words, script, *piece, fails, text)?;
+        assert!(rt; holds, "{words}");
     }
     Ok(())
 }
 
 #[test]
-fn a_check_ends_where_the_sink_fails(rt: HostRuntime) -> Result<(), Fail> {
-    let rows = [
-        (ONE_LIST, b"type".as_slice()),
-        (b"A.Append (1);\n", b"line"),
-    ];
-    for (input, front) in rows {
-        assert!(rt; checks(&rt, rt.alloc(), input, 4, &[2], (Status::WriteFault, front))?);
-    }
+fn a_run_ends_where_the_source_fails(rt: HostRuntime) -> Result<(), Fail> {
+    let given = Given {
+        words: "",
+        script: ONE_LIST,
+        piece: WHOLE,
+        failing: (&[1], &[]),
+    };
+    assert!(rt; end_of_run(&rt, rt.alloc(), &given, &FreeGate)?.is(3, b""));
     Ok(())
 }
