@@ -1,7 +1,8 @@
-//! A run of 1,400,002 lines, whose text stands in memory: searches that read every row wouldn't end in a test's time.
+//! A run of 1,400,002 lines, whose text stands in memory, and a node with a million children: what read every row at each step wouldn't
+//! end in a test's time.
 
 use crate::outcome::WHOLE;
-use crate::rows::lines_of;
+use crate::rows::{each_row_is_met, lines_of};
 use ac_io::{GrowSink, MemorySource};
 use ac_top::{FreeGate, run};
 use std::alloc::Global;
@@ -42,4 +43,14 @@ fn runs_to<R: Threads + Wait + Sync>(
 fn each_of_many_keys_is_sought_four_times(rt: HostRuntime) -> Result<(), Fail> {
     assert!(rt; runs_to(&rt, rt.alloc(), SEARCHES, 1_400_002, (FIRST, LAST))?);
     Ok(())
+}
+
+const A_MILLION_CHILDREN: &str =
+    "type T is tree (integer); / A : T; / R : T.cursor; / C : T.cursor; / R := A.Root; / A.Append_Child (R, 1); / C := A.First_Child (R); / A.Append_Child (C, 7, 999999); / A.Splice_Children (R, no_element, C); / A.Child_Count (R); / A.Is_Leaf (C); / A.Clear; / A.Node_Count;
+  ==> 0 / 5: cursor / 6: ok / 7: cursor / 8: ok / 9: ok / 10: 1000000 / 11: true / 12: ok / 13: 1
+";
+
+#[test]
+fn a_million_children_go_at_once(rt: HostRuntime) -> Result<(), Fail> {
+    each_row_is_met(&rt, rt.alloc(), A_MILLION_CHILDREN)
 }

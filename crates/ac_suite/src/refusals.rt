@@ -189,10 +189,12 @@ fn thousand_names(alloc: Global, end: &[u8]) -> Result<Vec<u8>, Fail> {
 
 const LIST: &[u8] = b"type L is list (integer);\nA : L;\n";
 
+const TASK: &[u8] = b"tasks\ntask T is\nX : integer;\nbegin\n";
+
 #[test]
 fn limits_of_length_and_of_depth(rt: HostRuntime) -> Result<(), Fail> {
     let ends = repeated(rt.alloc(), b"", b"end;\n", 16, b"")?;
-    let rows: [(&[u8], &[u8], usize, &[u8], &[u8]); 6] = [
+    let rows: [(&[u8], &[u8], usize, &[u8], &[u8]); 8] = [
         (b"", b"x", 64, b" : integer;\n", TAKEN),
         (b"", b"x", 65, b" : integer;\n", b"line 1: limit\n"),
         (b"S : string;\nS := \"", b"x", 1000, b"\";\n", TAKEN),
@@ -205,6 +207,8 @@ fn limits_of_length_and_of_depth(rt: HostRuntime) -> Result<(), Fail> {
         ),
         (LIST, b"stable A do\n", 16, &ends, TAKEN),
         (LIST, b"stable A do\n", 17, b"", b"line 19: limit\n"),
+        (TASK, b"X := X;\n", 1000, b"end;\nend tasks;\n", TAKEN),
+        (TASK, b"X := X;\n", 1001, b"", b"line 1005: limit\n"),
     ];
     for (front, piece, count, end, wanted) in &rows {
         let script = repeated(rt.alloc(), front, piece, *count, end)?;

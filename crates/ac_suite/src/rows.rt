@@ -103,6 +103,17 @@ type L is list (integer); / A : L; / B : L; / Q : L.cursor; / A.Append (1); / A.
 type L is list (integer); / A : L; / X : integer; / S : string; / C : L.cursor; / A.Append (1); / A.Append (2); / for C2 in reverse A loop / X := A.Element (C2); / end loop; / for E of reverse A loop / X := E; / E := X + 5; / end loop; / C := A.First; / update A at C as V do / V := V - 9; / A.Replace_Element (C, 0); / end; / reference V of A at C do / V := 7; / end; / query A at C as V do /
   X := V; / A.Swap (C, C); / end; / C := no_element; / query A at C as V do / X := V; / end; / S := "a"; / X := X + 9223372036854775807; / A.Print;
   ==> 0 / 6: ok / 7: ok / 9: 2 / 9: 1 / 12: 2 / 13: 7 / 12: 1 / 13: 6 / 15: cursor / 17: -3 / 18: raised PROGRAM_ERROR (element tampering) / 21: 7 / 24: 7 / 25: raised PROGRAM_ERROR (element tampering) / 27: no_element / 28: raised CONSTRAINT_ERROR (no element) / 31: "a" / 32: raised CONSTRAINT_ERROR (overflow) / 33: [7, 7]
+# a bounded list has room for its limit alone
+type L is bounded list (integer); / A : L (2); / B : L (3); / A.Append (10, 3); / A.Append (10); / A.Append (20); / A.Prepend (10); / A.Prepend (10, -1); / B.Append (30, 3); / A.Assign (B); / A.Print; / A.Clear; / A.Append (40, 2); / A.Print;
+  ==> 0 / 4: raised CAPACITY_ERROR (full) / 5: ok / 6: ok / 7: raised CAPACITY_ERROR (full) / 8: raised CONSTRAINT_ERROR (length) / 9: ok / 10: raised CAPACITY_ERROR (full) / 11: [10, 20] / 12: ok / 13: ok / 14: [40, 40]
+# level elements keep their order
+type L is list (integer); / A : L; / B : L; / C : L.cursor; / D : L.cursor; / A.Append (30); / A.Append (10); / A.Append (30); / A.Append (20); / C := A.First; / A.Sort; / A.Print; / D := A.Next (C); / A.Next (D); / B.Append (20); / B.Append (30); / A.Merge (B); / A.Print; / D := A.Next (D); / A.Element (D); / A.Next (D); / B.Is_Empty; / A.Merge (B); / A.Length;
+  ==> 0 / 6: ok / 7: ok / 8: ok / 9: ok / 10: cursor / 11: ok / 12: [10, 20, 30, 30] / 13: cursor / 14: no_element / 15: ok / 16: ok / 17: ok / 18: [10, 20, 20, 30, 30, 30] / 19: cursor / 20: 30 / 21: no_element / 22: true / 23: ok / 24: 6
+# a splice of one within its list, and before a foreign cursor
+type L is list (integer); / A : L; / B : L; / C : L.cursor; / D : L.cursor; / A.Append (10); / A.Append (20); / C := A.First; / D := A.Last; / A.Splice (C, A, D); / A.Print; / A.Element (D); / A.Splice (D, D); / A.Splice (C, D); / A.Print; / B.Append (30); / C := B.First; / A.Splice (C, B); / D := A.Last; / A.Splice (D, B); / A.Print;
+  ==> 0 / 6: ok / 7: ok / 8: cursor / 9: cursor / 10: ok / 11: [20, 10] / 12: 20 / 13: ok / 14: ok / 15: [20, 10] / 16: ok / 17: cursor / 18: raised PROGRAM_ERROR (foreign cursor) / 19: cursor / 20: ok / 21: [20, 30, 10]
+# a dead cursor stays dead
+type L is list (integer); / A : L; / C : L.cursor; / A.Append (10); / C := A.First; / A.Clear; / A.Append (20); / A.Has_Element (C); / C := A.Next (C); / A.Element (C); ==> 0 / 4: ok / 5: cursor / 6: ok / 7: ok / 8: false / 9: raised PROGRAM_ERROR (dead cursor) / 10: raised PROGRAM_ERROR (dead cursor)
 "#;
 
 #[test]

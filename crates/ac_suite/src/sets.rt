@@ -44,6 +44,9 @@ type S is hashed_set (integer); / A : S; / B : S; / P : S.cursor; / A.Insert (1)
 type S is ordered_set (string); / A : S; / P : S.cursor; / T : string; / A.Insert ("a"); / P := A.First; / stable A do / A.Replace ("a"); / A.Delete_First; / A.Delete_Last; / A.First_Element; / end; / query A at P as X do / T := X; / A.Insert ("b"); / A.Replace_Element (P, "c"); / end; / for C in A loop / A.Exclude ("b"); / end loop; / for C in reverse A loop / A.Replace ("b"); / end loop; /
   A.Replace_Element (P, "c"); / A.Print;
   ==> 0 / 5: ok / 6: cursor / 8: raised PROGRAM_ERROR (cursor tampering) / 9: raised PROGRAM_ERROR (cursor tampering) / 10: raised PROGRAM_ERROR (cursor tampering) / 11: "a" / 14: "a" / 15: raised PROGRAM_ERROR (cursor tampering) / 16: raised PROGRAM_ERROR (cursor tampering) / 19: raised PROGRAM_ERROR (cursor tampering) / 22: raised PROGRAM_ERROR (cursor tampering) / 24: ok / 25: ["c"]
+# equal hashes are told apart
+type S is hashed_set (string); / A : S; / C : S.cursor; / A.Insert ("AaAa"); / A.Insert ("AaBB"); / A.Insert ("BBAa"); / A.Contains ("BBBB"); / A.Exclude ("AaBB"); / A.Insert ("BBBB", C); / A.Length; / A.Contains ("BBBB"); / A.Contains ("AaBB"); / A.Replace_Element (C, "AaAa"); / A.Replace_Element (C, "AaBB"); / A.Print;
+  ==> 0 / 4: ok / 5: ok / 6: ok / 7: false / 8: ok / 9: true / 10: 3 / 11: true / 12: false / 13: raised PROGRAM_ERROR (duplicate) / 14: ok / 15: ["AaAa", "BBAa", "AaBB"]
 "#;
 
 #[test]

@@ -38,6 +38,12 @@ type T is tree (integer); / A : T; / R : T.cursor; / C : T.cursor; / R := A.Root
 type T is bounded tree (integer); / A : T (3); / B : T (2); / R : T.cursor; / C : T.cursor; / R := A.Root; / A.Append_Child (R, 1, 4); / A.Append_Child (R, 1, 3); / A.Node_Count; / A.Append_Child (R, 2); / A.Append_Child (R, 2, 0); / C := A.First_Child (R); / A.Copy_Subtree (R, no_element, A, C); / A.Splice_Subtree (C, no_element, A, C); / B.Assign (A); / R := B.Root; /
   B.Splice_Children (R, no_element, A, R); / B.Splice_Subtree (R, no_element, A, C); / B.Copy_Subtree (R, no_element, B, C); / B.Splice_Subtree (R, C, B, C); / A.Print; / B.Print;
   ==> 0 / 6: cursor / 7: raised CAPACITY_ERROR (full) / 8: ok / 9: 4 / 10: raised CAPACITY_ERROR (full) / 11: ok / 12: cursor / 13: raised CAPACITY_ERROR (full) / 14: raised CONSTRAINT_ERROR (below itself) / 15: raised CAPACITY_ERROR (full) / 16: cursor / 17: raised PROGRAM_ERROR (foreign cursor) / 18: ok / 19: ok / 20: ok / 21: [1, 1] / 22: [1, 1]
+# a bounded tree uses its memory again
+type T is bounded tree (integer); / A : T (2); / R : T.cursor; / C : T.cursor; / R := A.Root; / A.Append_Child (R, 1, 2); / A.Append_Child (R, 1); / C := A.First_Child (R); / A.Delete_Leaf (C); / A.Append_Child (R, 3); / A.Print; ==> 0 / 5: cursor / 6: ok / 7: raised CAPACITY_ERROR (full) / 8: cursor / 9: ok / 10: ok / 11: [1, 3]
+# a subtree goes before a node of another tree, and a copy goes below its source
+type T is tree (integer); / A : T; / B : T; / R : T.cursor; / Q : T.cursor; / C : T.cursor; / D : T.cursor; / R := A.Root; / Q := B.Root; / A.Append_Child (R, 1); / A.Append_Child (R, 2); / C := A.First_Child (R); / A.Append_Child (C, 3); / B.Append_Child (Q, 4); / D := B.First_Child (Q); / B.Splice_Subtree (Q, D, A, C); / B.Print; / B.Element (C); / D := B.Previous_Sibling (D); / B.Element (D); /
+  A.Print; / A.Node_Count; / B.Splice_Children (D, no_element, A, R); / B.Print; / A.Is_Empty; / C := B.Last_Child (D); / B.Copy_Subtree (C, no_element, B, D); / B.Print; / B.Node_Count;
+  ==> 0 / 8: cursor / 9: cursor / 10: ok / 11: ok / 12: cursor / 13: ok / 14: ok / 15: cursor / 16: ok / 17: [1 [3], 4] / 18: 1 / 19: cursor / 20: 1 / 21: [2] / 22: 2 / 23: ok / 24: [1 [3, 2], 4] / 25: true / 26: cursor / 27: ok / 28: [1 [3, 2 [1 [3, 2]]], 4] / 29: 8
 "#;
 
 #[test]

@@ -31,6 +31,9 @@ type T is vector (string); / A : T; / C : T.cursor; / D : T.cursor; / A.Append (
 # blocks over vectors
 type T is vector (integer); / A : T; / X : integer; / C : T.cursor; / A.Append (1); / A.Append (2); / for D in reverse A loop / X := A.Element (D); / end loop; / for E of A loop / E := E + 5; / end loop; / C := A.Last; / update A at C as V do / V := V - 9; / A.Swap (1, 2); / end; / stable A do / A.Set_Length (0); / A.Replace_Element (1, 3); / end; / A.Print;
   ==> 0 / 5: ok / 6: ok / 8: 2 / 8: 1 / 11: 6 / 11: 7 / 13: cursor / 15: -2 / 16: raised PROGRAM_ERROR (element tampering) / 19: raised PROGRAM_ERROR (element tampering) / 20: raised PROGRAM_ERROR (element tampering) / 22: [6, -2]
+# values are sorted under names in place, and a merge takes a tie from the target
+type T is vector (integer); / A : T; / B : T; / C : T.cursor; / D : T.cursor; / A.Append (10); / A.Append (20); / A.Append (30); / A.Append (5); / C := A.First; / A.Sort; / A.Print; / A.Element (C); / D := A.To_Cursor (3); / B.Append (7); / B.Append (20); / A.Merge (B); / A.Print; / A.To_Index (D); / B.Is_Empty;
+  ==> 0 / 6: ok / 7: ok / 8: ok / 9: ok / 10: cursor / 11: ok / 12: [5, 10, 20, 30] / 13: 5 / 14: cursor / 15: ok / 16: ok / 17: ok / 18: [5, 7, 10, 20, 20, 30] / 19: 4 / 20: true
 "#;
 
 #[test]
