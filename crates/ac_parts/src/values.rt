@@ -23,8 +23,13 @@ fn reasons_as_in_the_table(rt: HostRuntime) {
     }
 }
 
+fn text(alloc: Global, bytes: &[u8]) -> Result<Text, Fail> {
+    Ok(Text::new(alloc, bytes).ok().ok_or("no text")?)
+}
+
 fn keyed(alloc: Global, bytes: &[u8]) -> Result<KeyedText, Fail> {
-    Ok(KeyedText::new(alloc, Text::new(alloc, bytes)?)?)
+    let made = KeyedText::new(alloc, text(alloc, bytes)?);
+    Ok(made.ok().ok_or("no memory")?)
 }
 
 fn element_as_wanted<T: Elem>(
@@ -33,8 +38,8 @@ fn element_as_wanted<T: Elem>(
     element: &T,
     sizes: [u64; 2],
 ) -> Result<(), Fail> {
-    let copied = element.copy(alloc)?;
-    let blank = T::blank(alloc)?;
+    let copied = element.copy(alloc).ok().ok_or("no memory")?;
+    let blank = T::blank(alloc).ok().ok_or("no memory")?;
     assert!(rt; element.same(&copied));
     assert!(rt; !element.same(&blank));
     assert!(rt; [element.size(), blank.size()] == sizes);
@@ -69,15 +74,15 @@ fn texts_that_are_taken(rt: HostRuntime) -> Result<(), Fail> {
     let long = vec![in alloc; b'x'; 1_001]?;
     assert!(rt; Text::new(alloc, b"a\n") == Err(TextFault::BadByte(2)));
     assert!(rt; Text::new(alloc, &long) == Err(TextFault::TooLong));
-    assert!(rt; Text::new(alloc, &long[1..])?.bytes().len() == 1_000);
+    assert!(rt; text(alloc, &long[1..])?.bytes().len() == 1_000);
     Ok(())
 }
 
 #[test]
 fn texts_as_elements(rt: HostRuntime) -> Result<(), Fail> {
     let alloc = rt.alloc();
-    let empty = Text::new(alloc, b"")?;
-    let letter = Text::new(alloc, b"a")?;
+    let empty = text(alloc, b"")?;
+    let letter = text(alloc, b"a")?;
     element_as_wanted(&rt, alloc, &letter, [1, 0])?;
     in_order(&rt, &empty, &letter);
     hashed_as_wanted(&rt, &empty, &letter, 7, 7);
