@@ -1,11 +1,10 @@
-//! Tests over the public calls of the crates that a run is made of, each call that takes memory where there is enough of it.
+//! Tests of what no script can reach of the crates that a run is made of: copies, slots, names that are spent, views in code, and parts
+//! below the containers. What a script can make is a row of `ac_suite`.
 //! They stand here so that no crate of many functions is proved a second time with its tests.
 #![tactic(auto)]
 
 #[cfg(test)]
 mod chains;
-#[cfg(test)]
-mod checks;
 #[cfg(test)]
 mod forms;
 pub mod laws;
@@ -17,8 +16,6 @@ mod parses;
 mod pools;
 #[cfg(test)]
 mod prints;
-#[cfg(test)]
-mod tree_splices;
 #[cfg(test)]
 mod trees;
 #[cfg(test)]
