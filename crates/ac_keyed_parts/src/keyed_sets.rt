@@ -95,45 +95,6 @@ fn seek<T: KeyOf>(set: &OrderedSet<T>, key: &T::Key) -> (bool, [Cursor; 3]) {
 }
 
 #[test]
-fn a_key_finds_its_element(rt: HostRuntime) {
-    let alloc = rt.alloc();
-    let set = arrived(&rt, alloc, &[b"b=1", b"a=1"]);
-    let a = text(&rt, alloc, b"a");
-    assert!(rt; set.key_contains(&a) && !set.key_contains(&text(&rt, alloc, b"a=1")));
-    assert!(rt; is(set.element(set.key_find(&a)), b"a=1") && is(set.key_element(&a), b"a=1"));
-    assert!(rt; set.contains(&item(&rt, alloc, b"a=9")));
-    match set.key(set.first()) {
-        Ok(key) => assert!(rt; key.bytes() == b"b".as_slice()),
-        Err(_) => panic!(rt; "no key"),
-    }
-}
-
-#[test]
-fn an_element_goes_by_its_key(rt: HostRuntime) {
-    let alloc = rt.alloc();
-    let mut set = arrived(&rt, alloc, &[b"a=1", b"b=1"]);
-    let a = text(&rt, alloc, b"a");
-    assert!(rt; set.key_delete(&a).is_ok() && set.length() == 1);
-    assert!(rt; set.key_delete(&a) == Err(Fault::Raised(Reason::KeyAbsent)));
-    assert!(rt; set.key_exclude(&a).is_ok() && set.key_element(&a).is_err());
-    assert!(rt; set.key_exclude(&text(&rt, alloc, b"b")).is_ok() && set.is_empty());
-}
-
-#[test]
-fn an_element_is_replaced_by_its_key(rt: HostRuntime) {
-    let alloc = rt.alloc();
-    let mut set = arrived(&rt, alloc, &[b"a=1", b"b=1"]);
-    let a = text(&rt, alloc, b"a");
-    let c = set.key_find(&a);
-    let duplicate = set.key_replace(&a, item(&rt, alloc, b"b=2"));
-    assert!(rt; duplicate == Err(Fault::Raised(Reason::Duplicate)));
-    assert!(rt; set.key_replace(&a, item(&rt, alloc, b"c=1")).is_ok());
-    assert!(rt; is(set.element(c), b"c=1") && set.first() == c);
-    let absent = set.key_replace(&a, item(&rt, alloc, b"a=2"));
-    assert!(rt; absent == Err(Fault::Raised(Reason::KeyAbsent)));
-}
-
-#[test]
 fn an_update_keeps_the_key_of_a_hashed_set(rt: HostRuntime) {
     let alloc = rt.alloc();
     let mut set = arrived(&rt, alloc, &[b"a=1", b"b=1"]);
@@ -157,44 +118,6 @@ fn an_update_keeps_the_key_of_an_ordered_set(rt: HostRuntime) {
     assert!(rt; changed == Err(Fault::Raised(Reason::KeyChanged)));
     assert!(rt; set.element(c).is_err() && set.length() == 1);
     assert!(rt; is(set.first_element(), b"b=1") && set.held(GuardKind::Cursors) == 0);
-}
-
-#[test]
-fn a_guard_forbids_a_deletion_by_a_key(rt: HostRuntime) {
-    let alloc = rt.alloc();
-    let mut set = arrived(&rt, alloc, &[b"a=1"]);
-    let a = text(&rt, alloc, b"a");
-    assert!(rt; set.held(GuardKind::Cursors) == 0);
-    let key = set.hold(GuardKind::Cursors);
-    let refused = set.key_delete(&a);
-    set.release(key);
-    assert!(rt; refused == Err(Fault::Raised(Reason::CursorTampering)));
-    assert!(rt; set.key_delete(&a).is_ok());
-}
-
-#[test]
-fn the_nearest_keys_are_found(rt: HostRuntime) {
-    let alloc = rt.alloc();
-    let set = ascending(&rt, alloc, &[b"d=1", b"b=9"]);
-    let (has, [at, floor, ceiling]) = seek(&set, &text(&rt, alloc, b"c"));
-    assert!(rt; !has && at == Cursor::NoElement);
-    assert!(rt; is(set.element(floor), b"b=9") && is(set.element(ceiling), b"d=1"));
-    let (has, [at, floor, ceiling]) = seek(&set, &text(&rt, alloc, b"b"));
-    assert!(rt; has && at == set.first() && floor == at && ceiling == at);
-    assert!(rt; seek(&set, &text(&rt, alloc, b"a")).1[1] == Cursor::NoElement);
-}
-
-#[test]
-fn elements_of_an_ordered_set_go_by_their_keys(rt: HostRuntime) {
-    let alloc = rt.alloc();
-    let mut set = ascending(&rt, alloc, &[b"b=1", b"a=1", b"c=1"]);
-    let a = text(&rt, alloc, b"a");
-    assert!(rt; set.key_replace(&a, item(&rt, alloc, b"d=1")).is_ok());
-    assert!(rt; is(set.last_element(), b"d=1") && is(set.first_element(), b"b=1"));
-    assert!(rt; set.key_delete(&a) == Err(Fault::Raised(Reason::KeyAbsent)));
-    assert!(rt; set.key_delete(&text(&rt, alloc, b"d")).is_ok());
-    assert!(rt; set.key_exclude(&text(&rt, alloc, b"b")).is_ok());
-    assert!(rt; is(set.key_element(&text(&rt, alloc, b"c")), b"c=1") && set.length() == 1);
 }
 
 #[test]

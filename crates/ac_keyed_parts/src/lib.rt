@@ -1,4 +1,5 @@
-//! Tests over the public calls of maps and sets and of the ordered index below them, each call that takes memory where there is enough of it.
+//! Tests of what no script can reach of maps and sets: copies, slots, views in code, updates begun in code, and the ordered index below
+//! them. What a script can make is a row of `ac_suite`.
 #![tactic(auto)]
 
 #[cfg(test)]
@@ -10,7 +11,5 @@ mod keyed_sets;
 pub mod laws;
 #[cfg(test)]
 mod ordered;
-#[cfg(test)]
-mod set_algebra;
 #[cfg(test)]
 mod views;

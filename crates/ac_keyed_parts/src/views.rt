@@ -14,6 +14,7 @@ fn a_hashed_set_under_a_view_takes_no_element(rt: HostRuntime) {
     let mut stable = Stable::new(&mut set);
     assert!(rt; stable.base().insert(10_i64) == Err(Fault::Raised(Reason::CursorTampering)));
     assert!(rt; stable.view().held(GuardKind::Cursors) == 1);
+    assert!(rt; stable.view().held(GuardKind::Elements) == 0);
     stable.close();
     assert!(rt; set.insert(10).is_ok());
 }
@@ -27,6 +28,7 @@ fn an_ordered_set_under_a_view_takes_no_element(rt: HostRuntime) {
     let mut stable = Stable::new(&mut set);
     assert!(rt; stable.base().insert(10_i64) == Err(Fault::Raised(Reason::CursorTampering)));
     assert!(rt; stable.view().held(GuardKind::Cursors) == 1);
+    assert!(rt; stable.view().held(GuardKind::Elements) == 0);
     stable.close();
     assert!(rt; set.insert(10).is_ok());
 }
