@@ -279,8 +279,8 @@ reply_of (of_queue number q) source operation args = carried (of_queue number) (
 abbrev pub own_calls : (kind : RowKind) → Object ℕ (RowOf kind) → OwnCalls (RowOf kind)
 own_calls (a_sequence which e) o = sequence_own (tools_of e) o
 own_calls (a_map which k e) o = map_own (tools_of k) (tools_of e) which o
-own_calls (a_set which e) o = set_own (tools_of e) which o
-own_calls (a_keyed_set which) o = set_own keyed_texts which o
+own_calls (a_set which e) o = set_own (tools_of e) (order_by (tools_of e) which) o
+own_calls (a_keyed_set which) o = set_own keyed_texts (order_by keyed_texts which) o
 own_calls (a_tree e) o = tree_own (tools_of e) o
 
 -- Element (C), as a value. A holder has one element, and no cursor designates it; no name stands for an item of a queue

@@ -1,5 +1,5 @@
 -- The calls that maps and sets have in common, on objects of a script.
-use Rattle.std.specs.Prelude.{ℕ, Bool}
+use Rattle.std.specs.Prelude.{ℕ, Bool, true, false}
 use Rattle.ac_model.specs.Objects.{Object}
 use Rattle.ac_model.specs.Calls.{Call}
 use Rattle.ac_model.specs.Keyed as keyed
@@ -18,6 +18,11 @@ use Rattle.ac_calls.specs.Replies.{Arguments, Reply, placed, changes, changes_ok
 pub data KeyedKind : Type 0 where
   of_hashed : KeyedKind
   of_ordered : KeyedKind
+
+-- those in order of arrival have a Capacity
+abbrev pub kind_by_capacity : Bool → KeyedKind
+kind_by_capacity true = of_hashed
+kind_by_capacity false = of_ordered
 
 -- and how its keys are told apart, by these tests
 abbrev pub keyed_order : {K : Type 0} → (alike less : K → K → Bool) → KeyedKind → Order K

@@ -3,6 +3,7 @@
 #![tactic(auto)]
 
 mod argument;
+mod capacity_calls;
 mod commas;
 mod common_calls;
 mod element;
@@ -15,6 +16,7 @@ mod row_object;
 pub mod values;
 
 pub use argument::{Argument, Arguments};
+pub use capacity_calls::{WithCapacity, capacity_call};
 pub use commas::comma;
 pub use common_calls::{CommonRows, common_call, common_call_with};
 pub use element::ScriptElement;

@@ -130,7 +130,7 @@ map_stays keys tools o source args of_ordered (operation.OrderedMap c) = ordered
 map_stays keys tools o source args _ _ = alone o source _ refl (same o _)
 
 module _ {T : Type 0} (tools : Tools T) (o : Object ℕ T) (source : Source (Object ℕ T)) (args : Arguments) where
-  set_alone_stays : (which : KeyedKind) (c : SetCall) → ReplyStays o source (set_alone_reply tools which o args c)
+  set_alone_stays : (which : KeyedKind) (c : SetCall) → ReplyStays o source (set_alone_reply tools (order_by tools which) o args c)
   set_alone_stays which set_call.Insert = alone o source _ refl (insert_stays (order_by tools which) o _)
   set_alone_stays which set_call.InsertPos = alone o source _ refl (insert_pos_stays (order_by tools which) o _)
   set_alone_stays which set_call.Include = alone o source _ refl (include_stays (order_by tools which) o _)
@@ -140,7 +140,7 @@ module _ {T : Type 0} (tools : Tools T) (o : Object ℕ T) (source : Source (Obj
   set_alone_stays which set_call.Find = alone o source _ refl (same o _)
   set_alone_stays which set_call.Contains = alone o source _ refl (same o _)
 
-  set_pair_stays : (which : KeyedKind) (c : SetPairCall) → ReplyStays o source (set_pair_reply tools which o source c)
+  set_pair_stays : (which : KeyedKind) (c : SetPairCall) → ReplyStays o source (set_pair_reply tools (order_by tools which) o source c)
   set_pair_stays which set_pair_call.Union =
       by_source_stays o source _ _ refl (same o _)
       (λ s seen. alone o (another s seen) _ refl (grows o _ _ _ (earlier_check o (unchecked_union (order_by tools which) o s).reason)))
@@ -157,14 +157,14 @@ module _ {T : Type 0} (tools : Tools T) (o : Object ℕ T) (source : Source (Obj
   set_pair_stays which set_pair_call.IsSubset = alone o source _ refl (same o _)
   set_pair_stays which set_pair_call.EquivalentSets = alone o source _ refl (same o _)
 
-  ordered_set_stays : (which : KeyedKind) (c : OrderedSetCall) → ReplyStays o source (ordered_set_reply tools which o args c)
+  ordered_set_stays : (which : KeyedKind) (c : OrderedSetCall) → ReplyStays o source (ordered_set_reply tools (order_by tools which) o args c)
   ordered_set_stays which ordered_set_call.Floor = alone o source _ refl (same o _)
   ordered_set_stays which ordered_set_call.Ceiling = alone o source _ refl (same o _)
 
 pub set_stays : {T : Type 0} (tools : Tools T) (o : Object ℕ T) (source : Source (Object ℕ T)) (args : Arguments) (which : KeyedKind)
     (op : Operation) → ReplyStays o source (set_reply tools o source args which op)
 set_stays tools o source args which (operation.Common c) =
-    common_stays o source args (set_own tools which o) (λ at v. replace_element_stays (order_by tools which) o _ at) c
+    common_stays o source args (set_own tools (order_by tools which) o) (λ at v. replace_element_stays (order_by tools which) o _ at) c
 set_stays tools o source args which (operation.Walk c) = walk_stays o source args c
 set_stays tools o source args which (operation.Set c) = set_alone_stays tools o source args which c
 set_stays tools o source args which (operation.SetPair c) = set_pair_stays tools o source args which c
@@ -175,7 +175,7 @@ set_stays tools o source args of_ordered (operation.OrderedSet c) = ordered_set_
 set_stays tools o source args _ _ = alone o source _ refl (same o _)
 
 keyed_call_stays : (o : Object ℕ Text) (source : Source (Object ℕ Text)) (args : Arguments) (which : KeyedKind) (c : KeyedCall) →
-    ReplyStays o source (key_reply which o args c)
+    ReplyStays o source (key_reply key_of_text (order_by texts which) o args c)
 keyed_call_stays o source args which keyed_call.Key = alone o source _ refl (same o _)
 keyed_call_stays o source args which keyed_call.KeyElement = alone o source _ refl (same o _)
 keyed_call_stays o source args which keyed_call.KeyFind = alone o source _ refl (same o _)

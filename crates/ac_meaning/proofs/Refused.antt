@@ -1,5 +1,6 @@
 -- A command that is refused, or would wait, leaves the environment.
 use Rattle.std.proofs.Common.{◌≡◌, ℕ, ℤ, Bool, true, false, List, refl, Option, Some, None}
+use Rattle.ac_base.specs.Key.{key_of_text}
 use Rattle.ac_base.specs.declared.reason.Reason.{Reason}
 use Rattle.ac_base.specs.declared.value.Value.{Value}
 use Rattle.ac_model.specs.Rows.{Entry, Node}
@@ -48,13 +49,13 @@ use Rattle.ac_syntax.specs.declared.operation.OrderedSetCall.TheVariants as orde
 use Rattle.ac_check.specs.declared.resolved.ResolvedArg.{ResolvedArg}
 use Rattle.ac_check.specs.declared.resolved.ResolvedArg.TheVariants.{Lit, NoElement, At}
 use Rattle.ac_check.specs.Resolved.{calls_at, sets_at, sums_at}
-use Rattle.ac_calls.specs.Elements.{Tools, Text, tools_of, keyed_texts, integer_in}
+use Rattle.ac_calls.specs.Elements.{Tools, Text, tools_of, texts, keyed_texts, integer_in}
 use Rattle.ac_calls.specs.Answers.{Answer, answers_integer}
 use Rattle.ac_calls.specs.Replies.{Arguments, Source, without, itself, another, by_source, arguments_seen, source_in, Reply, value_answer}
 use Rattle.ac_calls.specs.SequenceReplies.{OwnCalls, sequence_own, common_reply, sequence_reply, capacity_reply}
 use Rattle.ac_calls.specs.ListReplies.{list_alone_reply, list_reply}
 use Rattle.ac_calls.specs.VectorReplies.{vector_alone_reply, vector_reply}
-use Rattle.ac_calls.specs.KeyedReplies.{KeyedKind, of_hashed, of_ordered, walk_reply, ordered_reply}
+use Rattle.ac_calls.specs.KeyedReplies.{KeyedKind, of_hashed, of_ordered, order_by, walk_reply, ordered_reply}
 use Rattle.ac_calls.specs.MapReplies.{map_own, map_alone_reply, ordered_map_reply, map_reply}
 use Rattle.ac_calls.specs.SetReplies.{set_own, set_alone_reply, set_pair_reply, ordered_set_reply, set_reply}
 use Rattle.ac_calls.specs.KeyedSetReplies.{key_reply, keyed_set_reply}
@@ -171,16 +172,16 @@ map_plain keys tools o source args _ _ h = h
 
 set_plain : {T : Type 0} (tools : Tools T) (o : Object ℕ T) (source : Source (Object ℕ T)) (args : Arguments) (which : KeyedKind)
     (op : Operation) → Plain (set_reply tools o source args which op).answer
-set_plain tools o source args which (operation.Common c) h = common_plain o source args (set_own tools which o) c h
+set_plain tools o source args which (operation.Common c) h = common_plain o source args (set_own tools (order_by tools which) o) c h
 set_plain tools o source args which (operation.Walk c) h = walk_plain o args c h
 set_plain tools o source args which (operation.Set c) h = go c h
   where
-    go : (c : SetCall) → Plain (set_alone_reply tools which o args c).answer
+    go : (c : SetCall) → Plain (set_alone_reply tools (order_by tools which) o args c).answer
     go set_call.Insert h = h
     go _ h = h
 set_plain tools o source args which (operation.SetPair c) h = go c h
   where
-    go : (c : SetPairCall) → Plain (set_pair_reply tools which o source c).answer
+    go : (c : SetPairCall) → Plain (set_pair_reply tools (order_by tools which) o source c).answer
     go set_pair_call.Union h = by_source_plain source _ _ (λ r. r) (λ s seen r. r) h
     go set_pair_call.Intersection h = by_source_plain source _ _ (λ r. r) (λ s seen r. r) h
     go set_pair_call.Difference h = by_source_plain source _ _ (λ r. r) (λ s seen r. r) h
@@ -190,12 +191,12 @@ set_plain tools o source args of_hashed (operation.Capacity c) h = capacity_plai
 set_plain tools o source args of_ordered (operation.Ordered c) h = ordered_plain o args _ _ (value_plain _) (value_plain _) c h
 set_plain tools o source args of_ordered (operation.OrderedSet c) h = go c h
   where
-    go : (c : OrderedSetCall) → Plain (ordered_set_reply tools of_ordered o args c).answer
+    go : (c : OrderedSetCall) → Plain (ordered_set_reply tools (order_by tools of_ordered) o args c).answer
     go ordered_set_call.Floor h = h
     go ordered_set_call.Ceiling h = h
 set_plain tools o source args _ _ h = h
 
-key_plain : (o : Object ℕ Text) (args : Arguments) (which : KeyedKind) (c : KeyedCall) → Plain (key_reply which o args c).answer
+key_plain : (o : Object ℕ Text) (args : Arguments) (which : KeyedKind) (c : KeyedCall) → Plain (key_reply key_of_text (order_by texts which) o args c).answer
 key_plain o args which keyed_call.Key h = value_plain _ h
 key_plain o args which keyed_call.KeyElement h = value_plain _ h
 key_plain o args which keyed_call.KeyFind h = h

@@ -64,7 +64,7 @@ same_set (set.Hashed s) (set.Ordered t) kind rows = absurd (ordered_is_none kind
 same_set (set.Ordered s) (set.Hashed t) kind rows = absurd (hashed_is_none kind)
 same_set (set.Ordered s) (set.Ordered t) kind rows = ap set.Ordered rows
 
-same_map : {K V : Type 0} (old new : Map K V) → map_kind_of new ≡ map_kind_of old → entries_of new ≡ entries_of old → new ≡ old
+same_map : {K V P Q : Type 0} (old new : Map K V P Q) → map_kind_of new ≡ map_kind_of old → entries_of new ≡ entries_of old → new ≡ old
 same_map (map.Hashed m) (map.Hashed n) kind rows = ap map.Hashed rows
 same_map (map.Hashed m) (map.Ordered n) kind rows = absurd (ordered_is_none kind)
 same_map (map.Ordered m) (map.Hashed n) kind rows = absurd (hashed_is_none kind)
@@ -97,8 +97,8 @@ module _ (old new : KeyedTexts) (kept : a_keyed_set (keyed_kind new) ≡ a_keyed
   pub keyed_set_same : keyed_items new ≡ keyed_items old → KeyedSet new ≡ KeyedSet old
   keyed_set_same rows = λ i. KeyedSet (record { set = same_set old.set new.set (ap keyed_in kept) rows i })
 
-module _ (k e : ElemKind) (wrap : Map (ElementOf k) (ElementOf e) → Object) (wrapped : (s : Map (ElementOf k) (ElementOf e)) → memory_of (wrap s) ≡ in_rows (a_map (map_kind_of s) k e) (entries_of s))
-    (old new : Map (ElementOf k) (ElementOf e)) (kept : a_map (map_kind_of new) k e ≡ a_map (map_kind_of old) k e) where
+module _ (k e : ElemKind) (wrap : Map (ElementOf k) (ElementOf e) (ElementOf k) (ElementOf e) → Object) (wrapped : (s : Map (ElementOf k) (ElementOf e) (ElementOf k) (ElementOf e)) → memory_of (wrap s) ≡ in_rows (a_map (map_kind_of s) k e) (entries_of s))
+    (old new : Map (ElementOf k) (ElementOf e) (ElementOf k) (ElementOf e)) (kept : a_map (map_kind_of new) k e ≡ a_map (map_kind_of old) k e) where
   pub map_now : memory_of (wrap new) ≡ in_rows (a_map (map_kind_of old) k e) (entries_of new)
   map_now = wrapped new ∙ ap (λ which. in_rows (a_map which k e) (entries_of new)) (ap keyed_in kept)
 
@@ -123,19 +123,19 @@ pub text_set : (s : Set Text Text) → memory_of (TextSet s) ≡ in_rows (a_set 
 unfolding memory_of
 text_set s = refl
 
-pub integers_by_integer : (s : Map ℤ ℤ) → memory_of (IntegersByInteger s) ≡ in_rows (a_map (map_kind_of s) Integer Integer) (entries_of s)
+pub integers_by_integer : (s : Map ℤ ℤ ℤ ℤ) → memory_of (IntegersByInteger s) ≡ in_rows (a_map (map_kind_of s) Integer Integer) (entries_of s)
 unfolding memory_of
 integers_by_integer s = refl
 
-pub integers_by_text : (s : Map Text ℤ) → memory_of (IntegersByText s) ≡ in_rows (a_map (map_kind_of s) Str Integer) (entries_of s)
+pub integers_by_text : (s : Map Text ℤ Text ℤ) → memory_of (IntegersByText s) ≡ in_rows (a_map (map_kind_of s) Str Integer) (entries_of s)
 unfolding memory_of
 integers_by_text s = refl
 
-pub texts_by_integer : (s : Map ℤ Text) → memory_of (TextsByInteger s) ≡ in_rows (a_map (map_kind_of s) Integer Str) (entries_of s)
+pub texts_by_integer : (s : Map ℤ Text ℤ Text) → memory_of (TextsByInteger s) ≡ in_rows (a_map (map_kind_of s) Integer Str) (entries_of s)
 unfolding memory_of
 texts_by_integer s = refl
 
-pub texts_by_text : (s : Map Text Text) → memory_of (TextsByText s) ≡ in_rows (a_map (map_kind_of s) Str Str) (entries_of s)
+pub texts_by_text : (s : Map Text Text Text Text) → memory_of (TextsByText s) ≡ in_rows (a_map (map_kind_of s) Str Str) (entries_of s)
 unfolding memory_of
 texts_by_text s = refl
 

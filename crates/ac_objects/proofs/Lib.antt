@@ -3,13 +3,9 @@ pub mod Walks
 pub mod KeptNodes
 pub mod Operations
 pub mod SequenceOperations
-pub mod SetKinds
 pub mod SetOperations
 pub mod KeyedOperations
-pub mod OwnInserted
 pub mod OwnNodes
-pub mod Entries
-pub mod PutEntries
 pub mod MapOperations
 pub mod TreeOperations
 pub mod Worlds

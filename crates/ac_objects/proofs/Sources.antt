@@ -57,13 +57,12 @@ use Rattle.ac_calls.specs.Replies.{Arguments, Placed, Source, without, itself, a
 use Rattle.ac_calls.specs.SequenceReplies.{OwnCalls, sequence_own, common_reply, sequence_reply, capacity_reply}
 use Rattle.ac_calls.specs.ListReplies.{list_alone_reply, list_reply}
 use Rattle.ac_calls.specs.VectorReplies.{vector_alone_reply, vector_reply}
-use Rattle.ac_calls.specs.KeyedReplies.{KeyedKind, of_hashed, of_ordered, walk_reply, ordered_reply}
+use Rattle.ac_calls.specs.KeyedReplies.{KeyedKind, of_hashed, of_ordered, order_by, walk_reply, ordered_reply}
 use Rattle.ac_calls.specs.MapReplies.{map_own, map_alone_reply, ordered_map_reply, map_reply}
 use Rattle.ac_calls.specs.KeyedSetReplies.{keyed_set_reply}
 use Rattle.ac_calls.specs.SetReplies.{set_own, set_alone_reply, set_pair_reply, ordered_set_reply, set_reply}
 use Rattle.ac_calls.specs.Holdings.{SequenceKind, of_list, of_vector, RowKind, a_sequence, a_map, a_set, a_keyed_set, a_tree, RowOf, Held, of_rows, of_holder, of_queue, same_element, rows_in, holder_in, seen_in, own_calls, reply_by, rows_reply, reply_of}
 use Rattle.ac_meaning.proofs.RowKinds.{rows_own}
-use Rattle.ac_objects.proofs.KeyedOperations.{key_alone}
 
 -- None and itself
 
@@ -165,7 +164,7 @@ module _ {K T : Type 0} (keys : Tools K) (tools : Tools T) (o : Object ℕ (Entr
   map_alone of_ordered _ = refl
 
 module _ {T : Type 0} (tools : Tools T) (o : Object ℕ T) (args : Arguments) where
-  pair_alone : (which : KeyedKind) (c : SetPairCall) → set_pair_reply tools which o without c ≡ set_pair_reply tools which o itself c
+  pair_alone : (which : KeyedKind) (c : SetPairCall) → set_pair_reply tools (order_by tools which) o without c ≡ set_pair_reply tools (order_by tools which) o itself c
   pair_alone which set_pair_call.Union = refl
   pair_alone which set_pair_call.Intersection = refl
   pair_alone which set_pair_call.Difference = refl
@@ -175,20 +174,20 @@ module _ {T : Type 0} (tools : Tools T) (o : Object ℕ T) (args : Arguments) wh
   pair_alone which set_pair_call.EquivalentSets = refl
 
   set_alone : (which : KeyedKind) (op : Operation) → set_reply tools o without args which op ≡ set_reply tools o itself args which op
-  set_alone which (operation.Common c) = common_own o args (set_own tools which o) c
+  set_alone which (operation.Common c) = common_own o args (set_own tools (order_by tools which) o) c
   set_alone which (operation.SetPair c) = pair_alone which c
   set_alone of_hashed _ = refl
   set_alone of_ordered _ = refl
 
 module _ (o : Object ℕ Text) (args : Arguments) where
   keyed_alone : (which : KeyedKind) (op : Operation) → keyed_set_reply o without args which op ≡ keyed_set_reply o itself args which op
-  keyed_alone of_hashed (operation.Common c) = common_own o args (set_own keyed_texts of_hashed o) c
+  keyed_alone of_hashed (operation.Common c) = common_own o args (set_own keyed_texts (order_by keyed_texts of_hashed) o) c
   keyed_alone of_hashed (operation.SetPair c) = pair_alone keyed_texts o args of_hashed c
-  keyed_alone of_hashed (operation.Keyed c) = key_alone o without itself args of_hashed c
+  keyed_alone of_hashed (operation.Keyed c) = refl
   keyed_alone of_hashed _ = refl
-  keyed_alone of_ordered (operation.Common c) = common_own o args (set_own keyed_texts of_ordered o) c
+  keyed_alone of_ordered (operation.Common c) = common_own o args (set_own keyed_texts (order_by keyed_texts of_ordered) o) c
   keyed_alone of_ordered (operation.SetPair c) = pair_alone keyed_texts o args of_ordered c
-  keyed_alone of_ordered (operation.Keyed c) = key_alone o without itself args of_ordered c
+  keyed_alone of_ordered (operation.Keyed c) = refl
   keyed_alone of_ordered _ = refl
 
 module _ {T : Type 0} (tools : Tools T) (o : Object ℕ (Node T)) (args : Arguments) where
@@ -387,31 +386,31 @@ module _ {K T : Type 0} (keys : Tools K) (tools : Tools T) (o : Object ℕ (Entr
   map_lists of_ordered _ = tt
 
 module _ {T : Type 0} (tools : Tools T) (o : Object ℕ T) (source : Source (Object ℕ T)) (args : Arguments) where
-  set_alone_lists : (which : KeyedKind) (listing : List ℕ) (c : SetCall) → ReplyLists listing o (set_alone_reply tools which o args c)
+  set_alone_lists : (which : KeyedKind) (listing : List ℕ) (c : SetCall) → ReplyLists listing o (set_alone_reply tools (order_by tools which) o args c)
   set_alone_lists which listing set_call.Insert = tt
   set_alone_lists which listing _ = tt
 
-  set_pair_lists : (which : KeyedKind) (listing : List ℕ) (c : SetPairCall) → ReplyLists listing o (set_pair_reply tools which o source c)
+  set_pair_lists : (which : KeyedKind) (listing : List ℕ) (c : SetPairCall) → ReplyLists listing o (set_pair_reply tools (order_by tools which) o source c)
   set_pair_lists which listing set_pair_call.Union = by_source_lists listing o source _ _ tt (λ s seen. tt)
   set_pair_lists which listing set_pair_call.Intersection = by_source_lists listing o source _ _ tt (λ s seen. tt)
   set_pair_lists which listing set_pair_call.Difference = by_source_lists listing o source _ _ tt (λ s seen. tt)
   set_pair_lists which listing set_pair_call.SymmetricDifference = by_source_lists listing o source _ _ tt (λ s seen. tt)
   set_pair_lists which listing _ = tt
 
-  ordered_set_lists : (which : KeyedKind) (listing : List ℕ) (c : OrderedSetCall) → ReplyLists listing o (ordered_set_reply tools which o args c)
+  ordered_set_lists : (which : KeyedKind) (listing : List ℕ) (c : OrderedSetCall) → ReplyLists listing o (ordered_set_reply tools (order_by tools which) o args c)
   ordered_set_lists which listing ordered_set_call.Floor = tt
   ordered_set_lists which listing ordered_set_call.Ceiling = tt
 
-  set_lists : (which : KeyedKind) (op : Operation) → ReplyLists (set_own tools which o).listing o (set_reply tools o source args which op)
-  set_lists which (operation.Common c) = common_lists o source args (set_own tools which o) c
-  set_lists which (operation.Walk c) = walk_lists (set_own tools which o).listing o args c
-  set_lists which (operation.Set c) = set_alone_lists which (set_own tools which o).listing c
-  set_lists which (operation.SetPair c) = set_pair_lists which (set_own tools which o).listing c
-  set_lists of_hashed (operation.Capacity c) = capacity_lists (set_own tools of_hashed o).listing o args c
+  set_lists : (which : KeyedKind) (op : Operation) → ReplyLists (set_own tools (order_by tools which) o).listing o (set_reply tools o source args which op)
+  set_lists which (operation.Common c) = common_lists o source args (set_own tools (order_by tools which) o) c
+  set_lists which (operation.Walk c) = walk_lists (set_own tools (order_by tools which) o).listing o args c
+  set_lists which (operation.Set c) = set_alone_lists which (set_own tools (order_by tools which) o).listing c
+  set_lists which (operation.SetPair c) = set_pair_lists which (set_own tools (order_by tools which) o).listing c
+  set_lists of_hashed (operation.Capacity c) = capacity_lists (set_own tools (order_by tools of_hashed) o).listing o args c
   set_lists of_ordered (operation.Ordered c) =
-      ordered_lists (set_own tools of_ordered o).listing o args _ _ (value_lists (set_own tools of_ordered o).listing o _)
-      (value_lists (set_own tools of_ordered o).listing o _) c
-  set_lists of_ordered (operation.OrderedSet c) = ordered_set_lists of_ordered (set_own tools of_ordered o).listing c
+      ordered_lists (set_own tools (order_by tools of_ordered) o).listing o args _ _ (value_lists (set_own tools (order_by tools of_ordered) o).listing o _)
+      (value_lists (set_own tools (order_by tools of_ordered) o).listing o _) c
+  set_lists of_ordered (operation.OrderedSet c) = ordered_set_lists of_ordered (set_own tools (order_by tools of_ordered) o).listing c
   set_lists of_hashed _ = tt
   set_lists of_ordered _ = tt
 
@@ -424,13 +423,13 @@ module _ (o : Object ℕ Text) (source : Source (Object ℕ Text)) (args : Argum
   key_lists of_ordered listing keyed_call.KeyElement = value_lists listing o _
   key_lists of_ordered listing _ = tt
 
-  keyed_lists : (which : KeyedKind) (op : Operation) → ReplyLists (set_own keyed_texts which o).listing o (keyed_set_reply o source args which op)
+  keyed_lists : (which : KeyedKind) (op : Operation) → ReplyLists (set_own keyed_texts (order_by keyed_texts which) o).listing o (keyed_set_reply o source args which op)
   keyed_lists of_hashed (operation.Common c) = set_lists keyed_texts o source args of_hashed (operation.Common c)
   keyed_lists of_hashed (operation.Walk c) = set_lists keyed_texts o source args of_hashed (operation.Walk c)
   keyed_lists of_hashed (operation.Set c) = set_lists keyed_texts o source args of_hashed (operation.Set c)
   keyed_lists of_hashed (operation.SetPair c) = set_lists keyed_texts o source args of_hashed (operation.SetPair c)
   keyed_lists of_hashed (operation.Capacity c) = set_lists keyed_texts o source args of_hashed (operation.Capacity c)
-  keyed_lists of_hashed (operation.Keyed c) = key_lists of_hashed (set_own keyed_texts of_hashed o).listing c
+  keyed_lists of_hashed (operation.Keyed c) = key_lists of_hashed (set_own keyed_texts (order_by keyed_texts of_hashed) o).listing c
   keyed_lists of_hashed _ = tt
   keyed_lists of_ordered (operation.Common c) = set_lists keyed_texts o source args of_ordered (operation.Common c)
   keyed_lists of_ordered (operation.Walk c) = set_lists keyed_texts o source args of_ordered (operation.Walk c)
@@ -438,7 +437,7 @@ module _ (o : Object ℕ Text) (source : Source (Object ℕ Text)) (args : Argum
   keyed_lists of_ordered (operation.SetPair c) = set_lists keyed_texts o source args of_ordered (operation.SetPair c)
   keyed_lists of_ordered (operation.Ordered c) = set_lists keyed_texts o source args of_ordered (operation.Ordered c)
   keyed_lists of_ordered (operation.OrderedSet c) = set_lists keyed_texts o source args of_ordered (operation.OrderedSet c)
-  keyed_lists of_ordered (operation.Keyed c) = key_lists of_ordered (set_own keyed_texts of_ordered o).listing c
+  keyed_lists of_ordered (operation.Keyed c) = key_lists of_ordered (set_own keyed_texts (order_by keyed_texts of_ordered) o).listing c
   keyed_lists of_ordered _ = tt
 
 module _ {T : Type 0} (tools : Tools T) (o : Object ℕ (Node T)) (source : Source (Object ℕ (Node T))) (args : Arguments) where

@@ -33,7 +33,7 @@ set_with (set.Ordered s) counts = set.Ordered (with_guards s counts)
 abbrev pub keyed_set_with : KeyedTexts → GuardCounts → KeyedTexts
 keyed_set_with s counts = record s { set = set_with s.set counts }
 
-abbrev pub map_with : {K V : Type 0} → Map K V → GuardCounts → Map K V
+abbrev pub map_with : {K V P Q : Type 0} → Map K V P Q → GuardCounts → Map K V P Q
 map_with (map.Hashed m) counts = map.Hashed (with_guards m counts)
 map_with (map.Ordered m) counts = map.Ordered (with_guards m counts)
 
@@ -88,15 +88,15 @@ keyed_set_own s = λ i. record s { set = set_own s.set i }
 pub keyed_set_rest : (s : KeyedTexts) (counts others : GuardCounts) → keyed_set_with (keyed_set_with s counts) others ≡ keyed_set_with s others
 keyed_set_rest s counts others = λ i. record s { set = set_rest s.set counts others i }
 
-pub map_given : {K V : Type 0} (m : Map K V) (counts : GuardCounts) → guards_of (entries_of (map_with m counts)) ≡ counts
+pub map_given : {K V P Q : Type 0} (m : Map K V P Q) (counts : GuardCounts) → guards_of (entries_of (map_with m counts)) ≡ counts
 map_given (map.Hashed m) counts = refl
 map_given (map.Ordered m) counts = refl
 
-pub map_own : {K V : Type 0} (m : Map K V) → map_with m (guards_of (entries_of m)) ≡ m
+pub map_own : {K V P Q : Type 0} (m : Map K V P Q) → map_with m (guards_of (entries_of m)) ≡ m
 map_own (map.Hashed m) = refl
 map_own (map.Ordered m) = refl
 
-pub map_rest : {K V : Type 0} (m : Map K V) (counts others : GuardCounts) → map_with (map_with m counts) others ≡ map_with m others
+pub map_rest : {K V P Q : Type 0} (m : Map K V P Q) (counts others : GuardCounts) → map_with (map_with m counts) others ≡ map_with m others
 map_rest (map.Hashed m) counts others = refl
 map_rest (map.Ordered m) counts others = refl
 

@@ -3,9 +3,6 @@ pub mod Maps
 pub mod Sets
 pub mod KeyedSets
 pub mod SequenceCalls
-pub mod SetCalls
-pub mod KeyCalls
-pub mod MapCalls
 pub mod Shown
 pub mod World
 pub mod Standing

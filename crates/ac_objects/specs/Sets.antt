@@ -1,8 +1,6 @@
 -- Hashed and ordered sets in one type: the items that one has, and which of the two it is.
-use Rattle.std.specs.Prelude.{Bool}
 use Rattle.ac_model.specs.Containers.{Container}
-use Rattle.ac_model.specs.Keyed.{Order}
-use Rattle.ac_calls.specs.KeyedReplies.{KeyedKind, of_hashed, of_ordered, keyed_order}
+use Rattle.ac_calls.specs.KeyedReplies.{KeyedKind, of_hashed, of_ordered}
 use Rattle.ac_objects.specs.declared.set.Set.{Set}
 use Rattle.ac_objects.specs.declared.set.Set.TheVariants.{Hashed, Ordered}
 
@@ -13,7 +11,3 @@ items_of (Ordered s) = s
 abbrev pub set_kind_of : {T K : Type 0} → Set T K → KeyedKind
 set_kind_of (Hashed s) = of_hashed
 set_kind_of (Ordered s) = of_ordered
-
--- how its items are told apart and ordered, by these tests
-abbrev pub set_order : {T K : Type 0} → (alike less : T → T → Bool) → Set T K → Order T
-set_order alike less s = keyed_order alike less (set_kind_of s)

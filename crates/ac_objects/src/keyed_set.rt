@@ -1,8 +1,6 @@
 //! A hashed or an ordered set of texts with keys (Generic_Keys of A.18.8 and A.18.9). A contract sees its items and which of the two it is.
-mod by_key;
 mod operated_rows;
 mod row_object;
-pub(crate) mod uncounted;
 mod updates;
 
 use crate::set::Set;

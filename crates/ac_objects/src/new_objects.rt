@@ -24,9 +24,8 @@ use ac_base::{Elem, GREATEST_LENGTH, Limit, NoMemory};
 use ac_calls::ScriptElement;
 use ac_cursor::Tag;
 use ac_forms::Holder;
-use ac_hashed::{HashedMap, HashedSet};
+use ac_keyed_calls::{MapRows, SetRows};
 use ac_list::List;
-use ac_ordered::{OrderedMap, OrderedSet};
 use ac_queue::{AnyQueue, PriorityQueue, Queue};
 use ac_syntax::{ElemKind, Kind, TypeDef};
 use ac_tree::Tree;
@@ -293,11 +292,11 @@ fn new_set<T: ScriptElement>(
     ensures empty { IfOk result (λ made. plain (items_of made).object ≡ empty_object (is_hashed (set_kind_of made)) tag limit) }
 {
     match kind {
-        Kind::HashedSet => match HashedSet::new(alloc, tag, limit) {
+        Kind::HashedSet => match SetRows::new(alloc, tag, limit) {
             Ok(set) => Ok(Set::Hashed(set)),
             Err(_) => Err(NoMemory),
         },
-        Kind::OrderedSet => match OrderedSet::new(alloc, tag, limit) {
+        Kind::OrderedSet => match SetRows::new(alloc, tag, limit) {
             Ok(set) => Ok(Set::Ordered(set)),
             Err(_) => Err(NoMemory),
         },
@@ -319,11 +318,11 @@ fn new_map<K: ScriptElement, V: ScriptElement>(
     ensures empty { IfOk result (λ made. plain (entries_of made).object ≡ empty_object (is_hashed (map_kind_of made)) tag limit) }
 {
     match kind {
-        Kind::HashedMap => match HashedMap::new(alloc, tag, limit) {
+        Kind::HashedMap => match MapRows::new(alloc, tag, limit) {
             Ok(map) => Ok(Map::Hashed(map)),
             Err(_) => Err(NoMemory),
         },
-        Kind::OrderedMap => match OrderedMap::new(alloc, tag, limit) {
+        Kind::OrderedMap => match MapRows::new(alloc, tag, limit) {
             Ok(map) => Ok(Map::Ordered(map)),
             Err(_) => Err(NoMemory),
         },

@@ -8,12 +8,11 @@ ghost use Rattle.ac_calls.specs.Replied.{told};
 ghost use Rattle.ac_objects.specs.SequenceCalls.{Answered, AnsweredWith, OperationReplied, OperationRepliedWith};
 ghost use Rattle.ac_objects.specs.Sequences.{rows_of, kind_of};
 
-use crate::capacity_calls::capacity_call;
 use crate::list_calls::{list_call, list_call_with};
 use crate::sequence::Sequence;
 use crate::sequence_calls::sequence_call;
 use crate::sequence_source_calls::sequence_call_with;
-use crate::vector_calls::{vector_call, vector_call_with};
+use crate::vector_calls::{capacity_call, vector_call, vector_call_with};
 use ac_base::Fault;
 use ac_calls::{Arguments, Reply, Said, ScriptElement, common_call, common_call_with};
 use ac_syntax::{CapacityCall, ListCall, Operation, VectorCall};

@@ -6,27 +6,22 @@ ghost use Rattle.ac_model.specs.Sequences as sequences;
 ghost use Rattle.ac_calls.specs.KeyedReplies.{of_hashed};
 ghost use Rattle.ac_objects.specs.Sets.{items_of, set_kind_of};
 
-mod algebra;
-mod changes;
-mod common_rows;
-mod keyed_rows;
-mod looks;
 mod operated_rows;
-pub(crate) mod operating;
 mod row_object;
-pub mod uncounted;
 
 use ac_base::Fault;
 use ac_calls::ScriptElement;
 use ac_cursor::Cursor;
-use ac_hashed::HashedSet;
-use ac_ordered::OrderedSet;
+use ac_hashed::Arrivals;
+use ac_keyed_calls::SetRows;
+use ac_ordered::Ascending;
+use ac_setwork::OfKeyed;
 
 /// A hashed set (A.18.8) or an ordered one (A.18.9) of a script.
 #[derive(Drop)]
 pub enum Set<T: ScriptElement> {
-    Hashed(HashedSet<T>),
-    Ordered(OrderedSet<T>),
+    Hashed(SetRows<Arrivals<OfKeyed<T>>>),
+    Ordered(SetRows<Ascending<OfKeyed<T>>>),
 }
 
 impl<T: ScriptElement> Set<T> {

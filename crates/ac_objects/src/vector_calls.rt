@@ -2,30 +2,17 @@
 ghost use Rattle.ac_calls.specs.Replied.{told};
 ghost use Rattle.ac_objects.specs.SequenceCalls.{VectorAloneReplied};
 
+mod capacity;
 mod copies;
 mod indexes;
 
-use crate::capacity_calls::WithCapacity;
 use ac_base::{Fault, Value};
 use ac_calls::{Arguments, Reply, Said, ScriptElement};
 use ac_syntax::VectorCall;
 use ac_vector::Vector;
+pub use capacity::capacity_call;
 pub use copies::vector_call_with;
 use std::alloc::Global;
-
-impl<T> WithCapacity for Vector<T> {
-    type Row = T;
-
-    ghost rows = { λ v. v };
-
-    fn capacity(&self) -> i64 {
-        Vector::capacity(self)
-    }
-
-    fn reserve_capacity(&mut self, n: i64) -> Result<(), Fault> {
-        Vector::reserve_capacity(self, n)
-    }
-}
 
 /// A call of vectors alone, where the vector is its own source if the call has one.
 #[inline(always)]

@@ -1,14 +1,38 @@
 //! Operations on keyed sets as objects with rows: the calls by key, and else those of sets.
+ghost use Rattle.std.specs.Prelude.{◌≡◌};
+ghost use Rattle.ac_base.specs.Key.{key_of_text};
 ghost use Rattle.ac_calls.specs.KeyedSetReplies.{keyed_set_reply};
-ghost use Rattle.ac_objects.specs.KeyedSets.{keyed_kind};
+ghost use Rattle.ac_calls.specs.Replied.{told};
+ghost use Rattle.ac_keyed_calls.specs.KeyCalls.{KeyRepliedBy};
+ghost use Rattle.ac_objects.specs.KeyedSets.{keyed_items, keyed_kind, keys_of};
 
 use super::KeyedSet;
-use crate::key_calls::key_call;
-use crate::set::operating;
+use crate::set::Set;
 use ac_base::Fault;
 use ac_calls::{Arguments, OperatedRows, Reply};
-use ac_syntax::Operation;
+use ac_keyed_calls::{hashed_key_call, ordered_key_call};
+use ac_syntax::{KeyedCall, Operation};
 use std::alloc::Global;
+
+impl KeyedSet {
+    /// A call by key, as each of the two kinds has it.
+    fn key_call(
+        &mut self,
+        alloc: Global,
+        call: KeyedCall,
+        args: &mut Arguments,
+        reply: &mut Reply,
+    ) -> Result<(), Fault>
+        ensures replied { KeyRepliedBy key_of_text (keys_of self.old) (keyed_kind self.old) call args.old
+            (keyed_items self.old) (keyed_items self.new) (told reply.new result) }
+        ensures kind { keyed_kind self.new ≡ keyed_kind self.old }
+    {
+        match &mut self.set {
+            Set::Hashed(set) => hashed_key_call(set, alloc, call, args, reply),
+            Set::Ordered(set) => ordered_key_call(set, alloc, call, args, reply),
+        }
+    }
+}
 
 impl OperatedRows for KeyedSet {
     ghost comes_to = { λ m o source args operation. keyed_set_reply o source args (keyed_kind m) operation };
@@ -21,8 +45,8 @@ impl OperatedRows for KeyedSet {
         reply: &mut Reply,
     ) -> Result<(), Fault> {
         match operation {
-            Operation::Keyed(call) => key_call(self, alloc, call, args, reply),
-            _ => operating::operate(&mut self.set, alloc, operation, args, reply),
+            Operation::Keyed(call) => self.key_call(alloc, call, args, reply),
+            _ => self.set.operate(alloc, operation, args, reply),
         }
     }
 
@@ -35,15 +59,11 @@ impl OperatedRows for KeyedSet {
         reply: &mut Reply,
     ) -> Result<(), Fault> {
         match operation {
-            Operation::Keyed(call) => key_call(self, alloc, call, args, reply),
-            _ => operating::operate_with(
-                &mut self.set,
-                &mut source.set,
-                alloc,
-                operation,
-                args,
-                reply,
-            ),
+            Operation::Keyed(call) => self.key_call(alloc, call, args, reply),
+            _ => {
+                self.set
+                    .operate_with(&mut source.set, alloc, operation, args, reply)
+            }
         }
     }
 }

@@ -3,6 +3,7 @@ ghost use Rattle.std.specs.Prelude.{refl};
 ghost use Rattle.ac_syntax.specs.Canonical.{literal_text};
 ghost use Rattle.ac_calls.specs.Elements.{keyed_texts};
 ghost use Rattle.ac_calls.specs.Holdings.{a_keyed_set};
+ghost use Rattle.ac_calls.specs.KeyedReplies.{order_by};
 ghost use Rattle.ac_calls.specs.SetReplies.{set_own};
 ghost use Rattle.ac_objects.specs.KeyedSets.{keyed_items, keyed_kind};
 
@@ -20,7 +21,7 @@ impl RowObject for KeyedSet {
 
     ghost kind = { λ m. a_keyed_set (keyed_kind m) };
 
-    ghost own = { λ m o. set_own keyed_texts (keyed_kind m) o };
+    ghost own = { λ m o. set_own keyed_texts (order_by keyed_texts (keyed_kind m)) o };
 
     fn law(&self) {
         self.set.law();

@@ -3,9 +3,11 @@ ghost use Rattle.ac_calls.specs.MapReplies.{map_reply};
 ghost use Rattle.ac_objects.specs.Maps.{map_kind_of};
 
 use super::Map;
-use super::operating::{operate, operate_with};
 use ac_base::Fault;
 use ac_calls::{Arguments, OperatedRows, Reply, ScriptElement};
+use ac_keyed_calls::{
+    operate_hashed_map, operate_hashed_map_with, operate_ordered_map, operate_ordered_map_with,
+};
 use ac_syntax::Operation;
 use std::alloc::Global;
 
@@ -19,7 +21,10 @@ impl<K: ScriptElement, V: ScriptElement> OperatedRows for Map<K, V> {
         args: &mut Arguments,
         reply: &mut Reply,
     ) -> Result<(), Fault> {
-        operate(self, alloc, operation, args, reply)
+        match self {
+            Map::Hashed(map) => operate_hashed_map(map, alloc, operation, args, reply),
+            Map::Ordered(map) => operate_ordered_map(map, alloc, operation, args, reply),
+        }
     }
 
     fn operate_with(
@@ -30,6 +35,19 @@ impl<K: ScriptElement, V: ScriptElement> OperatedRows for Map<K, V> {
         args: &mut Arguments,
         reply: &mut Reply,
     ) -> Result<(), Fault> {
-        operate_with(self, source, alloc, operation, args, reply)
+        match self {
+            Map::Hashed(map) => match source {
+                Map::Hashed(other) => {
+                    operate_hashed_map_with(map, other, alloc, operation, args, reply)
+                }
+                Map::Ordered(_) => unreachable!(),
+            },
+            Map::Ordered(map) => match source {
+                Map::Hashed(_) => unreachable!(),
+                Map::Ordered(other) => {
+                    operate_ordered_map_with(map, other, alloc, operation, args, reply)
+                }
+            },
+        }
     }
 }

@@ -7,7 +7,6 @@ ghost use Rattle.ac_calls.specs.Listings.{entry_text};
 ghost use Rattle.ac_objects.specs.Maps.{entries_of, map_kind_of};
 
 use super::Map;
-use super::listing::add_entry;
 use ac_base::{Fault, NoMemory, Reason, Value};
 use ac_calls::{ListedRows, RowObject, ScriptElement};
 use ac_cursor::Cursor;
@@ -67,23 +66,24 @@ impl<K: ScriptElement, V: ScriptElement> RowObject for Map<K, V> {
     }
 
     fn refused(&self, c: Cursor) -> Option<Reason> {
-        match self.element(c) {
-            Ok(_) => None,
-            Err(Fault::Raised(reason)) => Some(reason),
-            Err(Fault::NoMemory) => unreachable!(),
+        match self {
+            Map::Hashed(map) => map.refused(c),
+            Map::Ordered(map) => map.refused(c),
         }
     }
 
     fn element_value(&self, alloc: Global, c: Cursor) -> Result<Value, NoMemory> {
-        match self.element(c) {
-            Ok(element) => element.to_value(alloc),
-            Err(_) => unreachable!(),
+        match self {
+            Map::Hashed(map) => map.element_value(alloc, c),
+            Map::Ordered(map) => map.element_value(alloc, c),
         }
     }
 
     fn write_value(&mut self, alloc: Global, c: Cursor, value: Value) -> Result<(), Fault> {
-        let element = V::from_value(alloc, value)?;
-        self.write(c, element)
+        match self {
+            Map::Hashed(map) => map.write_value(alloc, c, value),
+            Map::Ordered(map) => map.write_value(alloc, c, value),
+        }
     }
 
     fn is_like(&self, other: &Map<K, V>) -> bool {
@@ -105,14 +105,9 @@ impl<K: ScriptElement, V: ScriptElement> ListedRows for Map<K, V> {
         text: &mut Vec<u8>,
         sink: &mut W,
     ) -> Result<(), WriteFault> {
-        let key = match self.key(c) {
-            Ok(key) => key,
-            Err(_) => unreachable!(),
-        };
-        let element = match self.element(c) {
-            Ok(element) => element,
-            Err(_) => unreachable!(),
-        };
-        add_entry(key, element, text, sink)
+        match self {
+            Map::Hashed(map) => map.add_row(c, text, sink),
+            Map::Ordered(map) => map.add_row(c, text, sink),
+        }
     }
 }

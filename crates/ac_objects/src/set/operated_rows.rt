@@ -1,11 +1,11 @@
-//! Operations on sets as objects with rows.
+//! Operations on hashed and ordered sets, as each of the two has them.
 ghost use Rattle.ac_calls.specs.SetReplies.{set_reply};
 ghost use Rattle.ac_objects.specs.Sets.{set_kind_of};
 
 use super::Set;
-use super::operating::{operate, operate_with};
 use ac_base::Fault;
 use ac_calls::{Arguments, OperatedRows, Reply, ScriptElement};
+use ac_keyed_calls::{operate_hashed, operate_hashed_with, operate_ordered, operate_ordered_with};
 use ac_syntax::Operation;
 use std::alloc::Global;
 
@@ -19,7 +19,10 @@ impl<T: ScriptElement> OperatedRows for Set<T> {
         args: &mut Arguments,
         reply: &mut Reply,
     ) -> Result<(), Fault> {
-        operate(self, alloc, operation, args, reply)
+        match self {
+            Set::Hashed(set) => operate_hashed(set, alloc, operation, args, reply),
+            Set::Ordered(set) => operate_ordered(set, alloc, operation, args, reply),
+        }
     }
 
     fn operate_with(
@@ -30,6 +33,19 @@ impl<T: ScriptElement> OperatedRows for Set<T> {
         args: &mut Arguments,
         reply: &mut Reply,
     ) -> Result<(), Fault> {
-        operate_with(self, source, alloc, operation, args, reply)
+        match self {
+            Set::Hashed(set) => match source {
+                Set::Hashed(other) => {
+                    operate_hashed_with(set, other, alloc, operation, args, reply)
+                }
+                Set::Ordered(_) => unreachable!(),
+            },
+            Set::Ordered(set) => match source {
+                Set::Hashed(_) => unreachable!(),
+                Set::Ordered(other) => {
+                    operate_ordered_with(set, other, alloc, operation, args, reply)
+                }
+            },
+        }
     }
 }

@@ -2,6 +2,7 @@
 ghost use Rattle.std.specs.Prelude.{refl};
 ghost use Rattle.ac_syntax.specs.Canonical.{literal_text};
 ghost use Rattle.ac_calls.specs.Holdings.{a_set};
+ghost use Rattle.ac_calls.specs.KeyedReplies.{order_by};
 ghost use Rattle.ac_calls.specs.SetReplies.{set_own};
 ghost use Rattle.ac_objects.specs.Sets.{items_of, set_kind_of};
 
@@ -19,7 +20,7 @@ impl<T: ScriptElement> RowObject for Set<T> {
 
     ghost kind = { λ m. a_set (set_kind_of m) T.elem };
 
-    ghost own = { λ m o. set_own T.tools (set_kind_of m) o };
+    ghost own = { λ m o. set_own T.tools (order_by T.tools (set_kind_of m)) o };
 
     fn law(&self) {
         match self {

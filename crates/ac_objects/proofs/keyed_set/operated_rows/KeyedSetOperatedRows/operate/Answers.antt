@@ -22,6 +22,6 @@ pub returns-in_default-clause-replied : goal.returns-in_default-clause-replied
 returns-in_default-clause-replied c =
     let s = c.args.self.now in
     let old = keyed_items s in
-    subst (λ r. Replied r old (items_of c.operate.new.set) (told c.operate.new.reply c.operate.result))
+    subst (λ r. Replied r old (items_of c.operate.new.self) (told c.operate.new.reply c.operate.result))
     (sym (not_by_key (plain old.object) itself (seen_by (plain old.object) (arguments_of c.args.args.now)) (keyed_kind s) c.args.operation c.in_default.not-Keyed))
     c.operate.ensures.replied

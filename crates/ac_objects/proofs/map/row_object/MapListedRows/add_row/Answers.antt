@@ -1,15 +1,17 @@
-use Rattle.std.proofs.Common.{subst}
-use Rattle.ac_io.specs.Pieces.{Adds}
-use Rattle.ac_syntax.specs.Canonical.{literal_text}
-use Rattle.ac_calls.specs.Listings.{entry_text}
-use Rattle.ac_objects.proofs.Entries.{entry_is}
+use Rattle.std.proofs.Common.{◌≡◌, subst, Some}
+use Rattle.ac_model.specs.Forms.{seen_by}
+use Rattle.ac_model.specs.Objects.{plain}
+use Rattle.ac_model.specs.Sequences.{element_call}
+use Rattle.ac_objects.specs.declared.map.Map.{Map}
+use Rattle.ac_objects.specs.Maps.{entries_of}
 use Rattle.ac_objects.proofs.map.row_object.MapListedRows.add_row.Goals as goal
 
-pub returns-clause-adds : goal.returns-clause-adds
-returns-clause-adds g c row is =
-    let key = λ (k : g.row.K.Denot). literal_text (g.K.ScriptElement.tools.to_value k) in
-    let element = λ (e : g.row.V.Denot). literal_text (g.V.ScriptElement.tools.to_value e) in
-    let sink = g.W.Sink in
-    subst (λ r. Adds sink.held sink.faults sink.room sink.counts_failures c.args.sink.now c.add_entry.new.sink
-    c.args.text.now.items c.add_entry.new.text.items (entry_text key element r) c.add_entry.result)
-    (entry_is _ row c.in-Ok.key.now c.in-Ok-element.element.now is c.in-Ok.ensures.1 c.in-Ok-element.ensures.1) c.add_entry.ensures.adds
+pub returns-in-Hashed-clause-adds : goal.returns-in-Hashed-clause-adds
+returns-in-Hashed-clause-adds g c row is =
+    c.add_row.ensures.adds row
+    (subst (λ (m : Map _ _ _ _). (element_call (plain (entries_of m).object) (seen_by (entries_of m) c.args.c)).answer ≡ Some row) c.in-Hashed.is is)
+
+pub returns-in-Ordered-clause-adds : goal.returns-in-Ordered-clause-adds
+returns-in-Ordered-clause-adds g c row is =
+    c.add_row-in-Ordered.ensures.adds row
+    (subst (λ (m : Map _ _ _ _). (element_call (plain (entries_of m).object) (seen_by (entries_of m) c.args.c)).answer ≡ Some row) c.in-Ordered.is is)

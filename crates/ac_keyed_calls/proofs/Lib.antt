@@ -1,0 +1,8 @@
+mod Alike
+pub mod Beside
+pub mod OwnInserted
+mod SetOperations
+pub mod Entries
+pub mod MapOperations
+pub mod MapWords
+pub mod PutEntries

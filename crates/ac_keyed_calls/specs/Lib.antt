@@ -1,0 +1,3 @@
+pub mod KeyCalls
+pub mod SetCalls
+pub mod MapCalls

@@ -1,5 +1,0 @@
-use Rattle.ac_calls.proofs.Own.{own_cursor, mark_for_own}
-use Rattle.ac_objects.proofs.key_calls.own_cursors.key_floor.Goals as goal
-
-pub returns : goal.returns
-returns c = let o = c.args.set.now.object in own_cursor o _ _ (mark_for_own o.number _) c.key_floor.ensures

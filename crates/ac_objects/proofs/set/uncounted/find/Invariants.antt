@@ -1,4 +1,0 @@
-use Rattle.ac_objects.proofs.set.uncounted.find.Given as goal
-
-abbrev pub ghosts-find_counted : goal.ghosts-find_counted
-ghosts-find_counted g a = record { name = a.blank.name; parts = a.blank.parts }
