@@ -1,9 +1,8 @@
 -- What an operation comes to on a map, by the arguments as the object sees them.
 use Rattle.std.proofs.Common.{◌≡◌, ℕ, refl, sym, ap, subst, ◌∙◌}
-use Rattle.std.specs.Prelude.{Result, Ok, Err}
+use Rattle.std.specs.Prelude.{Result}
 use Rattle.ac_base.specs.declared.fault.Fault.{Fault}
-use Rattle.ac_base.specs.declared.fault.Fault.TheVariants as fault
-use Rattle.ac_model.specs.Objects.{Object, plain}
+use Rattle.ac_model.specs.Objects.{Object}
 use Rattle.ac_model.specs.Containers.{Container}
 use Rattle.ac_model.specs.Maps.{first_element_call, last_element_call}
 use Rattle.ac_model.specs.Rows.{Entry}
@@ -23,7 +22,7 @@ use Rattle.ac_calls.specs.Replies as replies
 use Rattle.ac_calls.specs.Replies.{Source, tells, looks, value_answer, as_value}
 use Rattle.ac_calls.specs.SequenceReplies.{capacity_reply, common_reply}
 use Rattle.ac_calls.specs.declared.reply.Reply.{Reply}
-use Rattle.ac_calls.specs.Replied.{Replied, RepliedWith, SourceAfter}
+use Rattle.ac_calls.specs.Replied.{Replied, RepliedWith}
 
 -- the same reply in other words
 module _ {V : Type 0} {r s : replies.Reply (Object ℕ V)} (same : r ≡ s) where
@@ -33,20 +32,6 @@ module _ {V : Type 0} {r s : replies.Reply (Object ℕ V)} (same : r ≡ s) wher
   pub in_words_with : (old source new source_new : Container V) (result : Result Reply Fault)
       → RepliedWith r old source new source_new result → RepliedWith s old source new source_new result
   in_words_with old source new source_new result h = subst (λ q. RepliedWith q old source new source_new result) same h
-
--- a call without a source leaves another object as it is
-pub beside : {V : Type 0} (r : replies.Reply (Object ℕ V)) (old source new : Container V) (result : Result Reply Fault)
-    → Replied r old new result → RepliedWith r old source new source result
-beside r old source new (Ok made) h = record {
-  goes = h.goes;
-  reason = h.reason;
-  after = h.after;
-  source_after = subst (λ s. SourceAfter source source s) (sym h.source) refl;
-  says = h.says;
-  variable = h.variable;
-}
-beside r old source new (Err (fault.Raised reason)) h = (h.0, h.1, refl)
-beside r old source new (Err fault.NoMemory) h = (h, refl)
 
 module _ {K V : Type 0} (keys : Tools K) (tools : Tools V) (which : KeyedKind) (o : Object ℕ (Entry K V)) (source : Source (Object ℕ (Entry K V)))
     (args : replies.Arguments) where

@@ -7,4 +7,4 @@ pub returns : goal.returns
 returns g c =
     let o = c.args.self.now.object in
     own_cursor o _ _ (mark_for_own o.number _)
-    (search_in_words (λ passes p. ceiling_call passes p) c.args.key.now c.ceiling_by.result g.met.M.OrderedMapKind.below_is c.self.view_is c.ceiling_by.ensures)
+    (search_in_words (λ passes p. ceiling_call passes p) c.args.key.now c.ceiling.result g.met.M.OrderedMapKind.below_is c.self.view_is c.ceiling.ensures)
