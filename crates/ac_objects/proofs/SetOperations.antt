@@ -1,5 +1,5 @@
 -- What an operation on a hashed set and on an ordered one comes to is what it comes to on a set of either kind.
-use Rattle.std.proofs.Common.{◌≡◌, ℕ, Bool, refl, sym, subst}
+use Rattle.std.proofs.Common.{◌≡◌, Bool, refl, sym, subst}
 use Rattle.std.specs.Prelude.{Result}
 use Rattle.ac_base.specs.declared.fault.Fault.{Fault}
 use Rattle.ac_model.specs.Containers.{Container}

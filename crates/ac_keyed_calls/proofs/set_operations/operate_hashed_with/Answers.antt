@@ -1,11 +1,11 @@
 use Rattle.std.proofs.Common.{subst, sym}
 use Rattle.ac_model.specs.Containers.{Container}
 use Rattle.ac_model.specs.Objects.{plain}
-use Rattle.ac_syntax.specs.declared.operation.Operation.TheVariants.{SetPair}
 use Rattle.ac_calls.specs.Arguments.{marked}
 use Rattle.ac_calls.specs.KeyedReplies.{of_hashed}
 use Rattle.ac_calls.specs.Replied.{RepliedWith, told}
-use Rattle.ac_calls.specs.Replies.{another}
+use Rattle.ac_calls.specs.Replies.{another, itself}
+use Rattle.ac_calls.specs.SetReplies.{set_reply_by}
 use Rattle.ac_keyed_calls.proofs.Beside.{replied_beside}
 use Rattle.ac_keyed_calls.proofs.SetOperations.{no_source}
 use Rattle.ac_keyed_calls.specs.SetCalls.{SetOperatedWith, SetPairRepliedWith}
@@ -32,4 +32,6 @@ returns-in_default g c =
     subst (λ r. RepliedWith r old source now source made)
     (no_source g.I.Row.ScriptElement.tools g.I.Index.order of_hashed c.args.operation (plain old.object)
     (another (plain source.object) (marked source.object c.args.args.now)) (marked old.object c.args.args.now) c.in_default.not-Common c.in_default.not-SetPair)
-    (replied_beside _ old source now made c.operate_hashed.ensures)
+    (replied_beside
+    (set_reply_by g.I.Row.ScriptElement.tools (plain old.object) itself (marked old.object c.args.args.now) g.I.Index.order of_hashed c.args.operation)
+    old source now made c.operate_hashed.ensures)
