@@ -18,6 +18,7 @@ type P is priority_queue (integer); / type Q is bounded queue (integer); / A : P
   ==> 0 / 6: ok / 12: v: -3 / 13: v: 700 / 14: v: false / 15: v: ok / 16: v: ok / 17: v: 2 / 18: v: 2 / 19: v: ok / 20: v: 4 / 21: v: ok / 22: v: 4 / 23: v: stalled / 27: [700, -3, -9223372036854775808] / 28: 1 / 29: ok / 30: [0]
 type Q is queue (integer); / type L is list (integer); / A : Q; / B : L; / B.Append (0, 2); / for C in B loop / tasks / task U is / begin / A.Enqueue (1); / A.Peak_Use; / end; / end tasks; / A.Print; / B.Clear; / end loop; / declare / D : Q; / begin / tasks / task W is / X : integer; / begin / X := A.Dequeue; / D.Enqueue (X); / D.Enqueue (5); / end; / end tasks; / D.Print; / end; / A.Print;
   ==> 0 / 5: ok / 10: u: ok / 11: u: 1 / 14: [1] / 15: raised PROGRAM_ERROR (cursor tampering) / 10: u: ok / 11: u: 2 / 14: [1, 1] / 15: raised PROGRAM_ERROR (cursor tampering) / 24: w: 1 / 25: w: ok / 26: w: ok / 29: [1, 5] / 31: [1]
+type Q is queue (integer); / A : Q; / tasks / task T is / X : integer; / begin / A.Enqueue (1); / A.Dequeue; / X := A.Current_Use; / X := A.Peak_Use; / A.Enqueue (X); / end; / end tasks; / A.Current_Use; / A.Peak_Use; ==> 0 / 7: t: ok / 8: t: 1 / 9: t: 0 / 10: t: 1 / 11: t: ok / 14: 1 / 15: 1
 # refused tasks
 type Q is queue (integer); / A : Q; / tasks / task T is / begin / A.Print; / end; / end tasks; ==> 1 / line 6: wrong type
 type Q is queue (integer); / A : Q; / N : integer; / tasks / task T is / begin / N := A.Dequeue; / end; / end tasks; ==> 1 / line 7: wrong type
