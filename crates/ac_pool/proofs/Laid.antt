@@ -72,14 +72,6 @@ module _ {X : Type 0} (chunks : List (List (Option X))) (n : ℕ) (h : IsSlots c
     | inr past ↦ get_or_past (cells_in chunks n) i None (omega (arith, length-cells_in)) ∙ sym (h.blank i past)
   ]
 
-  pub none_past : (i : ℕ) → n ≤ i → LiesFrom (λ m. get_or (cells_in chunks n) m None) i []
-  none_past i past = record {
-    first = any_cell i ∙ h.blank i past;
-    each = λ k less. absurd (omega arith);
-    whole = λ k _. any_cell (i + k) ∙ h.blank (i + k) (omega arith);
-    within = omega arith;
-  }
-
   -- the slot i is the j-th of the chunk k, which is cs
   module _ (i k j : ℕ) (lt : i < n) (at : i ≡ 512 * k + j) (within : j < 512) where
     chunk_within : k < length chunks
@@ -88,6 +80,9 @@ module _ {X : Type 0} (chunks : List (List (Option X))) (n : ℕ) (h : IsSlots c
     module _ (cs : List (Option X)) (is : cs ≡ get_or chunks k cs) where
       chunk_is : cs ≡ get_or chunks k []
       chunk_is = is ∙ get_or_default chunks k cs [] chunk_within
+
+      pub chunk_long : length cs ≡ 512
+      chunk_long = ap length chunk_is ∙ h.full k chunk_within
 
       pub cell_in : get_or (cells_in chunks n) i None ≡ get_or cs j None
       cell_in = get_or-take n (all_cells chunks) i None lt ∙ ap (λ m. get_or (all_cells chunks) m None) at ∙ get_in chunks k j None h.full chunk_within within ∙ ap (λ l. get_or l j None) (sym chunk_is)

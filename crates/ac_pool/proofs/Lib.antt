@@ -1,10 +1,15 @@
 pub mod Cells
+pub mod Crosses
+pub mod RawBlocks
+pub mod RawCells
+pub mod Rows
+pub mod Sharing
 pub mod ContentsLaws
 pub mod Cuts
 pub mod Entries
 pub mod Laid
-pub mod Made
 pub mod NameLaws
 pub mod Pooled
 pub mod Runs
 pub mod SlotNames
+pub mod Written

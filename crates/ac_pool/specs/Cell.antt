@@ -2,11 +2,6 @@
 use Rattle.std.specs.Prelude.{◌≡◌, ℕ, get_or, List, Option, Some, None}
 
 module _ {X : Type 0} where
-  -- what is kept, with the serial that stands beside it
-  abbrev pub cell_of : ℕ → Option X → Option (ℕ × X)
-  cell_of serial None = None
-  cell_of serial (Some v) = Some (serial, v)
-
   -- the serial in the cell, or 0 where nothing is kept there
   abbrev pub serial_in : Option (ℕ × X) → ℕ
   serial_in None = 0

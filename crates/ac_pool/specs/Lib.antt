@@ -1,5 +1,8 @@
 pub mod Cell
-pub mod CellLends
+pub mod BlockLends
+pub mod Memory
+pub mod Places
+pub mod Reached
 pub mod ChunkLends
 pub mod Contents
 pub mod Link

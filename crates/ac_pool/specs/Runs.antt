@@ -1,5 +1,5 @@
 -- What a run of slots that lie together has of what all slots keep.
-use Rattle.std.specs.Prelude.{◌≡◌, ℕ, ◌+◌, ◌%◌, ◌<◌, ◌≤◌, List, length, get_or, map, Option, None}
+use Rattle.std.specs.Prelude.{◌≡◌, ℕ, ◌+◌, ◌%◌, ◌<◌, ◌≤◌, List, [], length, get_or, drop, map, Option, Some, None}
 use Rattle.std.specs.Option.{option_map}
 
 module _ {X : Type 0} where
@@ -9,6 +9,16 @@ module _ {X : Type 0} where
 
   abbrev pub values_in : List (Option (ℕ × X)) → List (Option X)
   values_in cells = map kept_in cells
+
+  -- the values in a chunk's cells from the index on
+  abbrev pub run_of : Option (List (Option (ℕ × X))) → ℕ → List (Option X)
+  run_of None index = []
+  run_of (Some cells) index = values_in (drop index cells)
+
+  -- a chunk has no more cells than its own
+  abbrev pub EndsBy : Option (List (Option (ℕ × X))) → Type 0
+  EndsBy None = Unit {0}
+  EndsBy (Some cells) = length cells ≤ 512
 
   -- the run has what is at the slot, and what is at each of the slots behind it, to the end of its chunk: where the run ends before, they keep nothing
   pub record LiesFrom (at : ℕ → Option X) (slot : ℕ) (run : List (Option X)) : Type 0 where

@@ -1,14 +1,6 @@
--- How cells lie in chunks of 512, one after another, of which a chunk has made some.
-use Rattle.std.specs.Prelude.{◌≡◌, ℕ, ◌*◌, ◌-◌, ◌<◌, ◌≤◌, ◌^◌, List, [], ◌++◌, Option, None, get_or, length, take, replicate}
+-- How cells lie in chunks of 512, one after another.
+use Rattle.std.specs.Prelude.{◌≡◌, ℕ, ◌*◌, ◌<◌, ◌≤◌, ◌^◌, List, [], Option, None, get_or, length, take}
 use Rattle.std.specs.List.{flat_map}
-
--- all cells of a chunk, of which these are made: the others keep nothing
-abbrev pub all_in : {X : Type 0} → List (Option X) → List (Option X)
-all_in made = made ++ replicate (512 - length made) None
-
--- what holds of a chunk's cells: there is room for all of them
-abbrev pub IsChunk : {X : Type 0} → List (Option X) → ℕ → Type 0
-IsChunk made capacity = (512 ≤ capacity) × (length made ≤ 512)
 
 -- the cells of all chunks
 abbrev pub all_cells : {X : Type 0} → List (List X) → List X

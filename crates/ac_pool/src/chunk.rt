@@ -1,48 +1,96 @@
-//! A row of cells that never move. Its vector is made with room for all of them, and has those up to the highest that was ever filled:
-//! memory that no value has reached isn't touched.
-ghost use Rattle.std.specs.Prelude.{◌≡◌, ℕ, ◌<◌, ◌≤◌, ◌++◌, get_or, Some, None, length, replicate, slice_set, vec_capacity, IfOk, IfSome, IfNone};
+//! A row of cells that never move. Its cells are written in ascending order, and memory that no value has reached isn't touched.
+ghost use Rattle.std.specs.Prelude.{◌≡◌, ◌⊎◌, ℕ, ◌<◌, ◌≤◌, get_or, Option, Some, None, length, replicate, slice_set, IfOk, option_copied};
 ghost use Rattle.std.specs.Borrow.{sem};
-ghost use Rattle.ac_pool.specs.Cell.{serial_at, IsKept};
-ghost use Rattle.ac_pool.specs.Runs.{IsRunOf};
+ghost use Rattle.ac_pool.specs.Cell.{serial_at, serial_of, IsKept};
+ghost use Rattle.ac_pool.specs.Places.{IsWritten, AreBare};
+ghost use Rattle.ac_pool.specs.Reached.{IsMarked, IsReached, Reaches, Empties};
+ghost use Rattle.ac_pool.specs.Runs.{kept_in};
 
-use crate::cell::Cell;
+use crate::block::Block;
 use std::alloc::{AllocError, Global};
 use std::marker::Model;
 
-/// Every chunk has so many cells.
-pub(crate) const CELLS: usize = 512;
-
-/// Makes the cells below the index, each empty.
-fn make_below<T>(cells: &mut Vec<Cell<T>>, index: usize)
-    requires room { index ≤ vec_capacity cells.old }
-    ensures made { (n : ℕ) × (cells.new.items ≡ cells.old.items ++ replicate n None) }
-    ensures there { index ≤ length cells.new.items }
-    ensures short { length cells.old.items ≤ 512 → index < 512 → length cells.new.items ≤ 512 }
-    ensures capacity { vec_capacity cells.new ≡ vec_capacity cells.old }
+/// Writes the cells that lie before the index and were never written, which are free then. The value goes through each of them and comes
+/// back, so that no function of its own writes a serial alone.
+fn reach<T>(block: &mut Block<T>, reached: usize, index: usize, given: T) -> T
+    requires long { length block.old.cells ≡ 512 }
+    requires within { index ≤ 512 }
+    requires fresh { (i : ℕ) → reached ≤ i → get_or block.old.cells i None ≡ None }
+    ensures value { result ≡ given }
+    ensures cells { Reaches block.old.cells block.new.cells reached index }
 {
-    for _ in cells.len()..index {
-        cells.push_reserved(Cell::empty());
+    let mut value = given;
+    for at in reached..index {
+        block.put(at, 1, value);
+        value = block.take(at);
+    }
+    value
+}
+
+/// The greater of the two.
+#[inline(always)]
+fn furthest(reached: usize, next: usize) -> usize
+    ensures bounds { (reached ≤ result) × (next ≤ result) }
+    ensures one { (result ≡ reached) ⊎ (result ≡ next) }
+{
+    if reached < next { next } else { reached }
+}
+
+/// Drops the value in the cell, if it keeps one.
+fn empty_cell<T: Drop>(block: &mut Block<T>, index: usize)
+    requires written { IsWritten block.old.cells index }
+    requires marked { (c : ℕ × Option T) → get_or block.old.cells index None ≡ Some c → IsMarked c.0 c.1 }
+    ensures { Empties block.old.cells block.new.cells index }
+{
+    if block.serial(index) != 0 {
+        let _value = block.take(index);
     }
 }
 
-#[derive(Drop)]
+/// Drops all values.
+fn empty_cells<T: Drop>(block: &mut Block<T>, reached: usize)
+    requires { IsReached block.old.cells reached }
+    ensures { AreBare block.new.cells }
+{
+    for index in 0..reached {
+        empty_cell(block, index);
+    }
+}
+
 pub struct Chunk<T> {
-    cells: Vec<Cell<T>>,
+    block: Block<T>,
+    // The cells below were written, and no other.
+    reached: usize,
+    alloc: Global,
 }
 
 impl<T> Model for Chunk<T> {
-    ghost use Rattle.std.specs.Prelude.{ℕ, List, Option, vec_capacity};
+    ghost use Rattle.std.specs.Prelude.{ℕ, List, Option, map};
     ghost use Rattle.std.specs.Coded.{coded×, coded_list, coded_option, coded_ℕ};
 
     ghost Value = { List (Option (ℕ × T)) };
 
     ghost coded = { coded_list (coded_option (coded× coded_ℕ T.code)) };
 
-    ghost use Rattle.ac_pool.specs.Slots.{all_in, IsChunk};
+    ghost use Rattle.ac_pool.specs.Places.{kept};
+    ghost use Rattle.ac_pool.specs.Reached.{IsReached};
 
-    ghost view = { λ c. all_in c.cells.items };
+    ghost view = { λ c. map kept c.block.cells };
 
-    ghost invariant = { λ c. IsChunk c.cells.items (vec_capacity c.cells) };
+    ghost invariant = { λ c. IsReached c.block.cells c.reached };
+}
+
+impl<T: Drop> Drop for Chunk<T> {
+    fn drop(self) {
+        let Chunk {
+            block,
+            reached,
+            alloc,
+        } = self;
+        let mut block = block;
+        empty_cells(&mut block, reached);
+        block.free(&alloc);
+    }
 }
 
 impl<T> Chunk<T> {
@@ -51,46 +99,50 @@ impl<T> Chunk<T> {
     pub(crate) fn new(alloc: Global) -> Result<Chunk<T>, AllocError>
         ensures { IfOk result (λ c. c ≡ replicate 512 None) }
     {
-        let cells = Vec::with_capacity(alloc, CELLS)?;
-        Ok(Chunk { cells })
+        let block = Block::allocate(&alloc)?;
+        Ok(Chunk {
+            block,
+            reached: 0,
+            alloc,
+        })
     }
 
-    /// The cell, if it is made: those that aren't keep nothing.
+    /// The serial of the value in the cell, if there is such a cell and it keeps one.
     #[inline(always)]
-    pub(crate) fn cell(&self, index: usize) -> Option<&Cell<T>>
-        ensures made { IfSome result (λ cell. cell.now ≡ get_or self.now index None) }
-        ensures none { IfNone result (get_or self.now index None ≡ None) }
+    pub(crate) fn serial(&self, index: usize) -> Option<u64>
+        ensures { result ≡ serial_of (get_or self.now index None) }
     {
-        match self.cells.get(index) {
-            Some(cell) => Some(cell),
+        if index >= self.reached {
+            return None;
+        }
+        match self.block.serial(index) {
+            0 => None,
+            serial => Some(serial),
+        }
+    }
+
+    /// The value in the cell, if there is such a cell and it keeps one.
+    #[inline(always)]
+    pub(crate) fn value(&self, index: usize) -> Option<&T>
+        ensures { option_copied result ≡ kept_in (get_or self.now index None) }
+    {
+        match self.serial(index) {
+            Some(_) => Some(self.block.value(index)),
             None => None,
         }
-    }
-
-    /// The cells from this one on, but for empty ones at the end.
-    #[inline(always)]
-    pub(crate) fn cells_from(&self, index: usize) -> &[Cell<T>]
-        requires { index < 512 }
-        ensures { IsRunOf self.now index result.now }
-    {
-        if index >= self.cells.len() {
-            return &[];
-        }
-        &self.cells[index..]
     }
 
     #[inline(always)]
     pub(crate) fn put(&mut self, index: usize, serial: u64, value: T)
         requires within { index < 512 }
         requires empty { get_or self.old index None ≡ None }
+        requires serial { 0 < serial }
         ensures { self.new ≡ slice_set self.old index (Some (serial, value)) }
     {
-        make_below(&mut self.cells, index);
-        if index == self.cells.len() {
-            self.cells.push_reserved(Cell::keeping(serial, value));
-            return;
-        }
-        self.cells[index].put(serial, value);
+        let value = reach(&mut self.block, self.reached, index, value);
+        self.block.put(index, serial, value);
+        let reached = furthest(self.reached, index + 1);
+        self.reached = reached;
     }
 
     #[inline(always)]
@@ -99,7 +151,7 @@ impl<T> Chunk<T> {
         ensures value { get_or self.old index None ≡ Some (serial_at self.old index, result) }
         ensures cells { self.new ≡ slice_set self.old index None }
     {
-        self.cells[index].take()
+        self.block.take(index)
     }
 
     #[inline(always)]
@@ -108,6 +160,6 @@ impl<T> Chunk<T> {
         ensures* writes_back { sem 𝓛 (lends_cell_value T.row self.entry index result) }
         ensures value { get_or self.old index None ≡ Some (serial_at self.old index, result.now) }
     {
-        self.cells[index].value_mut()
+        self.block.value_mut(index)
     }
 }

@@ -1,7 +1,7 @@
 //! A pool of values under names: slots in chunks that never move, used again under fresh serials.
 #![tactic(auto)]
 
-mod cell;
+mod block;
 mod chunk;
 mod growth;
 mod link;
@@ -10,7 +10,7 @@ mod run;
 mod slots;
 
 #[doc(hidden)]
-pub use cell::Cell;
+pub use block::Block;
 #[doc(hidden)]
 pub use chunk::Chunk;
 pub use link::{NO_SLOT, link_to};

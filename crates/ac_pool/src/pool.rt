@@ -175,13 +175,12 @@ impl<T> Pool<T> {
         self.slots.value(slot as usize)
     }
 
-    /// The slots from this one to the end of its chunk, each with the value under its live name, but for those that keep nothing at the
-    /// end, or none where there is no such slot.
+    /// The slots from this one to the end of its chunk, each with the value under its live name, or none where there is no such slot.
     #[inline(always)]
     pub fn run_at(&self, slot: u32) -> Run<'_, T>
         ensures { LiesFrom (value_in self.now) slot result }
     {
-        Run::over(self.slots.cells_from(slot as usize))
+        self.slots.run_at(slot as usize)
     }
 
     /// The value under the name, or `None` where the name is not live.

@@ -1,11 +1,12 @@
 //! The slots of a pool: chunks that never move, to which a growth adds more. A contract sees their cells as one list.
-ghost use Rattle.std.specs.Prelude.{◌≡◌, ℕ, ◌+◌, ◌*◌, ◌^◌, ◌<◌, ◌≤◌, get_or, List, [], ◌++◌, Option, Some, None, length, replicate, slice_set, OnOk, OnErr, IfSome, IfNone, option_copied};
+ghost use Rattle.std.specs.Prelude.{◌≡◌, ℕ, ◌+◌, ◌*◌, ◌^◌, ◌<◌, ◌≤◌, get_or, List, [], ◌++◌, Option, Some, None, length, replicate, slice_set, OnOk, OnErr, option_copied};
 ghost use Rattle.std.specs.Borrow.{sem};
 ghost use Rattle.ac_pool.specs.Cell.{serial_of, serial_at, IsKept};
-ghost use Rattle.ac_pool.specs.Runs.{kept_in, LiesFrom};
+ghost use Rattle.ac_pool.specs.Runs.{kept_in, values_in, LiesFrom};
 
-use crate::cell::Cell;
-use crate::chunk::{CELLS, Chunk};
+use crate::block::CELLS;
+use crate::chunk::Chunk;
+use crate::run::Run;
 use std::alloc::{AllocError, Global};
 use std::marker::Model;
 
@@ -92,40 +93,30 @@ impl<T> Slots<T> {
         self.len
     }
 
-    // By a division and its remainder, so that several reads of one slot find its cell once.
-    #[inline(always)]
-    fn cell(&self, slot: usize) -> Option<&Cell<T>>
-        ensures made { IfSome result (λ cell. cell.now ≡ get_or self.now slot None) }
-        ensures none { IfNone result (get_or self.now slot None ≡ None) }
-    {
-        if slot >= self.len() {
-            return None;
-        }
-        let chunk = &self.chunks[chunk_of(slot)];
-        chunk.cell(slot % CELLS)
-    }
+    // A slot's cell is found by a division and its remainder, so that several reads of one slot find it once.
 
     /// The value in the slot, if there is such a slot and it keeps one.
     #[inline(always)]
     pub(crate) fn value(&self, slot: usize) -> Option<&T>
         ensures { option_copied result ≡ kept_in (get_or self.now slot None) }
     {
-        match self.cell(slot) {
-            Some(cell) => cell.value(),
-            None => None,
-        }
-    }
-
-    /// The cells from the slot to the end of its chunk, but for empty ones at the end, or none where there is no such slot.
-    #[inline(always)]
-    pub(crate) fn cells_from(&self, slot: usize) -> &[Cell<T>]
-        ensures { LiesFrom (λ i. get_or self.now i None) slot result.now }
-    {
         if slot >= self.len() {
-            return &[];
+            return None;
         }
         let chunk = &self.chunks[chunk_of(slot)];
-        chunk.cells_from(slot % CELLS)
+        chunk.value(slot % CELLS)
+    }
+
+    /// The slots from this one to the end of its chunk, or none where there is no such slot.
+    #[inline(always)]
+    pub(crate) fn run_at(&self, slot: usize) -> Run<'_, T>
+        ensures { (cells : List (Option (ℕ × T))) × (result ≡ values_in cells) × LiesFrom (λ i. get_or self.now i None) slot cells }
+    {
+        if slot >= self.len() {
+            return Run::none();
+        }
+        let chunk = &self.chunks[chunk_of(slot)];
+        Run::over(chunk, slot % CELLS)
     }
 
     /// The serial of the value in the slot, if there is such a slot and it keeps one.
@@ -133,16 +124,18 @@ impl<T> Slots<T> {
     pub(crate) fn serial(&self, slot: usize) -> Option<u64>
         ensures { result ≡ serial_of (get_or self.now slot None) }
     {
-        match self.cell(slot) {
-            Some(cell) => cell.serial(),
-            None => None,
+        if slot >= self.len() {
+            return None;
         }
+        let chunk = &self.chunks[chunk_of(slot)];
+        chunk.serial(slot % CELLS)
     }
 
     #[inline(always)]
     pub(crate) fn put(&mut self, slot: usize, serial: u64, value: T)
         requires within { slot < length self.old }
         requires empty { get_or self.old slot None ≡ None }
+        requires serial { 0 < serial }
         ensures { self.new ≡ slice_set self.old slot (Some (serial, value)) }
     {
         let chunk = &mut self.chunks[chunk_of(slot)];

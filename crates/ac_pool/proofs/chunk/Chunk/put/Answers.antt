@@ -1,28 +1,25 @@
-use Rattle.std.proofs.Common.{◌≡◌, ◌+◌, ◌≤◌, ◌<◌, [], ◌∷◌, ◌++◌, length, set, replicate, None, Some, ap, ◌∙◌, sym, arith, length-append}
-use Rattle.std.proofs.lemmas.List.{length-replicate}
-use Rattle.ac_pool.specs.Slots.{all_in}
-use Rattle.ac_pool.proofs.Made.{set_made, more_made, next_made}
+use Rattle.std.proofs.Common.{◌≡◌, get_or, set, map, Some, None, sym, ap, ◌∙◌, subst, inr, arith}
+use Rattle.std.proofs.lemmas.List.{map-set}
+use Rattle.ac_pool.specs.Places.{kept, value_of_place}
+use Rattle.ac_pool.specs.Runs.{kept_in}
+use Rattle.ac_pool.specs.Reached.{IsReached}
+use Rattle.ac_pool.proofs.Written.{value_seen, same_kept, reached_put}
 use Rattle.ac_pool.proofs.chunk.Chunk.put.Goals as goal
 
-pub returns-then-index-len : goal.returns-then-index-len
-returns-then-index-len g c =
-    let made = c.self.inside.cells.items in let i = c.args.index in let m = c.make_below.ensures in let n = m.made.0 in
-    let long : length c.make_below.new.cells.items ≡ length made + n = ap length m.made.1 ∙ length-append made (replicate n None) ∙ ap (λ k. length made + k) (length-replicate n None) in
-    let few : length c.make_below.new.cells.items ≤ 512 = m.short c.self.invariant.1 c.requires.within in
-    let at : i ≡ length c.make_below.new.cells.items = omega (arith, c.if-index-len.true, c.len.ensures, c.make_below.new.cells.ok) in
-    let less : length c.make_below.new.cells.items < 512 = omega (arith, at, c.requires.within) in
-    rw (← c.self.view_is) (
-    ap all_in c.push_reserved.ensures.items ∙ ap (λ e. all_in (c.make_below.new.cells.items ++ e ∷ [])) c.keeping.ensures ∙ next_made c.make_below.new.cells.items (Some (c.args.serial, c.args.value)) less
-    ∙ ap (λ k. set (all_in c.make_below.new.cells.items) k (Some (c.args.serial, c.args.value))) (sym at)
-    ∙ ap (λ l. set l i (Some (c.args.serial, c.args.value))) (ap all_in m.made.1 ∙ more_made made n (omega (arith, long, few))))
+pub put-requires-clause-bare : goal.put-requires-clause-bare
+put-requires-clause-bare g c =
+    let cells = c.self.inside.block.cells in let i = c.args.index in let none : get_or (map kept cells) i None ≡ None = rw c.self.view_is c.requires.empty in
+    ap value_of_place (c.reach-value.ensures.cells.outside i (inr (omega arith))) ∙ sym (value_seen cells i) ∙ ap kept_in none
+
+pub invariant_of-self : goal.invariant_of-self
+invariant_of-self g c =
+    let a = c.self.inside in let i = c.args.index in let f = c.furthest-reached in
+    subst (λ l. IsReached l f.result) (sym c.put.ensures)
+    (reached_put a.block.cells a.reached c.self.invariant c.reach-value.new.block.cells i c.reach-value.ensures.cells c.args.serial c.reach-value.result f.result c.requires.within c.requires.serial f.ensures.bounds.0 f.ensures.bounds.1 f.ensures.one)
 
 pub returns : goal.returns
 returns g c =
-    let made = c.self.inside.cells.items in let i = c.args.index in let m = c.make_below.ensures in let n = m.made.0 in
-    let long : length c.make_below.new.cells.items ≡ length made + n = ap length m.made.1 ∙ length-append made (replicate n None) ∙ ap (λ k. length made + k) (length-replicate n None) in
-    let few : length c.make_below.new.cells.items ≤ 512 = m.short c.self.invariant.1 c.requires.within in
-    let less : i < length c.make_below.new.cells.items = omega (arith, m.there, c.if-index-len.false, c.len.ensures, c.make_below.new.cells.ok) in
+    let a = c.self.inside in let cells = a.block.cells in let i = c.args.index in let now = c.reach-value.new.block.cells in let s = c.args.serial in
     rw (← c.self.view_is) (
-    ap (λ v. all_in (set c.make_below.new.cells.items i v)) c.put.ensures
-    ∙ set_made c.make_below.new.cells.items i (Some (c.args.serial, c.args.value)) less
-    ∙ ap (λ l. set l i (Some (c.args.serial, c.args.value))) (ap all_in m.made.1 ∙ more_made made n (omega (arith, long, few))))
+    ap (map kept) c.put.ensures ∙ map-set kept now i (Some (s, Some c.reach-value.result)) ∙ ap (λ l. set l i (Some (s, c.reach-value.result))) (same_kept cells a.reached c.self.invariant now i c.reach-value.ensures.cells)
+    ∙ ap (λ v. set (map kept cells) i (Some (s, v))) c.reach-value.ensures.value)

@@ -61,3 +61,13 @@ returns-clause-sound g c =
     c.put-2.ensures ∙ ap (λ l. set l j (Some (t, x))) (c.put.ensures ∙ ap (λ l. set l i (Some (s, y))) (c.take-at_b.ensures.cells ∙ ap (λ l. set l j None) gone))
     ∙ exchanged_is a.slots i j s t x y apart at_i at_j in
     subst (λ cells. IsSound (contents (entries_in cells) a.next_serial a.spare)) (sym is) (sound _ a.free.items (vec_capacity a.free) a.spare a.next_serial (IsPool-exchanged a.slots i j s t x y apart at_i at_j a.free.items (vec_capacity a.free) a.spare a.next_serial h))
+
+pub put-requires-clause-serial : goal.put-requires-clause-serial
+put-requires-clause-serial g c =
+    let a = c.self.inside in let h = c.self.invariant in let la : IsLive (contents (entries_in a.slots) a.next_serial a.spare) c.args.a = subst (λ x. IsLive x c.args.a) (sym c.self.view_is) c.requires.live.0 in
+    let ka = live_cell a.slots a.free.items (vec_capacity a.free) a.spare a.next_serial h c.args.a la in (h.issued c.args.a.slot (c.args.a.serial, ka.0) ka.1).0
+
+pub put-requires-2-clause-serial : goal.put-requires-2-clause-serial
+put-requires-2-clause-serial g c =
+    let a = c.self.inside in let h = c.self.invariant in let lb : IsLive (contents (entries_in a.slots) a.next_serial a.spare) c.args.b = subst (λ x. IsLive x c.args.b) (sym c.self.view_is) c.requires.live.1 in
+    let kb = live_cell a.slots a.free.items (vec_capacity a.free) a.spare a.next_serial h c.args.b lb in (h.issued c.args.b.slot (c.args.b.serial, kb.0) kb.1).0

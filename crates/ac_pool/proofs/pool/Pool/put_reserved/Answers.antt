@@ -47,3 +47,6 @@ returns-clause-sound g c =
     let put = IsPool-put a.slots a.free.items room a.spare a.next_serial h some i left is c.args.value (omega arith) in
     subst (λ cells. IsSound (contents (entries_in cells) (a.next_serial + 1) (a.spare - 1))) (sym c.put.ensures)
     (sound _ left room (a.spare - 1) (a.next_serial + 1) put)
+
+pub put-requires-clause-serial : goal.put-requires-clause-serial
+put-requires-clause-serial g c = c.self.invariant.next.0

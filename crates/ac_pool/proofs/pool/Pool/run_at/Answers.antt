@@ -8,6 +8,6 @@ use Rattle.ac_pool.proofs.pool.Pool.run_at.Goals as goal
 
 pub returns : goal.returns
 returns g c =
-    let a = c.self.inside in let h = c.self.invariant in let i = c.args.slot in
-    let run : LiesFrom (value_in (contents (entries_in a.slots) a.next_serial a.spare)) i c.over.result = rw c.over.ensures (run_is a.slots a.free.items (vec_capacity a.free) a.spare a.next_serial h i c.cells_from.result.now c.cells_from.ensures) in
-    subst (λ x. LiesFrom (value_in x) i c.over.result) c.self.view_is run
+    let a = c.self.inside in let h = c.self.invariant in let i = c.args.slot in let e = c.run_at.ensures in
+    let run : LiesFrom (value_in (contents (entries_in a.slots) a.next_serial a.spare)) i c.run_at.result = rw e.1 (run_is a.slots a.free.items (vec_capacity a.free) a.spare a.next_serial h i e.0 e.2) in
+    subst (λ x. LiesFrom (value_in x) i c.run_at.result) c.self.view_is run
