@@ -145,19 +145,30 @@ fn each_live_value_is_dropped_once(rt: HostRuntime) {
     let drops = Cell::new(0);
     {
         let mut pool = Pool::new(rt.alloc());
-        for _ in 0..20 {
+        for _ in 0..600 {
             put(&rt, &mut pool, Counted { drops: &drops });
         }
         pool.clear();
-        assert!(rt; drops.get() == 20);
-        let name = put(&rt, &mut pool, Counted { drops: &drops });
-        for _ in 0..11 {
+        assert!(rt; drops.get() == 600);
+        for _ in 0..520 {
             put(&rt, &mut pool, Counted { drops: &drops });
         }
-        assert!(rt; pool.take(name).is_some());
-        assert!(rt; drops.get() == 21);
     }
-    assert!(rt; drops.get() == 32);
+    assert!(rt; drops.get() == 1120);
+}
+
+#[test]
+fn a_taken_value_is_dropped_where_it_went(rt: HostRuntime) {
+    let drops = Cell::new(0);
+    let taken = {
+        let mut pool = Pool::new(rt.alloc());
+        put(&rt, &mut pool, Counted { drops: &drops });
+        let name = put(&rt, &mut pool, Counted { drops: &drops });
+        pool.take(name)
+    };
+    assert!(rt; drops.get() == 1);
+    drop(taken);
+    assert!(rt; drops.get() == 2);
 }
 
 #[test]
