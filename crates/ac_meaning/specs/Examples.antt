@@ -221,6 +221,21 @@ SumsStayInRange =
     ∷ codes "7: raised CONSTRAINT_ERROR (overflow)"
     ∷ codes "8: raised CONSTRAINT_ERROR (overflow)" ∷ [])
 
+-- a string variable is empty at first, takes strings, and is an argument as a literal is
+abbrev pub StringsAreKept : Type 0
+StringsAreKept =
+    text_of (script (list_type 1 Str ∷ list 2 (codes "a") ∷ decl.TextVar 3 (codes "s") ∷ decl.TextVar 3 (codes "t") ∷ [])
+    (one (set_at 4 (codes "t") (Var (codes "s")))
+    (one (set_at 5 (codes "s") (string (codes "it is \"so\"")))
+    (one (called 6 (codes "a") (codes "append") (Var (codes "s") ∷ []))
+    (one (set_at 7 (codes "s") (string (codes "b")))
+    (one (gets 8 (codes "t") (codes "a") (codes "last_element") [])
+    (one (called 9 (codes "a") (codes "contains") (Var (codes "t") ∷ []))
+    (one (called 10 (codes "a") (codes "contains") (Var (codes "s") ∷ []))
+    (one (set_at 11 (codes "s") (Var (codes "t"))) stop)))))))))
+    ≡ lines (codes "4: \"\"" ∷ codes "5: \"it is \"\"so\"\"\"" ∷ codes "6: ok" ∷ codes "7: \"b\"" ∷ codes "8: \"it is \"\"so\"\"\""
+    ∷ codes "9: true" ∷ codes "10: false" ∷ codes "11: \"it is \"\"so\"\"\"" ∷ [])
+
 -- a loop over cursors lets elements be replaced, and one over the elements doesn't
 abbrev pub LoopsHoldTheirGuards : Type 0
 LoopsHoldTheirGuards =

@@ -12,6 +12,7 @@ pub mod Numbers
 pub mod Laws
 pub mod Examples
 pub mod KeyedExamples
+pub mod KeyedCallExamples
 pub mod TreeExamples
 pub mod HolderExamples
 pub mod TaskExamples

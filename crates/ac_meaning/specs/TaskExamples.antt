@@ -143,6 +143,26 @@ LocalsAreOwn =
     ≡ lines (codes "4: ok" ∷ codes "7: u: 40" ∷ codes "12: v: -3" ∷ codes "8: u: ok" ∷ codes "13: v: 700" ∷ codes "14: v: false"
     ∷ codes "15: v: ok" ∷ codes "16: v: ok" ∷ codes "18: [700, 40, -3]" ∷ [])
 
+-- a task is told how many items are held, and how many at most were
+abbrev pub UsesAreTold : Type 0
+UsesAreTold =
+    text_of (script (queue_type 1 false kind.Queue ∷ queue 2 None ∷ [])
+    (block (tasks_at 3)
+    (counting 4 (codes "t")
+    (puts 7 (number 5)
+    (puts 8 (number 6)
+    (takes 9 (codes "x")
+    (one (gets 10 (codes "x") (codes "a") (codes "current_use") [])
+    (puts 11 (Var (codes "x"))
+    (asks 12 (codes "dequeue")
+    (one (gets 13 (codes "x") (codes "a") (codes "peak_use") [])
+    (puts 14 (Var (codes "x"))
+    (asks 15 (codes "current_use")
+    (asks 16 (codes "peak_use") stop)))))))))) stop)
+    (asks 19 (codes "print") stop)))
+    ≡ lines (codes "7: t: ok" ∷ codes "8: t: ok" ∷ codes "9: t: 5" ∷ codes "10: t: 1" ∷ codes "11: t: ok" ∷ codes "12: t: 6"
+    ∷ codes "13: t: 2" ∷ codes "14: t: ok" ∷ codes "15: t: 2" ∷ codes "16: t: 2" ∷ codes "19: [1, 2]" ∷ [])
+
 -- a block runs anew in each turn of a loop, by an order of its own
 abbrev pub in_turn : Orders
 in_turn zero = []

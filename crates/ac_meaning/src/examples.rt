@@ -2,12 +2,14 @@
 ghost use Rattle.ac_meaning.specs.Examples.{LoopForbidsAppend, DeadCursorIsRefused, TamperingGoesFirst, StableLetsWrite};
 ghost use Rattle.ac_meaning.specs.Examples.{ViewWritesElement, InnerObjectsAreNew, SplicesMove};
 ghost use Rattle.ac_meaning.specs.Examples.{RefusedSetsNothing, SumsStayInRange, LoopsHoldTheirGuards, SpentNumberSkipsBlock};
-ghost use Rattle.ac_meaning.specs.Examples.{ElementsComeAndGo, ElementsMove, ListsGiveAndTake};
+ghost use Rattle.ac_meaning.specs.Examples.{StringsAreKept, ElementsComeAndGo, ElementsMove, ListsGiveAndTake};
 ghost use Rattle.ac_meaning.specs.Examples.{VectorLoopsHoldTheirGuards, IndexesAreInRange, CursorsKeepElements, BoundedVectorIsFull};
 ghost use Rattle.ac_meaning.specs.Examples.{ElementsHaveIndexes, VectorsTakeCopies};
 ghost use Rattle.ac_meaning.specs.KeyedExamples.{MapsKeepArrival, SetsStandAscending, OrderedMapsHaveEnds, SetsAreGuardedWhole, SetsAreJoined};
 ghost use Rattle.ac_meaning.specs.KeyedExamples.{SetsMeetThemselves, KeysAreUpdated, KeysTellElements, KeysAreJoined, KeysAreReplaced};
 ghost use Rattle.ac_meaning.specs.KeyedExamples.{KeysAreLookedUp};
+ghost use Rattle.ac_meaning.specs.KeyedCallExamples.{MapsAreWalked, SetsAreWalked, ElementsAreFound, MapsAreSearched, OrderedSetsHaveEnds};
+ghost use Rattle.ac_meaning.specs.KeyedCallExamples.{SetsAreSubtracted, HashedHaveCapacity, MapsLendElements};
 ghost use Rattle.ac_meaning.specs.Examples.{MapIsListed, NoNodesAreListed, TreeIsListed, DeepTreeIsListed};
 ghost use Rattle.ac_meaning.specs.TreeExamples.{NodesComeAndGo, SubtreesAreCopied, NodesAreAsked, WaysLeadOn, NodesAreChanged};
 ghost use Rattle.ac_meaning.specs.TreeExamples.{SubtreesMove, TreesGiveAndTake, DepthsAreCompared, TreeLoopsHoldTheirGuards};
@@ -16,7 +18,7 @@ ghost use Rattle.ac_meaning.specs.HolderExamples.{HolderIsBounded, ViewsGuardHol
 ghost use Rattle.ac_meaning.specs.HolderExamples.{LimitsAreOfBoth, WritesAreWithinLimits, IntegersHaveEightBytes, EmptyStringsHaveNone};
 ghost use Rattle.ac_meaning.specs.HolderExamples.{HoldersMeetThemselves, GuardsAreOfBoth, InnerHoldersAreNew, HoldersHaveNoNodes};
 ghost use Rattle.ac_meaning.specs.TaskExamples.{QueuesStall, PrioritiesGoFirst, AllTasksStall, OneItemGoesByTurns};
-ghost use Rattle.ac_meaning.specs.TaskExamples.{TwoItemsGoAsOrdered, RaisedStepGoesOn, LocalsAreOwn, BlocksHaveOrders};
+ghost use Rattle.ac_meaning.specs.TaskExamples.{TwoItemsGoAsOrdered, RaisedStepGoesOn, LocalsAreOwn, UsesAreTold, BlocksHaveOrders};
 
 /// What small scripts write, to the byte.
 pub fn list_scripts()
@@ -26,6 +28,7 @@ pub fn list_scripts()
     ensures splices_move { SplicesMove }
     ensures refused_sets_nothing { RefusedSetsNothing }
     ensures sums_stay_in_range { SumsStayInRange }
+    ensures strings_are_kept { StringsAreKept }
     ensures loops_hold_their_guards { LoopsHoldTheirGuards }
 {}
 
@@ -66,6 +69,18 @@ pub fn map_and_set_scripts()
     ensures sets_are_guarded_whole { SetsAreGuardedWhole }
     ensures sets_are_joined { SetsAreJoined }
     ensures sets_meet_themselves { SetsMeetThemselves }
+{}
+
+/// The same of the calls that look up, walk and take out.
+pub fn keyed_calls()
+    ensures maps_are_walked { MapsAreWalked }
+    ensures sets_are_walked { SetsAreWalked }
+    ensures elements_are_found { ElementsAreFound }
+    ensures maps_are_searched { MapsAreSearched }
+    ensures ordered_sets_have_ends { OrderedSetsHaveEnds }
+    ensures sets_are_subtracted { SetsAreSubtracted }
+    ensures hashed_have_capacity { HashedHaveCapacity }
+    ensures maps_lend_elements { MapsLendElements }
 {}
 
 /// The same of sets of strings with keys.
@@ -125,6 +140,7 @@ pub fn task_scripts()
     ensures two_items_go_as_ordered { TwoItemsGoAsOrdered }
     ensures raised_step_goes_on { RaisedStepGoesOn }
     ensures locals_are_own { LocalsAreOwn }
+    ensures uses_are_told { UsesAreTold }
     ensures blocks_have_orders { BlocksHaveOrders }
 {}
 

@@ -7,9 +7,9 @@ mod law;
 mod limits;
 
 pub use examples::{
-    holder_calls, holder_scripts, keyed_set_scripts, list_calls, list_scripts, listings,
-    map_and_set_scripts, scope_scripts, task_scripts, tree_calls, tree_scripts, vector_calls,
-    vector_scripts,
+    holder_calls, holder_scripts, keyed_calls, keyed_set_scripts, list_calls, list_scripts,
+    listings, map_and_set_scripts, scope_scripts, task_scripts, tree_calls, tree_scripts,
+    vector_calls, vector_scripts,
 };
 pub use law::{
     blocks_have_orders, counts_stay, guarded_names_stay, loops_meet_each_name, names_fit,

@@ -32,3 +32,7 @@ returns-clause-loops_hold_their_guards c = refl
 pub returns-clause-sums_stay_in_range : goal.returns-clause-sums_stay_in_range
 unfolding digits rows_of common_rows counted_rows sequence_rows list_rows resolve_simple run run_with text_of
 returns-clause-sums_stay_in_range c = refl
+
+pub returns-clause-strings_are_kept : goal.returns-clause-strings_are_kept
+unfolding digits rows_of common_rows counted_rows sequence_rows list_rows resolve_simple run run_with text_of
+returns-clause-strings_are_kept c = refl

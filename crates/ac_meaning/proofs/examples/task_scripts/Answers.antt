@@ -33,6 +33,10 @@ pub returns-clause-locals_are_own : goal.returns-clause-locals_are_own
 unfolding digits rows_of queue_rows priority_queue_rows resolve_simple run run_with text_of
 returns-clause-locals_are_own c = refl
 
+pub returns-clause-uses_are_told : goal.returns-clause-uses_are_told
+unfolding digits rows_of queue_rows resolve_simple run run_with text_of
+returns-clause-uses_are_told c = refl
+
 pub returns-clause-blocks_have_orders : goal.returns-clause-blocks_have_orders
 unfolding digits rows_of common_rows counted_rows sequence_rows list_rows queue_rows resolve_simple run_with text_with
 returns-clause-blocks_have_orders c = refl
