@@ -1,9 +1,12 @@
 //! How an input of at most the greatest length is answered.
-ghost use Rattle.std.specs.Prelude.{◌≡◌, ◌≢◌, ◌≤◌, ◌⊎◌, ℕ, Err, IfOk, length};
+ghost use Rattle.std.specs.Prelude.{◌≡◌, ◌≢◌, ◌≤◌, ◌⊎◌, ℕ, true, [], Err, IfOk, length};
 ghost use Rattle.ac_syntax.specs.declared.refusal.RefusalKind.{RefusalKind};
 ghost use Rattle.ac_syntax.specs.declared.fault.ScriptFault.TheVariants.{Refused as RefusedAt};
 ghost use Rattle.ac_syntax.specs.Refusals.{Spells, IsFirstRefusal};
 ghost use Rattle.ac_check.specs.Faults.{IsChecked};
+ghost use Rattle.ac_check.specs.HasTasks.{has_tasks};
+ghost use Rattle.ac_check.specs.Resolved.{resolve};
+ghost use Rattle.ac_check.specs.Scopes.{with_decls};
 ghost use Rattle.ac_host.specs.Writing.{Writes as HostWrites};
 ghost use Rattle.ac_meaning.specs.Environment.{nodes};
 ghost use Rattle.ac_meaning.specs.Execution.{Orders, run_with, text_with};
@@ -37,6 +40,22 @@ fn checked(alloc: Global, input: &[u8]) -> Result<Checked, ScriptFault>
     check(alloc, script)
 }
 
+/// Runs a script that has a block of tasks, with each task in a thread of its own: no other one is handed to what may wait.
+fn run_in_threads<R: Threads + Wait + Sync, K: Sink, G: Gate + Sync>(
+    rt: &R,
+    alloc: Global,
+    script: &Checked,
+    sink: &mut K,
+    gate: &G,
+) -> Result<u64, HostEnd>
+    requires { has_tasks (resolve (with_decls [] script.now.decls) script.now.stmts) ≡ true }
+    ensures { (orders : Orders)
+        × HostWrites K.held K.faults K.room K.counts_failures sink.old sink.new (text_with orders script.now) result
+        × IfOk result (λ count. count ≡ nodes (run_with orders script.now).after) }
+{
+    Host::run(rt, alloc, script, sink, gate)
+}
+
 /// Runs a script, with each task of its blocks in a thread of its own where it has any.
 fn run_host<R: Threads + Wait + Sync, K: Sink, G: Gate + Sync>(
     rt: &R,
@@ -50,7 +69,7 @@ fn run_host<R: Threads + Wait + Sync, K: Sink, G: Gate + Sync>(
         × IfOk result (λ count. count ≡ nodes (run_with orders script.now).after) }
 {
     if script.has_tasks() {
-        return Host::run(rt, alloc, script, sink, gate);
+        return run_in_threads(rt, alloc, script, sink, gate);
     }
     Host::run_serial(alloc, script, sink)
 }
