@@ -27,3 +27,4 @@ pub mod NumbersApart
 pub mod Refused
 pub mod NewObjects
 pub mod OnePlace
+pub mod HistoryLines

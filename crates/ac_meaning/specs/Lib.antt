@@ -8,6 +8,7 @@ pub mod UnderGuards
 pub mod GuardedNames
 pub mod Walks
 pub mod FitsScope
+pub mod HistoryLines
 pub mod Numbers
 pub mod Laws
 pub mod Examples

@@ -6,6 +6,7 @@ ghost use Rattle.ac_meaning.specs.GuardedNames.{ResolvedKeepsGuarded, KeepsGuard
 ghost use Rattle.ac_meaning.specs.GuardedNames.{TurnsKeepNames, UpdatesAreAlone, ElementsStay, ViewsGuardElements};
 ghost use Rattle.ac_meaning.specs.Walks.{WalksInOrder};
 ghost use Rattle.ac_meaning.specs.FitsScope.{NamesFound, DeclaredFits, HeadsFit, GoesOnFitting};
+ghost use Rattle.ac_meaning.specs.HistoryLines.{EntriesHaveLines, BlocksAreCounted};
 ghost use Rattle.ac_meaning.specs.Numbers.{NumbersTell, NumbersGoOnDiffering, NextRises, BlocksRise};
 ghost use Rattle.ac_meaning.specs.Numbers.{NewObjectsAreUnguarded, GuardsAreOnOneObject};
 ghost use Rattle.ac_meaning.specs.UnderGuards.{GuardsComeAndGo, CountsAreTheGuards, PartsUnder};
@@ -20,7 +21,8 @@ pub fn resolved_statements()
 /// What statements come to is told by the orders of the blocks of tasks that begin in them, each of which is counted once: where none
 /// begins, no order tells anything.
 pub fn blocks_have_orders()
-    ensures counted { BlocksRise }
+    ensures rise { BlocksRise }
+    ensures counted { BlocksAreCounted }
     ensures told { OrdersTell }
 {}
 
@@ -73,6 +75,11 @@ pub fn names_fit()
     ensures declared { DeclaredFits }
     ensures heads { HeadsFit }
     ensures statements { GoesOnFitting }
+{}
+
+/// A legal history of a block of tasks writes one line for each of its entries, with the number of its step, its task's name and its reply.
+pub fn entries_have_lines()
+    ensures { EntriesHaveLines }
 {}
 
 /// Each object in scope has a number of its own, and no number is given again: so guards and cursors are those of one object.

@@ -12,7 +12,7 @@ pub use examples::{
     vector_calls, vector_scripts,
 };
 pub use law::{
-    blocks_have_orders, counts_stay, guarded_names_stay, loops_meet_each_name, names_fit,
-    numbers_differ, objects_stay, refusals_leave, resolved_statements,
+    blocks_have_orders, counts_stay, entries_have_lines, guarded_names_stay, loops_meet_each_name,
+    names_fit, numbers_differ, objects_stay, refusals_leave, resolved_statements,
 };
 pub use limits::INPUT_LIMIT;
