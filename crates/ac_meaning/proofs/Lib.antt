@@ -28,3 +28,14 @@ pub mod Refused
 pub mod NewObjects
 pub mod OnePlace
 pub mod HistoryLines
+pub mod HoldsLists
+pub mod OwnOperations
+pub mod PlacesCalled
+pub mod TaskNames
+pub mod TasksFit
+pub mod TypeShapes
+pub mod HoldsHeads
+pub mod HoldsOn
+pub mod SortsOfBlocks
+pub mod ExecHolds
+pub mod Suiting

@@ -8,6 +8,8 @@ pub mod UnderGuards
 pub mod GuardedNames
 pub mod Walks
 pub mod FitsScope
+pub mod HoldsTypes
+pub mod Suits
 pub mod HistoryLines
 pub mod Numbers
 pub mod Laws

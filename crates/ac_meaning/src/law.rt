@@ -6,6 +6,8 @@ ghost use Rattle.ac_meaning.specs.GuardedNames.{ResolvedKeepsGuarded, KeepsGuard
 ghost use Rattle.ac_meaning.specs.GuardedNames.{TurnsKeepNames, UpdatesAreAlone, ElementsStay, ViewsGuardElements};
 ghost use Rattle.ac_meaning.specs.Walks.{WalksInOrder};
 ghost use Rattle.ac_meaning.specs.FitsScope.{NamesFound, DeclaredFits, HeadsFit, GoesOnFitting};
+ghost use Rattle.ac_meaning.specs.HoldsTypes.{TypesFound, DeclaredHolds, HeadsHold, GoesOnHolding};
+ghost use Rattle.ac_meaning.specs.Suits.{CallsSuit, BlocksSuit, TasksFit, TasksRun};
 ghost use Rattle.ac_meaning.specs.HistoryLines.{EntriesHaveLines, BlocksAreCounted};
 ghost use Rattle.ac_meaning.specs.Numbers.{NumbersTell, NumbersGoOnDiffering, NextRises, BlocksRise};
 ghost use Rattle.ac_meaning.specs.Numbers.{NewObjectsAreUnguarded, GuardsAreOnOneObject};
@@ -75,6 +77,24 @@ pub fn names_fit()
     ensures declared { DeclaredFits }
     ensures heads { HeadsFit }
     ensures statements { GoesOnFitting }
+{}
+
+/// What the names in scope hold is of the types that the checks give them, by kind and types of elements: where a script begins, behind
+/// declarations and heads that keep the rules, and after every statement that does.
+pub fn types_hold()
+    ensures found { TypesFound }
+    ensures declared { DeclaredHolds }
+    ensures heads { HeadsHold }
+    ensures statements { GoesOnHolding }
+{}
+
+/// So a call that keeps the rules is on an object, and means one of the operations of that object's kind; a block on an object finds one
+/// that takes guards; and each block of tasks fits and runs by its order.
+pub fn statements_suit()
+    ensures calls { CallsSuit }
+    ensures blocks { BlocksSuit }
+    ensures fit { TasksFit }
+    ensures run { TasksRun }
 {}
 
 /// A legal history of a block of tasks writes one line for each of its entries, with the number of its step, its task's name and its reply.

@@ -13,6 +13,7 @@ pub use examples::{
 };
 pub use law::{
     blocks_have_orders, counts_stay, entries_have_lines, guarded_names_stay, loops_meet_each_name,
-    names_fit, numbers_differ, objects_stay, refusals_leave, resolved_statements,
+    names_fit, numbers_differ, objects_stay, refusals_leave, resolved_statements, statements_suit,
+    types_hold,
 };
 pub use limits::INPUT_LIMIT;

@@ -1,0 +1,173 @@
+-- Statements that keep the rules leave each name what it holds, by its type.
+use Rattle.std.proofs.Common.{◌≡◌, ◌++◌, ℕ, Bool, List, [], ◌∷◌, map, length, refl, ap, ◌∙◌, option_map, Option, Some, None}
+use Rattle.ac_base.specs.declared.reason.Reason.{Reason}
+use Rattle.ac_base.specs.declared.value.Value.{Value}
+use Rattle.ac_model.specs.Letters.{Mark, mark_at as mark_of_name}
+use Rattle.ac_syntax.specs.Code.{loop_at, view_at, stable_at, declare_at, tasks_at, task_at, Code, stop, one, block}
+use Rattle.ac_syntax.specs.Nesting.{AreStatements}
+use Rattle.ac_syntax.specs.declared.view_kind.ViewKind.{ViewKind}
+use Rattle.ac_syntax.specs.declared.view_kind.ViewKind.TheVariants.{Query, Update, Reference, UpdateKey}
+use Rattle.ac_check.specs.Kept.{KeepsRules}
+use Rattle.ac_check.specs.Resolved.{ResolvedSimple, loops_at, views_at, stables_at, place_of, resolve, resolve_simple, resolve_decls}
+use Rattle.ac_check.specs.Scopes.{Scope, inside, with_decls}
+use Rattle.ac_calls.specs.Holdings.{Held, of_rows, of_holder, of_queue, Guards, names_of, number_of, element_value}
+use Rattle.ac_meaning.specs.Commands.{performed}
+use Rattle.ac_meaning.specs.Environment.{Bound, binds_type, binds_object, binds_cursor, binds_value, binds_element, State, under, at_rest, object_at, guarded_at, mark_at, value_at, value_or_zero, with_name, leaving, Declared, after_decls}
+use Rattle.ac_meaning.specs.Execution.{Outcome, Orders, scoped, commanded, guards_of_loop, guards_of_stable, guards_of_view, in_order, turn_bound, head_reason, turns, key_body, viewed, view_on, on_object, after_declared, exec}
+use Rattle.ac_meaning.specs.HoldsTypes.{has_line, shape_of, HoldsTypes, GoesOnHolding}
+use Rattle.ac_meaning.specs.Stays.{HeldStays, BoundStays, EachStays}
+use Rattle.ac_meaning.proofs.CommandsStay.{command_stays}
+use Rattle.ac_meaning.proofs.ExecKeeps.{Extends, decls_extend}
+use Rattle.ac_meaning.proofs.HoldsHeads.{declared_holds, heads_hold}
+use Rattle.ac_meaning.proofs.HoldsLists.{first_ones}
+use Rattle.ac_meaning.proofs.HoldsOn.{of_object, of_element, sort, sorts, holds_on, sorts-under, sorts-at_rest, sorts_back}
+use Rattle.ac_meaning.proofs.SortsOfBlocks.{gathered_sorts, key_end_sorts}
+
+-- what runs where the names hold what this scope says
+abbrev Keeps : Scope → (Guards → State → Outcome) → Type 0
+Keeps scope body = (guards : Guards) (e : State) → HoldsTypes scope e → sorts (body guards e).after ≡ sorts e
+
+module _ (body : Guards → State → Outcome) (scope inner : Scope) (keeps : Keeps inner body) (guards : Guards) where
+  scoped_sorts : (held : Guards) (e : State) (b : Bound) → HoldsTypes inner (with_name e b) → sorts (scoped e (body held) (with_name e b)).after ≡ sorts e
+  scoped_sorts held e b h = sorts_back e (body held (with_name e b)).after (b ∷ []) (keeps held (with_name e b) h)
+
+  turns_sorts : (elements : Bool) (object : ℕ) (h : Held) (names : List ℕ) (e : State) → HoldsTypes scope e →
+      ((now : State) (mark : Mark) → HoldsTypes scope now → HoldsTypes inner (with_name now (turn_bound elements object mark))) →
+      sorts (turns body guards elements object h names e).after ≡ sorts e
+  turns_sorts elements object h [] e holds each = refl
+  turns_sorts elements object h (name ∷ names) e holds each =
+      let mark = mark_of_name (number_of h) name in
+      let b = turn_bound elements object mark in
+      let now = (scoped e (body (guards_of_loop elements h ++ guards)) (with_name e b)).after in
+      let first : sorts now ≡ sorts e = scoped_sorts (guards_of_loop elements h ++ guards) e b (each e mark holds) in
+      turns_sorts elements object h names now (holds_on scope e now first holds) each ∙ first
+
+  loop_sorts : (number : ℕ) (elements backward : Bool) (object : ℕ) (found : Option Held) (e : State) → HoldsTypes scope e →
+      ((now : State) (mark : Mark) → HoldsTypes scope now → HoldsTypes inner (with_name now (turn_bound elements object mark))) →
+      sorts (on_object body guards (loops_at number elements backward object) found e).after ≡ sorts e
+  loop_sorts number elements backward object None e holds each = refl
+  loop_sorts number elements backward object (Some h) e holds each = turns_sorts elements object h (in_order backward (names_of h)) e holds each
+
+  key_sorts : (number object : ℕ) (at : Mark) (h : Held) (e : State) →
+      HoldsTypes inner (with_name e (binds_value (value_or_zero (element_value h at).answer))) → sorts (key_body body guards number object at h e).after ≡ sorts e
+  key_sorts number object at h e holds =
+      let held = guards_of_view UpdateKey h ++ guards in
+      let b = binds_value (value_or_zero (element_value h at).answer) in
+      let r = body held (with_name e b) in
+      let left = leaving (length e.bounds) r.after in
+      key_end_sorts number object held left at (value_at r.after (length e.bounds)) (object_at (under held left) object) refl ∙ scoped_sorts held e b holds
+
+  viewed_sorts : (number : ℕ) (view : ViewKind) (object : ℕ) (at : Mark) (h : Held) (e : State) →
+      HoldsTypes inner (with_name e (binds_element object at)) →
+      ((v : Value) → HoldsTypes inner (with_name e (binds_value v))) →
+      sorts (viewed body guards number view object at h e).after ≡ sorts e
+  viewed_sorts number Query object at h e holds copy = scoped_sorts (guards_of_view Query h ++ guards) e (binds_element object at) holds
+  viewed_sorts number Update object at h e holds copy = scoped_sorts (guards_of_view Update h ++ guards) e (binds_element object at) holds
+  viewed_sorts number Reference object at h e holds copy = scoped_sorts (guards_of_view Reference h ++ guards) e (binds_element object at) holds
+  viewed_sorts number UpdateKey object at h e holds copy = key_sorts number object at h e (copy (value_or_zero (element_value h at).answer))
+
+  view_sorts : (number : ℕ) (view : ViewKind) (object : ℕ) (at : Mark) (h : Held) (e : State) (reason : Option Reason) → head_reason view h at ≡ reason →
+      HoldsTypes inner (with_name e (binds_element object at)) →
+      ((v : Value) → HoldsTypes inner (with_name e (binds_value v))) →
+      sorts (view_on body guards number view object at h e).after ≡ sorts e
+  view_sorts number view object at h e None f holds copy = rw (f, view_on) (viewed_sorts number view object at h e holds copy)
+  view_sorts number view object at h e (Some reason) f holds copy = rw (f, view_on) refl
+
+  placed_sorts : (number : ℕ) (view : ViewKind) (object : ℕ) (at : Option ℕ) (e : State) (found : Option Held) →
+      ((mark : Mark) → HoldsTypes inner (with_name e (binds_element object mark))) →
+      ((v : Value) → HoldsTypes inner (with_name e (binds_value v))) →
+      sorts (on_object body guards (views_at number view object at) found e).after ≡ sorts e
+  placed_sorts number view object at e None each copy = refl
+  placed_sorts number view object at e (Some h) each copy =
+      view_sorts number view object (mark_at e at) h e _ refl (each (mark_at e at)) copy
+
+  stable_sorts : (number object : ℕ) (found : Option Held) (e : State) → HoldsTypes inner e →
+      sorts (on_object body guards (stables_at number object) found e).after ≡ sorts e
+  stable_sorts number object None e holds = refl
+  stable_sorts number object (Some h) e holds = keeps (guards_of_stable h ++ guards) e holds
+
+  declared_sorts : (e : State) (d : Declared) (spent : Option ℕ) → d.spent ≡ spent → Extends e d.after → (d.spent ≡ None → HoldsTypes inner d.after) →
+      sorts (after_declared body guards e d).after ≡ sorts e
+  declared_sorts e d None f ext holds =
+      rw (f, after_declared) (sorts_back e (body guards d.after).after ext.more (keeps guards d.after (holds f) ∙ ap (map sort) ext.is))
+  declared_sorts e d (Some number) f ext holds = rw (f, after_declared) (sorts_back e d.after ext.more (ap (map sort) ext.is))
+
+-- a command, whatever it is
+
+shape_stays : (h after : Held) → HeldStays h after → shape_of after ≡ shape_of h
+shape_stays (of_rows kind o) after s = ap shape_of s.1
+shape_stays (of_holder element h) after s = ap shape_of s.1
+shape_stays (of_queue number q) after s = ap shape_of s.1 ∙ ap has_line s.2.discipline
+
+sort_on : (b c : Bound) → BoundStays b c → sort c ≡ sort b
+sort_on binds_type binds_type s = refl
+sort_on (binds_object h) (binds_object after) s = ap of_object (shape_stays h after s)
+sort_on (binds_cursor m) (binds_cursor n) s = refl
+sort_on (binds_value v) (binds_value w) s = refl
+sort_on (binds_element object at) (binds_element other mark) s = ap of_element s.0
+sort_on _ _ s = absurd s
+
+all_on : (bs cs : List Bound) → EachStays bs cs → map sort cs ≡ map sort bs
+all_on [] [] s = refl
+all_on [] (c ∷ cs) s = absurd s
+all_on (b ∷ bs) [] s = absurd s
+all_on (b ∷ bs) (c ∷ cs) s = λ i. sort_on b c s.0 i ∷ all_on bs cs s.1 i
+
+command_sorts : (e : State) (simple : ResolvedSimple) → sorts (performed e simple).after ≡ sorts e
+command_sorts e simple = all_on e.bounds (performed e simple).after.bounds (command_stays e simple).bounds
+
+commanded_sorts : (guards : Guards) (e : State) (simple : ResolvedSimple) → sorts (commanded guards e simple).after ≡ sorts e
+commanded_sorts guards e simple =
+    sorts-at_rest (performed (under guards e) simple).after ∙ (command_sorts (under guards e) simple ∙ sorts-under guards e)
+
+-- what follows
+sorts_then : (scope : Scope) (e now : State) (next : State → Outcome) → HoldsTypes scope e → sorts now ≡ sorts e →
+    ((later : State) → HoldsTypes scope later → sorts (next later).after ≡ sorts later) → sorts (next now).after ≡ sorts e
+sorts_then scope e now next holds first rest = rest now (holds_on scope e now first holds) ∙ first
+
+pub exec_sorts : (orders : Orders) (code : Code) (scope : Scope) (guards : Guards) (e : State) → AreStatements code → KeepsRules scope code →
+    HoldsTypes scope e → sorts (exec orders code scope guards e).after ≡ sorts e
+exec_sorts orders stop scope guards e are kept holds = refl
+exec_sorts orders (one simple rest) scope guards e are kept holds =
+    sorts_then scope e (commanded guards e (resolve_simple scope simple)).after (exec orders rest scope guards) holds (commanded_sorts guards e (resolve_simple scope simple))
+    (λ later h. exec_sorts orders rest scope guards later are kept.rest h)
+exec_sorts orders (block (loop_at line name elements backward object) body rest) scope guards e are kept holds =
+    let head = loop_at line name elements backward object in
+    sorts_then scope e _ (exec orders rest scope guards) holds
+    (loop_sorts (exec orders body (inside scope head)) scope (inside scope head) (λ held now h. exec_sorts orders body (inside scope head) held now are.0 kept.body h)
+    guards line elements backward (place_of scope object) (guarded_at (under guards e) (place_of scope object)) e holds
+    (λ now mark h. heads_hold.loops scope now line name elements backward object mark h kept.head))
+    (λ later h. exec_sorts orders rest scope guards later are.1 kept.rest h)
+exec_sorts orders (block (view_at line view object at name) body rest) scope guards e are kept holds =
+    let head = view_at line view object at name in
+    sorts_then scope e _ (exec orders rest scope guards) holds
+    (placed_sorts (exec orders body (inside scope head)) scope (inside scope head) (λ held now h. exec_sorts orders body (inside scope head) held now are.0 kept.body h)
+    guards line view (place_of scope object) (option_map (place_of scope) at) e (guarded_at (under guards e) (place_of scope object))
+    (λ mark. heads_hold.views scope e line view object at name mark holds kept.head)
+    (λ v. heads_hold.copies scope e line view object at name v holds kept.head))
+    (λ later h. exec_sorts orders rest scope guards later are.1 kept.rest h)
+exec_sorts orders (block (stable_at line object) body rest) scope guards e are kept holds =
+    sorts_then scope e _ (exec orders rest scope guards) holds
+    (stable_sorts (exec orders body scope) scope scope (λ held now h. exec_sorts orders body scope held now are.0 kept.body h)
+    guards line (place_of scope object) (guarded_at (under guards e) (place_of scope object)) e holds)
+    (λ later h. exec_sorts orders rest scope guards later are.1 kept.rest h)
+exec_sorts orders (block (declare_at line decls) body rest) scope guards e are kept holds =
+    let inner = with_decls scope decls in
+    sorts_then scope e _ (exec orders rest scope guards) holds
+    (declared_sorts (exec orders body inner) scope inner (λ held now h. exec_sorts orders body inner held now are.0 kept.body h)
+    guards e (after_decls (resolve_decls scope decls) e) _ refl (decls_extend (resolve_decls scope decls) e)
+    (declared_holds.decls scope decls e holds kept.decls))
+    (λ later h. exec_sorts orders rest scope guards later are.1 kept.rest h)
+exec_sorts orders (block (tasks_at line) body rest) scope guards e are kept holds =
+    sorts_then scope e _ (exec orders rest scope guards) holds (gathered_sorts (orders e.blocks) (resolve scope body) e) (λ later h. exec_sorts orders rest scope guards later are.2 kept.rest h)
+exec_sorts orders (block (task_at line name locals) body rest) scope guards e are kept holds = absurd are
+
+pub goes_on_holding : GoesOnHolding
+goes_on_holding = record {
+  commands = λ scope e simple holds. holds_on scope e (performed e simple).after (command_sorts e simple) holds;
+  statements = λ orders code scope guards e are kept holds.
+      holds_on scope e (exec orders code scope guards e).after (exec_sorts orders code scope guards e are kept holds) holds;
+  guarded = λ scope guards e holds. holds_on scope e (under guards e) (sorts-under guards e) holds;
+  rested = λ scope e holds. holds_on scope e (at_rest e) (sorts-at_rest e) holds;
+  left = λ scope more e holds. first_ones [] scope more e.bounds holds;
+}
