@@ -19,3 +19,4 @@ pub mod KeyedCallExamples
 pub mod TreeExamples
 pub mod HolderExamples
 pub mod TaskExamples
+pub mod MeaningExamples

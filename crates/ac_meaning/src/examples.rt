@@ -17,6 +17,7 @@ ghost use Rattle.ac_meaning.specs.TreeExamples.{BoundedTreesAreFull, RootsAreNoN
 ghost use Rattle.ac_meaning.specs.HolderExamples.{HolderIsBounded, ViewsGuardHolders, HoldersAreCompared, HoldersGiveAndTake};
 ghost use Rattle.ac_meaning.specs.HolderExamples.{LimitsAreOfBoth, WritesAreWithinLimits, IntegersHaveEightBytes, EmptyStringsHaveNone};
 ghost use Rattle.ac_meaning.specs.HolderExamples.{HoldersMeetThemselves, GuardsAreOfBoth, InnerHoldersAreNew, HoldersHaveNoNodes};
+ghost use Rattle.ac_meaning.specs.MeaningExamples.{RefusalsAreOneLine, UnknownNamesAreRefused, NothingWritesNothing};
 ghost use Rattle.ac_meaning.specs.TaskExamples.{QueuesStall, PrioritiesGoFirst, AllTasksStall, OneItemGoesByTurns};
 ghost use Rattle.ac_meaning.specs.TaskExamples.{TwoItemsGoAsOrdered, RaisedStepGoesOn, LocalsAreOwn, UsesAreTold, BlocksHaveOrders};
 
@@ -150,4 +151,11 @@ pub fn listings()
     ensures no_nodes_are_listed { NoNodesAreListed }
     ensures tree_is_listed { TreeIsListed }
     ensures deep_tree_is_listed { DeepTreeIsListed }
+{}
+
+/// What small inputs mean.
+pub fn meanings()
+    ensures refusals_are_one_line { RefusalsAreOneLine }
+    ensures unknown_names_are_refused { UnknownNamesAreRefused }
+    ensures nothing_writes_nothing { NothingWritesNothing }
 {}

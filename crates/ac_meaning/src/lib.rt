@@ -8,7 +8,7 @@ mod limits;
 
 pub use examples::{
     holder_calls, holder_scripts, keyed_calls, keyed_set_scripts, list_calls, list_scripts,
-    listings, map_and_set_scripts, scope_scripts, task_scripts, tree_calls, tree_scripts,
+    listings, map_and_set_scripts, meanings, scope_scripts, task_scripts, tree_calls, tree_scripts,
     vector_calls, vector_scripts,
 };
 pub use law::{
