@@ -5,15 +5,18 @@ use Rattle.ac_base.specs.declared.value.Value.{Value}
 use Rattle.ac_model.specs.Letters.{Mark, mark_at as mark_of_name}
 use Rattle.ac_syntax.specs.Code.{loop_at, view_at, stable_at, declare_at, tasks_at, task_at, Code, stop, one, block}
 use Rattle.ac_syntax.specs.Nesting.{AreStatements}
+use Rattle.ac_syntax.specs.declared.script.Script.{Script}
 use Rattle.ac_syntax.specs.declared.view_kind.ViewKind.{ViewKind}
 use Rattle.ac_syntax.specs.declared.view_kind.ViewKind.TheVariants.{Query, Update, Reference, UpdateKey}
+use Rattle.ac_check.specs.Faults.{IsChecked}
 use Rattle.ac_check.specs.Kept.{KeepsRules}
 use Rattle.ac_check.specs.Resolved.{ResolvedSimple, loops_at, views_at, stables_at, place_of, resolve, resolve_simple, resolve_decls}
 use Rattle.ac_check.specs.Scopes.{Scope, inside, with_decls}
+use Rattle.ac_check.proofs.Kept.{rules_kept}
 use Rattle.ac_calls.specs.Holdings.{Held, of_rows, of_holder, of_queue, Guards, names_of, number_of, element_value}
 use Rattle.ac_meaning.specs.Commands.{performed}
-use Rattle.ac_meaning.specs.Environment.{Bound, binds_type, binds_object, binds_cursor, binds_value, binds_element, State, under, at_rest, object_at, guarded_at, mark_at, value_at, value_or_zero, with_name, leaving, Declared, after_decls}
-use Rattle.ac_meaning.specs.Execution.{Outcome, Orders, scoped, commanded, guards_of_loop, guards_of_stable, guards_of_view, in_order, turn_bound, head_reason, turns, key_body, viewed, view_on, on_object, after_declared, exec}
+use Rattle.ac_meaning.specs.Environment.{Bound, binds_type, binds_object, binds_cursor, binds_value, binds_element, State, first_state, under, at_rest, object_at, guarded_at, mark_at, value_at, value_or_zero, with_name, leaving, Declared, after_decls}
+use Rattle.ac_meaning.specs.Execution.{Outcome, Orders, scoped, commanded, guards_of_loop, guards_of_stable, guards_of_view, in_order, turn_bound, head_reason, turns, key_body, viewed, view_on, on_object, after_declared, exec, run_with}
 use Rattle.ac_meaning.specs.HoldsTypes.{has_line, shape_of, HoldsTypes, GoesOnHolding}
 use Rattle.ac_meaning.specs.Stays.{HeldStays, BoundStays, EachStays}
 use Rattle.ac_meaning.proofs.CommandsStay.{command_stays}
@@ -162,11 +165,22 @@ exec_sorts orders (block (tasks_at line) body rest) scope guards e are kept hold
     sorts_then scope e _ (exec orders rest scope guards) holds (gathered_sorts (orders e.blocks) (resolve scope body) e) (λ later h. exec_sorts orders rest scope guards later are.2 kept.rest h)
 exec_sorts orders (block (task_at line name locals) body rest) scope guards e are kept holds = absurd are
 
+script_holds : (orders : Orders) (script : Script) → IsChecked script → AreStatements script.stmts →
+    (after_decls (resolve_decls [] script.decls) first_state).spent ≡ None → HoldsTypes (with_decls [] script.decls) (run_with orders script).after
+unfolding run_with
+script_holds orders script checked are none =
+    let scope = with_decls [] script.decls in
+    let e = (after_decls (resolve_decls [] script.decls) first_state).after in
+    let holds : HoldsTypes scope e = declared_holds.script script checked none in
+    holds_on scope e (exec orders script.stmts scope [] e).after
+    (exec_sorts orders script.stmts scope [] e are (rules_kept script checked).code holds) holds
+
 pub goes_on_holding : GoesOnHolding
 goes_on_holding = record {
   commands = λ scope e simple holds. holds_on scope e (performed e simple).after (command_sorts e simple) holds;
   statements = λ orders code scope guards e are kept holds.
       holds_on scope e (exec orders code scope guards e).after (exec_sorts orders code scope guards e are kept holds) holds;
+  script = script_holds;
   guarded = λ scope guards e holds. holds_on scope e (under guards e) (sorts-under guards e) holds;
   rested = λ scope e holds. holds_on scope e (at_rest e) (sorts-at_rest e) holds;
   left = λ scope more e holds. first_ones [] scope more e.bounds holds;

@@ -14,9 +14,10 @@ use Rattle.ac_check.specs.Resolved.{place_of, no_type, resolve_decl, resolve_dec
 use Rattle.ac_check.specs.Rules.{is_object_of, has_cursors_of, is_looped, is_view}
 use Rattle.ac_check.specs.Scopes.{a_type, an_object, a_cursor, a_value, entry, Scope, Typed, type_of, object_of, meaning_in, element_of, loop_meaning, view_meaning, decl_entry, with_entry, with_decls}
 use Rattle.ac_check.proofs.Apart.{neither, and_parts}
+use Rattle.ac_check.proofs.Kept.{rules_kept}
 use Rattle.ac_check.proofs.NamePlaces.{place_found}
 use Rattle.ac_calls.specs.Holdings.{new_held}
-use Rattle.ac_meaning.specs.Environment.{binds_type, binds_object, binds_cursor, binds_element, binds_value, State, Declared, unless_spent, after_decl, after_decls}
+use Rattle.ac_meaning.specs.Environment.{binds_type, binds_object, binds_cursor, binds_element, binds_value, State, first_state, Declared, unless_spent, after_decl, after_decls}
 use Rattle.ac_meaning.specs.Execution.{turn_bound}
 use Rattle.ac_meaning.specs.HoldsTypes.{HasCursors, HasElements, Holds, AllHold, HoldsTypes, DeclaredHolds, HeadsHold}
 use Rattle.ac_meaning.proofs.CallsStay.{none_some}
@@ -74,7 +75,11 @@ decls_hold scope (d ∷ decls) e h k none =
     (λ f rest. decls_hold inner decls first.after (decl_holds scope d e h k.first f) k.rest rest)
 
 pub declared_holds : DeclaredHolds
-declared_holds = record { first = tt; decls = decls_hold }
+declared_holds = record {
+  first = tt;
+  decls = decls_hold;
+  script = λ script checked none. decls_hold [] script.decls first_state tt (rules_kept script checked).decls none;
+}
 
 -- Heads
 

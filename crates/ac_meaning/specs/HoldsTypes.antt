@@ -10,17 +10,19 @@ use Rattle.ac_syntax.specs.declared.decl.Decl.{Decl}
 use Rattle.ac_syntax.specs.declared.kind.ElemKind.{ElemKind}
 use Rattle.ac_syntax.specs.declared.kind.Kind.{Kind}
 use Rattle.ac_syntax.specs.declared.kind.Kind.TheVariants as kinds
+use Rattle.ac_syntax.specs.declared.script.Script.{Script}
 use Rattle.ac_syntax.specs.declared.type_def.TypeDef.{TypeDef}
 use Rattle.ac_syntax.specs.declared.view_kind.ViewKind.{ViewKind}
 use Rattle.ac_check.specs.Scopes.{Meaning, a_type, an_object, a_cursor, a_value, entry, Scope, Typed, meaning_in, object_of, element_of, with_decls, behind_words}
 use Rattle.ac_check.specs.Rules.{is_type}
+use Rattle.ac_check.specs.Faults.{IsChecked}
 use Rattle.ac_check.specs.Kept.{DeclsKept, HeadKept, KeepsRules}
 use Rattle.ac_check.specs.Resolved.{ResolvedSimple, place_of, resolve_decls}
 use Rattle.ac_calls.specs.KeyedReplies.{KeyedKind, of_hashed, of_ordered}
 use Rattle.ac_calls.specs.Holdings.{of_list, of_vector, RowKind, a_sequence, a_map, a_set, a_keyed_set, a_tree, Held, of_rows, of_holder, of_queue, Guards}
 use Rattle.ac_meaning.specs.Environment.{Bound, binds_type, binds_object, binds_cursor, binds_value, binds_element, State, first_state, under, at_rest, bound_at, object_at, with_name, leaving, after_decls}
 use Rattle.ac_meaning.specs.Commands.{performed}
-use Rattle.ac_meaning.specs.Execution.{Orders, exec, turn_bound}
+use Rattle.ac_meaning.specs.Execution.{Orders, exec, turn_bound, run_with}
 use Rattle.ac_meaning.specs.FitsScope.{FitsScope}
 
 -- An object's kind and the types of its elements
@@ -112,12 +114,14 @@ pub record TypesFound : Type 0 where
       (typed : Typed) × IsObjectAt scope e place typed × (element_of typed.def ≡ element)
   pub fit : (scope : Scope) (e : State) → HoldsTypes scope e → FitsScope scope e
 
--- where a script begins, and behind declarations that keep the rules, unless no number is left
+-- where a script begins, and behind declarations that keep the rules, as those of a script that can run do, unless no number is left
 pub record DeclaredHolds : Type 0 where
   pub first : HoldsTypes [] first_state
   pub decls : (scope : Scope) (decls : List Decl) (e : State) → HoldsTypes scope e → DeclsKept scope decls →
       (after_decls (resolve_decls scope decls) e).spent ≡ None →
       HoldsTypes (with_decls scope decls) (after_decls (resolve_decls scope decls) e).after
+  pub script : (script : Script) → IsChecked script → (after_decls (resolve_decls [] script.decls) first_state).spent ≡ None →
+      HoldsTypes (with_decls [] script.decls) (after_decls (resolve_decls [] script.decls) first_state).after
 
 -- in the body of a block whose head keeps the rules: with a loop's name, with the element itself, and with the copy of an update of a key
 pub record HeadsHold : Type 0 where
@@ -132,11 +136,13 @@ pub record HeadsHold : Type 0 where
       HoldsTypes scope e → HeadKept scope (view_at line view object at name) →
       HoldsTypes (behind_words scope (view_at line view object at name)) (with_name e (binds_value v))
 
--- commands keep it, whatever they are, and so do statements that keep the rules, guards and names that go
+-- commands keep it, whatever they are, and so do statements that keep the rules, as a script that can run does to its end, guards and names that go
 pub record GoesOnHolding : Type 0 where
   pub commands : (scope : Scope) (e : State) (simple : ResolvedSimple) → HoldsTypes scope e → HoldsTypes scope (performed e simple).after
   pub statements : (orders : Orders) (code : Code) (scope : Scope) (guards : Guards) (e : State) → AreStatements code →
       KeepsRules scope code → HoldsTypes scope e → HoldsTypes scope (exec orders code scope guards e).after
+  pub script : (orders : Orders) (script : Script) → IsChecked script → AreStatements script.stmts →
+      (after_decls (resolve_decls [] script.decls) first_state).spent ≡ None → HoldsTypes (with_decls [] script.decls) (run_with orders script).after
   pub guarded : (scope : Scope) (guards : Guards) (e : State) → HoldsTypes scope e → HoldsTypes scope (under guards e)
   pub rested : (scope : Scope) (e : State) → HoldsTypes scope e → HoldsTypes scope (at_rest e)
   pub left : (scope more : Scope) (e : State) → HoldsTypes (scope ++ more) e → HoldsTypes scope (leaving (length scope) e)
