@@ -1,9 +1,9 @@
 -- Room for more rows: the buckets' grows first, and then the chain's, whose slots are the Capacity.
-use Rattle.std.proofs.Common.{◌≡◌, ◌+◌, ◌-◌, ◌≤◌, ◌<◌, ℕ, Bool, false, length, Some, Result, Ok, Err, sym, ap, ◌∙◌, subst, inl, inr, arith, le-leb, lt-ltb}
+use Rattle.std.proofs.Common.{◌≡◌, ◌+◌, ◌-◌, ◌≤◌, ◌<◌, ℕ, Bool, false, length, Some, Result, Ok, Err, sym, ap, ◌∙◌, subst, inl, inr, arith, lt-ltb}
 use Rattle.std.specs.Prelude.{OnOk, OnErr}
 use Rattle.std.specs.List.{sum_by}
 use Rattle.std.proofs.Common.{true≢false}
-use Rattle.std.proofs.lemmas.Bool.{cases_lt, cond-true, cond-false, lt-leb}
+use Rattle.std.proofs.lemmas.Bool.{cases_lt, cond-false, lt-leb}
 use Rattle.std.proofs.lemmas.List.{length-map}
 use Rattle.ac_base.specs.declared.fault.NoMemory.{NoMemory}
 use Rattle.ac_base.specs.declared.limit.Limit.{Limit}
@@ -17,7 +17,8 @@ use Rattle.ac_chain.specs.Rows.{Chained, IsSound, chained, cleared, reserved, sl
 use Rattle.ac_chain.proofs.Puts.{reserved_enough, reserved_kept, reserved_slots}
 use Rattle.ac_model.specs.Objects.{capacity_after, plains}
 use Rattle.ac_model.proofs.KeysDiffer.{Differ}
-use Rattle.ac_setwork.specs.Indexed.{HasSlots, MakesRoom}
+use Rattle.ac_setwork.specs.Indexed.{HasSlots, MakesRoom, slots_after}
+use Rattle.ac_setwork.proofs.Slots.{after_grown, after_kept}
 use Rattle.ac_hashed.specs.Ties.{AreTied, hashed, seen_in}
 use Rattle.ac_hashed.proofs.Sums.{as_many, pair_of}
 
@@ -36,11 +37,14 @@ module _ {V : Type 0} (c : Chained V) where
     | inr le ↦ omega (arith, has, le)
   ]
 
-  capacity_is : (l : Limit) (n : ℕ) → is_past l (length c.rows + n) ≡ false → HasSlots l (Some (slots_in c)) (slots_in c) → Some (slots_in (reserved c n)) ≡ capacity_after l (Some (slots_in c)) (length c.rows + n)
-  capacity_is Unbounded n within has = elim (cases_lt c.spare n) [
-    | inl less ↦ ap Some (more_slots n less ∙ sym (cond-false _ _ _ (lt-leb (length c.rows + n) (slots_in c) (omega arith))))
-    | inr le ↦ ap Some (ap slots_in (reserved_kept c n le) ∙ sym (cond-true _ _ _ (le-leb (length c.rows + n) (slots_in c) (omega arith))))
+  slots_are : (n : ℕ) → slots_in (reserved c n) ≡ slots_after (slots_in c) (length c.rows + n)
+  slots_are n = elim (cases_lt c.spare n) [
+    | inl less ↦ more_slots n less ∙ sym (after_grown (slots_in c) (length c.rows + n) (omega arith))
+    | inr le ↦ ap slots_in (reserved_kept c n le) ∙ sym (after_kept (slots_in c) (length c.rows + n) (omega arith))
   ]
+
+  capacity_is : (l : Limit) (n : ℕ) → is_past l (length c.rows + n) ≡ false → HasSlots l (Some (slots_in c)) (slots_in c) → Some (slots_in (reserved c n)) ≡ capacity_after l (Some (slots_in c)) (length c.rows + n)
+  capacity_is Unbounded n within has = ap Some (slots_are n)
   capacity_is (Bounded most) n within has = ap Some (ap slots_in (reserved_kept c n (within_spare most n within has)))
 
   has_slots_still : (l : Limit) (n : ℕ) → is_past l (length c.rows + n) ≡ false → HasSlots l (Some (slots_in c)) (slots_in c) → HasSlots l (Some (slots_in (reserved c n))) (slots_in (reserved c n))
@@ -56,6 +60,7 @@ module _ {V : Type 0} (c : Chained V) where
         enough = room.enough;
         has_slots = subst (λ (d : Chained V). HasSlots l (Some (slots_in d)) (slots_in d)) (sym is) (has_slots_still l n within has);
         most = reserved_slots c now n is;
+        now_slots = ap slots_in is ∙ slots_are n;
       }
 
   pub makes_room : (r : Result (Unit {0}) NoMemory) (now : Chained V) (l : Limit) (n : ℕ) → is_past l (length c.rows + n) ≡ false → HasSlots l (Some (slots_in c)) (slots_in c) → OnOk r (now ≡ reserved c n) → OnOk r (MakesRoom l n (seen_in c) (seen_in now))

@@ -23,6 +23,7 @@ use Rattle.ac_base.proofs.Powers.{pow8-enough}
 use Rattle.ac_model.specs.Objects.{plains, capacity_after}
 use Rattle.ac_model.specs.Rows.{cut, put, place_of, with_value, with_some_value, value_at}
 use Rattle.ac_setwork.specs.Indexed.{Becomes, MakesRoom, HasSlots, is_there, plain_rows, slots}
+use Rattle.ac_setwork.proofs.Slots.{after_grown, after_kept}
 use Rattle.ac_ordered.specs.Ascents.{Nothing, ascent, row_in}
 use Rattle.ac_ordered.proofs.Ascents.{Kept, alone, once_in, entry_there, has_among, has_insert, has_remove, has_set, insert_has, insert_is, kept, place_is, prefix_is, remove_is, rows_of, set_is, value_is}
 
@@ -125,13 +126,13 @@ key_of_row {V} (Some e) p h = let k : Some (e.key, e.value) ≡ Some p = h in le
 -- room for so many rows more, where a bounded tree has all its slots
 module _ {V : Type 0} (limit : Limit) (n : ℕ) (x : tree.Indexed V Nothing) where
   same_room : is_past limit (length (ascent x).rows + n) ≡ false → HasSlots limit None (slots (ascent x)) → n ≤ x.spare → MakesRoom limit n (ascent x) (ascent x)
-  same_room within has_slots le = record { rows = refl; next = refl; capacity = kept_none limit (length (ascent x).rows + n); enough = le; has_slots = has_slots; most = le-max_left (slots (ascent x)) (pow8 (length (ascent x).rows + n)) }
+  same_room within has_slots le = record { rows = refl; next = refl; capacity = kept_none limit (length (ascent x).rows + n); enough = le; has_slots = has_slots; most = le-max_left (slots (ascent x)) (pow8 (length (ascent x).rows + n)); now_slots = sym (after_kept (slots (ascent x)) (length (ascent x).rows + n) (omega (arith, le))) }
 
   abbrev grown : tree.Indexed V Nothing
   grown = tree.indexed x.rows x.next_serial (pow8 (length x.rows + n) - length x.rows)
 
-  more_room : limit ≡ Unbounded → MakesRoom limit n (ascent x) (ascent grown)
-  more_room none =
+  more_room : limit ≡ Unbounded → x.spare < n → MakesRoom limit n (ascent x) (ascent grown)
+  more_room none lt =
       let count = length-map x.rows row_in in let enough = pow8-enough (length x.rows + n) in
       let all : slots (ascent grown) ≡ pow8 (length (ascent x).rows + n) = ap (λ m. m + (pow8 (length x.rows + n) - length x.rows)) count ∙ omega (arith, enough) ∙ ap (λ m. pow8 (m + n)) (sym count) in
       record {
@@ -141,11 +142,12 @@ module _ {V : Type 0} (limit : Limit) (n : ℕ) (x : tree.Indexed V Nothing) whe
         enough = omega (arith, enough);
         has_slots = subst (λ l. HasSlots l None (slots (ascent grown))) (sym none) tt;
         most = subst (λ m. m ≤ max (slots (ascent x)) (pow8 (length (ascent x).rows + n))) (sym all) (le-max_right (slots (ascent x)) (pow8 (length (ascent x).rows + n)));
+        now_slots = all ∙ sym (after_grown (slots (ascent x)) (length (ascent x).rows + n) (omega (arith, lt)));
       }
 
 pub room_made : {V : Type 0} (limit : Limit) (n : ℕ) (x x2 : tree.Indexed V Nothing) → is_past limit (length (ascent x).rows + n) ≡ false → HasSlots limit None (slots (ascent x)) → x2 ≡ tree.reserved x n → MakesRoom limit n (ascent x) (ascent x2)
 room_made {V} limit n x x2 within has_slots e = subst (λ y. MakesRoom limit n (ascent x) (ascent y)) (sym e) (elim (cases_lt x.spare n) [
-  | inl lt ↦ subst (λ y. MakesRoom limit n (ascent x) (ascent y)) (sym (cond-false _ _ _ (lt-leb n x.spare lt))) (more_room limit n x (unbounded limit within has_slots lt))
+  | inl lt ↦ subst (λ y. MakesRoom limit n (ascent x) (ascent y)) (sym (cond-false _ _ _ (lt-leb n x.spare lt))) (more_room limit n x (unbounded limit within has_slots lt) lt)
   | inr le ↦ subst (λ y. MakesRoom limit n (ascent x) (ascent y)) (sym (cond-true _ _ _ (le-leb n x.spare le))) (same_room limit n x within has_slots le)
 ])
   where

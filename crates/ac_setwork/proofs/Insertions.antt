@@ -1,5 +1,5 @@
 -- A row that is put in a slot that is there, unless another has an equivalent key.
-use Rattle.std.proofs.Common.{◌≡◌, ◌+◌, ◌-◌, [], ◌∷◌, None, Some, Result, Ok, Err, refl, sym, ap, ◌∙◌, subst, arith}
+use Rattle.std.proofs.Common.{◌≡◌, ◌+◌, ◌-◌, [], ◌∷◌, length, None, Some, Result, Ok, Err, refl, sym, ap, ◌∙◌, subst, arith}
 use Rattle.std.specs.Prelude.{is_some, OnOk, OnErr}
 use Rattle.ac_base.specs.FirstReason.{first_reason, earlier}
 use Rattle.ac_base.specs.Guards.{GuardCounts}
@@ -15,15 +15,16 @@ use Rattle.ac_model.specs.Letters.{reason_if, room_for_one, tampers_cursors}
 use Rattle.ac_model.specs.Objects.{plain}
 use Rattle.ac_model.proofs.KeyedLaws.{Closed}
 use Rattle.ac_model.proofs.Reasons.{none_first, none_others}
-use Rattle.ac_setwork.specs.Indexed.{Indexed, Becomes, MakesRoom, found_in, plain_rows}
+use Rattle.ac_setwork.specs.Indexed.{Indexed, Becomes, MakesRoom, found_in, plain_rows, slots}
 use Rattle.ac_setwork.specs.TableFields.{IsTable, TakesOne, object_of}
 use Rattle.ac_setwork.proofs.Found.{row_named}
+use Rattle.ac_setwork.proofs.Slots.{after_kept}
 use Rattle.ac_setwork.proofs.Tables.{added_object, added_table, insertion_allowed}
 
 module _ {V : Type 0} (order : Order V) (g : GuardCounts) (l : Limit) (s s2 : Indexed V) (v : V) (t : IsTable order g l s) (one : TakesOne (container (object_of g l s) s.spare)) where
   -- the room that is there, as if it had been made
   there : MakesRoom l 1 s s
-  there = let spare = one.spare in record { rows = refl; next = refl; capacity = sym one.capacity; enough = omega (arith, spare); has_slots = t.has_slots; most = omega arith }
+  there = let spare = one.spare in record { rows = refl; next = refl; capacity = sym one.capacity; enough = omega (arith, spare); has_slots = t.has_slots; most = omega arith; now_slots = sym (after_kept (slots s) (length s.rows + 1) (omega (arith, spare))) }
 
   abbrev IsAdded : Type 0
   IsAdded = Becomes s s2 (added order (plain_rows s) s.next (v ∷ [])) (s.next + 1) (s.spare - 1)

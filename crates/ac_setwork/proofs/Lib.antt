@@ -9,8 +9,10 @@ pub mod Found
 pub mod Insertions
 pub mod KeptSlots
 pub mod Refills
+pub mod Refused
 pub mod Replacing
 pub mod Sifts
+pub mod Slots
 pub mod Tables
 pub mod Unguarded
 pub mod Unions

@@ -7,8 +7,9 @@ use Rattle.ac_model.specs.Keyed.{Order, added}
 use Rattle.ac_model.specs.Letters.{room_for_one}
 use Rattle.ac_model.specs.Objects.{capacity_after, plain}
 use Rattle.ac_model.proofs.KeyedLaws.{Closed}
-use Rattle.ac_setwork.specs.Indexed.{Indexed, Becomes, plain_rows}
+use Rattle.ac_setwork.specs.Indexed.{Indexed, Becomes, plain_rows, slots}
 use Rattle.ac_setwork.specs.TableFields.{IsTable, named_like, object_of}
+use Rattle.ac_setwork.proofs.Slots.{after_kept}
 use Rattle.ac_setwork.proofs.Tables.{added_table, first_guards, insertion_allowed}
 
 module _ {V : Type 0} (order : Order V) (l : Limit) where
@@ -38,4 +39,4 @@ module _ {V : Type 0} (order : Order V) (l : Limit) where
   added_here closed g s s2 v t spare room absent capacity b =
       let free = first_guards g.number in
       other_guards free g s2 (added_table order free l closed s s s2 v (other_guards g free s t) (insertion_allowed order (object_of free l s) v absent room)
-      (record { rows = refl; next = refl; capacity = sym capacity; enough = omega (arith, spare); has_slots = t.has_slots; most = omega arith }) b)
+      (record { rows = refl; next = refl; capacity = sym capacity; enough = omega (arith, spare); has_slots = t.has_slots; most = omega arith; now_slots = sym (after_kept (slots s) (length s.rows + 1) (omega (arith, spare))) }) b)

@@ -29,6 +29,7 @@ use Rattle.ac_model.proofs.Reasons.{room_none}
 use Rattle.ac_setwork.specs.SetSeen.{HasAll, HasRoomFor, IsSifted, TakesAll, is_wanted, need_of, room_call, with_all}
 use Rattle.ac_setwork.proofs.Equivalents.{as_many}
 use Rattle.ac_setwork.proofs.KeptSlots.{keeps_both, keeps_itself}
+use Rattle.ac_setwork.proofs.Slots.{after_enough, after_most}
 
 twice_step : (c need : ℕ) → need ≤ pow8 need → ◌≡◌ {A = ℕ} (if nat_le need (if nat_le need c then c else pow8 need) then (if nat_le need c then c else pow8 need) else pow8 need) (if nat_le need c then c else pow8 need)
 twice_step c need enough = grind (arith, nat_tests)
@@ -83,7 +84,7 @@ module _ {V : Type 0} (order : Order V) (source : Object ℕ V) (old wide fewer 
         let limit : fewer.object.limit ≡ old.object.limit = ap (λ (o : Object ℕ V). o.limit) plainly in
         let capacity : fewer.object.capacity ≡ capacity_after old.object.limit old.object.capacity (need_of old.object gone more) = ap (λ (o : Object ℕ V). o.capacity) plainly in
         let next : fewer.object.next ≡ old.object.next = ap (λ (o : Object ℕ V). o.next) plainly in
-        let enough = p.has_room.enough in let slots = p.slots in
+        let enough = subst (λ n. need_of old.object gone more ≤ n) (sym p.has_room) (after_enough (slots_of old) (need_of old.object gone more)) in let slots = p.slots in
         let differ : (u : V) → count (λ w. order.alike w u) kept ≤ 1 = λ u. let few = less u in let once = valid.keys_differ u in omega (arith, few, once) in
         let apart = union_apart order closed.equal (plain old.object).rows kept (contents source) differ less (λ u. let once = source_valid.keys_differ u in let is = count_values (λ w. order.alike w u) source.rows in omega (arith, once, is)) in
         record {
@@ -113,7 +114,7 @@ module _ {V : Type 0} (order : Order V) (source : Object ℕ V) (old wide fewer 
           let is_more = p.is_more in let need = p.need in let first = p.slots in let second = h.slots in
           let count : length_of new.object ≡ need_of old.object gone more =
           sym (length-map new.object.rows plain_row) ∙ ap (λ (o : Object ℕ V). length o.rows) all_after.plainly ∙ length-added order new_values kept old.object.next ∙ ap (λ m. length kept + m) (sym is_more) ∙ sym need in
-          subst (λ m. slots_of new ≤ max (slots_of old) (pow8 m)) (sym count) (subst (λ m. m ≤ max (slots_of old) (pow8 (need_of old.object gone more))) (sym (second ∙ first)) p.has_room.most)
+          subst (λ m. slots_of new ≤ max (slots_of old) (pow8 m)) (sym count) (subst (λ m. m ≤ max (slots_of old) (pow8 (need_of old.object gone more))) (sym (second ∙ first ∙ p.has_room)) (after_most (slots_of old) (need_of old.object gone more)))
 
 -- what is refused for want of room changes nothing
 module _ {V : Type 0} (old new : Container V) (gone more length_after count : ℕ) (after : Object ℕ V) where

@@ -8,7 +8,7 @@ use Rattle.ac_model.specs.Common.{asks_for_memory}
 use Rattle.ac_model.specs.Rows.{row_by}
 use Rattle.ac_model.specs.Objects.{capacity_after, times}
 use Rattle.ac_model.specs.Keyed.{Order}
-use Rattle.ac_setwork.specs.Indexed.{Indexed, HasSlots, plain_rows, slots}
+use Rattle.ac_setwork.specs.Indexed.{Indexed, HasSlots, plain_rows, slots, slots_after}
 
 -- so many rows are within the Capacity, or where there is none, no more than there are
 abbrev pub holds : Option ℕ → ℕ → ℕ → Bool
@@ -28,6 +28,7 @@ module _ {V : Type 0} where
     pub enough : need ≤ slots new
     pub has_slots : HasSlots limit new.capacity (slots new)
     pub most : slots new ≤ max (slots old) (pow8 need)
+    pub now_slots : slots new ≡ slots_after (slots old) need
 
   -- where there is a Capacity, so many rows are more than it has room for
   abbrev pub AsksForMemory : Limit → ℕ → Indexed V → Type 0

@@ -1,5 +1,5 @@
 -- What is seen of an index: rows with names, the serial of the next name, the Capacity where there is one, and the spare slots; and what its calls leave.
-use Rattle.std.specs.Prelude.{◌≡◌, ◌<◌, ◌+◌, ◌≤◌, ⊤, ℕ, Bool, true, max, List, [], find, length, All, IsTrue, Option, Some, None, option_map, slice_get}
+use Rattle.std.specs.Prelude.{◌≡◌, ◌<◌, ◌+◌, ◌≤◌, ⊤, ℕ, Bool, true, max, nat_le, List, [], find, length, All, IsTrue, Option, Some, None, option_map, slice_get, if◌then◌else◌}
 use Rattle.ac_base.specs.declared.limit.Limit.{Limit}
 use Rattle.ac_base.specs.declared.limit.Limit.TheVariants.{Unbounded, Bounded}
 use Rattle.ac_base.specs.declared.name.Name.{Name}
@@ -23,6 +23,10 @@ abbrev pub HasSlots : Limit → Option ℕ → ℕ → Type 0
 HasSlots Unbounded None slots = ⊤
 HasSlots Unbounded (Some capacity) slots = capacity ≤ slots
 HasSlots (Bounded most) capacity slots = slots ≡ most
+
+-- the slots after a need of so many: those that there were, where they are enough, else the least 8 * 2 ^ k that is enough
+abbrev pub slots_after : ℕ → ℕ → ℕ
+slots_after slots need = if nat_le need slots then slots else pow8 need
 
 module _ {V : Type 0} where
   -- the rows as the definitions of the calls see them
@@ -77,6 +81,7 @@ module _ {V : Type 0} where
     pub enough : n ≤ new.spare
     pub has_slots : HasSlots limit new.capacity (slots new)
     pub most : slots new ≤ max (slots old) (pow8 (length old.rows + n))
+    pub now_slots : slots new ≡ slots_after (slots old) (length old.rows + n)
 
   -- one row more takes no memory
   abbrev pub takes_one : Limit → Indexed V → Bool

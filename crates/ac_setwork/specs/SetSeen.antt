@@ -1,7 +1,6 @@
 -- What is seen of a set by set algebra, and what becomes of it.
-use Rattle.std.specs.Prelude.{◌≡◌, ◌+◌, ◌-◌, ◌≤◌, ℕ, Bool, true, false, not, List, [], ◌∷◌, filter, length, max}
+use Rattle.std.specs.Prelude.{◌≡◌, ◌+◌, ◌-◌, ◌≤◌, ℕ, Bool, true, false, not, List, [], ◌∷◌, filter, length}
 use Rattle.ac_base.specs.FirstReason.{first_reason}
-use Rattle.ac_base.specs.Growth.{pow8}
 use Rattle.ac_base.specs.Limits.{is_past, numbers_end}
 use Rattle.ac_base.specs.declared.limit.TheConstants.{GREATEST_LENGTH}
 use Rattle.ac_model.specs.Calls.{Call, call, Done, IsAfter, takes_some}
@@ -10,7 +9,7 @@ use Rattle.ac_model.specs.Containers.{Container, slots_of}
 use Rattle.ac_model.specs.Keyed.{Order, added, has}
 use Rattle.ac_model.specs.Letters.{room}
 use Rattle.ac_model.specs.Objects.{Object, capacity_after, contents, length_of, plain, with_rows}
-use Rattle.ac_setwork.specs.Indexed.{Indexed}
+use Rattle.ac_setwork.specs.Indexed.{Indexed, slots_after}
 
 -- it is so, or it isn't, as is asked for
 abbrev pub is_as : Bool → Bool → Bool
@@ -35,10 +34,9 @@ module _ {V : Type 0} where
   abbrev pub room_call : ℕ → ℕ → Object ℕ V → Call (Object ℕ V) Done
   room_call gone more o = call takes_some (first_reason (room o (need_of o gone more) more)) (widened o (need_of o gone more)) tt
 
-  -- there are slots for so many more, once so many are gone
-  pub record HasRoomFor (gone more : ℕ) (old new : Container V) : Type 0 where
-    pub enough : need_of old.object gone more ≤ slots_of new
-    pub most : slots_of new ≤ max (slots_of old) (pow8 (need_of old.object gone more))
+  -- the slots are those after the need of so many more, once so many are gone
+  abbrev pub HasRoomFor : ℕ → ℕ → Container V → Container V → Type 0
+  HasRoomFor gone more old new = slots_of new ≡ slots_after (slots_of old) (need_of old.object gone more)
 
   -- an element has an equivalent in the other set, or has none, as is asked for
   abbrev pub is_wanted : Order V → Object ℕ V → Bool → V → Bool

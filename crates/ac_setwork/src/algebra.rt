@@ -2,7 +2,6 @@
 ghost use Rattle.std.specs.Prelude.{◌≡◌, ◌∷◌, [], ◌++◌, ◌+◌, ◌-◌, ◌^◌, ◌<◌, ◌≤◌, length, IfOk, OnErr, OnOk};
 ghost use Rattle.std.specs.List.{list_all};
 ghost use Rattle.std.specs.Result.{IsOkAnd};
-ghost use Rattle.ac_base.specs.declared.limit.TheConstants.{GREATEST_LENGTH};
 ghost use Rattle.ac_model.specs.Calls.{Same};
 ghost use Rattle.ac_model.specs.Containers.{Grows, slots_of};
 ghost use Rattle.ac_model.specs.Forms.{Does};
@@ -170,8 +169,7 @@ fn room_for<A: SetLike>(
     more: u64,
     copies: Result<Vec<A::Item>, NoMemory>,
 ) -> Result<Vec<A::Item>, Fault>
-    requires gone { gone ≤ length_of (A.seen target.old).object }
-    requires more { more ≤ GREATEST_LENGTH }
+    requires { gone ≤ length_of (A.seen target.old).object }
     ensures changed { Does Same (room_call gone more) (A.seen target.old) (A.seen target.new) (done result) }
     ensures copies { IfOk result (λ made. IsOkAnd copies (λ old. made.items ≡ old.items)) }
     ensures ok { OnOk result (HasRoomFor gone more (A.seen target.old) (A.seen target.new)) }

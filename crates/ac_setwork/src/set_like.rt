@@ -1,7 +1,6 @@
 //! What set algebra needs of a set.
 ghost use Rattle.std.specs.Prelude.{◌≡◌, ◌+◌, ◌-◌, ◌<◌, ◌≤◌, None, Some, IfOk, IsTrue, OnErr, OnOk};
 ghost use Rattle.ac_base.specs.FirstReason.{first_reason};
-ghost use Rattle.ac_base.specs.declared.limit.TheConstants.{GREATEST_LENGTH};
 ghost use Rattle.ac_model.specs.Calls.{IsAfter, Same};
 ghost use Rattle.ac_model.specs.Containers.{Container};
 ghost use Rattle.ac_model.specs.Forms.{Does, Refuses};
@@ -65,14 +64,12 @@ pub trait SetLike: Drop {
 
     /// Why room for so many elements more, once so many are gone, is refused.
     fn refuses_room(&self, gone: u64, more: u64) -> Option<Reason>
-        requires gone { gone ≤ length_of (seen self.now).object }
-        requires more { more ≤ GREATEST_LENGTH }
+        requires { gone ≤ length_of (seen self.now).object }
         ensures { Refuses (room_call gone more) (seen self.now) result };
 
     /// Makes room for so many elements more, once so many are gone, and raises the Capacity where there is one.
     fn room(&mut self, gone: u64, more: u64) -> Result<(), Fault>
-        requires gone { gone ≤ length_of (seen self.old).object }
-        requires more { more ≤ GREATEST_LENGTH }
+        requires { gone ≤ length_of (seen self.old).object }
         ensures changed { Does Same (room_call gone more) (seen self.old) (seen self.new) result }
         ensures ok { OnOk result (HasRoomFor gone more (seen self.old) (seen self.new)) }
         ensures err { OnErr result (seen self.new ≡ seen self.old) };
@@ -85,6 +82,7 @@ pub trait SetLike: Drop {
         requires capacity { let o = (seen self.old).object in capacity_after o.limit o.capacity (length_of o + 1) ≡ o.capacity }
         ensures added { IsAfter (seen self.old).object (seen self.new).object (with_added order (plain (seen self.old).object) item) }
         ensures serial { result.serial ≡ (seen self.old).object.next }
+        ensures there { IsTrue (is_there (indexed (seen self.new)) result) }
         ensures spare { (seen self.new).spare ≡ (seen self.old).spare - 1 };
 
     /// The order is one in which the calls keep a set valid.

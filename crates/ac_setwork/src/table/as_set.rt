@@ -1,11 +1,22 @@
 //! A table as a set of its rows.
+ghost use Rattle.std.specs.Prelude.{◌≡◌, ◌+◌};
+ghost use Rattle.ac_base.specs.FirstReason.{first_reason};
+ghost use Rattle.ac_model.specs.Letters.{room_in};
+
 use super::Table;
 use crate::filling::widen;
 use crate::index::Index;
 use crate::set_like::SetLike;
-use ac_base::{Fault, Name, NoMemory, Reason};
+use ac_base::{Fault, Limit, Name, NoMemory, Reason};
 use ac_model::{allowed, as_fault, room};
 use std::alloc::Global;
+
+/// Why so many more than those that stay are refused.
+fn room_behind(limit: Limit, next: u64, kept: u64, more: u64) -> Option<Reason>
+    ensures { result ≡ first_reason (room_in limit next (kept + more) more) }
+{
+    room(limit, next, kept.saturating_add(more), more)
+}
 
 impl<I: Index> SetLike for Table<I> {
     type Item = I::Row;
@@ -53,10 +64,10 @@ impl<I: Index> SetLike for Table<I> {
     }
 
     fn refuses_room(&self, gone: u64, more: u64) -> Option<Reason> {
-        room(
+        room_behind(
             self.limit,
             self.index.next_serial(),
-            self.index.len() - gone + more,
+            self.index.len() - gone,
             more,
         )
     }

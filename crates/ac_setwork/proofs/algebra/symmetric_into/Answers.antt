@@ -15,19 +15,13 @@ overflow_sub-len g c =
     let len = c.len.ensures ∙ sym (length-map (g.A.SetLike.seen c.args.source.now).object.rows plain_row) in
     omega (arith, few, is, len)
 
-pub room_for-requires-clause-gone : goal.room_for-requires-clause-gone
-room_for-requires-clause-gone g c =
+pub room_for-requires : goal.room_for-requires
+room_for-requires g c =
     let order = g.A.SetLike.order in let old = g.A.SetLike.seen c.args.target.now in let source = plain (g.A.SetLike.seen c.args.source.now).object in let more = c.additions-more.result.0 in
     let sum = own_and_new order (plain old.object) source g.met.A.SetLike.closed c.law.ensures c.law-2.ensures in let few = additions_few order (plain old.object) source in let is = c.additions-more.ensures.count in
     let len = c.len.ensures ∙ sym (length-map (g.A.SetLike.seen c.args.source.now).object.rows plain_row) in
     let same = length-map old.object.rows plain_row in
     omega (arith, few, is, len, sum, same)
-
-pub room_for-requires-clause-more : goal.room_for-requires-clause-more
-room_for-requires-clause-more g c =
-    let order = g.A.SetLike.order in let old = g.A.SetLike.seen c.args.target.now in let source = plain (g.A.SetLike.seen c.args.source.now).object in let more = c.additions-more.result.0 in
-    let few = additions_few order (plain old.object) source in let most = c.law-2.ensures.as_object.within_greatest in let is = c.additions-more.ensures.count in
-    omega (arith, few, most, is)
 
 pub add_each-requires : goal.add_each-requires
 add_each-requires g c =

@@ -3,14 +3,8 @@ use Rattle.ac_model.specs.Keyed.{added}
 use Rattle.ac_model.specs.Objects.{grown, plain}
 use Rattle.ac_model.specs.Sets.{additions}
 use Rattle.ac_setwork.specs.SetSeen.{HasAll, TakesAll}
-use Rattle.ac_setwork.proofs.Unions.{additions_few, all_after, all_grows, copied_are, refused_room, takes_all, union_prepared, unrefused_room}
+use Rattle.ac_setwork.proofs.Unions.{all_after, all_grows, copied_are, refused_room, takes_all, union_prepared, unrefused_room}
 use Rattle.ac_setwork.proofs.algebra.union_into.Goals as goal
-
-pub room_for-requires-clause-more : goal.room_for-requires-clause-more
-room_for-requires-clause-more g c =
-    let order = g.A.SetLike.order in let old = g.A.SetLike.seen c.args.target.now in let source = plain (g.A.SetLike.seen c.args.source.now).object in let more = c.additions-more.result.0 in
-    let few = additions_few order (plain old.object) source in let most = c.law-2.ensures.as_object.within_greatest in let is = c.additions-more.ensures.count in
-    omega (arith, few, most, is)
 
 pub add_each-requires : goal.add_each-requires
 add_each-requires g c =
