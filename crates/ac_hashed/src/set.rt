@@ -1,10 +1,10 @@
 //! Hashed sets.
-ghost use Rattle.std.specs.Prelude.{◌≡◌, ◌≤◌, true, false, refl, max, IfOk, IfErr, IsOk, OnErr};
+ghost use Rattle.std.specs.Prelude.{◌≡◌, ◌≤◌, true, false, refl, max, IfOk, IfErr, IfSome, IsOk, OnErr};
 ghost use Rattle.ac_base.specs.Growth.{pow8};
 ghost use Rattle.ac_base.specs.Limits.{IsLimit};
 ghost use Rattle.ac_base.specs.declared.limit.TheConstants.{GREATEST_LENGTH};
 ghost use Rattle.ac_model.specs.Calls.{Same, Lends, Marks};
-ghost use Rattle.ac_model.specs.Containers.{container, first_spare, guards_of, slots_of, with_guards, Grows};
+ghost use Rattle.ac_model.specs.Containers.{HasSlots, container, first_spare, guards_of, slots_of, with_guards, Grows};
 ghost use Rattle.ac_model.specs.Forms.{Does, DoesBoth, Looks, Makes, Sets, seen_by};
 ghost use Rattle.ac_model.specs.Keyed.{IsValidKeyed, by_arrival};
 ghost use Rattle.ac_model.specs.Letters.{count_of};
@@ -57,6 +57,8 @@ impl<T: KeyOf> HashedSet<T> {
     pub fn law(&self)
         ensures valid { IsValidKeyed (by_arrival T.is_alike) (plain self.now.object) }
         ensures limit { IsLimit self.now.object.limit }
+        ensures slots { HasSlots self.now.object.limit (length_of self.now.object) self.now.spare }
+        ensures capacity { IfSome self.now.object.capacity (λ capacity. capacity ≤ slots_of self.now) }
     {
         self.table.law();
     }

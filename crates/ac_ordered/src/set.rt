@@ -6,7 +6,7 @@ ghost use Rattle.ac_base.specs.declared.limit.TheConstants.{GREATEST_LENGTH};
 ghost use Rattle.ac_balance.specs.Indexed.{FewSteps};
 ghost use Rattle.ac_model.specs.Objects.{plain, length_of, empty_object};
 ghost use Rattle.ac_model.specs.Calls.{Same, Lends, Marks};
-ghost use Rattle.ac_model.specs.Containers.{Grows, container, first_spare, guards_of, slots_of, with_guards};
+ghost use Rattle.ac_model.specs.Containers.{Grows, HasSlots, container, first_spare, guards_of, slots_of, with_guards};
 ghost use Rattle.ac_model.specs.Forms.{Does, DoesBoth, Looks, Makes, Sets, seen_by};
 ghost use Rattle.ac_model.specs.Common as common;
 ghost use Rattle.ac_model.specs.Keyed as keyed;
@@ -62,6 +62,7 @@ impl<T: KeyOf> OrderedSet<T> {
     pub fn law(&self)
         ensures valid { IsValidKeyed (ascending T.is_less) (plain self.now.object) }
         ensures limit { IsLimit self.now.object.limit }
+        ensures slots { HasSlots self.now.object.limit (length_of self.now.object) self.now.spare }
     {
         self.table.law();
     }

@@ -1,10 +1,10 @@
 //! A map or a set, over any index.
-ghost use Rattle.std.specs.Prelude.{◌≡◌, false, refl, IfOk, IfErr, IsOk};
+ghost use Rattle.std.specs.Prelude.{◌≡◌, ◌≤◌, false, refl, IfOk, IfErr, IfSome, IsOk};
 ghost use Rattle.ac_base.specs.Limits.{IsLimit};
 ghost use Rattle.ac_base.specs.declared.cursor.Cursor.TheVariants.{At};
 ghost use Rattle.ac_model.specs.Objects.{plain, length_of, empty_object};
 ghost use Rattle.ac_model.specs.Cursors.{needs_cursor, cursor_at};
-ghost use Rattle.ac_model.specs.Containers.{container, first_spare, guards_of, slots_of, with_guards};
+ghost use Rattle.ac_model.specs.Containers.{HasSlots, container, first_spare, guards_of, slots_of, with_guards};
 ghost use Rattle.ac_model.specs.Common as common;
 ghost use Rattle.ac_model.specs.Keyed.{IsValidKeyed};
 ghost use Rattle.ac_setwork.specs.TableFields.{named_like};
@@ -76,6 +76,8 @@ impl<I: Index> Table<I> {
     pub fn law(&self)
         ensures valid { IsValidKeyed I.order (plain self.now.object) }
         ensures limit { IsLimit self.now.object.limit }
+        ensures slots { HasSlots self.now.object.limit (length_of self.now.object) self.now.spare }
+        ensures capacity { IfSome self.now.object.capacity (λ capacity. capacity ≤ slots_of self.now) }
     {
         let _index = &self.index;
     }
