@@ -132,6 +132,14 @@ impl<K: Hashed, V: Elem> HashedMap<K, V> {
     {
         self.table.equal(&other.table)
     }
+
+    /// "=" (A.18.4) of a map with itself, in constant time.
+    pub fn equal_self(&self) -> bool
+        ensures { result ≡ maps.equal_call (by_arrival K.is_alike) V.is_same (plain self.now.object) (plain self.now.object) }
+    {
+        self.law();
+        true
+    }
 }
 
 impl<K: Hashed, V: Elem> HashedMap<K, V> {

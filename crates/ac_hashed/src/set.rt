@@ -134,6 +134,13 @@ impl<T: KeyOf> HashedSet<T> {
         other.table.law();
         self.table.equal(&other.table)
     }
+
+    /// "=" (A.18.7) of a set with itself, in constant time.
+    pub fn equal_self(&self) -> bool
+        ensures { result ≡ sets.equal_call T.is_same (plain self.now.object) (plain self.now.object) }
+    {
+        true
+    }
 }
 
 impl<T: KeyOf> HashedSet<T> {

@@ -152,6 +152,14 @@ impl<K: Rank, V: Elem> OrderedMap<K, V> {
         self.table.equal(&other.table)
     }
 
+    /// "=" (A.18.4) of a map with itself, in constant time.
+    pub fn equal_self(&self) -> bool
+        ensures { result ≡ maps.equal_call (ascending K.is_less) V.is_same (plain self.now.object) (plain self.now.object) }
+    {
+        self.law();
+        true
+    }
+
     /// First (A.18.4).
     pub fn first(&self) -> Cursor
         ensures { Marks self.now.object result (sequences.first_call (plain self.now.object)) }

@@ -131,6 +131,13 @@ impl<T: KeyOf> OrderedSet<T> {
         self.table.equal(&other.table)
     }
 
+    /// "=" (A.18.7) of a set with itself, in constant time.
+    pub fn equal_self(&self) -> bool
+        ensures { result ≡ sets.equal_call T.is_same (plain self.now.object) (plain self.now.object) }
+    {
+        true
+    }
+
     /// First (A.18.7).
     pub fn first(&self) -> Cursor
         ensures { Marks self.now.object result (sequences.first_call (plain self.now.object)) }

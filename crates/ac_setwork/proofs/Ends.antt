@@ -30,7 +30,7 @@ use Rattle.ac_setwork.specs.TableFields.{object_of}
 use Rattle.ac_setwork.proofs.Found.{at_place, among_found, marked, none_found, place_marks, row_named, stands}
 use Rattle.ac_setwork.proofs.Tables.{IsTaken, becomes_after, all_from}
 
-not_zero : (n : ℕ) → 0 < n → (n == 0) ≡ false
+pub not_zero : (n : ℕ) → 0 < n → (n == 0) ≡ false
 not_zero n h = elim (cases_Bool (n == 0)) [ inl t ↦ absurd (let e = eqb-true n 0 t in omega (arith, h, e)) | inr f ↦ f ]
 
 module _ {V : Type 0} where

@@ -7,6 +7,7 @@ pub mod Equality
 pub mod Equivalents
 pub mod Found
 pub mod Insertions
+pub mod Itself
 pub mod KeptSlots
 pub mod Refills
 pub mod Refused

@@ -85,6 +85,13 @@ impl<T: KeyOf> HashedSet<T> {
         self.table.overlap(&other.table)
     }
 
+    /// Overlap (A.18.7) of a set with itself: it has an element.
+    pub fn overlap_self(&self) -> bool
+        ensures { result ≡ sets.overlap_call (by_arrival T.is_alike) (plain self.now.object) (plain self.now.object) }
+    {
+        self.table.overlap_self()
+    }
+
     /// Is_Subset (A.18.7): each element has an equivalent in the other set.
     pub fn is_subset(&self, other: &HashedSet<T>) -> bool
         ensures { result ≡ sets.is_subset_call (by_arrival T.is_alike) (plain self.now.object) (plain other.now.object) }
@@ -92,10 +99,24 @@ impl<T: KeyOf> HashedSet<T> {
         self.table.is_subset(&other.table)
     }
 
+    /// Is_Subset (A.18.7) of a set of itself, in constant time.
+    pub fn is_subset_self(&self) -> bool
+        ensures { result ≡ sets.is_subset_call (by_arrival T.is_alike) (plain self.now.object) (plain self.now.object) }
+    {
+        self.table.is_subset_self()
+    }
+
     /// Equivalent_Sets (A.18.7): as many elements, and each has an equivalent in the other set.
     pub fn equivalent_sets(&self, other: &HashedSet<T>) -> bool
         ensures { result ≡ sets.equivalent_sets_call (by_arrival T.is_alike) (plain self.now.object) (plain other.now.object) }
     {
         self.table.equivalent_sets(&other.table)
+    }
+
+    /// Equivalent_Sets (A.18.7) of a set with itself, in constant time.
+    pub fn equivalent_sets_self(&self) -> bool
+        ensures { result ≡ sets.equivalent_sets_call (by_arrival T.is_alike) (plain self.now.object) (plain self.now.object) }
+    {
+        self.table.equivalent_sets_self()
     }
 }

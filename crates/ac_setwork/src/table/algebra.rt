@@ -89,6 +89,13 @@ impl<I: Index> Table<I> {
         algebra::overlap(self, other)
     }
 
+    /// Overlap (A.18.7) of a set with itself: it has an element.
+    pub fn overlap_self(&self) -> bool
+        ensures { result ≡ sets.overlap_call I.order (plain self.now.object) (plain self.now.object) }
+    {
+        !self.is_empty()
+    }
+
     /// Is_Subset (A.18.7): each element has an equivalent in the other set.
     pub fn is_subset(&self, other: &Table<I>) -> bool
         ensures { result ≡ sets.is_subset_call I.order (plain self.now.object) (plain other.now.object) }
@@ -96,10 +103,24 @@ impl<I: Index> Table<I> {
         algebra::is_subset(self, other)
     }
 
+    /// Is_Subset (A.18.7) of a set of itself, in constant time.
+    pub fn is_subset_self(&self) -> bool
+        ensures { result ≡ sets.is_subset_call I.order (plain self.now.object) (plain self.now.object) }
+    {
+        true
+    }
+
     /// Equivalent_Sets (A.18.7): as many elements, and each has an equivalent in the other set.
     pub fn equivalent_sets(&self, other: &Table<I>) -> bool
         ensures { result ≡ sets.equivalent_sets_call I.order (plain self.now.object) (plain other.now.object) }
     {
         algebra::equivalent(self, other)
+    }
+
+    /// Equivalent_Sets (A.18.7) of a set with itself, in constant time.
+    pub fn equivalent_sets_self(&self) -> bool
+        ensures { result ≡ sets.equivalent_sets_call I.order (plain self.now.object) (plain self.now.object) }
+    {
+        true
     }
 }
