@@ -16,6 +16,7 @@ ghost use Rattle.ac_model.specs.Sequences as sequences;
 ghost use Rattle.ac_setwork.specs.TableFields.{Places};
 
 mod algebra;
+mod as_set;
 mod by_key;
 
 use crate::arrivals::Arrivals;

@@ -5,6 +5,7 @@ use ac_base::{Fault, KeyOf, KeyedText, Limit, Reason, Steps, Text};
 use ac_cursor::{Cursor, GuardKind, Guarded};
 use ac_hashed::HashedSet;
 use ac_ordered::OrderedSet;
+use ac_setwork::algebra::{overlap, symmetric_into, union_into};
 use std::alloc::Global;
 use std::marker::Brand;
 use std::process::Abort;
@@ -127,4 +128,26 @@ fn a_number_is_its_own_key(rt: HostRuntime) {
     assert!(rt; numbers.key(numbers.first()).ok().copied() == Some(2));
     let (has, [at, _, ceiling]) = seek(&numbers, &3);
     assert!(rt; !has && at == Cursor::NoElement && ceiling == numbers.last());
+}
+
+#[test]
+fn set_algebra_takes_a_hashed_set(rt: HostRuntime) {
+    let alloc = rt.alloc();
+    let mut set = arrived(&rt, alloc, &[b"a=1", b"b=1"]);
+    let other = arrived(&rt, alloc, &[b"b=2", b"c=2"]);
+    assert!(rt; union_into(&mut set, &other).is_ok());
+    assert!(rt; set.length() == 3 && is(set.element(set.last()), b"c=2"));
+    assert!(rt; symmetric_into(&mut set, &other).is_ok());
+    assert!(rt; set.length() == 1 && !overlap(&set, &other));
+}
+
+#[test]
+fn set_algebra_takes_an_ordered_set(rt: HostRuntime) {
+    let alloc = rt.alloc();
+    let mut set = ascending(&rt, alloc, &[b"d=1", b"b=1"]);
+    let other = ascending(&rt, alloc, &[b"c=2", b"b=2"]);
+    assert!(rt; union_into(&mut set, &other).is_ok());
+    assert!(rt; set.length() == 3 && is(set.first_element(), b"b=1"));
+    assert!(rt; symmetric_into(&mut set, &other).is_ok());
+    assert!(rt; set.length() == 1 && !overlap(&set, &other));
 }

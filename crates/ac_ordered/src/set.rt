@@ -17,6 +17,7 @@ ghost use Rattle.ac_model.specs.Sets as sets;
 ghost use Rattle.ac_setwork.specs.TableFields.{Places};
 
 mod algebra;
+mod as_set;
 mod by_key;
 
 use crate::ascending::Ascending;
