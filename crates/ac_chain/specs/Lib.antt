@@ -10,3 +10,4 @@ pub mod Refill
 pub mod Search
 pub mod Sorting
 pub mod Merging
+pub mod Rearranging

@@ -13,6 +13,7 @@ ghost use Rattle.ac_model.specs.Lists as lists;
 mod common;
 mod copies;
 mod deletions;
+mod like;
 mod links;
 mod merging;
 mod order;

@@ -14,6 +14,7 @@ mod deletions;
 mod indexes;
 mod insertions;
 mod lengths;
+mod like;
 mod merging;
 mod order;
 mod positions;
