@@ -53,10 +53,10 @@ ordered_is_none e = cc
 -- the rows and the kind are all of it
 
 same_sequence : {T : Type 0} (old new : Sequence T) → kind_of new ≡ kind_of old → rows_of new ≡ rows_of old → new ≡ old
-same_sequence (List l) (List m) kind rows = ap List rows
+same_sequence (List l) (List m) kind rows = λ i. List (record l { sequence = rows i })
 same_sequence (List l) (Vector w) kind rows = absurd (vector_is_none kind)
 same_sequence (Vector v) (List m) kind rows = absurd (list_is_none kind)
-same_sequence (Vector v) (Vector w) kind rows = ap Vector rows
+same_sequence (Vector v) (Vector w) kind rows = λ i. Vector (record v { sequence = rows i })
 
 same_set : {T K : Type 0} (old new : Set T K) → set_kind_of new ≡ set_kind_of old → items_of new ≡ items_of old → new ≡ old
 same_set (set.Hashed s) (set.Hashed t) kind rows = ap set.Hashed rows

@@ -23,8 +23,8 @@ use Rattle.ac_objects.specs.World.{InMemory, in_rows, in_holder, in_queue, memor
 -- with this number and these counts
 
 abbrev pub sequence_with : {T : Type 0} → Sequence T → GuardCounts → Sequence T
-sequence_with (List l) counts = List (with_guards l counts)
-sequence_with (Vector v) counts = Vector (with_guards v counts)
+sequence_with (List l) counts = List (record l { sequence = with_guards l.sequence counts })
+sequence_with (Vector v) counts = Vector (record v { sequence = with_guards v.sequence counts })
 
 abbrev pub set_with : {T K : Type 0} → Set T K → GuardCounts → Set T K
 set_with (set.Hashed s) counts = set.Hashed (with_guards s counts)

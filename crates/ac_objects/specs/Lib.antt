@@ -2,7 +2,6 @@ pub mod Sequences
 pub mod Maps
 pub mod Sets
 pub mod KeyedSets
-pub mod SequenceCalls
 pub mod Shown
 pub mod World
 pub mod Standing

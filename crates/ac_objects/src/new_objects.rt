@@ -27,6 +27,7 @@ use ac_forms::Holder;
 use ac_keyed_calls::{MapRows, SetRows};
 use ac_list::List;
 use ac_queue::{AnyQueue, PriorityQueue, Queue};
+use ac_sequence_calls::SequenceRows;
 use ac_syntax::{ElemKind, Kind, TypeDef};
 use ac_tree::Tree;
 use ac_vector::Vector;
@@ -226,11 +227,11 @@ fn new_sequence<T: Drop>(
 {
     match kind {
         Kind::List => match List::new(alloc, tag, limit) {
-            Ok(list) => Ok(Sequence::List(list)),
+            Ok(list) => Ok(Sequence::List(SequenceRows::new(list))),
             Err(_) => Err(NoMemory),
         },
         Kind::Vector => match Vector::new(alloc, tag, limit) {
-            Ok(vector) => Ok(Sequence::Vector(vector)),
+            Ok(vector) => Ok(Sequence::Vector(SequenceRows::new(vector))),
             Err(_) => Err(NoMemory),
         },
         _ => Err(NoMemory),

@@ -1,32 +1,34 @@
 //! The calls that lists and vectors share, but those with another one.
-ghost use Rattle.std.specs.Prelude.{◌≡◌};
 ghost use Rattle.ac_calls.specs.Replied.{told};
-ghost use Rattle.ac_objects.specs.SequenceCalls.{SequenceReplied};
-ghost use Rattle.ac_objects.specs.Sequences.{kind_of};
+ghost use Rattle.ac_sequence_calls.specs.SequenceCalls.{SequenceReplied};
 
 mod deletions;
 mod looks;
 mod orders;
 mod own_cursors;
 mod puts;
+mod sources;
 
-use crate::sequence::Sequence;
 use ac_base::Fault;
-use ac_calls::{Arguments, Reply, Said, ScriptElement, row_cursors};
+use ac_calls::{Arguments, Reply, Said, ScriptElement};
+use ac_chain::SequenceLike;
 use ac_syntax::SequenceCall;
+pub use sources::sequence_call_with;
 use std::alloc::Global;
 
 /// A call that lists and vectors share.
 #[inline(always)]
-pub fn sequence_call<T: ScriptElement>(
-    sequence: &mut Sequence<T>,
+pub fn sequence_call<S: SequenceLike>(
+    sequence: &mut S,
     alloc: Global,
     call: SequenceCall,
     args: &mut Arguments,
     reply: &mut Reply,
 ) -> Result<(), Fault>
-    ensures replied { SequenceReplied T.tools call args.old sequence.old sequence.new (told reply.new result) }
-    ensures kind { kind_of sequence.new ≡ kind_of sequence.old }
+where
+    S::Element: ScriptElement,
+    ensures { SequenceReplied S.Element.tools S.names_move call args.old
+        (S.seen sequence.old) (S.seen sequence.new) (told reply.new result) }
 {
     match call {
         SequenceCall::Append => puts::append(sequence, alloc, args, reply),
@@ -37,11 +39,11 @@ pub fn sequence_call<T: ScriptElement>(
         SequenceCall::DeleteFirst => deletions::delete_first(sequence, args, reply),
         SequenceCall::DeleteLast => deletions::delete_last(sequence, args, reply),
         SequenceCall::First => {
-            reply.tell_apart(Said::Place(row_cursors::first(sequence)));
+            reply.tell_apart(Said::Place(own_cursors::first(sequence)));
             Ok(())
         }
         SequenceCall::Last => {
-            reply.tell_apart(Said::Place(row_cursors::last(sequence)));
+            reply.tell_apart(Said::Place(own_cursors::last(sequence)));
             Ok(())
         }
         SequenceCall::FirstElement => looks::first_element(sequence, alloc, reply),

@@ -1,29 +1,30 @@
 //! The calls of vectors alone: by index, and of another vector's elements.
 ghost use Rattle.ac_calls.specs.Replied.{told};
-ghost use Rattle.ac_objects.specs.SequenceCalls.{VectorAloneReplied};
+ghost use Rattle.ac_sequence_calls.specs.SequenceCalls.{VectorAloneReplied};
 
-mod capacity;
 mod copies;
 mod indexes;
 
 use ac_base::{Fault, Value};
 use ac_calls::{Arguments, Reply, Said, ScriptElement};
+use ac_chain::VectorLike;
 use ac_syntax::VectorCall;
-use ac_vector::Vector;
-pub use capacity::capacity_call;
 pub use copies::vector_call_with;
 use std::alloc::Global;
 
 /// A call of vectors alone, where the vector is its own source if the call has one.
 #[inline(always)]
-pub fn vector_call<T: ScriptElement>(
-    vector: &mut Vector<T>,
+pub fn vector_call<V: VectorLike>(
+    vector: &mut V,
     alloc: Global,
     call: VectorCall,
     args: &mut Arguments,
     reply: &mut Reply,
 ) -> Result<(), Fault>
-    ensures { VectorAloneReplied T.tools call args.old vector.old vector.new (told reply.new result) }
+where
+    V::Element: ScriptElement,
+    ensures { VectorAloneReplied V.Element.tools call args.old
+        (V.seen vector.old) (V.seen vector.new) (told reply.new result) }
 {
     match call {
         VectorCall::SetLength => indexes::set_length(vector, args, reply),

@@ -3,9 +3,9 @@ ghost use Rattle.ac_calls.specs.Holdings.{reply_by};
 ghost use Rattle.ac_objects.specs.Sequences.{kind_of};
 
 use super::Sequence;
-use crate::operating::{operate, operate_with};
 use ac_base::Fault;
 use ac_calls::{Arguments, OperatedRows, Reply, ScriptElement};
+use ac_sequence_calls::{operate_list, operate_list_with, operate_vector, operate_vector_with};
 use ac_syntax::Operation;
 use std::alloc::Global;
 
@@ -20,7 +20,10 @@ impl<T: ScriptElement> OperatedRows for Sequence<T> {
         args: &mut Arguments,
         reply: &mut Reply,
     ) -> Result<(), Fault> {
-        operate(self, alloc, operation, args, reply)
+        match self {
+            Sequence::List(list) => operate_list(list, alloc, operation, args, reply),
+            Sequence::Vector(vector) => operate_vector(vector, alloc, operation, args, reply),
+        }
     }
 
     fn operate_with(
@@ -31,6 +34,19 @@ impl<T: ScriptElement> OperatedRows for Sequence<T> {
         args: &mut Arguments,
         reply: &mut Reply,
     ) -> Result<(), Fault> {
-        operate_with(self, source, alloc, operation, args, reply)
+        match self {
+            Sequence::List(list) => match source {
+                Sequence::List(other) => {
+                    operate_list_with(list, other, alloc, operation, args, reply)
+                }
+                Sequence::Vector(_) => unreachable!(),
+            },
+            Sequence::Vector(vector) => match source {
+                Sequence::List(_) => unreachable!(),
+                Sequence::Vector(other) => {
+                    operate_vector_with(vector, other, alloc, operation, args, reply)
+                }
+            },
+        }
     }
 }

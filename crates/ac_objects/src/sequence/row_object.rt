@@ -6,6 +6,7 @@ ghost use Rattle.ac_calls.specs.SequenceReplies.{sequence_own};
 ghost use Rattle.ac_objects.specs.Sequences.{rows_of, kind_of};
 
 use super::Sequence;
+use crate::walking::{answer_by_fields, by_fields};
 use ac_base::{Fault, NoMemory, Reason, Value};
 use ac_calls::{ListedRows, RowObject, ScriptElement};
 use ac_cursor::Cursor;
@@ -23,52 +24,74 @@ impl<T: ScriptElement> RowObject for Sequence<T> {
 
     #[inline(always)]
     fn law(&self) {
-        Sequence::law(self)
+        match self {
+            Sequence::List(list) => list.law(),
+            Sequence::Vector(vector) => vector.law(),
+        }
     }
 
     fn live_nodes(&self) -> u64 {
-        Sequence::live_nodes(self)
+        match self {
+            Sequence::List(list) => list.live_nodes(),
+            Sequence::Vector(vector) => vector.live_nodes(),
+        }
     }
 
     fn first(&self) -> Cursor {
-        Sequence::first(self)
+        match self {
+            Sequence::List(list) => list.first(),
+            Sequence::Vector(vector) => vector.first(),
+        }
     }
 
     fn last(&self) -> Cursor {
-        Sequence::last(self)
+        match self {
+            Sequence::List(list) => list.last(),
+            Sequence::Vector(vector) => vector.last(),
+        }
     }
 
     #[inline(always)]
     fn next(&self, c: Cursor) -> Result<Cursor, Fault> {
-        Sequence::next(self, c)
+        match self {
+            Sequence::List(list) => answer_by_fields(list.next(c)),
+            Sequence::Vector(vector) => answer_by_fields(vector.next(by_fields(c))),
+        }
     }
 
     fn previous(&self, c: Cursor) -> Result<Cursor, Fault> {
-        Sequence::previous(self, c)
+        match self {
+            Sequence::List(list) => list.previous(c),
+            Sequence::Vector(vector) => vector.previous(c),
+        }
     }
 
     fn refused(&self, c: Cursor) -> Option<Reason> {
-        match self.element(c) {
-            Ok(_) => None,
-            Err(Fault::Raised(reason)) => Some(reason),
-            Err(Fault::NoMemory) => unreachable!(),
+        match self {
+            Sequence::List(list) => list.refused(c),
+            Sequence::Vector(vector) => vector.refused(c),
         }
     }
 
     fn element_value(&self, alloc: Global, c: Cursor) -> Result<Value, NoMemory> {
-        match self.element(c) {
-            Ok(element) => element.to_value(alloc),
-            Err(_) => unreachable!(),
+        match self {
+            Sequence::List(list) => list.element_value(alloc, c),
+            Sequence::Vector(vector) => vector.element_value(alloc, c),
         }
     }
 
     fn write_value(&mut self, alloc: Global, c: Cursor, value: Value) -> Result<(), Fault> {
-        let element = T::from_value(alloc, value)?;
-        self.write(c, element)
+        match self {
+            Sequence::List(list) => list.write_value(alloc, c, value),
+            Sequence::Vector(vector) => vector.write_value(alloc, c, value),
+        }
     }
 
     fn is_like(&self, other: &Sequence<T>) -> bool {
-        Sequence::is_like(self, other)
+        match self {
+            Sequence::List(_) => other.is_list(),
+            Sequence::Vector(_) => !other.is_list(),
+        }
     }
 }
 
@@ -83,9 +106,9 @@ impl<T: ScriptElement> ListedRows for Sequence<T> {
         text: &mut Vec<u8>,
         sink: &mut K,
     ) -> Result<(), WriteFault> {
-        match self.element(c) {
-            Ok(element) => element.add_literal(text, sink),
-            Err(_) => unreachable!(),
+        match self {
+            Sequence::List(list) => list.add_row(c, text, sink),
+            Sequence::Vector(vector) => vector.add_row(c, text, sink),
         }
     }
 }

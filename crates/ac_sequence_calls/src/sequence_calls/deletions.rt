@@ -1,22 +1,22 @@
 //! The calls of lists and vectors that delete elements by place.
-ghost use Rattle.std.specs.Prelude.{◌≡◌};
 ghost use Rattle.ac_calls.specs.Replied.{told};
-ghost use Rattle.ac_objects.specs.SequenceCalls.{SequenceReplied};
-ghost use Rattle.ac_objects.specs.Sequences.{kind_of};
+ghost use Rattle.ac_sequence_calls.specs.SequenceCalls.{SequenceReplied};
 
-use crate::sequence::Sequence;
 use ac_base::Fault;
 use ac_calls::{Arguments, Reply, Said, ScriptElement};
+use ac_chain::SequenceLike;
 use ac_syntax::SequenceCall;
 
 #[inline(never)]
-pub fn delete<T: ScriptElement>(
-    sequence: &mut Sequence<T>,
+pub fn delete<S: SequenceLike>(
+    sequence: &mut S,
     args: &Arguments,
     reply: &mut Reply,
 ) -> Result<(), Fault>
-    ensures replied { SequenceReplied T.tools SequenceCall.Delete args.now sequence.old sequence.new (told reply.new result) }
-    ensures kind { kind_of sequence.new ≡ kind_of sequence.old }
+where
+    S::Element: ScriptElement,
+    ensures { SequenceReplied S.Element.tools S.names_move SequenceCall.Delete args.now
+        (S.seen sequence.old) (S.seen sequence.new) (told reply.new result) }
 {
     let mut position = args.first.cursor();
     sequence.delete(&mut position, args.second.count())?;
@@ -24,26 +24,30 @@ pub fn delete<T: ScriptElement>(
     Ok(())
 }
 
-pub fn delete_first<T: ScriptElement>(
-    sequence: &mut Sequence<T>,
+pub fn delete_first<S: SequenceLike>(
+    sequence: &mut S,
     args: &Arguments,
     reply: &mut Reply,
 ) -> Result<(), Fault>
-    ensures replied { SequenceReplied T.tools SequenceCall.DeleteFirst args.now sequence.old sequence.new (told reply.new result) }
-    ensures kind { kind_of sequence.new ≡ kind_of sequence.old }
+where
+    S::Element: ScriptElement,
+    ensures { SequenceReplied S.Element.tools S.names_move SequenceCall.DeleteFirst args.now
+        (S.seen sequence.old) (S.seen sequence.new) (told reply.new result) }
 {
     sequence.delete_first(args.first.count())?;
     reply.tell(Said::Done);
     Ok(())
 }
 
-pub fn delete_last<T: ScriptElement>(
-    sequence: &mut Sequence<T>,
+pub fn delete_last<S: SequenceLike>(
+    sequence: &mut S,
     args: &Arguments,
     reply: &mut Reply,
 ) -> Result<(), Fault>
-    ensures replied { SequenceReplied T.tools SequenceCall.DeleteLast args.now sequence.old sequence.new (told reply.new result) }
-    ensures kind { kind_of sequence.new ≡ kind_of sequence.old }
+where
+    S::Element: ScriptElement,
+    ensures { SequenceReplied S.Element.tools S.names_move SequenceCall.DeleteLast args.now
+        (S.seen sequence.old) (S.seen sequence.new) (told reply.new result) }
 {
     sequence.delete_last(args.first.count())?;
     reply.tell(Said::Done);

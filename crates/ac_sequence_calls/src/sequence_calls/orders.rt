@@ -1,25 +1,26 @@
-//! The calls of lists and vectors on the order of its elements.
-ghost use Rattle.std.specs.Prelude.{◌≡◌};
+//! The calls of lists and vectors on the order of their elements.
+ghost use Rattle.ac_chain.specs.Rearranging.{reversing, sorting};
 ghost use Rattle.ac_model.specs.Objects.{plain};
 ghost use Rattle.ac_model.specs.Sequences as sequences;
 ghost use Rattle.ac_calls.specs.Replies.{changes_ok};
-ghost use Rattle.ac_calls.specs.Replied.{told};
-ghost use Rattle.ac_objects.specs.SequenceCalls.{Answered, SequenceReplied};
-ghost use Rattle.ac_objects.specs.Sequences.{rows_of, kind_of, reversing, sorting};
+ghost use Rattle.ac_calls.specs.Replied.{Replied, told};
+ghost use Rattle.ac_sequence_calls.specs.SequenceCalls.{SequenceReplied};
 
-use crate::sequence::Sequence;
 use ac_base::Fault;
 use ac_calls::{Arguments, Reply, Said, ScriptElement};
+use ac_chain::SequenceLike;
 use ac_syntax::SequenceCall;
 
 #[inline(never)]
-pub fn swap<T: ScriptElement>(
-    sequence: &mut Sequence<T>,
+pub fn swap<S: SequenceLike>(
+    sequence: &mut S,
     args: &Arguments,
     reply: &mut Reply,
 ) -> Result<(), Fault>
-    ensures replied { SequenceReplied T.tools SequenceCall.Swap args.now sequence.old sequence.new (told reply.new result) }
-    ensures kind { kind_of sequence.new ≡ kind_of sequence.old }
+where
+    S::Element: ScriptElement,
+    ensures { SequenceReplied S.Element.tools S.names_move SequenceCall.Swap args.now
+        (S.seen sequence.old) (S.seen sequence.new) (told reply.new result) }
 {
     sequence.swap(args.first.cursor(), args.second.cursor())?;
     reply.tell(Said::Done);
@@ -27,13 +28,11 @@ pub fn swap<T: ScriptElement>(
 }
 
 #[inline(never)]
-pub fn reverse_elements<T: ScriptElement>(
-    sequence: &mut Sequence<T>,
-    reply: &mut Reply,
-) -> Result<(), Fault>
-    ensures replied { Answered (changes_ok (reversing (kind_of sequence.old) (plain (rows_of sequence.old).object)))
-        sequence.old sequence.new (told reply.new result) }
-    ensures kind { kind_of sequence.new ≡ kind_of sequence.old }
+pub fn reverse_elements<S: SequenceLike>(sequence: &mut S, reply: &mut Reply) -> Result<(), Fault>
+where
+    S::Element: ScriptElement,
+    ensures { Replied (changes_ok (reversing S.names_move (plain (S.seen sequence.old).object)))
+        (S.seen sequence.old) (S.seen sequence.new) (told reply.new result) }
 {
     sequence.reverse_elements()?;
     reply.tell(Said::Done);
@@ -41,10 +40,11 @@ pub fn reverse_elements<T: ScriptElement>(
 }
 
 #[inline(never)]
-pub fn sort<T: ScriptElement>(sequence: &mut Sequence<T>, reply: &mut Reply) -> Result<(), Fault>
-    ensures replied { Answered (changes_ok (sorting (kind_of sequence.old) T.tools.less (plain (rows_of sequence.old).object)))
-        sequence.old sequence.new (told reply.new result) }
-    ensures kind { kind_of sequence.new ≡ kind_of sequence.old }
+pub fn sort<S: SequenceLike>(sequence: &mut S, reply: &mut Reply) -> Result<(), Fault>
+where
+    S::Element: ScriptElement,
+    ensures { Replied (changes_ok (sorting S.names_move S.Element.tools.less (plain (S.seen sequence.old).object)))
+        (S.seen sequence.old) (S.seen sequence.new) (told reply.new result) }
 {
     sequence.sort()?;
     reply.tell(Said::Done);
@@ -52,10 +52,11 @@ pub fn sort<T: ScriptElement>(sequence: &mut Sequence<T>, reply: &mut Reply) -> 
 }
 
 #[inline(never)]
-pub fn merge<T: ScriptElement>(sequence: &mut Sequence<T>, reply: &mut Reply) -> Result<(), Fault>
-    ensures replied { Answered (changes_ok (sequences.merge_self_call (plain (rows_of sequence.old).object)))
-        sequence.old sequence.new (told reply.new result) }
-    ensures kind { kind_of sequence.new ≡ kind_of sequence.old }
+pub fn merge<S: SequenceLike>(sequence: &mut S, reply: &mut Reply) -> Result<(), Fault>
+where
+    S::Element: ScriptElement,
+    ensures { Replied (changes_ok (sequences.merge_self_call (plain (S.seen sequence.old).object)))
+        (S.seen sequence.old) (S.seen sequence.new) (told reply.new result) }
 {
     sequence.merge_self()?;
     reply.tell(Said::Done);

@@ -5,26 +5,29 @@ ghost use Rattle.ac_model.specs.Objects.{plain};
 ghost use Rattle.ac_model.specs.Vectors as vectors;
 ghost use Rattle.ac_calls.specs.Replies.{changes_ok};
 ghost use Rattle.ac_calls.specs.Replied.{IsAnswer, Replied, RepliedWith, told};
-ghost use Rattle.ac_objects.specs.SequenceCalls.{VectorAloneReplied, VectorAloneRepliedWith};
+ghost use Rattle.ac_sequence_calls.specs.SequenceCalls.{VectorAloneReplied, VectorAloneRepliedWith};
 
 use super::vector_call;
 use ac_base::Fault;
 use ac_calls::{Arguments, Reply, Said, ScriptElement};
+use ac_chain::VectorLike;
 use ac_cursor::Cursor;
 use ac_syntax::VectorCall;
-use ac_vector::Vector;
 use std::alloc::Global;
 
 /// A call of vectors alone, with another vector as the source if the call has one.
-pub fn vector_call_with<T: ScriptElement>(
-    vector: &mut Vector<T>,
-    source: &Vector<T>,
+pub fn vector_call_with<V: VectorLike>(
+    vector: &mut V,
+    source: &V,
     alloc: Global,
     call: VectorCall,
     args: &mut Arguments,
     reply: &mut Reply,
 ) -> Result<(), Fault>
-    ensures { VectorAloneRepliedWith T.tools call args.old vector.old source.now vector.new source.now (told reply.new result) }
+where
+    V::Element: ScriptElement,
+    ensures { VectorAloneRepliedWith V.Element.tools call args.old
+        (V.seen vector.old) (V.seen source.now) (V.seen vector.new) (V.seen source.now) (told reply.new result) }
 {
     match call {
         VectorCall::InsertVectorIndex => insert_vector_index(vector, source, args, reply),
@@ -39,12 +42,15 @@ pub fn vector_call_with<T: ScriptElement>(
 // The vector itself
 
 #[inline(never)]
-pub fn insert_vector_index_self<T: ScriptElement>(
-    vector: &mut Vector<T>,
+pub fn insert_vector_index_self<V: VectorLike>(
+    vector: &mut V,
     args: &Arguments,
     reply: &mut Reply,
 ) -> Result<(), Fault>
-    ensures { VectorAloneReplied T.tools VectorCall.InsertVectorIndex args.now vector.old vector.new (told reply.new result) }
+where
+    V::Element: ScriptElement,
+    ensures { VectorAloneReplied V.Element.tools VectorCall.InsertVectorIndex args.now
+        (V.seen vector.old) (V.seen vector.new) (told reply.new result) }
 {
     vector.insert_vector_index_self(args.first.count())?;
     reply.tell(Said::Done);
@@ -52,12 +58,15 @@ pub fn insert_vector_index_self<T: ScriptElement>(
 }
 
 #[inline(never)]
-pub fn insert_vector_self<T: ScriptElement>(
-    vector: &mut Vector<T>,
+pub fn insert_vector_self<V: VectorLike>(
+    vector: &mut V,
     args: &Arguments,
     reply: &mut Reply,
 ) -> Result<(), Fault>
-    ensures { VectorAloneReplied T.tools VectorCall.InsertVector args.now vector.old vector.new (told reply.new result) }
+where
+    V::Element: ScriptElement,
+    ensures { VectorAloneReplied V.Element.tools VectorCall.InsertVector args.now
+        (V.seen vector.old) (V.seen vector.new) (told reply.new result) }
 {
     vector.insert_vector_self(args.first.cursor())?;
     reply.tell(Said::Done);
@@ -65,12 +74,15 @@ pub fn insert_vector_self<T: ScriptElement>(
 }
 
 #[inline(never)]
-pub fn insert_vector_pos_self<T: ScriptElement>(
-    vector: &mut Vector<T>,
+pub fn insert_vector_pos_self<V: VectorLike>(
+    vector: &mut V,
     args: &Arguments,
     reply: &mut Reply,
 ) -> Result<(), Fault>
-    ensures { VectorAloneReplied T.tools VectorCall.InsertVectorPos args.now vector.old vector.new (told reply.new result) }
+where
+    V::Element: ScriptElement,
+    ensures { VectorAloneReplied V.Element.tools VectorCall.InsertVectorPos args.now
+        (V.seen vector.old) (V.seen vector.new) (told reply.new result) }
 {
     let first = own_insert_self(vector, args.first.cursor())?;
     *reply = Reply::sets(2, first);
@@ -78,12 +90,11 @@ pub fn insert_vector_pos_self<T: ScriptElement>(
 }
 
 #[inline(never)]
-pub fn append_vector_self<T: ScriptElement>(
-    vector: &mut Vector<T>,
-    reply: &mut Reply,
-) -> Result<(), Fault>
-    ensures { let o = plain vector.old.object in Replied (changes_ok (vectors.append_vector_call o o))
-        vector.old vector.new (told reply.new result) }
+pub fn append_vector_self<V: VectorLike>(vector: &mut V, reply: &mut Reply) -> Result<(), Fault>
+where
+    V::Element: ScriptElement,
+    ensures { let o = plain (V.seen vector.old).object in Replied (changes_ok (vectors.append_vector_call o o))
+        (V.seen vector.old) (V.seen vector.new) (told reply.new result) }
 {
     vector.append_vector_self()?;
     reply.tell(Said::Done);
@@ -91,12 +102,11 @@ pub fn append_vector_self<T: ScriptElement>(
 }
 
 #[inline(never)]
-pub fn prepend_vector_self<T: ScriptElement>(
-    vector: &mut Vector<T>,
-    reply: &mut Reply,
-) -> Result<(), Fault>
-    ensures { let o = plain vector.old.object in Replied (changes_ok (vectors.prepend_vector_call o o))
-        vector.old vector.new (told reply.new result) }
+pub fn prepend_vector_self<V: VectorLike>(vector: &mut V, reply: &mut Reply) -> Result<(), Fault>
+where
+    V::Element: ScriptElement,
+    ensures { let o = plain (V.seen vector.old).object in Replied (changes_ok (vectors.prepend_vector_call o o))
+        (V.seen vector.old) (V.seen vector.new) (told reply.new result) }
 {
     vector.prepend_vector_self()?;
     reply.tell(Said::Done);
@@ -104,13 +114,11 @@ pub fn prepend_vector_self<T: ScriptElement>(
 }
 
 /// The first copy's cursor, or the one before which none is put.
-fn own_insert_self<T: ScriptElement>(
-    vector: &mut Vector<T>,
-    before: Cursor,
-) -> Result<Cursor, Fault>
-    ensures changed { Does (IsAnswer vector.new.object) (λ o. vectors.insert_vector_pos_call o (seen_by vector.old before) o)
-        vector.old vector.new result }
-    ensures slots { Grows result vector.old vector.new }
+fn own_insert_self<V: VectorLike>(vector: &mut V, before: Cursor) -> Result<Cursor, Fault>
+    ensures changed { Does (IsAnswer (V.seen vector.new).object)
+        (λ o. vectors.insert_vector_pos_call o (seen_by (V.seen vector.old) before) o)
+        (V.seen vector.old) (V.seen vector.new) result }
+    ensures slots { Grows result (V.seen vector.old) (V.seen vector.new) }
 {
     let mut first = before;
     vector.insert_vector_pos_self(before, &mut first)?;
@@ -119,68 +127,70 @@ fn own_insert_self<T: ScriptElement>(
 
 // Another vector
 
-fn insert_vector_index<T: ScriptElement>(
-    vector: &mut Vector<T>,
-    source: &Vector<T>,
+fn insert_vector_index<V: VectorLike>(
+    vector: &mut V,
+    source: &V,
     args: &Arguments,
     reply: &mut Reply,
 ) -> Result<(), Fault>
-    ensures { VectorAloneRepliedWith T.tools VectorCall.InsertVectorIndex args.now
-        vector.old source.now vector.new source.now (told reply.new result) }
+where
+    V::Element: ScriptElement,
+    ensures { VectorAloneRepliedWith V.Element.tools VectorCall.InsertVectorIndex args.now
+        (V.seen vector.old) (V.seen source.now) (V.seen vector.new) (V.seen source.now) (told reply.new result) }
 {
     vector.insert_vector_index(args.first.count(), source)?;
     reply.tell(Said::Done);
     Ok(())
 }
 
-fn insert_vector<T: ScriptElement>(
-    vector: &mut Vector<T>,
-    source: &Vector<T>,
+fn insert_vector<V: VectorLike>(
+    vector: &mut V,
+    source: &V,
     args: &Arguments,
     reply: &mut Reply,
 ) -> Result<(), Fault>
-    ensures { VectorAloneRepliedWith T.tools VectorCall.InsertVector args.now
-        vector.old source.now vector.new source.now (told reply.new result) }
+where
+    V::Element: ScriptElement,
+    ensures { VectorAloneRepliedWith V.Element.tools VectorCall.InsertVector args.now
+        (V.seen vector.old) (V.seen source.now) (V.seen vector.new) (V.seen source.now) (told reply.new result) }
 {
     vector.insert_vector(args.first.cursor(), source)?;
     reply.tell(Said::Done);
     Ok(())
 }
 
-fn insert_vector_pos<T: ScriptElement>(
-    vector: &mut Vector<T>,
-    source: &Vector<T>,
+fn insert_vector_pos<V: VectorLike>(
+    vector: &mut V,
+    source: &V,
     args: &Arguments,
     reply: &mut Reply,
 ) -> Result<(), Fault>
-    ensures { VectorAloneRepliedWith T.tools VectorCall.InsertVectorPos args.now
-        vector.old source.now vector.new source.now (told reply.new result) }
+where
+    V::Element: ScriptElement,
+    ensures { VectorAloneRepliedWith V.Element.tools VectorCall.InsertVectorPos args.now
+        (V.seen vector.old) (V.seen source.now) (V.seen vector.new) (V.seen source.now) (told reply.new result) }
 {
     let first = own_insert(vector, args.first.cursor(), source)?;
     *reply = Reply::sets(2, first);
     Ok(())
 }
 
-fn append_vector<T: ScriptElement>(
-    vector: &mut Vector<T>,
-    source: &Vector<T>,
-    reply: &mut Reply,
-) -> Result<(), Fault>
-    ensures { RepliedWith (changes_ok (vectors.append_vector_call (plain vector.old.object) (plain source.now.object)))
-        vector.old source.now vector.new source.now (told reply.new result) }
+fn append_vector<V: VectorLike>(vector: &mut V, source: &V, reply: &mut Reply) -> Result<(), Fault>
+where
+    V::Element: ScriptElement,
+    ensures { RepliedWith (changes_ok (vectors.append_vector_call (plain (V.seen vector.old).object) (plain (V.seen source.now).object)))
+        (V.seen vector.old) (V.seen source.now) (V.seen vector.new) (V.seen source.now) (told reply.new result) }
 {
     vector.append_vector(source)?;
     reply.tell(Said::Done);
     Ok(())
 }
 
-fn prepend_vector<T: ScriptElement>(
-    vector: &mut Vector<T>,
-    source: &Vector<T>,
-    reply: &mut Reply,
-) -> Result<(), Fault>
-    ensures { RepliedWith (changes_ok (vectors.prepend_vector_call (plain vector.old.object) (plain source.now.object)))
-        vector.old source.now vector.new source.now (told reply.new result) }
+fn prepend_vector<V: VectorLike>(vector: &mut V, source: &V, reply: &mut Reply) -> Result<(), Fault>
+where
+    V::Element: ScriptElement,
+    ensures { RepliedWith (changes_ok (vectors.prepend_vector_call (plain (V.seen vector.old).object) (plain (V.seen source.now).object)))
+        (V.seen vector.old) (V.seen source.now) (V.seen vector.new) (V.seen source.now) (told reply.new result) }
 {
     vector.prepend_vector(source)?;
     reply.tell(Said::Done);
@@ -188,14 +198,11 @@ fn prepend_vector<T: ScriptElement>(
 }
 
 /// The first copy's cursor, or the one before which none is put.
-fn own_insert<T: ScriptElement>(
-    vector: &mut Vector<T>,
-    before: Cursor,
-    source: &Vector<T>,
-) -> Result<Cursor, Fault>
-    ensures changed { Does (IsAnswer vector.new.object)
-        (λ o. vectors.insert_vector_pos_call o (seen_by vector.old before) (plain source.now.object)) vector.old vector.new result }
-    ensures slots { Grows result vector.old vector.new }
+fn own_insert<V: VectorLike>(vector: &mut V, before: Cursor, source: &V) -> Result<Cursor, Fault>
+    ensures changed { Does (IsAnswer (V.seen vector.new).object)
+        (λ o. vectors.insert_vector_pos_call o (seen_by (V.seen vector.old) before) (plain (V.seen source.now).object))
+        (V.seen vector.old) (V.seen vector.new) result }
+    ensures slots { Grows result (V.seen vector.old) (V.seen vector.new) }
 {
     let mut first = before;
     vector.insert_vector_pos(before, source, &mut first)?;

@@ -7,13 +7,12 @@ use Rattle.ac_model.specs.Sequences.{insert_pos_call}
 use Rattle.ac_model.proofs.Changes.{place_none}
 use Rattle.ac_calls.proofs.Made.{own_change}
 use Rattle.ac_calls.proofs.Own.{first_new_own}
-use Rattle.ac_objects.specs.Sequences.{rows_of}
-use Rattle.ac_objects.proofs.sequence_calls.own_cursors.insert_pos.Goals as goal
+use Rattle.ac_sequence_calls.proofs.sequence_calls.own_cursors.insert_pos.Goals as goal
 
 pub returns-clause-changed : goal.returns-clause-changed
 returns-clause-changed g c =
-    let o = (rows_of c.args.sequence.now).object in
-    let now = (rows_of c.insert_pos.new.self).object in
+    let o = (g.S.SequenceLike.seen c.args.sequence.now).object in
+    let now = (g.S.SequenceLike.seen c.insert_pos.new.self).object in
     let before = mark o c.args.before in
     let count = c.args.count in
     own_change o now (insert_pos_call (plain o) before c.args.element count) c.insert_pos.new.p

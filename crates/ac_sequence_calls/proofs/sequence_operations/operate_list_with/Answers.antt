@@ -1,0 +1,40 @@
+use Rattle.std.proofs.Common.{rules, refl, subst, sym}
+use Rattle.ac_model.specs.Objects.{plain}
+use Rattle.ac_calls.specs.Arguments.{marked}
+use Rattle.ac_calls.specs.Holdings.{of_list}
+use Rattle.ac_calls.specs.Replied.{IsMadeWith, told}
+use Rattle.ac_calls.specs.Replies.{another}
+use Rattle.ac_calls.proofs.Made.{unchanged}
+use Rattle.ac_sequence_calls.specs.SequenceCalls.{OperationRepliedWith, SequenceRepliedWith}
+use Rattle.ac_sequence_calls.proofs.SequenceOperations.{none_of_list}
+use Rattle.ac_sequence_calls.proofs.sequence_operations.operate_list_with.Goals as goal
+
+pub returns-in-Sequence : goal.returns-in-Sequence
+returns-in-Sequence g c =
+    let tools = g.L.Element.ScriptElement.tools in
+    let seen = g.L.SequenceLike.seen in
+    let old = seen c.args.list.now.sequence in
+    let source = seen c.args.source.now.sequence in
+    let call = c.sequence_call_with in
+    let now = seen call.new.sequence in
+    let source_now = seen call.new.source in
+    let made = told call.new.reply call.result in
+    subst (λ op. OperationRepliedWith tools of_list op c.args.args.now old source now source_now made) (sym c.in-Sequence.is)
+    (subst (λ b. SequenceRepliedWith tools b c.in-Sequence.call c.args.args.now old source now source_now made) g.met.L.ListLike.moves_names call.ensures)
+
+pub returns-in_default : goal.returns-in_default
+returns-in_default g c =
+    let old = g.L.SequenceLike.seen c.args.list.now.sequence in
+    let source = g.L.SequenceLike.seen c.args.source.now.sequence in
+    let none = c.in_default in
+    subst (λ r. IsMadeWith r old source old source c.says.result)
+    (sym (none_of_list g.L.Element.ScriptElement.tools (plain old.object) (another (plain source.object) (marked source.object c.args.args.now))
+    (marked old.object c.args.args.now) c.args.operation none.not-Common none.not-Sequence none.not-List))
+    (record {
+      goes = search rules;
+      reason = search rules;
+      after = unchanged old.object;
+      source_after = refl;
+      says = search (rules, c.says.ensures.said);
+      variable = search (rules, c.says.ensures.variable);
+    })

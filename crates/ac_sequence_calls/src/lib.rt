@@ -1,0 +1,13 @@
+//! The calls of lists and vectors in scripts, over any type of either.
+#![tactic(auto)]
+
+mod list_calls;
+mod sequence_calls;
+mod sequence_operations;
+mod sequence_rows;
+mod vector_calls;
+
+pub use sequence_operations::{
+    operate_list, operate_list_with, operate_vector, operate_vector_with,
+};
+pub use sequence_rows::SequenceRows;
