@@ -3,3 +3,6 @@ pub mod Listed
 pub mod Made
 pub mod Own
 pub mod Quoted
+pub mod Operations
+pub mod NoRoot
+pub mod Walks

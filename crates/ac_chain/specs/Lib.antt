@@ -11,3 +11,6 @@ pub mod Search
 pub mod Sorting
 pub mod Merging
 pub mod Rearranging
+pub mod TreeCursors
+pub mod TreeNodes
+pub mod TreeWalk

@@ -1,5 +1,5 @@
 //! A chain: values in a row under names, each linked with the one before and the one after it, in the slots of a pool.
-//! Beside its calls stand those that put, take out, move, sort, merge and look for many values.
+//! Beside its calls stand those that put, take out, move, sort, merge and look for many values, and what is asked of a tree.
 #![tactic(auto)]
 
 pub mod calls;
@@ -14,6 +14,7 @@ mod search;
 mod sequence_like;
 mod sort;
 mod transfer;
+mod tree_like;
 mod vector_like;
 mod walked;
 
@@ -29,5 +30,6 @@ pub use search::{are_equal, end_of, found_back, found_from, is_ascending, start_
 pub use sequence_like::SequenceLike;
 pub use sort::sorted_names;
 pub use transfer::{move_all, move_before, move_one};
+pub use tree_like::{EditedTree, TreeLike};
 pub use vector_like::VectorLike;
 pub use walked::Walked;

@@ -37,7 +37,7 @@ use Rattle.ac_calls.specs.RowWrites.{WritesIn}
 use Rattle.ac_calls.specs.Replied.{IsOwnName, IsOwnCursor, Says, SetsVariable, SourceAfter, Replied, RepliedWith}
 use Rattle.ac_objects.specs.Standing.{held_counts}
 use Rattle.ac_objects.specs.World.{in_rows, memory_of, held_in, held_of, AgreesIn, ObjectAgrees}
-use Rattle.ac_objects.proofs.Given.{no_root}
+use Rattle.ac_calls.proofs.NoRoot.{no_root}
 use Rattle.ac_calls.proofs.Made.{seen_marks_by}
 use Rattle.ac_objects.proofs.Sources.{rows_alone, if_false, listed}
 

@@ -1,15 +1,15 @@
 -- The cursors that an object gives are known.
-use Rattle.std.proofs.Common.{◌≡◌, ◌==◌, ◌&&◌, ◌||◌, ◌+◌, ◌<◌, ◌≤◌, ◌⊎◌, inl, inr, ℕ, Bool, true, false, not, List, [], ◌∷◌, map, get_or, slice_get, refl, sym, ap, subst, ◌∙◌, arith, eq-eqb, Some, if◌then◌else◌}
-use Rattle.std.proofs.lemmas.Bool.{eqb-true, cases_lt}
+use Rattle.std.proofs.Common.{◌≡◌, ◌==◌, ◌&&◌, ◌<◌, inl, inr, ℕ, Bool, true, false, not, List, [], ◌∷◌, get_or, slice_get, refl, sym, ap, subst, ◌∙◌, arith, eq-eqb, Some, if◌then◌else◌}
+use Rattle.std.proofs.lemmas.Bool.{cases_lt}
 use Rattle.std.proofs.lemmas.Option.{slice_get-get_or, same_Some}
 use Rattle.ac_base.specs.declared.name.Name.{Name}
 use Rattle.ac_base.specs.declared.cursor.Cursor.{Cursor}
 use Rattle.ac_base.specs.declared.cursor.Cursor.TheVariants as cursor
-use Rattle.ac_base.specs.Rows.{Row, names}
+use Rattle.ac_base.specs.Rows.{names}
 use Rattle.ac_model.specs.Rows.{is_named}
 use Rattle.ac_model.specs.Objects as model
-use Rattle.ac_model.specs.Objects.{plain, plain_row, IsValid, times}
-use Rattle.ac_model.specs.Letters.{Mark, no_mark, mark_at, stale_mark, is_among, is_same_name}
+use Rattle.ac_model.specs.Objects.{plain, IsValid}
+use Rattle.ac_model.specs.Letters.{Mark, no_mark, mark_at, stale_mark, is_among}
 use Rattle.ac_model.specs.Calls.{Marks}
 use Rattle.ac_model.specs.Cursors.{plain_mark}
 use Rattle.ac_calls.specs.Holdings.{number_of}
@@ -19,27 +19,12 @@ use Rattle.ac_objects.specs.declared.object.Object.{Object}
 use Rattle.ac_objects.specs.declared.bound.Bound.{Bound}
 use Rattle.ac_objects.specs.declared.bound.Bound.TheVariants as bound
 use Rattle.ac_calls.specs.Arguments.{SlotAgrees}
+use Rattle.ac_calls.proofs.NoRoot.{named_among, counted, no_root}
 use Rattle.ac_objects.specs.Given.{HasNumber, GivenBy, IsGiven}
 use Rattle.ac_objects.specs.RootFree.{NoRootAmong}
 use Rattle.ac_objects.specs.World.{World, Counters, world, held_of, state_of, ObjectAgrees, BoundAgrees, IsKnown, IsSound, memory_of}
 use Rattle.ac_objects.proofs.Memory.{none_in, other_in, agrees_if_own}
 use Rattle.ac_objects.proofs.InScope.{object_there}
-
-or_cases : (a b : Bool) → (a || b) ≡ true → (a ≡ true) ⊎ (b ≡ true)
-or_cases true b h = inl refl
-or_cases false b h = inr h
-
-or_left : (a b : Bool) → a ≡ true → (a || b) ≡ true
-or_left true b h = refl
-or_left false b h = absurd (cc)
-
-or_right : (a b : Bool) → b ≡ true → (a || b) ≡ true
-or_right true b h = refl
-or_right false b h = h
-
-and_right : (a b : Bool) → (a && b) ≡ true → b ≡ true
-and_right true b h = h
-and_right false b h = absurd (cc)
 
 abbrev pub is_stale : Mark → Bool
 is_stale no_mark = false
@@ -62,36 +47,8 @@ none_among [] name after e zero = cc
 none_among (x ∷ before) name after e zero = cc
 
 module _ {V : Type 0} where
-  pub named_among : (a : Name) (rows : List (Row Name V)) → is_among (names rows) a ≡ true → is_named (map plain_row rows) a.serial ≡ true
-  named_among a [] h = h
-  named_among a (r ∷ rows) h = elim (or_cases (is_same_name a r.name) (is_among (names rows) a) h) [
-    | inl same ↦ or_left (r.name.serial == a.serial) (is_named (map plain_row rows) a.serial)
-        (eq-eqb r.name.serial a.serial (sym (eqb-true a.serial r.name.serial (and_right (a.slot == r.name.slot) (a.serial == r.name.serial) same))))
-    | inr more ↦ or_right (r.name.serial == a.serial) (is_named (map plain_row rows) a.serial) (named_among a rows more)
-  ]
-
-  -- a name that is there stands at least once
-  counted : (n : ℕ) (rows : List (Row ℕ V)) → is_named rows n ≡ true → 1 ≤ times n rows
-  counted n [] h = absurd (cc)
-  counted n (r ∷ rows) h = elim (or_cases (r.name == n) (is_named rows n) h) [
-    | inl here ↦ here_at (r.name == n) (times n rows) here
-    | inr more ↦ there_at (r.name == n) (times n rows) (counted n rows more)
-  ]
-    where
-      here_at : (b : Bool) (k : ℕ) → b ≡ true → 1 ≤ (if b then 1 else 0) + k
-      here_at true k h = omega arith
-      here_at false k h = absurd (cc)
-
-      there_at : (b : Bool) (k : ℕ) → 1 ≤ k → 1 ≤ (if b then 1 else 0) + k
-      there_at true k h = omega arith
-      there_at false k h = omega arith
-
   below_next : (o : model.Object ℕ V) (n : ℕ) → IsValid o → is_named o.rows n ≡ true → n < o.next
   below_next o n v h = elim (cases_lt n o.next) [ inl below ↦ below | inr above ↦ absurd (omega (arith, counted n o.rows h, v.names_below_next n above)) ]
-
-  -- and isn't the root
-  pub no_root : (o : model.Object ℕ V) (n : ℕ) → IsValid o → is_named o.rows n ≡ true → n ≡ 0 → ⊥
-  no_root o n v h zero = omega (arith, subst (λ k. 1 ≤ times k o.rows) zero (counted n o.rows h), v.names_from_one)
 
   pub no_root_among : (o : model.Object ℕ V) → IsValid o → NoRootAmong (names o.rows)
   no_root_among o v before name after e zero = no_root o name v (named_there o.rows before name after e) zero

@@ -16,7 +16,7 @@ use Rattle.ac_calls.specs.Replied.{Replied, RepliedWith}
 use Rattle.ac_keyed_calls.specs.MapCalls.{OperationReplied, OperationRepliedWith}
 use Rattle.ac_objects.specs.declared.map.Map.{Map}
 use Rattle.ac_objects.specs.Maps.{entries_of, map_kind_of}
-use Rattle.ac_objects.proofs.Operations.{replied_by, replied_with_by}
+use Rattle.ac_calls.proofs.Operations.{replied_by, replied_with_by}
 
 module _ {K V P Q : Type 0} (keys : Tools K) (tools : Tools V) (operation : Operation) (args : Arguments) where
   -- on a map that is its own source

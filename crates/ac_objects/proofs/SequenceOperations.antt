@@ -15,7 +15,7 @@ use Rattle.ac_calls.specs.declared.reply.Reply.{Reply}
 use Rattle.ac_sequence_calls.specs.SequenceCalls.{OperationReplied, OperationRepliedWith}
 use Rattle.ac_objects.specs.declared.sequence.Sequence.{Sequence}
 use Rattle.ac_objects.specs.Sequences.{rows_of, kind_of}
-use Rattle.ac_objects.proofs.Operations.{replied_by, replied_with_by}
+use Rattle.ac_calls.proofs.Operations.{replied_by, replied_with_by}
 
 module _ {T : Type 0} (tools : Tools T) (operation : Operation) (args : Arguments) where
   -- on one that is its own source

@@ -18,7 +18,7 @@ use Rattle.ac_keyed_calls.specs.SetCalls.{SetOperated, SetOperatedWith}
 use Rattle.ac_objects.specs.declared.set.Set.{Set}
 use Rattle.ac_objects.specs.declared.set.Set.TheVariants.{Hashed, Ordered}
 use Rattle.ac_objects.specs.Sets.{items_of, set_kind_of}
-use Rattle.ac_objects.proofs.Operations.{replied_by, replied_with_by}
+use Rattle.ac_calls.proofs.Operations.{replied_by, replied_with_by}
 
 module _ {T K : Type 0} (tools : Tools T) (args : Arguments) (op : Operation) where
   -- what an operation on the set comes to, by its arguments' cursors

@@ -8,8 +8,6 @@ pub mod Standing
 pub mod Counts
 pub mod Given
 pub mod RootFree
-pub mod TreeCalls
-pub mod ListedNodes
 pub mod Declarations
 pub mod Performs
 pub mod Blocks

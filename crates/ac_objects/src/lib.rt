@@ -22,8 +22,6 @@ mod reading;
 mod scopes;
 mod sequence;
 mod set;
-mod tree_calls;
-mod trees;
 mod updates;
 mod views;
 mod walking;

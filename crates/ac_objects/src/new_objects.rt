@@ -19,7 +19,6 @@ use crate::numbered_queue::NumberedQueue;
 use crate::object::Object;
 use crate::sequence::Sequence;
 use crate::set::Set;
-use crate::trees::ScriptTree;
 use ac_base::{Elem, GREATEST_LENGTH, Limit, NoMemory};
 use ac_calls::ScriptElement;
 use ac_cursor::Tag;
@@ -30,6 +29,7 @@ use ac_queue::{AnyQueue, PriorityQueue, Queue};
 use ac_sequence_calls::SequenceRows;
 use ac_syntax::{ElemKind, Kind, TypeDef};
 use ac_tree::Tree;
+use ac_tree_calls::TreeRows;
 use ac_vector::Vector;
 use std::alloc::Global;
 
@@ -268,12 +268,16 @@ fn new_queue(alloc: Global, kind: Kind, limit: Limit) -> Result<AnyQueue, NoMemo
 }
 
 /// A tree without elements.
-fn new_tree<T: Elem>(alloc: Global, tag: Tag, limit: Limit) -> Result<ScriptTree<T>, NoMemory>
+fn new_tree<T: ScriptElement>(
+    alloc: Global,
+    tag: Tag,
+    limit: Limit,
+) -> Result<TreeRows<T, Tree<T>>, NoMemory>
     requires { IsLimit limit }
     ensures { IfOk result (λ made. plain made.object ≡ empty_object false tag limit) }
 {
     match Tree::new(alloc, tag, limit) {
-        Ok(tree) => Ok(ScriptTree { tree }),
+        Ok(tree) => Ok(TreeRows::new(tree)),
         Err(_) => Err(NoMemory),
     }
 }

@@ -4,9 +4,10 @@ use crate::map::Map;
 use crate::numbered_queue::NumberedQueue;
 use crate::sequence::Sequence;
 use crate::set::Set;
-use crate::trees::ScriptTree;
 use ac_base::Text;
 use ac_forms::Holder;
+use ac_tree::Tree;
+use ac_tree_calls::TreeRows;
 
 /// An object of a script.
 #[derive(Drop)]
@@ -20,8 +21,8 @@ pub enum Object {
     IntegersByText(Map<Text, i64>),
     TextsByInteger(Map<i64, Text>),
     TextsByText(Map<Text, Text>),
-    IntegerTree(ScriptTree<i64>),
-    TextTree(ScriptTree<Text>),
+    IntegerTree(TreeRows<i64, Tree<i64>>),
+    TextTree(TreeRows<Text, Tree<Text>>),
     IntegerHolder(Holder<i64>),
     TextHolder(Holder<Text>),
     Queue(NumberedQueue),

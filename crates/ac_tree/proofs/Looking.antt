@@ -22,7 +22,8 @@ use Rattle.ac_tree.specs.declared.links.Links.{Links}
 use Rattle.ac_tree.specs.Forests.{Forest, bare, grove, Step, under, after, outline, first_in, last_in, Has, Once, plugged, parent_in, prev_in, depth_in, before_in, after_in}
 use Rattle.ac_tree.specs.TreeFields as fields
 use Rattle.ac_tree.specs.TreeFields.{StandsFor, forest_in, IsForest, first_of, last_of}
-use Rattle.ac_tree.specs.TreeCursors.{node_in, cursor_of_node, serial_in, NodeMarks}
+use Rattle.ac_tree.specs.TreeCursors.{node_in, cursor_of_node, serial_in}
+use Rattle.ac_chain.specs.TreeCursors.{NodeMarks}
 use Rattle.ac_tree.proofs.Places.{IsAround, placed, parted, plugged_has, around_has, outline_plugged}
 use Rattle.ac_tree.proofs.Forests.{live_of, Links_at, links_at, first_has, last_has, parent_has, prev_has}
 use Rattle.ac_tree.proofs.Outlines.{Position, root_position, node_position, position_children, root_parent, IsAlone, AllAlone, parent_spot, parent_found, next_found, last_found, tops, first_top, last_top, elders, prev_elder, seen, before_out}

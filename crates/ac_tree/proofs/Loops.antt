@@ -23,7 +23,7 @@ use Rattle.ac_model.specs.Trees.{tree_mark}
 use Rattle.ac_tree.specs.declared.links.Links.{Links}
 use Rattle.ac_tree.specs.Forests.{grove, outline, plugged, depth_in, before_in, after_in}
 use Rattle.ac_tree.specs.TreeFields.{forest_in, IsForest, first_of}
-use Rattle.ac_tree.specs.TreeCursors.{NodeMarks}
+use Rattle.ac_chain.specs.TreeCursors.{NodeMarks}
 use Rattle.ac_tree.specs.Backward.{Precedes}
 use Rattle.ac_tree.specs.Walking.{Follows}
 use Rattle.ac_tree.proofs.Places.{outline_plugged, has}

@@ -12,7 +12,7 @@ use Rattle.ac_model.specs.Rows.{Node}
 use Rattle.ac_tree.specs.declared.links.Links.{Links}
 use Rattle.ac_tree.specs.Copying.{level_of}
 use Rattle.ac_tree.specs.Forests.{Forest, bare, grove, outline}
-use Rattle.ac_tree.specs.Meeting.{StandsBefore, IsMet, MeetsNext}
+use Rattle.ac_chain.specs.TreeWalk.{StandsBefore, IsMet, MeetsNext}
 use Rattle.ac_tree.specs.TreeFields.{forest_in, IsForest, first_of}
 use Rattle.ac_tree.specs.Walking.{Follows}
 use Rattle.ac_tree.proofs.Following.{first_row}

@@ -33,7 +33,8 @@ use Rattle.ac_tree.specs.declared.links.TreeNode.{TreeNode}
 use Rattle.ac_tree.specs.declared.links.Links.{Links}
 use Rattle.ac_tree.specs.Forests.{Forest, bare, grove, outline, plugged, depth_in, before_in, after_in}
 use Rattle.ac_tree.specs.TreeFields.{forest_in, IsForest, first_of}
-use Rattle.ac_tree.specs.TreeCursors.{node_in, serial_in, NodeMarks}
+use Rattle.ac_tree.specs.TreeCursors.{node_in, serial_in}
+use Rattle.ac_chain.specs.TreeCursors.{NodeMarks}
 use Rattle.ac_tree.specs.Searching.{found_in, rows_below, rows_on, rows_up}
 use Rattle.ac_tree.specs.Walking.{Follows, IsBeside}
 use Rattle.ac_tree.proofs.Places.{outline_plugged, size_is, has}

@@ -34,7 +34,8 @@ use Rattle.ac_tree.specs.declared.links.Links.{Links}
 use Rattle.ac_tree.specs.Forests.{Forest, bare, grove, Step, outline, size, Has, plugged, depth_in, before_in, after_in}
 use Rattle.ac_tree.specs.TreeFields.{StandsFor, forest_in, IsForest}
 use Rattle.ac_tree.specs.TreeRows.{rows_of, tree_object, IsTree}
-use Rattle.ac_tree.specs.TreeCursors.{node_in, serial_in, NodeMarks}
+use Rattle.ac_tree.specs.TreeCursors.{node_in, serial_in}
+use Rattle.ac_chain.specs.TreeCursors.{NodeMarks}
 use Rattle.ac_tree.specs.Splicing.{Moved, Moves}
 use Rattle.ac_tree.proofs.Places.{plugged_has, around_has, plugged_either, outline_plugged, plugged_size, size_is, named, has}
 use Rattle.ac_tree.proofs.Standing.{some_name}

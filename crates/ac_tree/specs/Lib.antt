@@ -11,4 +11,3 @@ pub mod Searching
 pub mod Splicing
 pub mod Walking
 pub mod Backward
-pub mod Meeting

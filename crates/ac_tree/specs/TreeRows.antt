@@ -1,19 +1,15 @@
 -- What the fields of a tree are seen as, and what holds of them.
-use Rattle.std.specs.Prelude.{ℕ, None, refl}
-use Rattle.std.specs.Coded.{Coded, code_by, coded×, coded_ℕ}
+use Rattle.std.specs.Prelude.{None}
 use Rattle.ac_base.specs.declared.limit.Limit.{Limit}
 use Rattle.ac_base.specs.declared.name.Name.{Name}
 use Rattle.ac_base.specs.Guards.{GuardCounts}
 use Rattle.ac_chain.specs.Rows.{Chained, chained}
 use Rattle.ac_chain.specs.Sequence.{object_of, IsSequence}
-use Rattle.ac_model.specs.Rows.{Node, node}
+use Rattle.ac_model.specs.Rows.{Node}
 use Rattle.ac_model.specs.Objects.{Object}
 use Rattle.ac_tree.specs.declared.links.Links.{Links}
 use Rattle.ac_tree.specs.Forests.{outline}
 use Rattle.ac_tree.specs.TreeFields.{forest_in, IsForest}
-
-abbrev pub node_code : {T : Type 0} → Coded T → Coded (Node T)
-node_code {T} t = code_by (ℕ × T) (coded× coded_ℕ t) (λ n. (n.depth, n.element)) (λ p. node p.0 p.1) (λ _. refl)
 
 module _ {T : Type 0} where
   -- the rows in preorder, with their depths

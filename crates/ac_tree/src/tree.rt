@@ -19,6 +19,7 @@ mod moves;
 mod searches;
 mod splices;
 mod transfers;
+mod tree_like;
 mod values;
 
 use crate::links::Links;
@@ -39,7 +40,8 @@ pub struct Tree<T> {
 impl<T> Model for Tree<T> {
     ghost use Rattle.ac_model.specs.Rows.{Node};
     ghost use Rattle.ac_model.specs.Containers.{Container, container, container_code};
-    ghost use Rattle.ac_tree.specs.TreeRows.{node_code, tree_object, IsTree};
+    ghost use Rattle.ac_tree.specs.TreeRows.{tree_object, IsTree};
+    ghost use Rattle.ac_chain.specs.TreeNodes.{node_code};
 
     ghost Value = { Container (Node T) };
 

@@ -5,7 +5,8 @@ ghost use Rattle.ac_model.specs.Cursors as cursors;
 ghost use Rattle.ac_model.specs.Letters.{is_among, is_same_name, may};
 ghost use Rattle.ac_model.specs.Objects.{plain};
 ghost use Rattle.ac_model.specs.Trees as trees;
-ghost use Rattle.ac_tree.specs.TreeCursors.{seen_by, node_of, node_in, cursor_of_node, is_root_cursor};
+ghost use Rattle.ac_tree.specs.TreeCursors.{node_of, node_in, cursor_of_node, is_root_cursor};
+ghost use Rattle.ac_chain.specs.TreeCursors.{seen_by};
 
 use super::Tree;
 use ac_base::{Cursor, Name, Reason, first_reason};

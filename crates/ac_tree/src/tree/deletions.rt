@@ -5,7 +5,7 @@ ghost use Rattle.ac_model.specs.Common as common;
 ghost use Rattle.ac_model.specs.Forms.{Does, Refuses};
 ghost use Rattle.ac_model.specs.Objects.{length_of, plain};
 ghost use Rattle.ac_model.specs.Trees as trees;
-ghost use Rattle.ac_tree.specs.TreeCursors.{seen_by, SetsNode};
+ghost use Rattle.ac_chain.specs.TreeCursors.{seen_by, SetsNode};
 
 use super::Tree;
 use super::cursors::node_in;

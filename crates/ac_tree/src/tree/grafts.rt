@@ -13,7 +13,8 @@ ghost use Rattle.ac_model.specs.Putting.{Takes};
 ghost use Rattle.ac_model.specs.Trees as trees;
 ghost use Rattle.ac_tree.specs.Children.{IsPlace, nodes_call};
 ghost use Rattle.ac_tree.specs.Copying.{nodes_in, IsForestOf};
-ghost use Rattle.ac_tree.specs.TreeCursors.{seen_by, serial_in};
+ghost use Rattle.ac_tree.specs.TreeCursors.{serial_in};
+ghost use Rattle.ac_chain.specs.TreeCursors.{seen_by};
 
 use super::Tree;
 use super::cursors::{is_root, node_in};

@@ -11,7 +11,7 @@ ghost use Rattle.ac_model.specs.Putting.{Takes};
 ghost use Rattle.ac_model.specs.Sequences.{room_for_copies};
 ghost use Rattle.ac_model.specs.Trees as trees;
 ghost use Rattle.ac_tree.specs.Children.{IsPlace, children_call};
-ghost use Rattle.ac_tree.specs.TreeCursors.{seen_by, SetsNode};
+ghost use Rattle.ac_chain.specs.TreeCursors.{seen_by, SetsNode};
 
 use super::Tree;
 use super::cursors::node_in;

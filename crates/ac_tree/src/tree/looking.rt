@@ -5,7 +5,7 @@ ghost use Rattle.ac_model.specs.Common as common;
 ghost use Rattle.ac_model.specs.Forms.{Looks};
 ghost use Rattle.ac_model.specs.Objects.{plain};
 ghost use Rattle.ac_model.specs.Trees as trees;
-ghost use Rattle.ac_tree.specs.TreeCursors.{seen_by, NodeMarks};
+ghost use Rattle.ac_chain.specs.TreeCursors.{seen_by, NodeMarks};
 
 use super::Tree;
 use super::cursors::{is_root, node_in};

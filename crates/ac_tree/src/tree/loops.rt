@@ -2,8 +2,8 @@
 ghost use Rattle.ac_model.specs.Forms.{Looks};
 ghost use Rattle.ac_model.specs.Objects.{plain};
 ghost use Rattle.ac_model.specs.Sequences as sequences;
-ghost use Rattle.ac_tree.specs.Meeting.{IsMet, MeetsNext, StandsBefore};
-ghost use Rattle.ac_tree.specs.TreeCursors.{seen_by, NodeMarks};
+ghost use Rattle.ac_chain.specs.TreeWalk.{IsMet, MeetsNext, StandsBefore};
+ghost use Rattle.ac_chain.specs.TreeCursors.{seen_by, NodeMarks};
 
 use super::Tree;
 use crate::backward::{last_node, preceding};

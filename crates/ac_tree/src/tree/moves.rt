@@ -1,7 +1,7 @@
 //! From one node to the next: parents, children and siblings.
 ghost use Rattle.ac_model.specs.Forms.{Looks};
 ghost use Rattle.ac_model.specs.Trees as trees;
-ghost use Rattle.ac_tree.specs.TreeCursors.{seen_by, NodeMarks};
+ghost use Rattle.ac_chain.specs.TreeCursors.{seen_by, NodeMarks};
 
 use super::Tree;
 use super::cursors::node_in;

@@ -7,7 +7,7 @@ ghost use Rattle.ac_model.specs.Letters.{name_of, tampers_cursors};
 ghost use Rattle.ac_model.specs.Objects.{plain};
 ghost use Rattle.ac_model.specs.Outline.{is_in_subtree};
 ghost use Rattle.ac_model.specs.Trees as trees;
-ghost use Rattle.ac_tree.specs.TreeCursors.{seen_by, SetsNode};
+ghost use Rattle.ac_chain.specs.TreeCursors.{seen_by, SetsNode};
 
 use super::Tree;
 use super::cursors::node_in;

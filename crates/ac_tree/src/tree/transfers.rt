@@ -7,7 +7,7 @@ ghost use Rattle.ac_model.specs.Forms.{DoesBoth, RefusesBoth};
 ghost use Rattle.ac_model.specs.Letters.{tampers_cursors};
 ghost use Rattle.ac_model.specs.Objects.{plain};
 ghost use Rattle.ac_model.specs.Trees as trees;
-ghost use Rattle.ac_tree.specs.TreeCursors.{seen_by, NodeMarks, SetsNodeBoth};
+ghost use Rattle.ac_chain.specs.TreeCursors.{seen_by, NodeMarks, SetsNodeBoth};
 
 use super::Tree;
 use super::cursors::node_in;

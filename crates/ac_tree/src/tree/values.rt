@@ -6,7 +6,7 @@ ghost use Rattle.ac_model.specs.Forms.{Does};
 ghost use Rattle.ac_model.specs.Letters.{name_of, tampers_elements};
 ghost use Rattle.ac_model.specs.Objects.{plain, with_rows};
 ghost use Rattle.ac_model.specs.Trees as trees;
-ghost use Rattle.ac_tree.specs.TreeCursors.{seen_by};
+ghost use Rattle.ac_chain.specs.TreeCursors.{seen_by};
 
 use super::Tree;
 use ac_base::{Class, Cursor, Fault, Reason, first_reason};

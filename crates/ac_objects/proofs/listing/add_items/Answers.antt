@@ -4,7 +4,7 @@ use Rattle.std.proofs.lemmas.Result.{err_from_is_err_and}
 use Rattle.ac_base.specs.Rows.{Row}
 use Rattle.ac_io.proofs.Telling.{begins, goes_on, ends, breaks, still, adds_nothing}
 use Rattle.ac_model.specs.Objects.{plain, plain_row, contents}
-use Rattle.ac_objects.proofs.Walks.{here, is_read, next_is_ok, next_marks}
+use Rattle.ac_calls.proofs.Walks.{here, is_read, next_is_ok, next_marks}
 use Rattle.ac_calls.proofs.Listed.{listed_from, from_place, at_end}
 use Rattle.ac_objects.proofs.listing.add_items.Goals as goal
 

@@ -5,7 +5,7 @@ use Rattle.ac_model.specs.Letters.{tampers_cursors}
 use Rattle.ac_model.specs.Objects.{plain}
 use Rattle.ac_model.specs.Sequences.{room_for_copies}
 use Rattle.ac_model.specs.Trees.{needs_node, may_node, child_or_none}
-use Rattle.ac_tree.specs.TreeCursors.{seen_by}
+use Rattle.ac_chain.specs.TreeCursors.{seen_by}
 use Rattle.ac_tree.proofs.Steps.{or_else, or_else_some, or_else_none, three_first, tampers_early, needs_early, may_early, late_child}
 use Rattle.ac_tree.proofs.tree.Tree.refuses_children.Goals as goal
 

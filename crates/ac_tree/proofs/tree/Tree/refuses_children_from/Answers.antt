@@ -4,7 +4,7 @@ use Rattle.ac_base.proofs.FirstReason.{none_found}
 use Rattle.ac_model.specs.Letters.{tampers_cursors, room}
 use Rattle.ac_model.specs.Objects.{plain, length_of}
 use Rattle.ac_model.specs.Trees.{needs_node, may_node, child_or_none, child_depth, run_at_depth, room_for_rows}
-use Rattle.ac_tree.specs.TreeCursors.{seen_by}
+use Rattle.ac_chain.specs.TreeCursors.{seen_by}
 use Rattle.ac_tree.proofs.Steps.{or_else, or_else_some, or_else_none, five_first, tampers_early, needs_early, may_early, late_rows, none_if}
 use Rattle.ac_tree.proofs.tree.Tree.refuses_children_from.Goals as goal
 

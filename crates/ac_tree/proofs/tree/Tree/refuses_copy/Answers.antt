@@ -5,7 +5,7 @@ use Rattle.ac_base.specs.declared.reason.Reason.TheVariants.{RootSource}
 use Rattle.ac_model.specs.Letters.{tampers_cursors, reason_if, room}
 use Rattle.ac_model.specs.Objects.{plain, length_of}
 use Rattle.ac_model.specs.Trees.{needs_node, may_node, is_root, child_or_none, child_depth, copied_rows, room_for_rows}
-use Rattle.ac_tree.specs.TreeCursors.{seen_by}
+use Rattle.ac_chain.specs.TreeCursors.{seen_by}
 use Rattle.ac_tree.proofs.Steps.{or_else, or_else_some, or_else_none, four_first, joined_early, tampers_early, needs_early, may_early, source_early, root_early, late_rows, none_if}
 use Rattle.ac_tree.proofs.tree.Tree.refuses_copy.Goals as goal
 

@@ -9,7 +9,7 @@ use Rattle.ac_model.specs.Containers.{Container}
 use Rattle.ac_model.specs.Letters.{tampers_cursors, reason_if}
 use Rattle.ac_model.specs.Objects.{plain}
 use Rattle.ac_model.specs.Trees.{needs_element, is_leaf}
-use Rattle.ac_tree.specs.TreeCursors.{seen_by}
+use Rattle.ac_chain.specs.TreeCursors.{seen_by}
 use Rattle.ac_tree.proofs.Steps.{or_else, or_else_some, or_else_none, two_first, tampers_early, element_early, late_leaf, none_if}
 use Rattle.ac_tree.proofs.tree.Tree.refuses_leaf.Goals as goal
 

@@ -6,7 +6,7 @@ use Rattle.ac_model.specs.Letters.{tampers_cursors, reason_if, name_of}
 use Rattle.ac_model.specs.Objects.{plain}
 use Rattle.ac_model.specs.Outline.{is_in_subtree}
 use Rattle.ac_model.specs.Trees.{needs_node, may_node, needs_element, child_or_none}
-use Rattle.ac_tree.specs.TreeCursors.{seen_by}
+use Rattle.ac_chain.specs.TreeCursors.{seen_by}
 use Rattle.ac_tree.proofs.Steps.{or_else, or_else_some, or_else_none, four_first, tampers_early, needs_early, may_early, element_early, late_splice, none_if}
 use Rattle.ac_tree.proofs.tree.Tree.refuses_splice.Goals as goal
 

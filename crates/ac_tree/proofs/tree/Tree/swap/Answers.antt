@@ -4,7 +4,7 @@ use Rattle.ac_model.proofs.Reasons.{passed}
 use Rattle.ac_model.specs.Letters.{tampers_elements}
 use Rattle.ac_model.specs.Objects.{plain}
 use Rattle.ac_model.specs.Trees.{needs_element}
-use Rattle.ac_tree.specs.TreeCursors.{seen_by}
+use Rattle.ac_chain.specs.TreeCursors.{seen_by}
 use Rattle.ac_tree.proofs.tree.Tree.swap.Goals as goal
 
 pub exchange-requires-clause-first : goal.exchange-requires-clause-first

@@ -14,7 +14,7 @@ use Rattle.ac_model.specs.Objects.{plains}
 use Rattle.ac_model.specs.Outline.{subtree_length}
 use Rattle.ac_tree.specs.Forests.{outline}
 use Rattle.ac_tree.specs.TreeFields.{forest_in}
-use Rattle.ac_tree.specs.TreeCursors.{NodeMarks}
+use Rattle.ac_chain.specs.TreeCursors.{NodeMarks}
 use Rattle.ac_tree.proofs.Looking.{live_needed}
 use Rattle.ac_tree.proofs.GraftedRows.{element_long, first_marks}
 use Rattle.ac_tree.specs.Children.{IsPlace, nodes_call}

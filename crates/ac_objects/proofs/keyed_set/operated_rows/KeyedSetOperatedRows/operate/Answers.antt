@@ -8,7 +8,7 @@ use Rattle.ac_objects.specs.KeyedSets.{keyed_items, keyed_kind}
 use Rattle.ac_calls.specs.Replied.{Replied, told}
 use Rattle.ac_objects.specs.Sets.{items_of}
 use Rattle.ac_objects.proofs.KeyedOperations.{not_by_key}
-use Rattle.ac_objects.proofs.Operations.{replied_by}
+use Rattle.ac_calls.proofs.Operations.{replied_by}
 use Rattle.ac_objects.proofs.keyed_set.operated_rows.KeyedSetOperatedRows.operate.Goals as goal
 
 pub returns-in-Keyed-clause-replied : goal.returns-in-Keyed-clause-replied

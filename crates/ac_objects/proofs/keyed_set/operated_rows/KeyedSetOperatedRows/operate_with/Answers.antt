@@ -11,7 +11,7 @@ use Rattle.ac_calls.specs.Replied.{RepliedWith, told}
 use Rattle.ac_objects.specs.Sets.{items_of}
 use Rattle.ac_objects.proofs.Families.{keyed_in}
 use Rattle.ac_objects.proofs.KeyedOperations.{not_by_key}
-use Rattle.ac_objects.proofs.Operations.{replied_beside, replied_with_by}
+use Rattle.ac_calls.proofs.Operations.{replied_beside, replied_with_by}
 use Rattle.ac_objects.proofs.keyed_set.operated_rows.KeyedSetOperatedRows.operate_with.Goals as goal
 
 pub operate_with-requires-clause-like : goal.operate_with-requires-clause-like

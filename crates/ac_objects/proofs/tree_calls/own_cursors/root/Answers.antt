@@ -1,8 +1,0 @@
-use Rattle.std.proofs.Common.{refl}
-use Rattle.ac_model.specs.Objects.{plain}
-use Rattle.ac_model.specs.Trees.{root_call}
-use Rattle.ac_objects.proofs.OwnNodes.{node_cursor}
-use Rattle.ac_objects.proofs.tree_calls.own_cursors.root.Goals as goal
-
-pub returns : goal.returns
-returns g c = let o = c.args.tree.now.object in node_cursor o c.root.result (root_call (plain o)) refl c.root.ensures
