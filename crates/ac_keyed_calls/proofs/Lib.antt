@@ -1,5 +1,4 @@
 mod Alike
-pub mod Beside
 pub mod OwnInserted
 mod SetOperations
 pub mod Entries

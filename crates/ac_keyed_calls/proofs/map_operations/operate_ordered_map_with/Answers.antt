@@ -2,7 +2,7 @@ use Rattle.ac_model.specs.Objects.{plain}
 use Rattle.ac_calls.specs.Arguments.{marked}
 use Rattle.ac_calls.specs.MapReplies.{map_reply}
 use Rattle.ac_calls.specs.Replies.{another}
-use Rattle.ac_keyed_calls.proofs.Beside.{replied_beside}
+use Rattle.ac_calls.proofs.Operations.{replied_beside}
 use Rattle.ac_keyed_calls.proofs.MapOperations.{in_words_with, common_by}
 use Rattle.ac_keyed_calls.proofs.map_operations.operate_ordered_map_with.Goals as goal
 

@@ -6,7 +6,7 @@ use Rattle.ac_calls.specs.KeyedReplies.{of_ordered}
 use Rattle.ac_calls.specs.Replied.{RepliedWith, told}
 use Rattle.ac_calls.specs.Replies.{another, itself}
 use Rattle.ac_calls.specs.SetReplies.{set_reply_by}
-use Rattle.ac_keyed_calls.proofs.Beside.{replied_beside}
+use Rattle.ac_calls.proofs.Operations.{replied_beside}
 use Rattle.ac_keyed_calls.proofs.SetOperations.{no_source}
 use Rattle.ac_keyed_calls.specs.SetCalls.{SetOperatedWith, SetPairRepliedWith}
 use Rattle.ac_keyed_calls.proofs.set_operations.operate_ordered_with.Goals as goal
