@@ -224,7 +224,10 @@ def functions_of(crate):
                         contract.append(later)
                         if later == "    {" or later.endswith(" {") or later.endswith(";"):
                             break
-                    _sources[crate].setdefault((of[0], said.group(2)), (path, of[1], "\n".join(contract)))
+                    function = of[0], said.group(2)
+                    # A type's own function goes before one of a trait.
+                    if said.group(1) or function not in _sources[crate]:
+                        _sources[crate][function] = path, of[1], "\n".join(contract)
     return _sources[crate]
 
 
