@@ -1,5 +1,5 @@
 //! A multiway tree of a script as an object with rows, in preorder.
-ghost use Rattle.std.specs.Prelude.{false, refl};
+ghost use Rattle.std.specs.Prelude.{◌≡◌, false, refl};
 ghost use Rattle.ac_model.specs.Containers.{guards_of, with_guards};
 
 mod common_rows;
