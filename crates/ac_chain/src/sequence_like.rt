@@ -112,7 +112,8 @@ pub trait SequenceLike {
         ensures slots { Grows result (seen self.old) (seen self.new) };
 
     fn insert(&mut self, before: Cursor, e: Self::Element, n: i64) -> Result<(), Fault>
-        ensures changed { Does Same (λ o. sequences.insert_call o (seen_by (seen self.old) before) e n) (seen self.old) (seen self.new) result }
+        ensures changed { Does Same
+            (λ o. sequences.insert_call o (seen_by (seen self.old) before) e n) (seen self.old) (seen self.new) result }
         ensures slots { Grows result (seen self.old) (seen self.new) };
 
     fn insert_pos(
@@ -127,7 +128,8 @@ pub trait SequenceLike {
         ensures slots { Grows result (seen self.old) (seen self.new) };
 
     fn delete(&mut self, q: &mut Cursor, n: i64) -> Result<(), Fault>
-        ensures changed { Sets (λ o. sequences.delete_call o (seen_by (seen self.old) q.old) n) (seen self.old) q.old (seen self.new) q.new result }
+        ensures changed { Sets
+            (λ o. sequences.delete_call o (seen_by (seen self.old) q.old) n) (seen self.old) q.old (seen self.new) q.new result }
         ensures slots { slots_of (seen self.new) ≡ slots_of (seen self.old) };
 
     fn delete_first(&mut self, n: i64) -> Result<(), Fault>
@@ -141,7 +143,8 @@ pub trait SequenceLike {
     // Other values, and another order
 
     fn replace_element(&mut self, c: Cursor, e: Self::Element) -> Result<(), Fault>
-        ensures changed { Does Same (λ o. sequences.replace_element_call o (seen_by (seen self.old) c) e) (seen self.old) (seen self.new) result }
+        ensures changed { Does Same
+            (λ o. sequences.replace_element_call o (seen_by (seen self.old) c) e) (seen self.old) (seen self.new) result }
         ensures spare { (seen self.new).spare ≡ (seen self.old).spare };
 
     /// A write through a name that a view or a loop gives for the element.

@@ -22,7 +22,8 @@ pub trait VectorLike: SequenceLike {
         ensures err { OnErr result (Self.seen self.new ≡ Self.seen self.old) };
 
     fn set_length(&mut self, n: i64) -> Result<(), Fault>
-        ensures changed { Does Same (λ o. vectors.set_length_call o Self.Element.blank_element n) (Self.seen self.old) (Self.seen self.new) result }
+        ensures changed { Does Same
+            (λ o. vectors.set_length_call o Self.Element.blank_element n) (Self.seen self.old) (Self.seen self.new) result }
         ensures slots { Grows result (Self.seen self.old) (Self.seen self.new) };
 
     // Elements by an index
@@ -72,7 +73,8 @@ pub trait VectorLike: SequenceLike {
         ensures slots { Grows result (Self.seen self.old) (Self.seen self.new) };
 
     fn insert_vector(&mut self, before: Cursor, source: &Self) -> Result<(), Fault>
-        ensures changed { Does Same (λ o. vectors.insert_vector_call o (seen_by (Self.seen self.old) before) (plain (Self.seen source.now).object))
+        ensures changed { Does Same
+            (λ o. vectors.insert_vector_call o (seen_by (Self.seen self.old) before) (plain (Self.seen source.now).object))
             (Self.seen self.old) (Self.seen self.new) result }
         ensures slots { Grows result (Self.seen self.old) (Self.seen self.new) };
 
@@ -82,7 +84,8 @@ pub trait VectorLike: SequenceLike {
         source: &Self,
         p: &mut Cursor,
     ) -> Result<(), Fault>
-        ensures changed { Sets (λ o. vectors.insert_vector_pos_call o (seen_by (Self.seen self.old) before) (plain (Self.seen source.now).object))
+        ensures changed { Sets
+            (λ o. vectors.insert_vector_pos_call o (seen_by (Self.seen self.old) before) (plain (Self.seen source.now).object))
             (Self.seen self.old) p.old (Self.seen self.new) p.new result }
         ensures slots { Grows result (Self.seen self.old) (Self.seen self.new) };
 

@@ -25,17 +25,17 @@ module _ {K V : Type 0} (keys : Tools K) (tools : Tools V) (which : KeyedKind) w
   OrderedMapReplied call args old new result = RowsReplied (λ o seen. ordered_map_reply keys tools which o seen call) args old new result
 
   -- an operation that has no source, whatever stands for it
-  abbrev pub AloneReplied : Operation → Arguments → (old new : Container (Entry K V)) → Result Reply Fault → Type 0
-  AloneReplied operation args old new result =
+  abbrev pub MapOperatedAlone : Operation → Arguments → (old new : Container (Entry K V)) → Result Reply Fault → Type 0
+  MapOperatedAlone operation args old new result =
       (source : Source (Object ℕ (Entry K V)))
       → RowsReplied (λ o seen. map_reply keys tools o source seen which operation) args old new result
 
   -- an operation on a map that is its own source, where it has one
-  abbrev pub OperationReplied : Operation → Arguments → (old new : Container (Entry K V)) → Result Reply Fault → Type 0
-  OperationReplied operation args old new result =
+  abbrev pub MapOperated : Operation → Arguments → (old new : Container (Entry K V)) → Result Reply Fault → Type 0
+  MapOperated operation args old new result =
       RowsReplied (λ o seen. map_reply keys tools o itself seen which operation) args old new result
 
   -- and with another one of its kind as the source
-  abbrev pub OperationRepliedWith : Operation → Arguments → (old source new source_new : Container (Entry K V)) → Result Reply Fault → Type 0
-  OperationRepliedWith operation args old source new source_new result =
+  abbrev pub MapOperatedWith : Operation → Arguments → (old source new source_new : Container (Entry K V)) → Result Reply Fault → Type 0
+  MapOperatedWith operation args old source new source_new result =
       RowsRepliedWith (λ o source seen. map_reply keys tools o source seen which operation) args old source new source_new result

@@ -2,7 +2,7 @@
 ghost use Rattle.std.specs.Prelude.{◌≡◌};
 ghost use Rattle.ac_syntax.specs.declared.operation.CommonCall.{CommonCall as CommonCalls};
 ghost use Rattle.ac_calls.specs.Replied.{told};
-ghost use Rattle.ac_keyed_calls.specs.MapCalls.{AloneReplied, OperationReplied, OperationRepliedWith};
+ghost use Rattle.ac_keyed_calls.specs.MapCalls.{MapOperatedAlone, MapOperated, MapOperatedWith};
 
 use crate::map_calls::{map_call, ordered_map_call};
 use crate::map_kind::{HashedMapKind, OrderedMapKind};
@@ -25,7 +25,7 @@ pub fn operate_hashed_map<K: ScriptElement, V: ScriptElement, M: HashedMapKind<K
     args: &mut Arguments,
     reply: &mut Reply,
 ) -> Result<(), Fault>
-    ensures { OperationReplied K.tools V.tools M.which operation args.old map.old map.new (told reply.new result) }
+    ensures { MapOperated K.tools V.tools M.which operation args.old map.old map.new (told reply.new result) }
 {
     match operation {
         Operation::Common(call) => common_call(map, alloc, call, args, reply),
@@ -42,7 +42,7 @@ pub fn operate_hashed_map_with<K: ScriptElement, V: ScriptElement, M: HashedMapK
     args: &mut Arguments,
     reply: &mut Reply,
 ) -> Result<(), Fault>
-    ensures { OperationRepliedWith K.tools V.tools M.which operation args.old map.old source.old map.new source.new (told reply.new result) }
+    ensures { MapOperatedWith K.tools V.tools M.which operation args.old map.old source.old map.new source.new (told reply.new result) }
 {
     match operation {
         Operation::Common(call) => common_call_with(map, source, alloc, call, args, reply),
@@ -59,7 +59,7 @@ fn operate_hashed_alone<K: ScriptElement, V: ScriptElement, M: HashedMapKind<K, 
     reply: &mut Reply,
 ) -> Result<(), Fault>
     requires { (call : CommonCalls) → operation ≡ Operation.Common call → ⊥ }
-    ensures { AloneReplied K.tools V.tools M.which operation args.old map.old map.new (told reply.new result) }
+    ensures { MapOperatedAlone K.tools V.tools M.which operation args.old map.old map.new (told reply.new result) }
 {
     match operation {
         Operation::Walk(call) => walk_call(map, call, args, reply),
@@ -82,7 +82,7 @@ pub fn operate_ordered_map<K: ScriptElement, V: ScriptElement, M: OrderedMapKind
 ) -> Result<(), Fault>
 where
     M::Index: Ordered,
-    ensures { OperationReplied K.tools V.tools M.which operation args.old map.old map.new (told reply.new result) }
+    ensures { MapOperated K.tools V.tools M.which operation args.old map.old map.new (told reply.new result) }
 {
     match operation {
         Operation::Common(call) => common_call(map, alloc, call, args, reply),
@@ -101,7 +101,7 @@ pub fn operate_ordered_map_with<K: ScriptElement, V: ScriptElement, M: OrderedMa
 ) -> Result<(), Fault>
 where
     M::Index: Ordered,
-    ensures { OperationRepliedWith K.tools V.tools M.which operation args.old map.old source.old map.new source.new (told reply.new result) }
+    ensures { MapOperatedWith K.tools V.tools M.which operation args.old map.old source.old map.new source.new (told reply.new result) }
 {
     match operation {
         Operation::Common(call) => common_call_with(map, source, alloc, call, args, reply),
@@ -120,7 +120,7 @@ fn operate_ordered_alone<K: ScriptElement, V: ScriptElement, M: OrderedMapKind<K
 where
     M::Index: Ordered,
     requires { (call : CommonCalls) → operation ≡ Operation.Common call → ⊥ }
-    ensures { AloneReplied K.tools V.tools M.which operation args.old map.old map.new (told reply.new result) }
+    ensures { MapOperatedAlone K.tools V.tools M.which operation args.old map.old map.new (told reply.new result) }
 {
     match operation {
         Operation::Walk(call) => walk_call(map, call, args, reply),

@@ -13,7 +13,7 @@ use Rattle.ac_calls.specs.declared.argument.Arguments.{Arguments}
 use Rattle.ac_calls.specs.declared.reply.Reply.{Reply}
 use Rattle.ac_calls.specs.Arguments.{AllAgree, arguments_of}
 use Rattle.ac_calls.specs.Replied.{Replied, RepliedWith}
-use Rattle.ac_keyed_calls.specs.MapCalls.{OperationReplied, OperationRepliedWith}
+use Rattle.ac_keyed_calls.specs.MapCalls.{MapOperated, MapOperatedWith}
 use Rattle.ac_objects.specs.declared.map.Map.{Map}
 use Rattle.ac_objects.specs.Maps.{entries_of, map_kind_of}
 use Rattle.ac_calls.proofs.Operations.{replied_by, replied_with_by}
@@ -26,7 +26,7 @@ module _ {K V P Q : Type 0} (keys : Tools K) (tools : Tools V) (operation : Oper
       Replied (map_reply keys tools o itself (seen_by o (arguments_of args)) (map_kind_of m) operation) (entries_of m) new result
 
   pub operated : (m n : Map K V P Q) (new : Container (Entry K V)) (result : Result Reply Fault) → m ≡ n → AllAgree (entries_of m).object args
-      → OperationReplied keys tools (map_kind_of n) operation args (entries_of n) new result → Operated m new result
+      → MapOperated keys tools (map_kind_of n) operation args (entries_of n) new result → Operated m new result
   operated m n new result is agree h =
       subst (λ (x : Map K V P Q). Operated x new result) (sym is)
       (replied_by (λ source seen op. map_reply keys tools (plain (entries_of n).object) source seen (map_kind_of n) op)
@@ -41,7 +41,7 @@ module _ {K V P Q : Type 0} (keys : Tools K) (tools : Tools V) (operation : Oper
 
   pub operated_with : (m n source other : Map K V P Q) (new source_new : Container (Entry K V)) (result : Result Reply Fault) → m ≡ n → source ≡ other
       → AllAgree (entries_of m).object args → AllAgree (entries_of source).object args
-      → OperationRepliedWith keys tools (map_kind_of n) operation args (entries_of n) (entries_of other) new source_new result
+      → MapOperatedWith keys tools (map_kind_of n) operation args (entries_of n) (entries_of other) new source_new result
       → OperatedWith m source new source_new result
   operated_with m n source other new source_new result is source_is agree agree_with h =
       subst (λ (x : Map K V P Q). OperatedWith x source new source_new result) (sym is)

@@ -12,7 +12,7 @@ use Rattle.ac_calls.specs.Replied.{Replied, RepliedWith}
 use Rattle.ac_calls.specs.Replies.{itself, another, seen_by}
 use Rattle.ac_calls.specs.declared.argument.Arguments.{Arguments}
 use Rattle.ac_calls.specs.declared.reply.Reply.{Reply}
-use Rattle.ac_sequence_calls.specs.SequenceCalls.{OperationReplied, OperationRepliedWith}
+use Rattle.ac_sequence_calls.specs.SequenceCalls.{SequenceOperated, SequenceOperatedWith}
 use Rattle.ac_objects.specs.declared.sequence.Sequence.{Sequence}
 use Rattle.ac_objects.specs.Sequences.{rows_of, kind_of}
 use Rattle.ac_calls.proofs.Operations.{replied_by, replied_with_by}
@@ -25,7 +25,7 @@ module _ {T : Type 0} (tools : Tools T) (operation : Operation) (args : Argument
       Replied (reply_by tools o itself (seen_by o (arguments_of args)) (kind_of s) operation) (rows_of s) new result
 
   pub operated : (s t : Sequence T) (new : Container T) (result : Result Reply Fault) → s ≡ t → AllAgree (rows_of s).object args
-      → OperationReplied tools (kind_of t) operation args (rows_of t) new result → Operated s new result
+      → SequenceOperated tools (kind_of t) operation args (rows_of t) new result → Operated s new result
   operated s t new result is agree h =
       subst (λ (x : Sequence T). Operated x new result) (sym is)
       (replied_by (λ source seen op. reply_by tools (plain (rows_of t).object) source seen (kind_of t) op)
@@ -40,7 +40,7 @@ module _ {T : Type 0} (tools : Tools T) (operation : Operation) (args : Argument
 
   pub operated_with : (s t source other : Sequence T) (new source_new : Container T) (result : Result Reply Fault) → s ≡ t → source ≡ other
       → AllAgree (rows_of s).object args → AllAgree (rows_of source).object args
-      → OperationRepliedWith tools (kind_of t) operation args (rows_of t) (rows_of other) new source_new result
+      → SequenceOperatedWith tools (kind_of t) operation args (rows_of t) (rows_of other) new source_new result
       → OperatedWith s source new source_new result
   operated_with s t source other new source_new result is source_is agree agree_with h =
       subst (λ (x : Sequence T). OperatedWith x source new source_new result) (sym is)

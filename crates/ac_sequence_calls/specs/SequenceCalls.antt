@@ -38,8 +38,8 @@ module _ {T : Type 0} (tools : Tools T) where
   VectorAloneReplied call args old new result = RowsReplied (λ o seen. vector_alone_reply tools o itself seen call) args old new result
 
   -- any operation on one of the kind
-  abbrev pub OperationReplied : SequenceKind → Operation → Arguments → (old new : Container T) → Result Reply Fault → Type 0
-  OperationReplied which operation args old new result = RowsReplied (λ o seen. reply_by tools o itself seen which operation) args old new result
+  abbrev pub SequenceOperated : SequenceKind → Operation → Arguments → (old new : Container T) → Result Reply Fault → Type 0
+  SequenceOperated which operation args old new result = RowsReplied (λ o seen. reply_by tools o itself seen which operation) args old new result
 
   -- the same with another one of its kind as the source
 
@@ -57,6 +57,6 @@ module _ {T : Type 0} (tools : Tools T) where
   VectorAloneRepliedWith call args old source new source_new result =
       RowsRepliedWith (λ o from seen. vector_alone_reply tools o from seen call) args old source new source_new result
 
-  abbrev pub OperationRepliedWith : SequenceKind → Operation → Arguments → (old source new source_new : Container T) → Result Reply Fault → Type 0
-  OperationRepliedWith which operation args old source new source_new result =
+  abbrev pub SequenceOperatedWith : SequenceKind → Operation → Arguments → (old source new source_new : Container T) → Result Reply Fault → Type 0
+  SequenceOperatedWith which operation args old source new source_new result =
       RowsRepliedWith (λ o from seen. reply_by tools o from seen which operation) args old source new source_new result

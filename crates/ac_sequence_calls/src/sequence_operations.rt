@@ -1,7 +1,7 @@
 //! Operations on lists and vectors: each goes to the calls that mean it. One that the kind hasn't says that it is done.
 ghost use Rattle.ac_calls.specs.Holdings.{of_list, of_vector};
 ghost use Rattle.ac_calls.specs.Replied.{told};
-ghost use Rattle.ac_sequence_calls.specs.SequenceCalls.{OperationReplied, OperationRepliedWith};
+ghost use Rattle.ac_sequence_calls.specs.SequenceCalls.{SequenceOperated, SequenceOperatedWith};
 
 use crate::list_calls::{list_call, list_call_with};
 use crate::sequence_calls::{sequence_call, sequence_call_with};
@@ -26,7 +26,7 @@ pub fn operate_list<L: ListLike>(
 ) -> Result<(), Fault>
 where
     L::Element: ScriptElement,
-    ensures { OperationReplied L.Element.tools of_list operation args.old
+    ensures { SequenceOperated L.Element.tools of_list operation args.old
         (L.seen list.old.sequence) (L.seen list.new.sequence) (told reply.new result) }
 {
     match operation {
@@ -51,7 +51,7 @@ pub fn operate_list_with<L: ListLike>(
 ) -> Result<(), Fault>
 where
     L::Element: ScriptElement,
-    ensures { OperationRepliedWith L.Element.tools of_list operation args.old
+    ensures { SequenceOperatedWith L.Element.tools of_list operation args.old
         (L.seen list.old.sequence) (L.seen source.old.sequence) (L.seen list.new.sequence) (L.seen source.new.sequence)
         (told reply.new result) }
 {
@@ -82,7 +82,7 @@ pub fn operate_vector<V: VectorLike>(
 ) -> Result<(), Fault>
 where
     V::Element: ScriptElement,
-    ensures { OperationReplied V.Element.tools of_vector operation args.old
+    ensures { SequenceOperated V.Element.tools of_vector operation args.old
         (V.seen vector.old.sequence) (V.seen vector.new.sequence) (told reply.new result) }
 {
     match operation {
@@ -108,7 +108,7 @@ pub fn operate_vector_with<V: VectorLike>(
 ) -> Result<(), Fault>
 where
     V::Element: ScriptElement,
-    ensures { OperationRepliedWith V.Element.tools of_vector operation args.old
+    ensures { SequenceOperatedWith V.Element.tools of_vector operation args.old
         (V.seen vector.old.sequence) (V.seen source.old.sequence) (V.seen vector.new.sequence) (V.seen source.new.sequence)
         (told reply.new result) }
 {

@@ -53,13 +53,7 @@ pub trait EditedTree<T: Elem>: TreeLike<T> {
             (Self.seen self.old) (Self.seen self.new) result }
         ensures spare { (Self.seen self.new).spare ≡ (Self.seen self.old).spare };
 
-    fn insert_child(
-        &mut self,
-        parent: Cursor,
-        before: Cursor,
-        e: T,
-        n: i64,
-    ) -> Result<(), Fault>
+    fn insert_child(&mut self, parent: Cursor, before: Cursor, e: T, n: i64) -> Result<(), Fault>
         ensures changed { Does Same (λ o. trees.insert_child_call o (seen_by (Self.seen self.old) parent)
             (seen_by (Self.seen self.old) before) e n) (Self.seen self.old) (Self.seen self.new) result }
         ensures slots { Grows result (Self.seen self.old) (Self.seen self.new) };

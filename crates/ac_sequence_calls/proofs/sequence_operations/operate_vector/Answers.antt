@@ -5,7 +5,7 @@ use Rattle.ac_calls.specs.Holdings.{of_vector}
 use Rattle.ac_calls.specs.Replied.{IsMade, told}
 use Rattle.ac_calls.specs.Replies.{itself}
 use Rattle.ac_calls.proofs.Made.{unchanged}
-use Rattle.ac_sequence_calls.specs.SequenceCalls.{OperationReplied, SequenceReplied}
+use Rattle.ac_sequence_calls.specs.SequenceCalls.{SequenceOperated, SequenceReplied}
 use Rattle.ac_sequence_calls.proofs.SequenceOperations.{none_of_vector}
 use Rattle.ac_sequence_calls.proofs.sequence_operations.operate_vector.Goals as goal
 
@@ -17,7 +17,7 @@ returns-in-Sequence g c =
     let call = c.sequence_call in
     let now = seen call.new.sequence in
     let made = told call.new.reply call.result in
-    subst (λ op. OperationReplied tools of_vector op c.args.args.now old now made) (sym c.in-Sequence.is)
+    subst (λ op. SequenceOperated tools of_vector op c.args.args.now old now made) (sym c.in-Sequence.is)
     (subst (λ b. SequenceReplied tools b c.in-Sequence.call c.args.args.now old now made) g.met.V.VectorLike.keeps_names call.ensures)
 
 pub returns-in_default : goal.returns-in_default

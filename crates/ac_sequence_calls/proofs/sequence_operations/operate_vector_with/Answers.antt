@@ -5,7 +5,7 @@ use Rattle.ac_calls.specs.Holdings.{of_vector}
 use Rattle.ac_calls.specs.Replied.{IsMadeWith, told}
 use Rattle.ac_calls.specs.Replies.{another}
 use Rattle.ac_calls.proofs.Made.{unchanged}
-use Rattle.ac_sequence_calls.specs.SequenceCalls.{OperationRepliedWith, SequenceRepliedWith}
+use Rattle.ac_sequence_calls.specs.SequenceCalls.{SequenceOperatedWith, SequenceRepliedWith}
 use Rattle.ac_sequence_calls.proofs.SequenceOperations.{none_of_vector}
 use Rattle.ac_sequence_calls.proofs.sequence_operations.operate_vector_with.Goals as goal
 
@@ -19,7 +19,7 @@ returns-in-Sequence g c =
     let now = seen call.new.sequence in
     let source_now = seen call.new.source in
     let made = told call.new.reply call.result in
-    subst (λ op. OperationRepliedWith tools of_vector op c.args.args.now old source now source_now made) (sym c.in-Sequence.is)
+    subst (λ op. SequenceOperatedWith tools of_vector op c.args.args.now old source now source_now made) (sym c.in-Sequence.is)
     (subst (λ b. SequenceRepliedWith tools b c.in-Sequence.call c.args.args.now old source now source_now made) g.met.V.VectorLike.keeps_names call.ensures)
 
 pub returns-in_default : goal.returns-in_default
