@@ -40,9 +40,18 @@ impl<T> Chain<T> {
         ensures empty { result ≡ no_rows 1 0 }
         ensures sound { IsSound result }
     {
+        Chain::starting_at(alloc, 1)
+    }
+
+    /// The same with another first serial.
+    pub fn starting_at(alloc: Global, serial: u64) -> Chain<T>
+        requires { 0 < serial }
+        ensures empty { result ≡ no_rows serial 0 }
+        ensures sound { IsSound result }
+    {
         Chain {
             links: Links {
-                nodes: Pool::new(alloc),
+                nodes: Pool::starting_at(alloc, serial),
                 first: None,
                 last: None,
             },

@@ -1,5 +1,5 @@
 //! The list. A contract sees its object, with the slots of its names, and how many elements more it takes without memory.
-ghost use Rattle.std.specs.Prelude.{◌≡◌, ◌+◌, None, IfOk, IfErr, IsOk, false, refl};
+ghost use Rattle.std.specs.Prelude.{◌≡◌, ◌<◌, ◌+◌, None, IfOk, IfErr, IsOk, false, refl};
 ghost use Rattle.ac_base.specs.Limits.{IsLimit};
 ghost use Rattle.ac_model.specs.Containers.{HasSlots, first_spare, with_guards, guards_of};
 ghost use Rattle.ac_model.specs.Containers.{Grows};
@@ -73,6 +73,20 @@ impl<T: Drop> List<T> {
             guards: Guards::new(tag),
             limit,
         })
+    }
+
+    /// An empty list without a limit whose first name has this serial. It takes no memory.
+    pub fn starting_at(alloc: Global, tag: Tag, serial: u64) -> List<T>
+        requires { 0 < serial }
+        ensures empty { result.object ≡ record (empty_object false tag Limit.Unbounded) { next = serial } }
+        ensures spare { result.spare ≡ 0 }
+    {
+        List {
+            alloc,
+            chain: Chain::starting_at(alloc, serial),
+            guards: Guards::new(tag),
+            limit: Limit::Unbounded,
+        }
     }
 }
 
