@@ -3,6 +3,8 @@
 #![tactic(auto)]
 
 #[cfg(test)]
+mod devices;
+#[cfg(test)]
 mod holders;
 #[cfg(test)]
 mod key_updates;
@@ -16,6 +18,8 @@ mod long;
 mod maps;
 #[cfg(test)]
 mod outcome;
+#[cfg(test)]
+mod prefixes;
 #[cfg(test)]
 mod queues;
 #[cfg(test)]
