@@ -20,6 +20,9 @@ type M is ordered_map (string, string); / A : M; / C : M.cursor; / A.First; / A.
   C := A.Next (C); / A.Element (C); / C := A.Previous (C); / C := A.Previous (C); / C := A.Last; / A.Next (C); / A.Key (C); / A.Delete_First; / A.Delete_Last; / A.Print;
   ==> 0 / 4: no_element / 5: raised CONSTRAINT_ERROR (empty) / 6: raised CONSTRAINT_ERROR (empty) / 7: raised CONSTRAINT_ERROR (empty) / 8: raised CONSTRAINT_ERROR (empty) / 9: ok / 10: ok / 11: ok / 12: ok / 13: ok / 14: ok / 15: "ash" / 16: "oak" / 17: "grey" / 18: "dark" / 19: no_element / 20: cursor / 21: cursor / 22: "brown" / 23: cursor / 24: no_element / 25: cursor / 26: no_element /
   27: "oak" / 28: ok / 29: ok / 30: ["elm" => "brown", "fir" => "green"]
+# four keys of a hashed map with one hash
+type M is hashed_map (string, integer); / A : M; / A.Insert ("AaAa", 1); / A.Insert ("AaBB", 2); / A.Insert ("BBAa", 3); / A.Insert ("BBBB", 4); / A.Insert ("BBAa", 5); / A.Delete ("AaBB"); / A.Element ("BBBB"); / A.Contains ("AaBB"); / A.Print;
+  ==> 0 / 3: ok / 4: ok / 5: ok / 6: ok / 7: raised CONSTRAINT_ERROR (key present) / 8: ok / 9: 4 / 10: false / 11: ["AaAa" => 1, "BBAa" => 3, "BBBB" => 4]
 # floor and ceiling of ordered maps
 type M is ordered_map (string, integer); / A : M; / C : M.cursor; / A.Floor ("b"); / A.Ceiling ("b"); / A.Insert ("elm", 2); / A.Insert ("ash", 1); / A.Insert ("fir", 3); / C := A.Floor ("f"); / A.Key (C); / C := A.Floor ("fir"); / A.Key (C); / C := A.Floor ("zz"); / A.Element (C); / C := A.Ceiling ("a"); / A.Key (C); / C := A.Ceiling ("elm"); / A.Element (C); / C := A.Ceiling ("elm "); /
   A.Element (C); / A.Floor ("as"); / A.Ceiling ("g");

@@ -63,6 +63,8 @@ type L is list (integer); / A : L; / A.Append (5); / A.Append (-7); / A.Print; =
 # loops hold their guards
 type L is list (integer); / A : L; / A.Append (1, 2); / for C in A loop / A.Append (1); / end loop; / A.Append (1); ==> 0 / 3: ok / 5: raised PROGRAM_ERROR (cursor tampering) / 5: raised PROGRAM_ERROR (cursor tampering) / 7: ok
 type L is list (integer); / A : L; / B : L; / C : L.cursor; / A.Append (1); / B.Append (2); / C := B.First; / A.Element (C); / for D in A loop / A.Insert (C, 1); / end loop; / A.Insert (C, 1); ==> 0 / 5: ok / 6: ok / 7: cursor / 8: raised PROGRAM_ERROR (foreign cursor) / 10: raised PROGRAM_ERROR (cursor tampering) / 12: raised PROGRAM_ERROR (foreign cursor)
+# the deepest block holds the guards of all around it
+type L is list (integer); / A : L; / stable A do / stable A do / stable A do / stable A do / stable A do / stable A do / stable A do / stable A do / stable A do / stable A do / stable A do / stable A do / stable A do / stable A do / stable A do / stable A do / A.Append (1); / end; / end; / end; / end; / end; / end; / end; / end; / end; / end; / end; / end; / end; / end; / end; / end; ==> 0 / 19: raised PROGRAM_ERROR (element tampering)
 # a slot is used again
 type L is list (integer); / A : L; / C : L.cursor; / D : L.cursor; / A.Append (1); / C := A.First; / D := C; / A.Delete (C); / A.Append (2); / A.Element (D); / A.Has_Element (D); / A.Element (C); ==> 0 / 5: ok / 6: cursor / 7: cursor / 8: ok / 9: ok / 10: raised PROGRAM_ERROR (dead cursor) / 11: false / 12: raised CONSTRAINT_ERROR (no element)
 # elements move between lists
