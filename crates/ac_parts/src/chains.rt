@@ -172,6 +172,16 @@ fn an_emptied_chain_keeps_its_slots(rt: HostRuntime) {
     assert!(rt; chain.spare() == 8);
 }
 
+/// Its first row has the serial with which it starts, here the last one that a chain gives.
+#[test]
+fn a_chain_starts_at_a_serial(rt: HostRuntime) {
+    let mut chain = Chain::starting_at(rt.alloc(), u64::MAX - 1);
+    assert!(rt; chain.next_serial() == u64::MAX - 1 && chain.spare() == 0);
+    let name = put(&rt, &mut chain, None, 1u64);
+    assert!(rt; name.serial == u64::MAX - 1 && chain.next_serial() == u64::MAX);
+    assert!(rt; value_at(&rt, &chain, name) == 1);
+}
+
 fn pick(state: &mut u64, below: usize) -> usize {
     *state = state
         .wrapping_mul(6364136223846793005)

@@ -1,5 +1,5 @@
 use ac_base::{Fault, Limit, Reason};
-use ac_cursor::{Tag, TagMint};
+use ac_cursor::{Cursor, Tag, TagMint};
 use ac_list::List;
 use std::alloc::Global;
 use std::process::Abort;
@@ -44,4 +44,32 @@ fn a_bounded_list_has_its_slots_from_the_first(rt: HostRuntime) {
     assert!(rt; list.slots() == 2);
     assert!(rt; list.append(10, 2).is_ok());
     assert!(rt; list.slots() == 2 && list.live_nodes() == 2);
+}
+
+fn holds_one(list: &List<i64>, value: i64) -> bool {
+    list.live_nodes() == 1 && list.last_element().ok().copied() == Some(value)
+}
+
+/// The name before the last one of 64 bits is given, and no later one; a call that gives none goes on.
+#[test]
+fn a_list_whose_names_are_spent_gives_none(rt: HostRuntime) {
+    let mut list = List::starting_at(rt.alloc(), tag(&rt, 1), u64::MAX - 1);
+    assert!(rt; list.append(10, 1).is_ok());
+    let kept = list.first();
+    assert!(rt; list.append(20, 1).err() == Some(Fault::Raised(Reason::NamesSpent)));
+    assert!(rt; holds_one(&list, 10) && list.first() == kept);
+    assert!(rt; list.append(20, 0).is_ok() && holds_one(&list, 10));
+    assert!(rt; list.splice_within(Cursor::NoElement, kept).is_ok());
+    assert!(rt; holds_one(&list, 10) && list.first() == kept);
+}
+
+#[test]
+fn a_cleared_list_keeps_its_slots(rt: HostRuntime) {
+    let mut list = list(&rt, rt.alloc(), 1, Limit::Unbounded);
+    assert!(rt; list.append(10, 9).is_ok());
+    assert!(rt; list.live_nodes() == 9 && list.slots() == 16);
+    assert!(rt; list.clear().is_ok());
+    assert!(rt; list.live_nodes() == 0 && list.slots() == 16);
+    assert!(rt; list.append(20, 8).is_ok());
+    assert!(rt; list.live_nodes() == 8 && list.slots() == 16);
 }
