@@ -9,9 +9,9 @@ use Rattle.ac_syntax.specs.declared.refusal.RefusalKind.{RefusalKind}
 use Rattle.ac_syntax.specs.declared.stmt.Stmt.{Stmt}
 use Rattle.ac_syntax.specs.declared.stmt.Stmt.TheVariants.{Call, Set, Sum, Loop, View, Stable, Declare, Tasks}
 use Rattle.ac_syntax.specs.declared.stmt.TaskText.{TaskText}
-use Rattle.ac_check.specs.Scopes.{Scope, Entry, entry, a_task, Standing, standing, with_entry, with_decls, decl_entry, decls_in, behind_words, inside, behind_block, behind_code, standing_decls, standings_from}
-use Rattle.ac_check.specs.Walks.{goes_on, refused, outcome, fault_with, stmt_item}
-use Rattle.ac_check.proofs.Outcomes.{gone_on, stopped, head_on, next_item}
+use Rattle.ac_rules.specs.Scopes.{Scope, Entry, entry, a_task, Standing, standing, with_entry, with_decls, decl_entry, decls_in, behind_words, inside, behind_block, behind_code, standing_decls, standings_from}
+use Rattle.ac_rules.specs.Walks.{goes_on, refused, outcome, fault_with, stmt_item}
+use Rattle.ac_rules.proofs.Outcomes.{gone_on, stopped, head_on, next_item}
 
 -- a block's items, with none behind it
 block_end : (scope : Scope) (head : Head) (body rest : Code)

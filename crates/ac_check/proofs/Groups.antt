@@ -4,7 +4,7 @@ use Rattle.std.specs.Option.{option_or}
 use Rattle.std.specs.Borrow.{Bor}
 use Rattle.std.proofs.lemmas.List.{drop_more}
 use Rattle.std.proofs.lemmas.List.Folds.{find-append}
-use Rattle.ac_check.specs.Table.{Row}
+use Rattle.ac_rules.specs.Table.{Row}
 use Rattle.ac_check.specs.Rows.{row_view, joined, first_row, first_grouped}
 use Rattle.ac_check.specs.declared.table.Row.{Row as Kept}
 

@@ -1,15 +1,7 @@
 pub mod Groups
 pub mod Names
-pub mod Outcomes
 pub mod Blocks
 pub mod Resolving
-pub mod NamePlaces
 pub mod TaskScopes
-pub mod FirstFaults
-pub mod EachScript
 pub mod Verdicts
-pub mod Kept
-pub mod Apart
-pub mod Found
 pub mod RowsOf
-pub mod SizesAmong

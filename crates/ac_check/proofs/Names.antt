@@ -8,9 +8,9 @@ use Rattle.std.specs.List.{position_or_len}
 use Rattle.std.specs.Map.{lookup}
 use Rattle.std.specs.Str.{bytes_eq}
 use Rattle.ac_check.specs.declared.meaning.Meaning.{Meaning as Kept}
-use Rattle.ac_check.specs.Scopes.{Entry, entry, meaning_in}
-use Rattle.ac_check.specs.Faults.{is_in_scope}
-use Rattle.ac_check.specs.Resolved.{place_of}
+use Rattle.ac_rules.specs.Scopes.{Entry, entry, meaning_in}
+use Rattle.ac_rules.specs.Faults.{is_in_scope}
+use Rattle.ac_rules.specs.Resolved.{place_of}
 use Rattle.ac_check.specs.Meanings.{meaning_view, entries_view}
 
 found : (key : List ℕ) (meaning : Kept) (rest : Option Kept) (others : Option Entry)

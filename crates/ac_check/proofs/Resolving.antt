@@ -8,15 +8,15 @@ use Rattle.ac_syntax.specs.declared.decl.Decl.{Decl}
 use Rattle.ac_syntax.specs.declared.stmt.Stmt.{Stmt}
 use Rattle.ac_syntax.specs.declared.stmt.Stmt.TheVariants.{Call, Set, Sum, Loop, View, Stable, Declare, Tasks}
 use Rattle.ac_syntax.specs.declared.stmt.TaskText.{TaskText}
-use Rattle.ac_check.specs.declared.resolved.ResolvedDecl.{ResolvedDecl}
-use Rattle.ac_check.specs.declared.resolved.ResolvedStmt.{ResolvedStmt}
-use Rattle.ac_check.specs.declared.resolved.ResolvedStmt.TheVariants as made
-use Rattle.ac_check.specs.Scopes.{Scope, entry, a_task, standing, with_entry, with_decls, decl_entry, standing_decls}
-use Rattle.ac_check.specs.Walks.{goes_on, outcome}
-use Rattle.ac_check.specs.Resolved.{ResolvedCode, no_statement, a_command, a_block, resolve_decl, resolve_decls, resolve}
-use Rattle.ac_check.specs.ResolvedStatements.{resolved_before, resolved_of, resolved_task_before, resolved_tasks_of}
-use Rattle.ac_check.specs.declared.resolved.ResolvedTask.{ResolvedTask}
-use Rattle.ac_check.proofs.Outcomes.{gone_on, next_item}
+use Rattle.ac_rules.specs.declared.resolved.ResolvedDecl.{ResolvedDecl}
+use Rattle.ac_rules.specs.declared.resolved.ResolvedStmt.{ResolvedStmt}
+use Rattle.ac_rules.specs.declared.resolved.ResolvedStmt.TheVariants as made
+use Rattle.ac_rules.specs.Scopes.{Scope, entry, a_task, standing, with_entry, with_decls, decl_entry, standing_decls}
+use Rattle.ac_rules.specs.Walks.{goes_on, outcome}
+use Rattle.ac_rules.specs.Resolved.{ResolvedCode, no_statement, a_command, a_block, resolve_decl, resolve_decls, resolve}
+use Rattle.ac_rules.specs.ResolvedStatements.{resolved_before, resolved_of, resolved_task_before, resolved_tasks_of}
+use Rattle.ac_rules.specs.declared.resolved.ResolvedTask.{ResolvedTask}
+use Rattle.ac_rules.proofs.Outcomes.{gone_on, next_item}
 
 -- behind the next of some declarations
 module _ (scope now : Scope) (decls : List Decl) (i : ℕ) (decl : Decl) (within : i < length decls) (is : decl ≡ get_or decls i decl)

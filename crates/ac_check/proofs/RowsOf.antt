@@ -3,7 +3,7 @@ use Rattle.std.proofs.Common.{◌≡◌, ◌++◌, ◌∙◌, Bool, List, ap, sy
 use Rattle.ac_syntax.specs.declared.kind.Kind.{Kind}
 use Rattle.ac_syntax.specs.declared.type_def.TypeDef.{TypeDef}
 use Rattle.ac_syntax.specs.Kinds.{has_capacity}
-use Rattle.ac_check.specs.Table.{Row, rows_by, rows_if, rows_of, capacity_rows}
+use Rattle.ac_rules.specs.Table.{Row, rows_by, rows_if, rows_of, capacity_rows}
 
 abbrev pub rows_with : Kind → (is_keyed : Bool) → List Row
 rows_with k keyed = rows_by k keyed ++ rows_if (has_capacity k) capacity_rows

@@ -7,9 +7,9 @@ use Rattle.ac_syntax.specs.declared.stmt.Stmt.{Stmt}
 use Rattle.ac_syntax.specs.declared.stmt.Stmt.TheVariants.{Call, Set, Sum, Loop, View, Stable, Declare, Tasks}
 use Rattle.ac_syntax.specs.declared.type_def.TypeDef.{TypeDef}
 use Rattle.ac_syntax.specs.declared.view_kind.ViewKind.{ViewKind}
-use Rattle.ac_check.specs.Scopes.{Meaning, Entry, entry, a_type, an_object, a_task, Scope, Typed, type_of, object_of, is_task, first_task, standing, decl_entry, with_entry, with_name, with_decls, loop_on, loop_meaning, view_on, view_meaning}
-use Rattle.ac_check.specs.Rules.{is_well_typed, is_stmt, suits, suits_stmt}
-use Rattle.ac_check.specs.Walks.{stmt_item}
+use Rattle.ac_rules.specs.Scopes.{Meaning, Entry, entry, a_type, an_object, a_task, Scope, Typed, type_of, object_of, is_task, first_task, standing, decl_entry, with_entry, with_name, with_decls, loop_on, loop_meaning, view_on, view_meaning}
+use Rattle.ac_rules.specs.Rules.{is_well_typed, is_stmt, suits, suits_stmt}
+use Rattle.ac_rules.specs.Walks.{stmt_item}
 
 -- a statement's item keeps the rules where the statement does, and suits where it stands
 pub judged_by : (scope : Scope) (stmt : Stmt) → is_well_typed (standing (stmt_item stmt) scope) ≡ (is_stmt scope stmt && suits_stmt scope stmt)

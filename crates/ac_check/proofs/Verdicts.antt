@@ -7,8 +7,8 @@ use Rattle.ac_syntax.specs.declared.refusal.RefusalKind.{RefusalKind}
 use Rattle.ac_syntax.specs.declared.script.Script.{Script}
 use Rattle.ac_syntax.specs.declared.fault.ScriptFault.{ScriptFault}
 use Rattle.ac_syntax.specs.declared.fault.ScriptFault.TheVariants.{Refused, NoMemory}
-use Rattle.ac_check.specs.Faults.{IsFirstFault, IsChecked}
-use Rattle.ac_check.proofs.FirstFaults.{one_fault, no_fault}
+use Rattle.ac_rules.specs.Faults.{IsFirstFault, IsChecked}
+use Rattle.ac_rules.proofs.FirstFaults.{one_fault, no_fault}
 
 module _ {Y : Type 0} (script : Script) (result : Result Script ScriptFault) (walked : Result Y ScriptFault) (fault : ScriptFault)
     (exit : IsErrAnd result (λ e. e ≡ fault)) (was : walked ≡ Err fault)

@@ -2,7 +2,7 @@
 use Rattle.std.specs.Prelude.{Bool, true, false}
 use Rattle.ac_syntax.specs.declared.stmt.Stmt.{Stmt}
 use Rattle.ac_syntax.specs.declared.stmt.Stmt.TheVariants.{Call, Set, Sum, Loop, View, Stable, Declare, Tasks}
-use Rattle.ac_check.specs.Resolved.{ResolvedHead, loops_at, views_at, stables_at, declares_at}
+use Rattle.ac_rules.specs.Resolved.{ResolvedHead, loops_at, views_at, stables_at, declares_at}
 use Rattle.ac_check.specs.declared.resolve.BlockHead.{BlockHead}
 use Rattle.ac_check.specs.declared.resolve.BlockHead.TheVariants as head
 

@@ -2,7 +2,7 @@
 use Rattle.std.specs.Prelude.{ℕ, List, map, Vec}
 use Rattle.ac_check.specs.declared.meaning.Meaning.{Meaning as Kept}
 use Rattle.ac_check.specs.declared.meaning.Meaning.TheVariants as kept
-use Rattle.ac_check.specs.Scopes.{Meaning, a_type, an_object, a_cursor, a_value, a_task, Entry, entry}
+use Rattle.ac_rules.specs.Scopes.{Meaning, a_type, an_object, a_cursor, a_value, a_task, Entry, entry}
 
 abbrev pub meaning_view : Kept → Meaning
 meaning_view (kept.Type def) = a_type def

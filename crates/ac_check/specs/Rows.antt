@@ -1,7 +1,7 @@
 -- The table of calls in code, as contracts see it.
 use Rattle.std.specs.Prelude.{Bool, List, [], ◌∷◌, ◌++◌, map, find, Option, option_map}
 use Rattle.std.specs.Borrow.{Bor}
-use Rattle.ac_check.specs.Table.{Row}
+use Rattle.ac_rules.specs.Table.{Row}
 use Rattle.ac_syntax.specs.declared.operation.Operation.{Operation}
 use Rattle.ac_check.specs.declared.table.Row.{Row as Kept}
 

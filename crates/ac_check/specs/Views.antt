@@ -7,8 +7,8 @@ use Rattle.ac_check.specs.declared.given.Given.{Given as KeptGiven}
 use Rattle.ac_check.specs.declared.given.Given.TheVariants as kept
 use Rattle.ac_check.specs.declared.given.Typed.{Typed as KeptTyped}
 use Rattle.ac_check.specs.Meanings.{meaning_view}
-use Rattle.ac_check.specs.Rules.{Given, gives_value, gives_cursor, gives_no_element, gives_nothing}
-use Rattle.ac_check.specs.Scopes.{Meaning, Typed}
+use Rattle.ac_rules.specs.Rules.{Given, gives_value, gives_cursor, gives_no_element, gives_nothing}
+use Rattle.ac_rules.specs.Scopes.{Meaning, Typed}
 
 abbrev pub given_view : KeptGiven → Given
 given_view (kept.Value elem) = gives_value elem

@@ -1,7 +1,7 @@
 //! The heads of blocks: loops and views.
 ghost use Rattle.std.specs.Prelude.{◌≡◌};
 ghost use Rattle.std.specs.Option.{option_map};
-ghost use Rattle.ac_check.specs.Rules as rules;
+ghost use Rattle.ac_rules.specs.Rules as rules;
 ghost use Rattle.ac_check.specs.Views.{typed_view};
 
 use crate::given::{Typed, given_in, is_cursor};

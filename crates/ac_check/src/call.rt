@@ -1,18 +1,18 @@
 //! Calls against the table.
 ghost use Rattle.std.specs.Prelude.{◌≡◌};
 ghost use Rattle.std.specs.Option.{option_map, option_copied};
-ghost use Rattle.ac_check.specs.Operations as operations;
+ghost use Rattle.ac_rules.specs.Operations as operations;
 ghost use Rattle.ac_check.specs.Rows.{row_view, row_operation, first_row, first_grouped};
-ghost use Rattle.ac_check.specs.Rules as rules;
+ghost use Rattle.ac_rules.specs.Rules as rules;
 ghost use Rattle.ac_check.specs.Views.{given_view, typed_view};
 
 use crate::given::{
     Given, Typed, given_by, is_cursor, is_object, is_value, is_variable, object_of, takes,
 };
 use crate::kinds::element_of;
-use crate::rows::{Answer, Letter};
 use crate::scope::Scope;
 use crate::table::{Row, rows_of};
+use ac_rules::{Answer, Letter};
 use ac_syntax::{Arg, ElemKind, Ident, Operation, Stmt};
 
 /// Whether an argument is what the letter asks of a call on an object of the type.

@@ -2,14 +2,14 @@
 ghost use Rattle.std.specs.Prelude.{◌≡◌, ◌⊎◌, [], ℕ, Ok, Err, IfOk, OnOk};
 ghost use Rattle.ac_syntax.specs.declared.refusal.RefusalKind.{RefusalKind};
 ghost use Rattle.ac_syntax.specs.declared.fault.ScriptFault.TheVariants.{Refused, NoMemory};
-ghost use Rattle.ac_check.specs.Faults.{IsChecked, IsFirstFault};
-ghost use Rattle.ac_check.specs.HasTasks.{has_tasks};
-ghost use Rattle.ac_check.specs.Resolved.{resolve_decls, resolve};
-ghost use Rattle.ac_check.specs.Scopes.{with_decls};
+ghost use Rattle.ac_rules.specs.Faults.{IsChecked, IsFirstFault};
+ghost use Rattle.ac_rules.specs.HasTasks.{has_tasks};
+ghost use Rattle.ac_rules.specs.Resolved.{resolve_decls, resolve};
+ghost use Rattle.ac_rules.specs.Scopes.{with_decls};
 
 use crate::having::has_tasks;
-use crate::resolved::{ResolvedDecl, ResolvedStmts};
 use crate::walk::{Resolved, walk_script};
+use ac_rules::{ResolvedDecl, ResolvedStmts};
 use ac_syntax::{Script, ScriptFault};
 use std::alloc::Global;
 use std::marker::Model;
@@ -24,7 +24,7 @@ pub struct Checked {
 
 impl Model for Checked {
     ghost use Rattle.ac_syntax.specs.declared.script.Script.{Script};
-    ghost use Rattle.ac_check.specs.Faults.{IsChecked};
+    ghost use Rattle.ac_rules.specs.Faults.{IsChecked};
     ghost use Rattle.std.specs.Coded.{codes};
     ghost use Rattle.ac_syntax.specs.Coded.{coded_code};
 
@@ -34,7 +34,7 @@ impl Model for Checked {
 
     ghost view = { λ checked. checked.script };
 
-    ghost use Rattle.ac_check.specs.Resolved.{IsResolved};
+    ghost use Rattle.ac_rules.specs.Resolved.{IsResolved};
 
     ghost invariant = { λ checked. IsChecked checked.script × IsResolved checked.script checked.resolved.decls checked.resolved.stmts };
 }

@@ -1,9 +1,9 @@
 //! What a declared name stands for.
 ghost use Rattle.std.specs.Prelude.{◌≡◌, IfOk};
 ghost use Rattle.std.specs.Option.{option_map};
-ghost use Rattle.ac_check.specs.Scopes as scopes;
-ghost use Rattle.ac_check.specs.Scopes.{an_object, entry, decl_entry, loop_on, view_on};
-ghost use Rattle.ac_check.specs.Faults.{decl_name};
+ghost use Rattle.ac_rules.specs.Scopes as scopes;
+ghost use Rattle.ac_rules.specs.Scopes.{an_object, entry, decl_entry, loop_on, view_on};
+ghost use Rattle.ac_rules.specs.Faults.{decl_name};
 ghost use Rattle.ac_check.specs.Meanings.{meaning_view};
 
 use crate::kinds::{element_of, is_set};

@@ -4,23 +4,18 @@ ghost use Rattle.std.specs.Option.{option_copied};
 ghost use Rattle.ac_syntax.specs.Items as items;
 ghost use Rattle.ac_syntax.specs.Items.{declares, opens, item_line};
 ghost use Rattle.ac_syntax.specs.Code.{task_at};
-ghost use Rattle.ac_check.specs.Scopes.{first_task, standing};
-ghost use Rattle.ac_check.specs.Faults as faults;
-ghost use Rattle.ac_check.specs.Faults.{used, capacity, declared};
-ghost use Rattle.ac_check.specs.UsedNames.{arg_names, args_names, optional_name};
-ghost use Rattle.ac_check.specs.Operations.{meant};
-ghost use Rattle.ac_check.specs.Walks as walks;
-ghost use Rattle.ac_check.specs.Walks.{has_unknown, fault_with, stmt_item};
+ghost use Rattle.ac_rules.specs.Scopes.{first_task, standing};
+ghost use Rattle.ac_rules.specs.Faults as faults;
+ghost use Rattle.ac_rules.specs.Faults.{used, capacity, declared};
+ghost use Rattle.ac_rules.specs.UsedNames.{arg_names, args_names, optional_name};
+ghost use Rattle.ac_rules.specs.Operations.{meant};
+ghost use Rattle.ac_rules.specs.Walks as walks;
+ghost use Rattle.ac_rules.specs.Walks.{has_unknown, fault_with, stmt_item};
 
 use crate::rules::{is_well_typed_decl, is_well_typed_stmt, suits_decl, suits_stmt};
 use crate::scope::Scope;
+use ac_rules::{MOST_NAMES, MOST_ROOM};
 use ac_syntax::{Arg, Decl, Ident, Operation, RefusalKind, Stmt};
-
-/// How many names may be in scope.
-const MOST_NAMES: usize = 1_000;
-
-/// How much room the objects of a text may have in all.
-const MOST_ROOM: u64 = 1_000_000;
 
 fn is_in_scope(scope: &Scope, name: &Ident) -> bool
     ensures { result ≡ faults.is_in_scope scope.now name.now }

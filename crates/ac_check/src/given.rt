@@ -2,8 +2,8 @@
 ghost use Rattle.std.specs.Prelude.{◌≡◌};
 ghost use Rattle.std.specs.Option.{option_map};
 ghost use Rattle.ac_check.specs.Meanings.{meaning_view};
-ghost use Rattle.ac_check.specs.Rules as rules;
-ghost use Rattle.ac_check.specs.Scopes as scopes;
+ghost use Rattle.ac_rules.specs.Rules as rules;
+ghost use Rattle.ac_rules.specs.Scopes as scopes;
 ghost use Rattle.ac_check.specs.Views.{given_view, typed_view, found};
 
 use crate::meaning::Meaning;

@@ -1,10 +1,10 @@
 //! Whether statements have a block of tasks.
 ghost use Rattle.std.specs.Prelude.{◌≡◌};
-ghost use Rattle.ac_check.specs.HasTasks.{has_tasks};
-ghost use Rattle.ac_check.specs.Resolved.{no_statement};
-ghost use Rattle.ac_check.specs.ResolvedStatements.{resolved_before};
+ghost use Rattle.ac_rules.specs.HasTasks.{has_tasks};
+ghost use Rattle.ac_rules.specs.Resolved.{no_statement};
+ghost use Rattle.ac_rules.specs.ResolvedStatements.{resolved_before};
 
-use crate::resolved::{ResolvedStmt, ResolvedStmts};
+use ac_rules::{ResolvedStmt, ResolvedStmts};
 
 #[cycle(having)]
 pub(crate) fn has_tasks(stmts: &ResolvedStmts) -> bool

@@ -2,8 +2,8 @@
 ghost use Rattle.std.specs.Prelude.{◌≡◌, ◌&&◌, ◌||◌, not};
 ghost use Rattle.ac_syntax.specs.declared.kind.ElemKind.TheVariants.{Integer, Str};
 ghost use Rattle.ac_syntax.specs.Kinds as kinds;
-ghost use Rattle.ac_check.specs.Rules as rules;
-ghost use Rattle.ac_check.specs.Scopes as scopes;
+ghost use Rattle.ac_rules.specs.Rules as rules;
+ghost use Rattle.ac_rules.specs.Scopes as scopes;
 
 use ac_syntax::{ElemKind, Kind, TypeDef};
 

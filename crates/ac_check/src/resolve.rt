@@ -2,20 +2,20 @@
 ghost use Rattle.std.specs.Prelude.{◌≡◌, ◌++◌, ◌∷◌, [], map, length, true, unwrap_or, option_map, IfOk, OnOk};
 ghost use Rattle.ac_syntax.specs.Code.{stop};
 ghost use Rattle.ac_syntax.specs.Statements.{before};
-ghost use Rattle.ac_check.specs.Resolved as resolved;
-ghost use Rattle.ac_check.specs.Resolved.{no_statement, a_block, works_at};
-ghost use Rattle.ac_check.specs.ResolvedStatements.{resolved_before, resolved_task_before};
+ghost use Rattle.ac_rules.specs.Resolved as resolved;
+ghost use Rattle.ac_rules.specs.Resolved.{no_statement, a_block, works_at};
+ghost use Rattle.ac_rules.specs.ResolvedStatements.{resolved_before, resolved_task_before};
 ghost use Rattle.ac_check.specs.BlockHeads.{head_view, is_command};
-ghost use Rattle.ac_check.specs.Scopes as scopes;
-ghost use Rattle.ac_check.specs.Operations.{meant};
+ghost use Rattle.ac_rules.specs.Scopes as scopes;
+ghost use Rattle.ac_rules.specs.Operations.{meant};
 
 use crate::given::type_of;
-use crate::resolved::{
+use crate::scope::Scope;
+use ac_base::{Elem, NoMemory, Value};
+use ac_rules::{
     ResolvedArg, ResolvedArgs, ResolvedDecl, ResolvedDecls, ResolvedStmt, ResolvedStmts,
     ResolvedTask,
 };
-use crate::scope::Scope;
-use ac_base::{Elem, NoMemory, Value};
 use ac_syntax::{
     Arg, CommonCall, Decl, ElemKind, Ident, Kind, Operation, Stmt, TaskText, TypeDef, ViewKind,
 };
@@ -163,7 +163,7 @@ pub fn resolve_decl(scope: &Scope, decl: &Decl) -> ResolvedDecl
 }
 
 /// A command that means this operation, which a call does that keeps the rules.
-#[tactic(auto, unfolding(crate::specs::Resolved::resolve_simple))]
+#[tactic(auto, unfolding(ac_rules::specs::Resolved::resolve_simple))]
 pub fn resolve_command(
     scope: &Scope,
     stmt: &Stmt,

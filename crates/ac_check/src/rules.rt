@@ -1,12 +1,12 @@
 //! The rules of types.
 ghost use Rattle.std.specs.Prelude.{◌≡◌, ◌++◌, codes};
 ghost use Rattle.std.specs.Str.{bytes_eq};
-ghost use Rattle.ac_check.specs.Operations.{meant};
-ghost use Rattle.ac_check.specs.Rules as rules;
+ghost use Rattle.ac_rules.specs.Operations.{meant};
+ghost use Rattle.ac_rules.specs.Rules as rules;
 ghost use Rattle.ac_check.specs.Views.{typed_view};
 ghost use Rattle.std.specs.Option.{option_map};
-ghost use Rattle.ac_check.specs.Scopes as scopes;
-ghost use Rattle.ac_check.specs.UsedNames.{arg_names, args_names, optional_name};
+ghost use Rattle.ac_rules.specs.Scopes as scopes;
+ghost use Rattle.ac_rules.specs.UsedNames.{arg_names, args_names, optional_name};
 
 use crate::block::{is_looped, is_view};
 use crate::given::{Given, Typed, given_by, given_in, is_value, object_of, takes, type_of};
@@ -65,7 +65,7 @@ fn is_sum_right(scope: &Scope, target: &Ident, from: &Ident) -> bool
 }
 
 /// Whether a command that means this operation keeps the rules, or a block by its head alone.
-#[tactic(auto, using(crate::proofs::Found::means_one))]
+#[tactic(auto, using(ac_rules::proofs::Found::means_one))]
 pub fn is_well_typed_stmt(scope: &Scope, stmt: &Stmt, operation: Option<Operation>) -> bool
     requires { operation ≡ meant scope.now stmt.now }
     ensures { result ≡ rules.is_stmt scope.now stmt.now }

@@ -1,10 +1,10 @@
 //! The names in scope.
 ghost use Rattle.std.specs.Prelude.{◌≡◌, ◌++◌, ◌∷◌, [], false, length, take, OnOk};
 ghost use Rattle.std.specs.Option.{option_map};
-ghost use Rattle.ac_check.specs.Scopes.{entry, meaning_in};
+ghost use Rattle.ac_rules.specs.Scopes.{entry, meaning_in};
 ghost use Rattle.ac_check.specs.Meanings.{meaning_view};
-ghost use Rattle.ac_check.specs.Faults.{is_in_scope};
-ghost use Rattle.ac_check.specs.Resolved.{place_of};
+ghost use Rattle.ac_rules.specs.Faults.{is_in_scope};
+ghost use Rattle.ac_rules.specs.Resolved.{place_of};
 
 use crate::meaning::Meaning;
 use ac_base::NoMemory;
@@ -20,7 +20,7 @@ pub struct Scope {
 
 impl Model for Scope {
     ghost use Rattle.std.specs.Prelude.{List};
-    ghost use Rattle.ac_check.specs.Scopes.{Entry};
+    ghost use Rattle.ac_rules.specs.Scopes.{Entry};
     ghost use Rattle.ac_check.specs.Meanings.{entries_view};
 
     ghost Value = { List Entry };

@@ -1,9 +1,9 @@
 //! The calls of each kind of container.
 ghost use Rattle.std.specs.Prelude.{◌≡◌};
 ghost use Rattle.ac_check.specs.Rows.{joined};
-ghost use Rattle.ac_check.specs.Table as table;
+ghost use Rattle.ac_rules.specs.Table as table;
 
-use crate::rows::{Answer, Letter};
+use ac_rules::{Answer, Letter};
 use ac_syntax::{
     CapacityCall, CommonCall, HolderCall, KeyedCall, Kind, ListCall, MapCall, Operation,
     OrderedCall, OrderedMapCall, OrderedSetCall, QueueCall, SequenceCall, SetCall, SetPairCall,

@@ -6,16 +6,16 @@ ghost use Rattle.ac_syntax.specs.Items.{declares};
 ghost use Rattle.ac_syntax.specs.Statements.{before, task_before};
 ghost use Rattle.ac_syntax.specs.declared.refusal.RefusalKind.{RefusalKind};
 ghost use Rattle.ac_syntax.specs.declared.fault.ScriptFault.TheVariants.{Refused};
-ghost use Rattle.ac_check.specs.Scopes.{entry, a_task, first_task, with_entry, with_name, with_decls, decl_entry, loop_on, view_on};
-ghost use Rattle.ac_check.specs.Scopes.{standing, standing_decls, standings_from, standings};
-ghost use Rattle.ac_check.specs.Faults.{is_in_scope, AreFaultless, IsFirstFault, IsChecked};
+ghost use Rattle.ac_rules.specs.Scopes.{entry, a_task, first_task, with_entry, with_name, with_decls, decl_entry, loop_on, view_on};
+ghost use Rattle.ac_rules.specs.Scopes.{standing, standing_decls, standings_from, standings};
+ghost use Rattle.ac_rules.specs.Faults.{is_in_scope, AreFaultless, IsFirstFault, IsChecked};
 ghost use Rattle.ac_check.specs.Meanings.{meaning_view};
-ghost use Rattle.ac_check.specs.Operations.{meant};
-ghost use Rattle.ac_check.specs.Resolved as resolved;
-ghost use Rattle.ac_check.specs.Resolved.{no_statement, a_block, IsResolved};
-ghost use Rattle.ac_check.specs.ResolvedStatements.{resolved_before, resolved_task_before};
+ghost use Rattle.ac_rules.specs.Operations.{meant};
+ghost use Rattle.ac_rules.specs.Resolved as resolved;
+ghost use Rattle.ac_rules.specs.Resolved.{no_statement, a_block, IsResolved};
+ghost use Rattle.ac_rules.specs.ResolvedStatements.{resolved_before, resolved_task_before};
 ghost use Rattle.ac_check.specs.BlockHeads.{head_view};
-ghost use Rattle.ac_check.specs.Walks.{fault_with, outcome, goes_on, refused, stmt_item, StopsAs, StopsAt};
+ghost use Rattle.ac_rules.specs.Walks.{fault_with, outcome, goes_on, refused, stmt_item, StopsAs, StopsAt};
 
 use crate::call::meant;
 use crate::entry::{decl_meaning, loop_meaning, view_meaning};
@@ -24,11 +24,11 @@ use crate::faults::{
 };
 use crate::meaning::Meaning;
 use crate::resolve::{BlockHead, keep, place_of, resolve_command, resolve_decl, resolve_task};
-use crate::resolved::{
-    ResolvedDecl, ResolvedDecls, ResolvedStmt, ResolvedStmts, ResolvedTask, ResolvedTasks,
-};
 use crate::scope::Scope;
 use ac_base::NoMemory;
+use ac_rules::{
+    ResolvedDecl, ResolvedDecls, ResolvedStmt, ResolvedStmts, ResolvedTask, ResolvedTasks,
+};
 use ac_syntax::{
     Decl, Ident, Operation, RefusalKind, Script, ScriptFault, Stmt, Stmts, TaskText, TaskTexts,
     ViewKind,

@@ -15,9 +15,9 @@ use Rattle.ac_model.specs.Letters.{Mark, no_mark, mark_at as mark_of_name}
 use Rattle.ac_syntax.specs.declared.view_kind.ViewKind.{ViewKind}
 use Rattle.ac_syntax.specs.declared.view_kind.ViewKind.TheVariants.{Query, Update, Reference, UpdateKey}
 use Rattle.ac_syntax.specs.declared.type_def.TypeDef.{TypeDef}
-use Rattle.ac_check.specs.Resolved.{ResolvedCode, ResolvedHead, loops_at, views_at, stables_at}
-use Rattle.ac_check.specs.declared.resolved.ResolvedDecl.{ResolvedDecl}
-use Rattle.ac_check.specs.declared.resolved.ResolvedDecl.TheVariants as decl
+use Rattle.ac_rules.specs.Resolved.{ResolvedCode, ResolvedHead, loops_at, views_at, stables_at}
+use Rattle.ac_rules.specs.declared.resolved.ResolvedDecl.{ResolvedDecl}
+use Rattle.ac_rules.specs.declared.resolved.ResolvedDecl.TheVariants as decl
 use Rattle.ac_calls.specs.Answers.{line, lines_text, answers_raised}
 use Rattle.ac_calls.specs.Holdings.{Held, of_rows, of_holder, of_queue, takes_guards, Guards, number_of, names_of, new_held, held_under, guard_on}
 use Rattle.ac_meaning.specs.Environment.{Bound, binds_type, binds_object, binds_cursor, binds_value, binds_element, bound_by, bound_in, object_in, mark_in, State, objects_by, under, bound_at, object_at, guarded_at, mark_at, with_name, leaving, number_taken, Declared, declared, unless_spent, after_decl, after_decls}

@@ -5,9 +5,9 @@ use Rattle.ac_base.specs.Limits.{numbers_end}
 use Rattle.ac_base.specs.declared.value.Value.{Value}
 use Rattle.ac_model.specs.Cursors.{plain_mark}
 use Rattle.ac_model.specs.Letters.{Mark}
-use Rattle.ac_check.specs.Resolved.{ResolvedSimple}
-use Rattle.ac_check.specs.declared.resolved.ResolvedDecl.{ResolvedDecl}
-use Rattle.ac_check.specs.declared.resolved.ResolvedDecl.TheVariants as decl
+use Rattle.ac_rules.specs.Resolved.{ResolvedSimple}
+use Rattle.ac_rules.specs.declared.resolved.ResolvedDecl.{ResolvedDecl}
+use Rattle.ac_rules.specs.declared.resolved.ResolvedDecl.TheVariants as decl
 use Rattle.ac_calls.specs.Holdings.{Held, Guards}
 use Rattle.ac_meaning.specs.Environment.{State, objects_by, under, object_at, leaving, Declared, unless_spent, after_decl, after_decls}
 use Rattle.ac_meaning.specs.Execution.{commanded, key_end_on}

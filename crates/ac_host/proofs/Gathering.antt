@@ -2,13 +2,13 @@
 use Rattle.std.proofs.Common.{◌≡◌, ◌-◌, ℕ, pos, List, [], ◌∷◌, refl, Option}
 use Rattle.ac_history.specs.declared.code.TaskArg.{TaskArg}
 use Rattle.ac_history.specs.declared.code.TaskStep.TheVariants as step
-use Rattle.ac_check.specs.Resolved.{sets_at}
+use Rattle.ac_rules.specs.Resolved.{sets_at}
 use Rattle.ac_syntax.specs.declared.operation.Operation.{Operation}
 use Rattle.ac_syntax.specs.declared.operation.Operation.TheVariants as operation
 use Rattle.ac_syntax.specs.declared.operation.QueueCall.{QueueCall}
 use Rattle.ac_syntax.specs.declared.operation.QueueCall.TheVariants as queue_call
-use Rattle.ac_check.specs.declared.resolved.ResolvedArg.{ResolvedArg}
-use Rattle.ac_check.specs.declared.resolved.ResolvedArg.TheVariants.{Lit, NoElement, At}
+use Rattle.ac_rules.specs.declared.resolved.ResolvedArg.{ResolvedArg}
+use Rattle.ac_rules.specs.declared.resolved.ResolvedArg.TheVariants.{Lit, NoElement, At}
 use Rattle.ac_meaning.specs.TaskBlocks.{argument_from, first_argument, queue_step, call_step, step_of}
 
 -- Where no place of a queue is asked for, they don't matter

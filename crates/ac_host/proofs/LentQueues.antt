@@ -13,7 +13,7 @@ use Rattle.ac_history.specs.States.{State as Running, TaskState}
 use Rattle.ac_model.specs.Queues.{TaskQueue}
 use Rattle.ac_history.specs.Steps.{step_call}
 use Rattle.ac_history.proofs.Starts.{turns_keep_start}
-use Rattle.ac_check.specs.Resolved.{ResolvedCode}
+use Rattle.ac_rules.specs.Resolved.{ResolvedCode}
 use Rattle.ac_calls.specs.Answers.{lines_text}
 use Rattle.ac_calls.specs.Holdings.{Held, of_rows, of_holder, of_queue, Guards, held_under}
 use Rattle.ac_meaning.specs.Environment.{binds_object, State, under, object_at}

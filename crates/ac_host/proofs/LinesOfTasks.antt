@@ -8,7 +8,7 @@ use Rattle.ac_history.specs.Blocks.{Block, present}
 use Rattle.ac_history.specs.Histories.{over, held_up, done, outcome, outcome_of, replay, state_after}
 use Rattle.ac_history.specs.States.{State, TaskState}
 use Rattle.ac_history.specs.Steps.{step_call}
-use Rattle.ac_check.proofs.Outcomes.{next_item}
+use Rattle.ac_rules.proofs.Outcomes.{next_item}
 use Rattle.ac_calls.specs.Answers.{Line, answers_stalled, lines_text}
 use Rattle.ac_meaning.specs.Environment.{first_state}
 use Rattle.ac_meaning.specs.Execution as meant

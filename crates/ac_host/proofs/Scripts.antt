@@ -5,9 +5,9 @@ use Rattle.std.proofs.lemmas.List.Elements.{All-nil}
 use Rattle.std.proofs.lemmas.Option.{none-some}
 use Rattle.std.proofs.lemmas.Result.{err_from_is_err_and}
 use Rattle.ac_syntax.specs.declared.script.Script.{Script}
-use Rattle.ac_check.specs.Scopes.{with_decls}
-use Rattle.ac_check.specs.Resolved.{ResolvedCode, resolve, resolve_decls}
-use Rattle.ac_check.specs.declared.resolved.ResolvedDecl.{ResolvedDecl}
+use Rattle.ac_rules.specs.Scopes.{with_decls}
+use Rattle.ac_rules.specs.Resolved.{ResolvedCode, resolve, resolve_decls}
+use Rattle.ac_rules.specs.declared.resolved.ResolvedDecl.{ResolvedDecl}
 use Rattle.ac_calls.specs.Answers.{lines_text}
 use Rattle.ac_calls.specs.Holdings.{of_rows, of_holder, of_queue, Guards, held_under}
 use Rattle.ac_meaning.specs.Environment.{Bound, binds_type, binds_object, binds_cursor, binds_value, binds_element, bound_by, State, first_state, under, after_decls, nodes_in, nodes}

@@ -8,8 +8,8 @@ use Rattle.ac_base.specs.declared.guard.GuardKind.{GuardKind}
 use Rattle.ac_base.specs.declared.guard.GuardKind.TheVariants as guard
 use Rattle.ac_base.specs.Rows.{names}
 use Rattle.ac_model.specs.Letters.{Mark, mark_at}
-use Rattle.ac_check.specs.Resolved.{ResolvedCode}
-use Rattle.ac_check.proofs.Apart.{and_parts}
+use Rattle.ac_rules.specs.Resolved.{ResolvedCode}
+use Rattle.ac_rules.proofs.Apart.{and_parts}
 use Rattle.ac_model.proofs.Depths.{both_true}
 use Rattle.ac_calls.specs.Holdings.{Held, of_rows, of_holder, of_queue, Guards, is_on, held_on, number_of, names_of, holds_element, has_root, have_root, held_under, element_value, guard_on}
 use Rattle.ac_meaning.specs.Environment.{Bound, binds_type, binds_object, binds_cursor, binds_value, binds_element, bound_by, bound_in, object_in, State, under, bound_at, object_at, with_name, leaving}

@@ -1,11 +1,11 @@
 -- Statements one after another.
 use Rattle.std.proofs.Common.{◌≡◌, ◌+◌, ◌<◌, ◌≤◌, ℕ, Bool, List, [], length, drop, get_or, refl, ap, subst, ◌∙◌, Option, Result}
 use Rattle.std.proofs.lemmas.List.{at_drop_all}
-use Rattle.ac_check.specs.Resolved.{ResolvedCode, no_statement}
-use Rattle.ac_check.specs.ResolvedStatements.{resolved_before, resolved_of}
-use Rattle.ac_check.specs.declared.resolved.ResolvedStmt.{ResolvedStmt}
-use Rattle.ac_check.specs.declared.resolved.ResolvedStmt.TheVariants.{Call, Set, Sum, Loop, View, Stable, Declare, Tasks}
-use Rattle.ac_check.proofs.Outcomes.{next_item}
+use Rattle.ac_rules.specs.Resolved.{ResolvedCode, no_statement}
+use Rattle.ac_rules.specs.ResolvedStatements.{resolved_before, resolved_of}
+use Rattle.ac_rules.specs.declared.resolved.ResolvedStmt.{ResolvedStmt}
+use Rattle.ac_rules.specs.declared.resolved.ResolvedStmt.TheVariants.{Call, Set, Sum, Loop, View, Stable, Declare, Tasks}
+use Rattle.ac_rules.proofs.Outcomes.{next_item}
 use Rattle.ac_calls.specs.Holdings.{Guards}
 use Rattle.ac_meaning.specs.Environment.{State}
 use Rattle.ac_meaning.specs.Execution.{Outcome, outcome, Orders, followed, exec_resolved}

@@ -1,7 +1,7 @@
 -- What is told of a block of tasks: nothing where it doesn't begin, and else its order.
 use Rattle.std.proofs.Common.{◌≡◌, ◌+◌, ℕ, Bool, List, [], ◌∷◌, refl, subst, Option, Result, Ok, OnOk, IsErrAnd}
 use Rattle.std.proofs.lemmas.List.Elements.{All-nil, All-cons}
-use Rattle.ac_check.specs.Resolved.{ResolvedCode}
+use Rattle.ac_rules.specs.Resolved.{ResolvedCode}
 use Rattle.ac_calls.specs.Answers.{lines_text}
 use Rattle.ac_meaning.specs.Environment.{State}
 use Rattle.ac_meaning.specs.Execution.{Orders, outcome, gathered}

@@ -3,7 +3,7 @@ use Rattle.std.proofs.Common.{◌≡◌, ◌<◌, ◌≤◌, inl, inr, ℕ, Bool
 use Rattle.std.proofs.lemmas.List.{length-map, length-take}
 use Rattle.std.proofs.lemmas.Option.{slice_get_within}
 use Rattle.ac_model.specs.Letters.{Mark, no_mark, mark_at}
-use Rattle.ac_check.specs.Resolved.{ResolvedCode}
+use Rattle.ac_rules.specs.Resolved.{ResolvedCode}
 use Rattle.ac_calls.specs.Holdings.{Held, Guards, number_of, names_of, held_under, element_value}
 use Rattle.ac_meaning.specs.Environment.{Bound, bound_by, bound_in, object_in, State, under, object_at, with_name, leaving}
 use Rattle.ac_meaning.specs.Execution.{Orders, exec_resolved, in_order, turn_bound}

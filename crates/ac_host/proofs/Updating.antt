@@ -6,7 +6,7 @@ use Rattle.ac_base.specs.declared.value.Value.{Value}
 use Rattle.ac_model.specs.Cursors.{plain_mark}
 use Rattle.ac_model.specs.Letters.{Mark}
 use Rattle.ac_syntax.specs.declared.view_kind.ViewKind.TheVariants.{UpdateKey}
-use Rattle.ac_check.specs.Resolved.{ResolvedCode, views_at}
+use Rattle.ac_rules.specs.Resolved.{ResolvedCode, views_at}
 use Rattle.ac_calls.specs.Answers.{lines_text, line as line_of, answers_raised}
 use Rattle.ac_calls.specs.Holdings.{Held, takes_guards, Guards, element_value}
 use Rattle.ac_meaning.specs.Environment.{State, under, object_at, guarded_at, mark_at, value_at, value_or_zero, with_name, leaving, binds_value}

@@ -3,9 +3,9 @@ use Rattle.std.specs.Prelude.{◌≡◌, ◌<◌, ℕ, Bool, true, List, ◌++�
 use Rattle.ac_base.specs.declared.guard.GuardKind.TheVariants.{Cursors}
 use Rattle.ac_model.specs.Cursors.{plain_mark}
 use Rattle.ac_model.specs.Letters.{Mark}
-use Rattle.ac_check.specs.Resolved.{ResolvedCode, ResolvedHead, calls_at, sets_at, sums_at, loops_at, views_at, stables_at, declares_at}
-use Rattle.ac_check.specs.declared.resolved.ResolvedStmt.{ResolvedStmt}
-use Rattle.ac_check.specs.declared.resolved.ResolvedStmt.TheVariants.{Call, Set, Sum, Loop, View, Stable, Declare, Tasks}
+use Rattle.ac_rules.specs.Resolved.{ResolvedCode, ResolvedHead, calls_at, sets_at, sums_at, loops_at, views_at, stables_at, declares_at}
+use Rattle.ac_rules.specs.declared.resolved.ResolvedStmt.{ResolvedStmt}
+use Rattle.ac_rules.specs.declared.resolved.ResolvedStmt.TheVariants.{Call, Set, Sum, Loop, View, Stable, Declare, Tasks}
 use Rattle.ac_calls.specs.Holdings.{Held, Guards, number_of, names_of}
 use Rattle.ac_meaning.specs.Environment.{State, under, value_at, leaving}
 use Rattle.ac_meaning.specs.Execution.{Outcome, outcome, Orders, commanded, gathered, block_on, exec_resolved, in_order, guards_of_loop, key_end}

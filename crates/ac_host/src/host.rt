@@ -3,7 +3,7 @@ ghost use Rattle.std.specs.Prelude.{◌≡◌, ◌<◌, ◌++◌, [], ◌∷◌,
 ghost use Rattle.ac_base.specs.declared.reason.Reason.TheVariants.{NamesSpent};
 ghost use Rattle.ac_base.specs.declared.fault.Fault.TheVariants as fault;
 ghost use Rattle.ac_model.specs.Cursors.{plain_mark};
-ghost use Rattle.ac_check.specs.Resolved.{calls_at, sets_at, sums_at, loops_at, views_at, stables_at, declares_at};
+ghost use Rattle.ac_rules.specs.Resolved.{calls_at, sets_at, sums_at, loops_at, views_at, stables_at, declares_at};
 ghost use Rattle.ac_calls.specs.Answers.{line as line_of, lines_text, answers_raised};
 ghost use Rattle.ac_calls.specs.Holdings.{Held, Guards, number_of, names_of};
 ghost use Rattle.ac_meaning.specs.Environment.{State, leaving};
@@ -20,9 +20,9 @@ use crate::end::HostEnd;
 use crate::runner::BlockRunner;
 use crate::written::{write_line, write_refusal};
 use ac_base::{Fault, Reason};
-use ac_check::{ResolvedArg, ResolvedDecl, ResolvedStmt, ResolvedStmts};
 use ac_io::Sink;
 use ac_objects::{DeclareFault, Frame, LoopKey, Objects, UpdateKey, ViewKey};
+use ac_rules::{ResolvedArg, ResolvedDecl, ResolvedStmt, ResolvedStmts};
 use ac_syntax::{Operation, ViewKind};
 
 /// A script that runs: what its names hold, and the line that is made next.

@@ -1,12 +1,12 @@
 //! The queues that the tasks of a block share, by their places.
 ghost use Rattle.std.specs.Prelude.{◌≡◌, ◌==◌, IfOk, OnOk};
 ghost use Rattle.std.specs.List.{list_any};
-ghost use Rattle.ac_check.specs.Resolved.{no_statement};
-ghost use Rattle.ac_check.specs.ResolvedStatements.{resolved_before};
+ghost use Rattle.ac_rules.specs.Resolved.{no_statement};
+ghost use Rattle.ac_rules.specs.ResolvedStatements.{resolved_before};
 ghost use Rattle.ac_meaning.specs.TaskBlocks.{places_called, queue_places, with_place};
 
 use ac_base::NoMemory;
-use ac_check::{ResolvedStmt, ResolvedStmts, ResolvedTasks};
+use ac_rules::{ResolvedStmt, ResolvedStmts, ResolvedTasks};
 use std::alloc::Global;
 
 fn has_place(places: &[usize], place: usize) -> bool

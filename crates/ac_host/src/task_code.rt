@@ -1,8 +1,8 @@
 //! The tasks of a block with their steps: queues and locals have numbers in them, and no names.
 ghost use Rattle.std.specs.Prelude.{◌≡◌, ◌∷◌, [], ◌++◌, ◌==◌, ◌-◌, ◌+◌, pos, IfOk, OnOk, option_map};
 ghost use Rattle.std.specs.List.{position_or_len};
-ghost use Rattle.ac_check.specs.Resolved.{calls_at, no_statement, sets_at, sums_at};
-ghost use Rattle.ac_check.specs.ResolvedStatements.{resolved_before};
+ghost use Rattle.ac_rules.specs.Resolved.{calls_at, no_statement, sets_at, sums_at};
+ghost use Rattle.ac_rules.specs.ResolvedStatements.{resolved_before};
 ghost use Rattle.ac_meaning.specs.Commands.{sum_of};
 ghost use Rattle.ac_calls.specs.Elements.{integer_in};
 ghost use Rattle.ac_meaning.specs.TaskBlocks as meant;
@@ -11,7 +11,7 @@ ghost use Rattle.ac_meaning.specs.TaskBlocks.{steps_of, tasks_from};
 use crate::named_task::NamedTask;
 use ac_base::{NoMemory, Value};
 use ac_book::{Steplist, TaskArg, TaskStep};
-use ac_check::{ResolvedArg, ResolvedStmt, ResolvedStmts, ResolvedTask, ResolvedTasks};
+use ac_rules::{ResolvedArg, ResolvedStmt, ResolvedStmts, ResolvedTask, ResolvedTasks};
 use ac_syntax::{Operation, QueueCall};
 use std::alloc::Global;
 

@@ -10,8 +10,8 @@ use crate::prepared::run_over;
 use crate::runner::BlockRunner;
 use crate::task_code::{next_place, tasks_of};
 use crate::task_lines::write_block;
-use ac_check::ResolvedTasks;
 use ac_io::Sink;
+use ac_rules::ResolvedTasks;
 
 impl Host {
     /// Runs a block of tasks: its queues are lent to it, the lines of what was done are written, and the queues go back.

@@ -8,11 +8,11 @@ use Rattle.ac_syntax.specs.Nesting.{AreStatements}
 use Rattle.ac_syntax.specs.declared.script.Script.{Script}
 use Rattle.ac_syntax.specs.declared.view_kind.ViewKind.{ViewKind}
 use Rattle.ac_syntax.specs.declared.view_kind.ViewKind.TheVariants.{Query, Update, Reference, UpdateKey}
-use Rattle.ac_check.specs.Faults.{IsChecked}
-use Rattle.ac_check.specs.Kept.{KeepsRules}
-use Rattle.ac_check.specs.Resolved.{ResolvedSimple, loops_at, views_at, stables_at, place_of, resolve, resolve_simple, resolve_decls}
-use Rattle.ac_check.specs.Scopes.{Scope, inside, with_decls}
-use Rattle.ac_check.proofs.Kept.{rules_kept}
+use Rattle.ac_rules.specs.Faults.{IsChecked}
+use Rattle.ac_rules.specs.Kept.{KeepsRules}
+use Rattle.ac_rules.specs.Resolved.{ResolvedSimple, loops_at, views_at, stables_at, place_of, resolve, resolve_simple, resolve_decls}
+use Rattle.ac_rules.specs.Scopes.{Scope, inside, with_decls}
+use Rattle.ac_rules.proofs.Kept.{rules_kept}
 use Rattle.ac_calls.specs.Holdings.{Held, of_rows, of_holder, of_queue, Guards, names_of, number_of, element_value}
 use Rattle.ac_meaning.specs.Commands.{performed}
 use Rattle.ac_meaning.specs.Environment.{Bound, binds_type, binds_object, binds_cursor, binds_value, binds_element, State, first_state, under, at_rest, object_at, guarded_at, mark_at, value_at, value_or_zero, with_name, leaving, Declared, after_decls}

@@ -12,7 +12,7 @@ use Rattle.ac_base.specs.Rows.{names}
 use Rattle.ac_model.specs.Objects.{Object}
 use Rattle.ac_model.specs.Holders.{Holder}
 use Rattle.ac_model.specs.Letters.{tampers_cursors}
-use Rattle.ac_check.specs.Resolved.{ResolvedSimple}
+use Rattle.ac_rules.specs.Resolved.{ResolvedSimple}
 use Rattle.ac_calls.specs.Holdings.{Held, of_rows, of_holder, of_queue, have_root, Guards, is_on, is_kind, held_on, held_under}
 use Rattle.ac_meaning.specs.Environment.{Bound, binds_type, binds_object, binds_cursor, binds_value, binds_element, bound_by, State, under}
 use Rattle.ac_meaning.specs.Commands.{performed}

@@ -13,8 +13,8 @@ use Rattle.ac_history.specs.Histories.{over, held_up, done, entry, outcome, outc
 use Rattle.ac_history.specs.States.{State as TasksState, TaskState, begun}
 use Rattle.ac_history.specs.Steps.{step_call, advanced}
 use Rattle.ac_history.proofs.Left.{found_at}
-use Rattle.ac_check.specs.declared.resolved.ResolvedDecl.{ResolvedDecl}
-use Rattle.ac_check.specs.declared.resolved.ResolvedDecl.TheVariants as decl
+use Rattle.ac_rules.specs.declared.resolved.ResolvedDecl.{ResolvedDecl}
+use Rattle.ac_rules.specs.declared.resolved.ResolvedDecl.TheVariants as decl
 use Rattle.ac_calls.specs.Answers.{Line}
 use Rattle.ac_calls.specs.Holdings.{Held}
 use Rattle.ac_meaning.specs.Environment.{State, under, object_at, Declared, unless_spent, after_decl, after_decls}

@@ -9,13 +9,13 @@ use Rattle.ac_syntax.specs.declared.decl.Decl.{Decl}
 use Rattle.ac_syntax.specs.declared.decl.Decl.TheVariants as source_decl
 use Rattle.ac_syntax.specs.declared.type_def.TypeDef.{TypeDef}
 use Rattle.ac_syntax.specs.declared.view_kind.ViewKind.{ViewKind}
-use Rattle.ac_check.specs.Kept.{DeclKept, DeclsKept}
-use Rattle.ac_check.specs.Resolved.{place_of, no_type, resolve_decl, resolve_decls}
-use Rattle.ac_check.specs.Rules.{is_object_of, has_cursors_of, is_looped, is_view}
-use Rattle.ac_check.specs.Scopes.{a_type, an_object, a_cursor, a_value, entry, Scope, Typed, type_of, object_of, meaning_in, element_of, loop_meaning, view_meaning, decl_entry, with_entry, with_decls}
-use Rattle.ac_check.proofs.Apart.{neither, and_parts}
-use Rattle.ac_check.proofs.Kept.{rules_kept}
-use Rattle.ac_check.proofs.NamePlaces.{place_found}
+use Rattle.ac_rules.specs.Kept.{DeclKept, DeclsKept}
+use Rattle.ac_rules.specs.Resolved.{place_of, no_type, resolve_decl, resolve_decls}
+use Rattle.ac_rules.specs.Rules.{is_object_of, has_cursors_of, is_looped, is_view}
+use Rattle.ac_rules.specs.Scopes.{a_type, an_object, a_cursor, a_value, entry, Scope, Typed, type_of, object_of, meaning_in, element_of, loop_meaning, view_meaning, decl_entry, with_entry, with_decls}
+use Rattle.ac_rules.proofs.Apart.{neither, and_parts}
+use Rattle.ac_rules.proofs.Kept.{rules_kept}
+use Rattle.ac_rules.proofs.NamePlaces.{place_found}
 use Rattle.ac_calls.specs.Holdings.{new_held}
 use Rattle.ac_meaning.specs.Environment.{binds_type, binds_object, binds_cursor, binds_element, binds_value, State, first_state, Declared, unless_spent, after_decl, after_decls}
 use Rattle.ac_meaning.specs.Execution.{turn_bound}

@@ -6,9 +6,9 @@ use Rattle.std.proofs.lemmas.List.{append-nil}
 use Rattle.std.proofs.lemmas.Option.{same_Some}
 use Rattle.ac_syntax.specs.declared.kind.ElemKind.{ElemKind}
 use Rattle.ac_syntax.specs.declared.type_def.TypeDef.{TypeDef}
-use Rattle.ac_check.specs.Scopes.{Meaning, a_type, an_object, a_cursor, a_value, a_task, Entry, entry, Scope, Typed, object_in as object_meant, meaning_in, element_of}
-use Rattle.ac_check.specs.Rules.{is_type}
-use Rattle.ac_check.specs.Resolved.{place_of}
+use Rattle.ac_rules.specs.Scopes.{Meaning, a_type, an_object, a_cursor, a_value, a_task, Entry, entry, Scope, Typed, object_in as object_meant, meaning_in, element_of}
+use Rattle.ac_rules.specs.Rules.{is_type}
+use Rattle.ac_rules.specs.Resolved.{place_of}
 use Rattle.ac_meaning.specs.Environment.{Bound, binds_type, binds_object, binds_cursor, binds_value, binds_element, bound_in, object_in, State, bound_at}
 use Rattle.ac_meaning.specs.FitsScope.{Fits, AllFit}
 use Rattle.ac_meaning.specs.HoldsTypes.{IsTypeIn, HasElements, Holds, AllHold, HoldsTypes, IsObjectAt, TypesFound}

@@ -3,8 +3,8 @@ use Rattle.std.proofs.Common.{◌≡◌, ◌++◌, ℕ, zero, suc, true, List, [
 use Rattle.std.proofs.lemmas.List.{take-map}
 use Rattle.std.proofs.lemmas.Option.{slice_get-map}
 use Rattle.std.proofs.Math.Seq.{take-append_seam}
-use Rattle.ac_check.specs.Rules.{is_type}
-use Rattle.ac_check.specs.Scopes.{Meaning, a_type, an_object, a_cursor, a_value, Scope}
+use Rattle.ac_rules.specs.Rules.{is_type}
+use Rattle.ac_rules.specs.Scopes.{Meaning, a_type, an_object, a_cursor, a_value, Scope}
 use Rattle.ac_calls.specs.Holdings.{of_rows, of_holder, of_queue, Guards, held_under}
 use Rattle.ac_meaning.specs.Environment.{Bound, binds_type, binds_object, binds_cursor, binds_value, binds_element, bound_by, bound_in, State, under, at_rest, bound_at, with_bound, leaving}
 use Rattle.ac_meaning.specs.HoldsTypes.{Shape, shape_of, shape_of_type, IsTypeIn, HasCursors, HasElements, Holds, AllHold, HoldsTypes}

@@ -15,8 +15,8 @@ use Rattle.ac_calls.specs.Elements.{ElementOf}
 use Rattle.ac_syntax.specs.declared.type_def.TypeDef.{TypeDef}
 use Rattle.ac_syntax.specs.declared.kind.ElemKind.{ElemKind}
 use Rattle.ac_syntax.specs.Kinds.{is_holder, is_queue}
-use Rattle.ac_check.specs.declared.resolved.ResolvedDecl.{ResolvedDecl}
-use Rattle.ac_check.specs.declared.resolved.ResolvedDecl.TheVariants as decl
+use Rattle.ac_rules.specs.declared.resolved.ResolvedDecl.{ResolvedDecl}
+use Rattle.ac_rules.specs.declared.resolved.ResolvedDecl.TheVariants as decl
 use Rattle.ac_calls.specs.Holdings.{RowKind, Held, of_rows, of_holder, as_object, counted_as, have_capacity, kind_by, Guards, is_kind, held_on, guard_on, guarded, held_under, number_of, limit_by, new_within, new_held}
 use Rattle.ac_meaning.specs.Environment.{binds_type, binds_object, binds_cursor, binds_value, State, under, object_at, with_name, number_taken, Declared, unless_spent, after_decl, after_decls}
 use Rattle.ac_meaning.specs.Numbers.{NumbersDiffer, GuardsBelow, NewObjectsAreUnguarded}

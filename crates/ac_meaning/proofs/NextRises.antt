@@ -9,10 +9,10 @@ use Rattle.ac_model.specs.Letters.{Mark, no_mark, mark_at as mark_of_name}
 use Rattle.ac_syntax.specs.Code.{Code}
 use Rattle.ac_syntax.specs.declared.view_kind.ViewKind.{ViewKind}
 use Rattle.ac_syntax.specs.declared.view_kind.ViewKind.TheVariants.{Query, Update, Reference, UpdateKey}
-use Rattle.ac_check.specs.declared.resolved.ResolvedDecl.{ResolvedDecl}
-use Rattle.ac_check.specs.declared.resolved.ResolvedDecl.TheVariants as decl
-use Rattle.ac_check.specs.Scopes.{Scope}
-use Rattle.ac_check.specs.Resolved.{ResolvedSimple, ResolvedHead, loops_at, views_at, stables_at, declares_at, gathers_at, works_at, ResolvedCode, no_statement, a_command, a_block, resolve}
+use Rattle.ac_rules.specs.declared.resolved.ResolvedDecl.{ResolvedDecl}
+use Rattle.ac_rules.specs.declared.resolved.ResolvedDecl.TheVariants as decl
+use Rattle.ac_rules.specs.Scopes.{Scope}
+use Rattle.ac_rules.specs.Resolved.{ResolvedSimple, ResolvedHead, loops_at, views_at, stables_at, declares_at, gathers_at, works_at, ResolvedCode, no_statement, a_command, a_block, resolve}
 use Rattle.ac_calls.specs.Holdings.{Held, Guards, names_of, number_of, element_value}
 use Rattle.ac_meaning.specs.Environment.{Bound, binds_type, binds_cursor, binds_element, binds_value, State, under, object_at, guarded_at, mark_at, value_at, value_or_zero, with_name, leaving, Declared, unless_spent, after_decl, after_decls}
 use Rattle.ac_meaning.specs.Execution.{Outcome, Orders, scoped, commanded, guards_of_loop, guards_of_stable, guards_of_view, in_order, turn_bound, head_reason, key_end, key_end_on, gathered, turns, key_body, viewed, view_on, on_object, after_declared, block_on, exec, exec_resolved}

@@ -7,9 +7,9 @@ use Rattle.ac_model.specs.Objects.{empty_object}
 use Rattle.ac_model.specs.Holders.{empty_holder}
 use Rattle.ac_model.specs.Queues.{empty_queue}
 use Rattle.ac_syntax.specs.Kinds.{is_holder, is_queue}
-use Rattle.ac_check.specs.declared.resolved.ResolvedDecl.{ResolvedDecl}
-use Rattle.ac_check.specs.declared.resolved.ResolvedDecl.TheVariants as decl
-use Rattle.ac_check.specs.Resolved.{ResolvedSimple}
+use Rattle.ac_rules.specs.declared.resolved.ResolvedDecl.{ResolvedDecl}
+use Rattle.ac_rules.specs.declared.resolved.ResolvedDecl.TheVariants as decl
+use Rattle.ac_rules.specs.Resolved.{ResolvedSimple}
 use Rattle.ac_calls.specs.Holdings.{Held, of_rows, of_holder, of_queue, Guards, number_of, have_capacity, kind_by, discipline_by, limit_by, new_held}
 use Rattle.ac_meaning.specs.Environment.{Bound, binds_type, binds_object, binds_cursor, binds_value, binds_element, bound_in, object_in, State, under, with_name, leaving, number_taken, Declared, unless_spent, after_decl, after_decls}
 use Rattle.ac_meaning.specs.Commands.{performed}

@@ -5,7 +5,7 @@ use Rattle.ac_base.specs.declared.reason.Reason.TheVariants.{NamesSpent}
 use Rattle.ac_model.specs.Letters.{Mark, mark_at as mark_of_name}
 use Rattle.ac_syntax.specs.declared.view_kind.ViewKind.{ViewKind}
 use Rattle.ac_syntax.specs.declared.view_kind.ViewKind.TheVariants.{Query, Update, Reference, UpdateKey}
-use Rattle.ac_check.specs.Resolved.{ResolvedHead, loops_at, views_at, stables_at, declares_at, gathers_at, works_at, ResolvedCode, no_statement, a_command, a_block}
+use Rattle.ac_rules.specs.Resolved.{ResolvedHead, loops_at, views_at, stables_at, declares_at, gathers_at, works_at, ResolvedCode, no_statement, a_command, a_block}
 use Rattle.ac_calls.specs.Answers.{answers_raised}
 use Rattle.ac_calls.specs.Holdings.{Held, Guards, names_of, number_of, element_value}
 use Rattle.ac_meaning.specs.Environment.{binds_value, State, under, object_at, guarded_at, mark_at, value_at, value_or_zero, with_name, leaving, after_decls}

@@ -4,7 +4,7 @@ use Rattle.std.specs.Prelude.{⊤, get_or}
 use Rattle.std.specs.List.{list_any, position_or_len}
 use Rattle.std.proofs.lemmas.List.Folds.{list_any-append}
 use Rattle.std.proofs.lemmas.Bool.Decides.{nat_tests}
-use Rattle.ac_check.specs.Resolved.{ResolvedSimple, calls_at, sets_at, sums_at, ResolvedCode, no_statement, a_command, a_block}
+use Rattle.ac_rules.specs.Resolved.{ResolvedSimple, calls_at, sets_at, sums_at, ResolvedCode, no_statement, a_command, a_block}
 use Rattle.ac_meaning.specs.TaskBlocks.{with_place, with_object, places_called, places_shared}
 
 abbrev pub Has : List ℕ → ℕ → Type 0

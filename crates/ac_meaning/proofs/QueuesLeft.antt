@@ -3,7 +3,7 @@ use Rattle.std.proofs.Common.{◌≡◌, ◌+◌, ◌≤◌, ℕ, Bool, true, fa
 use Rattle.ac_model.specs.Queues.{TaskQueue}
 use Rattle.ac_history.specs.Blocks.{present}
 use Rattle.ac_history.specs.Orders.{run_of}
-use Rattle.ac_check.specs.Resolved.{ResolvedCode}
+use Rattle.ac_rules.specs.Resolved.{ResolvedCode}
 use Rattle.ac_calls.specs.Holdings.{Held, of_rows, of_holder, of_queue, Guards}
 use Rattle.ac_meaning.specs.Environment.{binds_object, State, bound_at, object_at}
 use Rattle.ac_meaning.specs.TaskBlocks.{queue_places, block_of, block_fits, queue_left, queues_left}

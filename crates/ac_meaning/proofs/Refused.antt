@@ -46,9 +46,9 @@ use Rattle.ac_syntax.specs.declared.operation.SetPairCall.{SetPairCall}
 use Rattle.ac_syntax.specs.declared.operation.SetPairCall.TheVariants as set_pair_call
 use Rattle.ac_syntax.specs.declared.operation.OrderedSetCall.{OrderedSetCall}
 use Rattle.ac_syntax.specs.declared.operation.OrderedSetCall.TheVariants as ordered_set_call
-use Rattle.ac_check.specs.declared.resolved.ResolvedArg.{ResolvedArg}
-use Rattle.ac_check.specs.declared.resolved.ResolvedArg.TheVariants.{Lit, NoElement, At}
-use Rattle.ac_check.specs.Resolved.{calls_at, sets_at, sums_at}
+use Rattle.ac_rules.specs.declared.resolved.ResolvedArg.{ResolvedArg}
+use Rattle.ac_rules.specs.declared.resolved.ResolvedArg.TheVariants.{Lit, NoElement, At}
+use Rattle.ac_rules.specs.Resolved.{calls_at, sets_at, sums_at}
 use Rattle.ac_calls.specs.Elements.{Tools, Text, tools_of, texts, keyed_texts, integer_in}
 use Rattle.ac_calls.specs.Answers.{Answer, answers_integer}
 use Rattle.ac_calls.specs.Replies.{Arguments, Source, without, itself, another, by_source, arguments_seen, source_in, Reply, value_answer}

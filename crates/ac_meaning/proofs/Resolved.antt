@@ -1,8 +1,8 @@
 -- Statements run as what they are resolved to.
 use Rattle.std.proofs.Common.{[]}
 use Rattle.ac_syntax.specs.Code.{stop, one, block}
-use Rattle.ac_check.specs.Scopes.{inside, behind_block, with_decls}
-use Rattle.ac_check.specs.Resolved.{resolve_simple, resolve_head, resolve_decls, resolve}
+use Rattle.ac_rules.specs.Scopes.{inside, behind_block, with_decls}
+use Rattle.ac_rules.specs.Resolved.{resolve_simple, resolve_head, resolve_decls, resolve}
 use Rattle.ac_meaning.specs.Environment.{first_state, after_decls}
 use Rattle.ac_meaning.specs.Execution.{followed, commanded, block_on, run_with}
 use Rattle.std.proofs.Common.{refl}

@@ -9,10 +9,10 @@ use Rattle.ac_syntax.specs.declared.decl.Decl.{Decl}
 use Rattle.ac_syntax.specs.declared.decl.Decl.TheVariants as source_decl
 use Rattle.ac_syntax.specs.declared.type_def.TypeDef.{TypeDef}
 use Rattle.ac_syntax.specs.declared.view_kind.ViewKind.{ViewKind}
-use Rattle.ac_check.specs.Scopes.{Meaning, a_type, an_object, a_cursor, a_value, a_task, Entry, entry, Scope, Typed, type_of, object_in as object_meant, loop_meaning, view_meaning, meaning_in, object_of, decl_entry, with_entry, with_decls}
-use Rattle.ac_check.specs.Rules.{is_object_of, is_looped, is_view}
-use Rattle.ac_check.specs.Kept.{DeclKept, DeclsKept}
-use Rattle.ac_check.specs.Resolved.{place_of, resolve_decl, resolve_decls}
+use Rattle.ac_rules.specs.Scopes.{Meaning, a_type, an_object, a_cursor, a_value, a_task, Entry, entry, Scope, Typed, type_of, object_in as object_meant, loop_meaning, view_meaning, meaning_in, object_of, decl_entry, with_entry, with_decls}
+use Rattle.ac_rules.specs.Rules.{is_object_of, is_looped, is_view}
+use Rattle.ac_rules.specs.Kept.{DeclKept, DeclsKept}
+use Rattle.ac_rules.specs.Resolved.{place_of, resolve_decl, resolve_decls}
 use Rattle.ac_calls.specs.Holdings.{Held, Guards}
 use Rattle.ac_meaning.specs.Environment.{Bound, binds_type, binds_object, binds_cursor, binds_value, binds_element, bound_in, object_in, State, under, bound_at, object_at, Declared, after_decl, after_decls, unless_spent}
 use Rattle.ac_meaning.specs.Commands.{performed}

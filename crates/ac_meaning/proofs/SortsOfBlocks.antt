@@ -14,7 +14,7 @@ use Rattle.ac_history.specs.Orders.{run_of, last_rounds}
 use Rattle.ac_history.specs.States.{State as TasksState, TaskState}
 use Rattle.ac_history.specs.Steps.{QueueStep, queue_at, on_queue, step_call, enqueue_step, taking_step, value_of}
 use Rattle.ac_history.proofs.Starts.{turns_keep_start}
-use Rattle.ac_check.specs.Resolved.{ResolvedCode}
+use Rattle.ac_rules.specs.Resolved.{ResolvedCode}
 use Rattle.ac_calls.specs.Holdings.{a_sequence, a_map, a_set, a_keyed_set, a_tree, Held, of_rows, of_holder, of_queue, Guards, key_updated}
 use Rattle.ac_meaning.specs.Environment.{Bound, binds_type, binds_object, binds_cursor, binds_value, binds_element, object_in, State, under, bound_at, with_bound, object_at}
 use Rattle.ac_meaning.specs.Execution.{outcome as come_to, run_by, gathered, key_end_on}

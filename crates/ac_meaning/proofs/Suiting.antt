@@ -13,15 +13,15 @@ use Rattle.ac_syntax.specs.declared.kind.Kind.TheVariants as kind
 use Rattle.ac_syntax.specs.declared.type_def.TypeDef.{TypeDef}
 use Rattle.ac_syntax.specs.declared.view_kind.ViewKind.{ViewKind}
 use Rattle.ac_syntax.specs.declared.view_kind.ViewKind.TheVariants.{Query, Update, Reference, UpdateKey}
-use Rattle.ac_check.specs.declared.rows.Letter.{Letter}
-use Rattle.ac_check.specs.declared.rows.Letter.TheVariants as letter
-use Rattle.ac_check.specs.Operations.{operation_of}
-use Rattle.ac_check.specs.Resolved.{place_of, resolve_arg}
-use Rattle.ac_check.specs.Rules.{given, given_in, is_cursor, is_variable_of, is_variable, is_typed, is_object, fits, fits_optional, all_fit, is_looped, is_viewed, is_view}
-use Rattle.ac_check.specs.Scopes.{Meaning, a_type, an_object, a_cursor, a_value, a_task, Scope, Typed, object_of, meaning_in, element_of}
-use Rattle.ac_check.specs.Table.{Row}
-use Rattle.ac_check.proofs.Apart.{neither, and_parts}
-use Rattle.ac_check.proofs.Found.{finds_row, call_kept}
+use Rattle.ac_rules.specs.declared.rows.Letter.{Letter}
+use Rattle.ac_rules.specs.declared.rows.Letter.TheVariants as letter
+use Rattle.ac_rules.specs.Operations.{operation_of}
+use Rattle.ac_rules.specs.Resolved.{place_of, resolve_arg}
+use Rattle.ac_rules.specs.Rules.{given, given_in, is_cursor, is_variable_of, is_variable, is_typed, is_object, fits, fits_optional, all_fit, is_looped, is_viewed, is_view}
+use Rattle.ac_rules.specs.Scopes.{Meaning, a_type, an_object, a_cursor, a_value, a_task, Scope, Typed, object_of, meaning_in, element_of}
+use Rattle.ac_rules.specs.Table.{Row}
+use Rattle.ac_rules.proofs.Apart.{neither, and_parts}
+use Rattle.ac_rules.proofs.Found.{finds_row, call_kept}
 use Rattle.ac_calls.specs.Holdings.{Held, of_rows, of_holder, of_queue, takes_guards, Guards, held_under}
 use Rattle.ac_meaning.specs.Commands.{argument_in, argument}
 use Rattle.ac_meaning.specs.Environment.{Bound, binds_type, binds_object, binds_cursor, binds_value, binds_element, bound_by, bound_in, object_in, State, under, bound_at, object_at}

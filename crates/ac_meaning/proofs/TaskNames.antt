@@ -10,13 +10,13 @@ use Rattle.ac_syntax.specs.declared.decl.Decl.{Decl}
 use Rattle.ac_syntax.specs.declared.decl.Decl.TheVariants.{TypeDecl, Object, CursorVar, IntVar, TextVar}
 use Rattle.ac_syntax.specs.declared.kind.ElemKind.{ElemKind}
 use Rattle.ac_syntax.specs.declared.kind.ElemKind.TheVariants.{Integer}
-use Rattle.ac_check.specs.declared.rows.Letter.{Letter}
-use Rattle.ac_check.specs.declared.rows.Letter.TheVariants as letter
-use Rattle.ac_check.specs.Resolved.{place_of}
-use Rattle.ac_check.specs.Rules.{Given, gives_nothing, given_in, is_value, is_cursor, is_variable_of, is_typed, takes, fits, is_local, suits}
-use Rattle.ac_check.specs.Scopes.{Meaning, a_type, an_object, a_cursor, a_value, a_task, Entry, entry, Scope, Typed, object_in, object_of, meaning_in, is_task, first_task, with_decls}
-use Rattle.ac_check.proofs.Apart.{neither, and_parts}
-use Rattle.ac_check.proofs.NamePlaces.{place_found}
+use Rattle.ac_rules.specs.declared.rows.Letter.{Letter}
+use Rattle.ac_rules.specs.declared.rows.Letter.TheVariants as letter
+use Rattle.ac_rules.specs.Resolved.{place_of}
+use Rattle.ac_rules.specs.Rules.{Given, gives_nothing, given_in, is_value, is_cursor, is_variable_of, is_typed, takes, fits, is_local, suits}
+use Rattle.ac_rules.specs.Scopes.{Meaning, a_type, an_object, a_cursor, a_value, a_task, Entry, entry, Scope, Typed, object_in, object_of, meaning_in, is_task, first_task, with_decls}
+use Rattle.ac_rules.proofs.Apart.{neither, and_parts}
+use Rattle.ac_rules.proofs.NamePlaces.{place_found}
 use Rattle.ac_meaning.proofs.CallsStay.{none_some}
 
 pub lt_true : (a b : ℕ) → a < b → nat_lt a b ≡ true

@@ -15,16 +15,16 @@ use Rattle.ac_syntax.specs.declared.kind.ElemKind.TheVariants.{Integer}
 use Rattle.ac_syntax.specs.declared.operation.Operation.{Operation}
 use Rattle.ac_syntax.specs.declared.operation.Operation.TheVariants as operation
 use Rattle.ac_syntax.specs.declared.operation.QueueCall.TheVariants as queue_call
-use Rattle.ac_check.specs.declared.rows.Letter.{Letter}
-use Rattle.ac_check.specs.Kept.{CommandKept, KeepsRules}
-use Rattle.ac_check.specs.Operations.{operation_of}
-use Rattle.ac_check.specs.Resolved.{place_of, no_operation, resolve_arg, resolve_operation, resolve_simple, resolve}
-use Rattle.ac_check.specs.Rules.{gives_value, given, takes, fits, fits_optional, all_fit, answered, takes_answer, are_local, is_local, is_task_simple, suits}
-use Rattle.ac_check.specs.Scopes.{a_task, an_object, entry, Scope, Typed, meaning_in, object_of, first_task, inside}
-use Rattle.ac_check.specs.Table.{Row}
-use Rattle.ac_check.specs.UsedNames.{optional_name, arg_names, args_names}
-use Rattle.ac_check.proofs.Apart.{neither, and_parts}
-use Rattle.ac_check.proofs.Found.{finds_row, call_kept}
+use Rattle.ac_rules.specs.declared.rows.Letter.{Letter}
+use Rattle.ac_rules.specs.Kept.{CommandKept, KeepsRules}
+use Rattle.ac_rules.specs.Operations.{operation_of}
+use Rattle.ac_rules.specs.Resolved.{place_of, no_operation, resolve_arg, resolve_operation, resolve_simple, resolve}
+use Rattle.ac_rules.specs.Rules.{gives_value, given, takes, fits, fits_optional, all_fit, answered, takes_answer, are_local, is_local, is_task_simple, suits}
+use Rattle.ac_rules.specs.Scopes.{a_task, an_object, entry, Scope, Typed, meaning_in, object_of, first_task, inside}
+use Rattle.ac_rules.specs.Table.{Row}
+use Rattle.ac_rules.specs.UsedNames.{optional_name, arg_names, args_names}
+use Rattle.ac_rules.proofs.Apart.{neither, and_parts}
+use Rattle.ac_rules.proofs.Found.{finds_row, call_kept}
 use Rattle.ac_calls.specs.Holdings.{Held, of_rows, of_holder, of_queue}
 use Rattle.ac_meaning.specs.Environment.{State, bound_at, object_at}
 use Rattle.ac_meaning.specs.Execution.{outcome, run_by}

@@ -6,9 +6,9 @@ use Rattle.ac_syntax.specs.declared.kind.ElemKind.{ElemKind}
 use Rattle.ac_syntax.specs.declared.kind.Kind.{Kind}
 use Rattle.ac_syntax.specs.declared.kind.Kind.TheVariants as kind
 use Rattle.ac_syntax.specs.declared.type_def.TypeDef.{TypeDef}
-use Rattle.ac_check.specs.Rules.{is_type}
-use Rattle.ac_check.specs.Scopes.{Meaning, a_type, an_object, a_cursor, a_value, a_task, type_in}
-use Rattle.ac_check.proofs.Apart.{neither}
+use Rattle.ac_rules.specs.Rules.{is_type}
+use Rattle.ac_rules.specs.Scopes.{Meaning, a_type, an_object, a_cursor, a_value, a_task, type_in}
+use Rattle.ac_rules.proofs.Apart.{neither}
 use Rattle.ac_calls.specs.Holdings.{new_held}
 use Rattle.ac_meaning.specs.HoldsTypes.{shape_of, shape_of_type}
 use Rattle.ac_meaning.proofs.CallsStay.{none_some}

@@ -5,9 +5,9 @@ use Rattle.ac_base.specs.declared.reason.Reason.{Reason}
 use Rattle.ac_base.specs.declared.reason.Reason.TheVariants.{Overflow}
 use Rattle.ac_model.specs.Letters.{Mark, no_mark}
 use Rattle.ac_syntax.specs.declared.operation.Operation.{Operation}
-use Rattle.ac_check.specs.declared.resolved.ResolvedArg.{ResolvedArg}
-use Rattle.ac_check.specs.declared.resolved.ResolvedArg.TheVariants.{Lit, NoElement, At}
-use Rattle.ac_check.specs.Resolved.{ResolvedSimple, calls_at, sets_at, sums_at}
+use Rattle.ac_rules.specs.declared.resolved.ResolvedArg.{ResolvedArg}
+use Rattle.ac_rules.specs.declared.resolved.ResolvedArg.TheVariants.{Lit, NoElement, At}
+use Rattle.ac_rules.specs.Resolved.{ResolvedSimple, calls_at, sets_at, sums_at}
 use Rattle.ac_calls.specs.Elements.{integer_in}
 use Rattle.ac_calls.specs.Answers.{Answer, answers_ok, answers_value, answers_truth, answers_place, answers_list, answers_raised, answers_stalled, answers_integer}
 use Rattle.ac_calls.specs.Replies.{Argument, value_argument, cursor_argument, no_argument, Arguments, Placed, Reply}

@@ -1,14 +1,14 @@
 -- The environment of a script: what each name in scope holds, the number of the next object, and how many blocks of tasks have begun.
 --
--- A place is that of a name among the names in scope. Which these are is told by the text alone (the scope of `ac_check`), so that what they hold is a list beside it.
+-- A place is that of a name among the names in scope. Which these are is told by the text alone (the scope of `ac_rules`), so that what they hold is a list beside it.
 use Rattle.std.specs.Prelude.{ℕ, ◌+◌, pos, nat_lt, List, [], ◌∷◌, ◌++◌, map, take, slice_get, slice_set, Option, Some, None, if◌then◌else◌}
 use Rattle.std.specs.List.{sum_by}
 use Rattle.ac_base.specs.Limits.{numbers_end}
 use Rattle.ac_base.specs.declared.value.Value.{Value}
 use Rattle.ac_base.specs.declared.value.Value.TheVariants as value
 use Rattle.ac_model.specs.Letters.{Mark, no_mark}
-use Rattle.ac_check.specs.declared.resolved.ResolvedDecl.{ResolvedDecl}
-use Rattle.ac_check.specs.declared.resolved.ResolvedDecl.TheVariants as decl
+use Rattle.ac_rules.specs.declared.resolved.ResolvedDecl.{ResolvedDecl}
+use Rattle.ac_rules.specs.declared.resolved.ResolvedDecl.TheVariants as decl
 use Rattle.ac_calls.specs.Holdings.{Held, takes_guards, Guards, held_under, held_at_rest, new_held, nodes_of, element_value}
 
 -- what a name holds

@@ -16,7 +16,7 @@ use Rattle.ac_syntax.specs.declared.view_kind.ViewKind.TheVariants.{Query, Updat
 use Rattle.ac_syntax.specs.declared.script.Script.{Script}
 use Rattle.ac_calls.specs.Listings.{map_listing, tree_listing}
 use Rattle.ac_base.specs.Limits.{numbers_end}
-use Rattle.ac_check.specs.Scopes.{with_decls}
+use Rattle.ac_rules.specs.Scopes.{with_decls}
 use Rattle.ac_calls.specs.Answers.{lines_text}
 use Rattle.ac_meaning.specs.Environment.{binds_type, binds_value}
 use Rattle.ac_meaning.specs.Execution.{no_orders, exec, text_of}

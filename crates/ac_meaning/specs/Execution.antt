@@ -10,8 +10,8 @@ use Rattle.ac_syntax.specs.Code.{Code, stop, one, block}
 use Rattle.ac_syntax.specs.declared.script.Script.{Script}
 use Rattle.ac_syntax.specs.declared.view_kind.ViewKind.{ViewKind}
 use Rattle.ac_syntax.specs.declared.view_kind.ViewKind.TheVariants.{Query, Update, Reference, UpdateKey}
-use Rattle.ac_check.specs.Scopes.{Scope, with_decls, inside, behind_block}
-use Rattle.ac_check.specs.Resolved.{ResolvedSimple, ResolvedHead, loops_at, views_at, stables_at, declares_at, gathers_at, works_at, ResolvedCode, no_statement, a_command, a_block, resolve_simple, resolve_head, resolve_decls, resolve}
+use Rattle.ac_rules.specs.Scopes.{Scope, with_decls, inside, behind_block}
+use Rattle.ac_rules.specs.Resolved.{ResolvedSimple, ResolvedHead, loops_at, views_at, stables_at, declares_at, gathers_at, works_at, ResolvedCode, no_statement, a_command, a_block, resolve_simple, resolve_head, resolve_decls, resolve}
 use Rattle.ac_calls.specs.Answers.{Answer, Line, line, answers_raised, lines_text}
 use Rattle.ac_calls.specs.Holdings.{Held, Guards, names_of, number_of, guard_on, element_value, key_update_reason, key_updated}
 use Rattle.ac_meaning.specs.Environment.{Bound, binds_object, binds_cursor, binds_value, binds_element, State, first_state, under, at_rest, with_bound, object_at, guarded_at, mark_at, value_at, value_or_zero, with_name, leaving, Declared, after_decls}

@@ -5,9 +5,9 @@ use Rattle.ac_model.specs.Letters.{Mark}
 use Rattle.ac_syntax.specs.Code.{loop_at, view_at, Code}
 use Rattle.ac_syntax.specs.declared.decl.Decl.{Decl}
 use Rattle.ac_syntax.specs.declared.view_kind.ViewKind.{ViewKind}
-use Rattle.ac_check.specs.Scopes.{Meaning, a_type, an_object, a_cursor, a_value, Scope, Typed, meaning_in, object_of, with_decls, behind_words}
-use Rattle.ac_check.specs.Kept.{DeclsKept, HeadKept}
-use Rattle.ac_check.specs.Resolved.{ResolvedCode, ResolvedSimple, place_of, resolve_decls}
+use Rattle.ac_rules.specs.Scopes.{Meaning, a_type, an_object, a_cursor, a_value, Scope, Typed, meaning_in, object_of, with_decls, behind_words}
+use Rattle.ac_rules.specs.Kept.{DeclsKept, HeadKept}
+use Rattle.ac_rules.specs.Resolved.{ResolvedCode, ResolvedSimple, place_of, resolve_decls}
 use Rattle.ac_calls.specs.Holdings.{Held, Guards}
 use Rattle.ac_meaning.specs.Environment.{Bound, binds_type, binds_object, binds_cursor, binds_value, binds_element, State, first_state, under, at_rest, bound_at, object_at, with_name, leaving, after_decls}
 use Rattle.ac_meaning.specs.Commands.{performed}

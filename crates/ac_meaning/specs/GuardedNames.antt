@@ -10,8 +10,8 @@ use Rattle.ac_syntax.specs.declared.kind.ElemKind.{ElemKind}
 use Rattle.ac_syntax.specs.Code.{Code}
 use Rattle.ac_syntax.specs.declared.view_kind.ViewKind.{ViewKind}
 use Rattle.ac_syntax.specs.declared.view_kind.ViewKind.TheVariants.{UpdateKey}
-use Rattle.ac_check.specs.Scopes.{Scope}
-use Rattle.ac_check.specs.Resolved.{ResolvedCode}
+use Rattle.ac_rules.specs.Scopes.{Scope}
+use Rattle.ac_rules.specs.Resolved.{ResolvedCode}
 use Rattle.ac_calls.specs.Elements.{ElementOf}
 use Rattle.ac_calls.specs.Holdings.{RowKind, RowOf, Held, of_rows, of_holder, Guards, is_on, number_of, names_of, holds_element, has_root, element_value, held_under}
 use Rattle.ac_meaning.specs.Environment.{Bound, binds_type, binds_object, binds_cursor, binds_value, binds_element, State, under, object_at, with_name}

@@ -6,8 +6,8 @@ use Rattle.ac_history.specs.declared.code.TaskStep.{TaskStep}
 use Rattle.ac_history.specs.declared.entry.Entry.{Entry}
 use Rattle.ac_history.specs.Blocks.{opening}
 use Rattle.ac_history.specs.Histories.{IsLegal}
-use Rattle.ac_check.specs.declared.resolved.ResolvedDecl.{ResolvedDecl}
-use Rattle.ac_check.specs.Resolved.{ResolvedSimple, ResolvedCode}
+use Rattle.ac_rules.specs.declared.resolved.ResolvedDecl.{ResolvedDecl}
+use Rattle.ac_rules.specs.Resolved.{ResolvedSimple, ResolvedCode}
 use Rattle.ac_calls.specs.Answers.{Line, task_line}
 use Rattle.ac_calls.specs.Holdings.{Guards}
 use Rattle.ac_meaning.specs.Environment.{State, after_decls}

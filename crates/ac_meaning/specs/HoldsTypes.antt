@@ -13,11 +13,11 @@ use Rattle.ac_syntax.specs.declared.kind.Kind.TheVariants as kinds
 use Rattle.ac_syntax.specs.declared.script.Script.{Script}
 use Rattle.ac_syntax.specs.declared.type_def.TypeDef.{TypeDef}
 use Rattle.ac_syntax.specs.declared.view_kind.ViewKind.{ViewKind}
-use Rattle.ac_check.specs.Scopes.{Meaning, a_type, an_object, a_cursor, a_value, entry, Scope, Typed, meaning_in, object_of, element_of, with_decls, behind_words}
-use Rattle.ac_check.specs.Rules.{is_type}
-use Rattle.ac_check.specs.Faults.{IsChecked}
-use Rattle.ac_check.specs.Kept.{DeclsKept, HeadKept, KeepsRules}
-use Rattle.ac_check.specs.Resolved.{ResolvedSimple, place_of, resolve_decls}
+use Rattle.ac_rules.specs.Scopes.{Meaning, a_type, an_object, a_cursor, a_value, entry, Scope, Typed, meaning_in, object_of, element_of, with_decls, behind_words}
+use Rattle.ac_rules.specs.Rules.{is_type}
+use Rattle.ac_rules.specs.Faults.{IsChecked}
+use Rattle.ac_rules.specs.Kept.{DeclsKept, HeadKept, KeepsRules}
+use Rattle.ac_rules.specs.Resolved.{ResolvedSimple, place_of, resolve_decls}
 use Rattle.ac_calls.specs.KeyedReplies.{KeyedKind, of_hashed, of_ordered}
 use Rattle.ac_calls.specs.Holdings.{of_list, of_vector, RowKind, a_sequence, a_map, a_set, a_keyed_set, a_tree, Held, of_rows, of_holder, of_queue, Guards}
 use Rattle.ac_meaning.specs.Environment.{Bound, binds_type, binds_object, binds_cursor, binds_value, binds_element, State, first_state, under, at_rest, bound_at, object_at, with_name, leaving, after_decls}

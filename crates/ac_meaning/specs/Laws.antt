@@ -2,8 +2,8 @@
 use Rattle.std.specs.Prelude.{◌≡◌, ◌<◌, ◌≤◌, ⊤, ℕ, [], length, Some}
 use Rattle.ac_syntax.specs.Code.{Code}
 use Rattle.ac_syntax.specs.declared.script.Script.{Script}
-use Rattle.ac_check.specs.Scopes.{Scope}
-use Rattle.ac_check.specs.Resolved.{ResolvedCode, ResolvedScript, ResolvedSimple, resolve, resolve_script}
+use Rattle.ac_rules.specs.Scopes.{Scope}
+use Rattle.ac_rules.specs.Resolved.{ResolvedCode, ResolvedScript, ResolvedSimple, resolve, resolve_script}
 use Rattle.ac_syntax.specs.declared.operation.Operation.{Operation}
 use Rattle.ac_model.specs.Objects.{Object}
 use Rattle.ac_calls.specs.Elements.{Tools}

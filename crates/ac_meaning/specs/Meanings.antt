@@ -5,7 +5,7 @@ use Rattle.ac_syntax.specs.declared.refusal.RefusalKind.TheVariants.{Syntax, Lim
 use Rattle.ac_syntax.specs.declared.script.Script.{Script}
 use Rattle.ac_syntax.specs.Refusals.{Spells, IsFirstRefusal}
 use Rattle.ac_syntax.specs.Canonical.{canonical_text}
-use Rattle.ac_check.specs.Faults.{IsFirstFault, IsChecked}
+use Rattle.ac_rules.specs.Faults.{IsFirstFault, IsChecked}
 use Rattle.ac_meaning.specs.declared.limits.TheConstants.{INPUT_LIMIT}
 use Rattle.ac_meaning.specs.Execution.{Orders, text_of, text_with}
 

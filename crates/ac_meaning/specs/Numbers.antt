@@ -1,9 +1,9 @@
 -- The numbers of objects: each object in scope has one of its own, and so has the next.
 use Rattle.std.specs.Prelude.{◌≡◌, ◌==◌, ◌+◌, ◌≤◌, ℕ, List, [], ◌∷◌, Some, None, if◌then◌else◌}
 use Rattle.ac_syntax.specs.Code.{Code}
-use Rattle.ac_check.specs.declared.resolved.ResolvedDecl.{ResolvedDecl}
-use Rattle.ac_check.specs.Scopes.{Scope}
-use Rattle.ac_check.specs.Resolved.{ResolvedCode, ResolvedSimple}
+use Rattle.ac_rules.specs.declared.resolved.ResolvedDecl.{ResolvedDecl}
+use Rattle.ac_rules.specs.Scopes.{Scope}
+use Rattle.ac_rules.specs.Resolved.{ResolvedCode, ResolvedSimple}
 use Rattle.ac_base.specs.declared.guard.GuardKind.{GuardKind}
 use Rattle.ac_calls.specs.Holdings.{Held, with_rows_by, number_of, is_a_set, Guards, held_on, guard_on}
 use Rattle.ac_meaning.specs.UnderGuards.{held_with, held_without}

@@ -13,13 +13,13 @@ use Rattle.ac_syntax.specs.declared.operation.Operation.TheVariants as operation
 use Rattle.ac_syntax.specs.declared.operation.QueueCall.{QueueCall}
 use Rattle.ac_syntax.specs.declared.operation.QueueCall.TheVariants as queue_call
 use Rattle.ac_syntax.specs.declared.view_kind.ViewKind.{ViewKind}
-use Rattle.ac_check.specs.declared.rows.Letter.{Letter}
-use Rattle.ac_check.specs.declared.rows.Letter.TheVariants as letter
-use Rattle.ac_check.specs.Kept.{CommandKept, HeadKept, KeepsRules}
-use Rattle.ac_check.specs.Operations.{operation_of}
-use Rattle.ac_check.specs.Resolved.{place_of, resolve_arg, resolve}
-use Rattle.ac_check.specs.Scopes.{Scope, Typed, object_of}
-use Rattle.ac_check.specs.Table.{Row}
+use Rattle.ac_rules.specs.declared.rows.Letter.{Letter}
+use Rattle.ac_rules.specs.declared.rows.Letter.TheVariants as letter
+use Rattle.ac_rules.specs.Kept.{CommandKept, HeadKept, KeepsRules}
+use Rattle.ac_rules.specs.Operations.{operation_of}
+use Rattle.ac_rules.specs.Resolved.{place_of, resolve_arg, resolve}
+use Rattle.ac_rules.specs.Scopes.{Scope, Typed, object_of}
+use Rattle.ac_rules.specs.Table.{Row}
 use Rattle.ac_calls.specs.Holdings.{SequenceKind, of_list, of_vector, RowKind, a_sequence, a_map, a_set, a_keyed_set, a_tree, Held, Guards}
 use Rattle.ac_calls.specs.KeyedReplies.{KeyedKind, of_hashed, of_ordered}
 use Rattle.ac_calls.specs.Replies.{Argument, cursor_argument}

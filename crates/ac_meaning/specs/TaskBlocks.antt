@@ -17,9 +17,9 @@ use Rattle.ac_syntax.specs.declared.operation.Operation.{Operation}
 use Rattle.ac_syntax.specs.declared.operation.Operation.TheVariants as operation
 use Rattle.ac_syntax.specs.declared.operation.QueueCall.{QueueCall}
 use Rattle.ac_syntax.specs.declared.operation.QueueCall.TheVariants as queue_call
-use Rattle.ac_check.specs.declared.resolved.ResolvedArg.{ResolvedArg}
-use Rattle.ac_check.specs.declared.resolved.ResolvedArg.TheVariants.{Lit, NoElement, At}
-use Rattle.ac_check.specs.Resolved.{ResolvedSimple, calls_at, sets_at, sums_at, ResolvedHead, loops_at, views_at, stables_at, declares_at, gathers_at, works_at, ResolvedCode, no_statement, a_command, a_block}
+use Rattle.ac_rules.specs.declared.resolved.ResolvedArg.{ResolvedArg}
+use Rattle.ac_rules.specs.declared.resolved.ResolvedArg.TheVariants.{Lit, NoElement, At}
+use Rattle.ac_rules.specs.Resolved.{ResolvedSimple, calls_at, sets_at, sums_at, ResolvedHead, loops_at, views_at, stables_at, declares_at, gathers_at, works_at, ResolvedCode, no_statement, a_command, a_block}
 use Rattle.ac_calls.specs.Elements.{integer_in}
 use Rattle.ac_calls.specs.Answers.{Answer, answers_ok, answers_integer, answers_truth, answers_raised, answers_stalled, Line, task_line}
 use Rattle.ac_calls.specs.Holdings.{Held, of_rows, of_holder, of_queue}

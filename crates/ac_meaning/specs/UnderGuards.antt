@@ -6,7 +6,7 @@ use Rattle.ac_base.specs.Guards.{HeldGuard}
 use Rattle.ac_model.specs.Objects.{Object}
 use Rattle.ac_model.specs.Letters.{Mark}
 use Rattle.ac_model.specs.Common.{hold_call, release_call}
-use Rattle.ac_check.specs.Resolved.{ResolvedSimple}
+use Rattle.ac_rules.specs.Resolved.{ResolvedSimple}
 use Rattle.ac_calls.specs.Elements.{Text}
 use Rattle.ac_calls.specs.KeyedReplies.{KeyedKind}
 use Rattle.ac_calls.specs.Holdings.{a_keyed_set, Held, of_rows, Guards, with_rows_by, held_under, guard_on, key_updated}

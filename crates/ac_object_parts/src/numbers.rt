@@ -1,5 +1,5 @@
-use ac_check::ResolvedDecl;
 use ac_objects::{DeclareFault, Objects};
+use ac_rules::ResolvedDecl;
 use ac_syntax::{ElemKind, Kind, TypeDef};
 
 /// The declaration of a list.

@@ -10,7 +10,7 @@ use Rattle.std.proofs.lemmas.Option.{none-some, same_Some}
 use Rattle.ac_model.specs.Queues.{TaskQueue}
 use Rattle.ac_queue.specs.declared.any_queue.AnyQueue.{AnyQueue}
 use Rattle.ac_queue.specs.Shared.{shared}
-use Rattle.ac_check.specs.Resolved.{ResolvedSimple, calls_at, sets_at, sums_at, ResolvedCode, no_statement, a_command, a_block}
+use Rattle.ac_rules.specs.Resolved.{ResolvedSimple, calls_at, sets_at, sums_at, ResolvedCode, no_statement, a_command, a_block}
 use Rattle.ac_calls.specs.Holdings.{Held, of_rows, of_holder, of_queue}
 use Rattle.ac_meaning.specs.Environment as meant
 use Rattle.ac_meaning.specs.Environment.{State, binds_type, binds_object, binds_cursor, binds_value, binds_element, bound_in, object_in, object_at, with_bound}

@@ -17,7 +17,7 @@ use Rattle.ac_model.specs.Objects as model
 use Rattle.ac_syntax.specs.declared.kind.ElemKind.{ElemKind}
 use Rattle.ac_syntax.specs.declared.type_def.TypeDef.{TypeDef}
 use Rattle.ac_syntax.specs.Kinds.{has_cursors, is_holder, is_queue}
-use Rattle.ac_check.specs.declared.resolved.ResolvedDecl.TheVariants as decl
+use Rattle.ac_rules.specs.declared.resolved.ResolvedDecl.TheVariants as decl
 use Rattle.ac_calls.specs.Elements.{ElementOf}
 use Rattle.ac_calls.specs.Holdings.{RowKind, RowOf, Held, of_rows, of_holder, of_queue, discipline_by, number_of, have_capacity, kind_by, limit_by, new_within, new_held}
 use Rattle.ac_meaning.specs.Environment as meant

@@ -9,8 +9,8 @@ use Rattle.ac_base.specs.declared.value.Value.TheVariants.{Int}
 use Rattle.ac_model.specs.Calls.{Done}
 use Rattle.ac_model.specs.Letters.{Mark}
 use Rattle.ac_syntax.specs.declared.operation.Operation.{Operation}
-use Rattle.ac_check.specs.declared.resolved.ResolvedArg.{ResolvedArg}
-use Rattle.ac_check.specs.Resolved.{calls_at}
+use Rattle.ac_rules.specs.declared.resolved.ResolvedArg.{ResolvedArg}
+use Rattle.ac_rules.specs.Resolved.{calls_at}
 use Rattle.ac_calls.specs.Answers as meant
 use Rattle.ac_meaning.specs.Commands.{Performed, says, Assigned, assigned_to, assigned, unless_refused, waits_or_goes, replied, call_on, called, after_call, arguments, source_of, source_place, source_set, place_in, mark_set, variable_to, variable_set, assigned_from, is_integer, sum_assigned}
 use Rattle.ac_meaning.specs.Environment.{Bound, binds_type, binds_object, binds_cursor, binds_value, binds_element, State, bound_in, bound_at, object_in, object_at, with_bound}

@@ -5,8 +5,8 @@ use Rattle.ac_base.specs.declared.cursor.Cursor.{Cursor}
 use Rattle.ac_base.specs.declared.cursor.Cursor.TheVariants.{NoElement, At}
 use Rattle.ac_base.specs.declared.name.Name.{Name}
 use Rattle.ac_base.specs.declared.value.Value.{Value}
-use Rattle.ac_check.specs.declared.resolved.ResolvedArg.{ResolvedArg}
-use Rattle.ac_check.specs.declared.resolved.ResolvedArg.TheVariants as arg
+use Rattle.ac_rules.specs.declared.resolved.ResolvedArg.{ResolvedArg}
+use Rattle.ac_rules.specs.declared.resolved.ResolvedArg.TheVariants as arg
 use Rattle.ac_model.specs.Letters.{mark_at}
 use Rattle.ac_model.specs.Cursors.{plain_mark}
 use Rattle.ac_model.specs.Objects as model

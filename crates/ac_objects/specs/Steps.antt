@@ -8,7 +8,7 @@ use Rattle.ac_base.specs.declared.fault.Fault.TheVariants as fault
 use Rattle.ac_model.specs.Calls.{Done}
 use Rattle.ac_model.specs.Cursors.{plain_mark}
 use Rattle.ac_syntax.specs.declared.operation.Operation.{Operation}
-use Rattle.ac_check.specs.declared.resolved.ResolvedArg.{ResolvedArg}
+use Rattle.ac_rules.specs.declared.resolved.ResolvedArg.{ResolvedArg}
 use Rattle.ac_calls.specs.Answers as meant
 use Rattle.ac_meaning.specs.Commands.{Performed, says, Assigned, source_place, source_of, source_set, arguments as meant_arguments, after_call, mark_set, value_set, is_integer, assigned_from}
 use Rattle.ac_meaning.specs.Environment.{State, binds_object, bound_at, object_at, with_bound}

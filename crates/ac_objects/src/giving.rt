@@ -12,7 +12,7 @@ use crate::objects::Objects;
 use ac_base::{Fault, Value};
 use ac_calls::values::copy_value;
 use ac_calls::{Placed, Said};
-use ac_check::ResolvedArg;
+use ac_rules::ResolvedArg;
 
 impl Objects {
     /// Gives what a call answered to the target, where it is a value or a cursor. An integer is never refused.

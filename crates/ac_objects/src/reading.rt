@@ -10,7 +10,7 @@ ghost use Rattle.ac_calls.specs.Arguments.{argument_of, arguments_of, cursor_in}
 ghost use Rattle.ac_objects.specs.Shown.{Shows};
 ghost use Rattle.ac_objects.specs.Standing.{IsObject, ElementsStand};
 ghost use Rattle.ac_objects.specs.Steps.{AllKnown, CanRead, answer_of, source_or, SaidKnown};
-ghost use Rattle.ac_check.specs.declared.resolved.ResolvedArg.{ResolvedArg as ArgData};
+ghost use Rattle.ac_rules.specs.declared.resolved.ResolvedArg.{ResolvedArg as ArgData};
 ghost use Rattle.ac_objects.specs.World.{World, Counters, state_of, world, IsKnown};
 
 use crate::bound::Bound;
@@ -19,8 +19,8 @@ use crate::objects::Objects;
 use ac_base::{Elem, NoMemory, Text, Value};
 use ac_calls::values::{self, copy_value};
 use ac_calls::{Argument, Arguments, Said};
-use ac_check::ResolvedArg;
 use ac_cursor::Cursor;
+use ac_rules::ResolvedArg;
 use std::alloc::Global;
 
 impl Objects {

@@ -15,8 +15,8 @@ use crate::object::Object;
 use crate::objects::Objects;
 use ac_base::{Elem, NoMemory, Text, Value};
 use ac_calls::RowObject;
-use ac_check::ResolvedDecl;
 use ac_cursor::Cursor;
+use ac_rules::ResolvedDecl;
 use ac_syntax::TypeDef;
 
 impl Object {

@@ -8,9 +8,9 @@ use Rattle.ac_syntax.specs.Refusals.{Spells, IsFirstRefusal}
 use Rattle.ac_syntax.proofs.OneRefusal.{one_refusal, spelled_or_refused}
 use Rattle.ac_script.proofs.EachText.{each_text}
 use Rattle.ac_script.proofs.Refusals.{spelled_once}
-use Rattle.ac_check.specs.Faults.{IsFirstFault, IsChecked}
-use Rattle.ac_check.proofs.FirstFaults.{one_fault, no_fault}
-use Rattle.ac_check.proofs.EachScript.{each_script}
+use Rattle.ac_rules.specs.Faults.{IsFirstFault, IsChecked}
+use Rattle.ac_rules.proofs.FirstFaults.{one_fault, no_fault}
+use Rattle.ac_rules.proofs.EachScript.{each_script}
 use Rattle.ac_meaning.specs.declared.limits.TheConstants.{INPUT_LIMIT}
 use Rattle.ac_meaning.specs.Meanings.{Meaning, too_long, IsMeaningBy, is_too_long, is_refused, is_faulty, is_sound, refused_at}
 

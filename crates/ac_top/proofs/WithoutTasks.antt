@@ -1,9 +1,9 @@
 -- A script without tasks runs the same by all orders.
 use Rattle.std.proofs.Common.{◌≡◌, ◌||◌, ◌++◌, ℕ, Bool, true, false, List, [], refl, sym, ap, ◌∙◌}
 use Rattle.ac_syntax.specs.declared.script.Script.{Script}
-use Rattle.ac_check.specs.HasTasks.{begins_tasks, has_tasks}
-use Rattle.ac_check.specs.Resolved.{ResolvedHead, loops_at, views_at, stables_at, declares_at, gathers_at, works_at, ResolvedCode, no_statement, a_command, a_block, resolve, resolve_script}
-use Rattle.ac_check.specs.Scopes.{with_decls}
+use Rattle.ac_rules.specs.HasTasks.{begins_tasks, has_tasks}
+use Rattle.ac_rules.specs.Resolved.{ResolvedHead, loops_at, views_at, stables_at, declares_at, gathers_at, works_at, ResolvedCode, no_statement, a_command, a_block, resolve, resolve_script}
+use Rattle.ac_rules.specs.Scopes.{with_decls}
 use Rattle.ac_calls.specs.Answers.{lines_text}
 use Rattle.ac_calls.specs.Holdings.{Guards}
 use Rattle.ac_meaning.specs.Environment.{State, first_state, after_decls, guarded_at, nodes, under}

@@ -3,7 +3,7 @@ use Rattle.std.specs.Prelude.{◌≤◌, ℕ, List, length, Option, IfSome}
 use Rattle.ac_syntax.specs.declared.refusal.RefusalKind.{RefusalKind}
 use Rattle.ac_syntax.specs.declared.script.Script.{Script}
 use Rattle.ac_syntax.specs.Refusals.{Spells}
-use Rattle.ac_check.specs.Faults.{IsFirstFault}
+use Rattle.ac_rules.specs.Faults.{IsFirstFault}
 use Rattle.ac_meaning.specs.Meanings.{Meaning}
 use Rattle.ac_top.specs.declared.mode.Mode.{Mode}
 use Rattle.ac_top.specs.declared.status.Status.{Status}

@@ -2,9 +2,9 @@
 use Rattle.std.specs.Prelude.{◌≡◌, ⊤, ℕ, false, [], List}
 use Rattle.ac_syntax.specs.declared.script.Script.{Script}
 use Rattle.ac_syntax.specs.Refusals.{Spells}
-use Rattle.ac_check.specs.HasTasks.{has_tasks}
-use Rattle.ac_check.specs.Resolved.{resolve}
-use Rattle.ac_check.specs.Scopes.{with_decls}
+use Rattle.ac_rules.specs.HasTasks.{has_tasks}
+use Rattle.ac_rules.specs.Resolved.{resolve}
+use Rattle.ac_rules.specs.Scopes.{with_decls}
 use Rattle.ac_top.specs.declared.mode.Mode.{Mode}
 use Rattle.ac_top.specs.declared.mode.Mode.TheVariants.{Read, Generate}
 use Rattle.ac_top.specs.declared.mode.Task.TheVariants.{Run, Audit, Check}

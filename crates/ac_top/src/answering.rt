@@ -3,10 +3,10 @@ ghost use Rattle.std.specs.Prelude.{◌≡◌, ◌≢◌, ◌≤◌, ◌⊎◌, 
 ghost use Rattle.ac_syntax.specs.declared.refusal.RefusalKind.{RefusalKind};
 ghost use Rattle.ac_syntax.specs.declared.fault.ScriptFault.TheVariants.{Refused as RefusedAt};
 ghost use Rattle.ac_syntax.specs.Refusals.{Spells, IsFirstRefusal};
-ghost use Rattle.ac_check.specs.Faults.{IsChecked};
-ghost use Rattle.ac_check.specs.HasTasks.{has_tasks};
-ghost use Rattle.ac_check.specs.Resolved.{resolve};
-ghost use Rattle.ac_check.specs.Scopes.{with_decls};
+ghost use Rattle.ac_rules.specs.Faults.{IsChecked};
+ghost use Rattle.ac_rules.specs.HasTasks.{has_tasks};
+ghost use Rattle.ac_rules.specs.Resolved.{resolve};
+ghost use Rattle.ac_rules.specs.Scopes.{with_decls};
 ghost use Rattle.ac_host.specs.Writing.{Writes as HostWrites};
 ghost use Rattle.ac_meaning.specs.Environment.{nodes};
 ghost use Rattle.ac_meaning.specs.Execution.{Orders, run_with, text_with};

@@ -1,6 +1,6 @@
 use Rattle.std.proofs.Common.{◌≡◌, drop}
 use Rattle.ac_check.specs.Rows.{first_grouped}
-use Rattle.ac_check.specs.Rules as rules
+use Rattle.ac_rules.specs.Rules as rules
 use Rattle.ac_check.specs.Views.{typed_view}
 use Rattle.ac_check.proofs.call.operation_among.Given as goal
 

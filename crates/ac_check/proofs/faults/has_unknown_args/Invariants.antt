@@ -1,6 +1,6 @@
 use Rattle.std.proofs.Common.{◌≡◌, drop}
-use Rattle.ac_check.specs.UsedNames.{args_names}
-use Rattle.ac_check.specs.Walks.{has_unknown}
+use Rattle.ac_rules.specs.UsedNames.{args_names}
+use Rattle.ac_rules.specs.Walks.{has_unknown}
 use Rattle.ac_check.proofs.faults.has_unknown_args.Given as goal
 
 abbrev pub invariant-loop-arg : goal.invariant-loop-arg

@@ -1,8 +1,8 @@
 use Rattle.std.proofs.Common.{ap, sym, ◌∙◌, not}
 use Rattle.std.specs.Prelude.{Some, if◌then◌else◌}
 use Rattle.ac_syntax.specs.declared.refusal.RefusalKind.TheVariants.{WrongType}
-use Rattle.ac_check.specs.Scopes.{first_task}
-use Rattle.ac_check.specs.Walks.{declared_fault}
+use Rattle.ac_rules.specs.Scopes.{first_task}
+use Rattle.ac_rules.specs.Walks.{declared_fault}
 use Rattle.ac_check.proofs.TaskScopes.{suits_any}
 use Rattle.ac_check.proofs.faults.task_fault.Goals as goal
 

@@ -1,8 +1,8 @@
 use Rattle.std.proofs.Common.{◌≡◌, ap, arith, get_or}
-use Rattle.ac_check.specs.Resolved.{no_statement, resolved_size}
-use Rattle.ac_check.specs.ResolvedStatements.{resolved_before}
-use Rattle.ac_check.specs.declared.resolved.ResolvedStmt.{ResolvedStmt}
-use Rattle.ac_check.proofs.SizesAmong.{size_among}
+use Rattle.ac_rules.specs.Resolved.{no_statement, resolved_size}
+use Rattle.ac_rules.specs.ResolvedStatements.{resolved_before}
+use Rattle.ac_rules.specs.declared.resolved.ResolvedStmt.{ResolvedStmt}
+use Rattle.ac_rules.proofs.SizesAmong.{size_among}
 use Rattle.ac_check.proofs.having.+having.Goals as goal
 
 pub has_tasks-one_has_tasks-requires : goal.has_tasks-one_has_tasks-requires

@@ -1,7 +1,7 @@
 use Rattle.std.proofs.Common.{◌≡◌, ◌+◌, ◌*◌, drop}
-use Rattle.ac_check.specs.HasTasks.{has_tasks}
-use Rattle.ac_check.specs.Resolved.{no_statement, resolved_size}
-use Rattle.ac_check.specs.ResolvedStatements.{resolved_before, resolved_of}
+use Rattle.ac_rules.specs.HasTasks.{has_tasks}
+use Rattle.ac_rules.specs.Resolved.{no_statement, resolved_size}
+use Rattle.ac_rules.specs.ResolvedStatements.{resolved_before, resolved_of}
 use Rattle.ac_check.proofs.having.+having.Given as goal
 
 abbrev pub decreases-has_tasks : goal.decreases-has_tasks

@@ -1,5 +1,5 @@
 use Rattle.std.proofs.Common.{◌≡◌, ◌++◌, map, drop}
-use Rattle.ac_check.specs.Resolved as resolved
+use Rattle.ac_rules.specs.Resolved as resolved
 use Rattle.ac_check.proofs.resolve.resolve_args.Given as goal
 
 abbrev pub invariant-loop-arg : goal.invariant-loop-arg

@@ -1,6 +1,6 @@
 use Rattle.std.proofs.Common.{◌≡◌, drop}
-use Rattle.ac_check.specs.UsedNames.{args_names}
-use Rattle.ac_check.specs.Rules.{are_local}
+use Rattle.ac_rules.specs.UsedNames.{args_names}
+use Rattle.ac_rules.specs.Rules.{are_local}
 use Rattle.ac_check.proofs.rules.are_local_args.Given as goal
 
 abbrev pub invariant-loop-arg : goal.invariant-loop-arg

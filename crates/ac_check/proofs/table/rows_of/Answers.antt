@@ -1,6 +1,6 @@
 use Rattle.std.proofs.Common.{true, false}
 use Rattle.ac_syntax.specs.declared.kind.Kind.TheVariants as kind
-use Rattle.ac_check.specs.Table.{common_rows, counted_rows, sequence_rows, vector_rows, capacity_rows, list_rows, keyed_walk_rows, map_rows, ordered_rows, ordered_map_rows, set_rows, keyed_rows, ordered_set_rows, ordered_keyed_rows, tree_rows, tree_change_rows, holder_rows, queue_rows, priority_queue_rows}
+use Rattle.ac_rules.specs.Table.{common_rows, counted_rows, sequence_rows, vector_rows, capacity_rows, list_rows, keyed_walk_rows, map_rows, ordered_rows, ordered_map_rows, set_rows, keyed_rows, ordered_set_rows, ordered_keyed_rows, tree_rows, tree_change_rows, holder_rows, queue_rows, priority_queue_rows}
 use Rattle.ac_check.proofs.RowsOf.{of_kind, of_set}
 use Rattle.ac_check.proofs.table.rows_of.Goals as goal
 

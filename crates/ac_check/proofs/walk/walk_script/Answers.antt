@@ -1,7 +1,7 @@
 use Rattle.std.proofs.Common.{ap, sym, ◌∙◌}
-use Rattle.ac_check.specs.Scopes.{first_task}
-use Rattle.ac_check.proofs.Outcomes.{passed_on}
-use Rattle.ac_check.proofs.FirstFaults.{decls_stopped, behind_decls, faultless, first_fault}
+use Rattle.ac_rules.specs.Scopes.{first_task}
+use Rattle.ac_rules.proofs.Outcomes.{passed_on}
+use Rattle.ac_rules.proofs.FirstFaults.{decls_stopped, behind_decls, faultless, first_fault}
 use Rattle.ac_check.proofs.TaskScopes.{decls_first}
 use Rattle.ac_check.proofs.walk.walk_script.Goals as goal
 

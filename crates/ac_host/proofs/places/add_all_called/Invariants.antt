@@ -1,5 +1,5 @@
 use Rattle.std.proofs.Common.{◌≡◌, drop}
-use Rattle.ac_check.specs.ResolvedStatements.{resolved_of}
+use Rattle.ac_rules.specs.ResolvedStatements.{resolved_of}
 use Rattle.ac_meaning.specs.TaskBlocks.{places_called}
 use Rattle.ac_host.proofs.places.add_all_called.Given as goal
 

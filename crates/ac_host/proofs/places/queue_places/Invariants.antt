@@ -1,5 +1,5 @@
 use Rattle.std.proofs.Common.{◌≡◌, drop}
-use Rattle.ac_check.specs.ResolvedStatements.{resolved_tasks_of}
+use Rattle.ac_rules.specs.ResolvedStatements.{resolved_tasks_of}
 use Rattle.ac_meaning.specs.TaskBlocks.{places_shared, queue_places}
 use Rattle.ac_host.proofs.places.queue_places.Given as goal
 

@@ -1,7 +1,7 @@
 use Rattle.std.proofs.Common.{◌≡◌, ◌∷◌, ◌++◌, [], ap, sym, subst, ◌∙◌, OnOk}
-use Rattle.ac_check.specs.Resolved.{calls_at, no_statement}
-use Rattle.ac_check.specs.ResolvedStatements.{resolved_before}
-use Rattle.ac_check.specs.declared.resolved.ResolvedStmt.{ResolvedStmt}
+use Rattle.ac_rules.specs.Resolved.{calls_at, no_statement}
+use Rattle.ac_rules.specs.ResolvedStatements.{resolved_before}
+use Rattle.ac_rules.specs.declared.resolved.ResolvedStmt.{ResolvedStmt}
 use Rattle.ac_meaning.specs.TaskBlocks.{step_of, steps_of}
 use Rattle.ac_host.proofs.Gathering.{same_set}
 use Rattle.ac_host.proofs.task_code.add_step.Goals as goal

@@ -1,5 +1,5 @@
 use Rattle.std.proofs.Common.{◌≡◌, ◌++◌, drop}
-use Rattle.ac_check.specs.ResolvedStatements.{resolved_of}
+use Rattle.ac_rules.specs.ResolvedStatements.{resolved_of}
 use Rattle.ac_meaning.specs.TaskBlocks.{steps_of}
 use Rattle.ac_host.proofs.task_code.steps_of.Given as goal
 

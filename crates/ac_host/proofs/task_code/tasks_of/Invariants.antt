@@ -1,5 +1,5 @@
 use Rattle.std.proofs.Common.{◌≡◌, ◌++◌, drop}
-use Rattle.ac_check.specs.ResolvedStatements.{resolved_tasks_of}
+use Rattle.ac_rules.specs.ResolvedStatements.{resolved_tasks_of}
 use Rattle.ac_meaning.specs.TaskBlocks.{tasks_from}
 use Rattle.ac_host.proofs.task_code.tasks_of.Given as goal
 

@@ -1,7 +1,7 @@
 use Rattle.std.proofs.Common.{refl}
 use Rattle.std.specs.Fmt.{digits}
-use Rattle.ac_check.specs.Table.{rows_of, holder_rows, common_rows, counted_rows, sequence_rows, list_rows}
-use Rattle.ac_check.specs.Resolved.{resolve_simple}
+use Rattle.ac_rules.specs.Table.{rows_of, holder_rows, common_rows, counted_rows, sequence_rows, list_rows}
+use Rattle.ac_rules.specs.Resolved.{resolve_simple}
 use Rattle.ac_meaning.specs.Execution.{run, run_with, text_of}
 use Rattle.ac_meaning.proofs.examples.holder_scripts.Goals as goal
 

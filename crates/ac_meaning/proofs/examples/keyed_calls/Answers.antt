@@ -1,8 +1,8 @@
 use Rattle.std.proofs.Common.{refl}
 use Rattle.std.specs.Fmt.{digits}
 use Rattle.ac_base.specs.Growth.{pow8}
-use Rattle.ac_check.specs.Table.{rows_of, common_rows, counted_rows, capacity_rows, keyed_walk_rows, map_rows, set_rows, ordered_rows, ordered_map_rows, ordered_set_rows}
-use Rattle.ac_check.specs.Resolved.{resolve_simple}
+use Rattle.ac_rules.specs.Table.{rows_of, common_rows, counted_rows, capacity_rows, keyed_walk_rows, map_rows, set_rows, ordered_rows, ordered_map_rows, ordered_set_rows}
+use Rattle.ac_rules.specs.Resolved.{resolve_simple}
 use Rattle.ac_meaning.specs.Execution.{run, run_with, text_of}
 use Rattle.ac_meaning.proofs.examples.keyed_calls.Goals as goal
 

@@ -10,8 +10,8 @@ use Rattle.ac_syntax.specs.Tokens.{tokens}
 use Rattle.ac_syntax.specs.declared.refusal.RefusalKind.TheVariants.{UnknownName}
 use Rattle.ac_syntax.proofs.Derivations.{script_derives}
 use Rattle.ac_syntax.proofs.Withins.{within}
-use Rattle.ac_check.specs.Faults.{AreFaultless}
-use Rattle.ac_check.specs.Scopes.{Standing, standing, standings}
+use Rattle.ac_rules.specs.Faults.{AreFaultless}
+use Rattle.ac_rules.specs.Scopes.{Standing, standing, standings}
 use Rattle.ac_meaning.specs.Examples.{number, script}
 use Rattle.ac_meaning.specs.Execution.{run, run_with, text_of}
 use Rattle.ac_meaning.specs.MeaningExamples.{unknown}

@@ -1,7 +1,7 @@
 use Rattle.std.proofs.Common.{refl}
 use Rattle.std.specs.Fmt.{digits}
-use Rattle.ac_check.specs.Table.{rows_of, common_rows, tree_rows, tree_change_rows}
-use Rattle.ac_check.specs.Resolved.{resolve_simple}
+use Rattle.ac_rules.specs.Table.{rows_of, common_rows, tree_rows, tree_change_rows}
+use Rattle.ac_rules.specs.Resolved.{resolve_simple}
 use Rattle.ac_meaning.specs.Execution.{run, run_with, text_of}
 use Rattle.ac_meaning.proofs.examples.tree_calls.Goals as goal
 

@@ -1,8 +1,8 @@
 use Rattle.std.proofs.Common.{rules, ◌≡◌, false, ap, ◌∙◌, [], ◌∷◌, ◌++◌}
 use Rattle.std.proofs.lemmas.List.{map-append}
 use Rattle.indexmap.proofs.CallerLemmas.{insert_entry-new}
-use Rattle.ac_check.specs.Scopes.{Scope, entry}
-use Rattle.ac_check.specs.Faults.{is_in_scope}
+use Rattle.ac_rules.specs.Scopes.{Scope, entry}
+use Rattle.ac_rules.specs.Faults.{is_in_scope}
 use Rattle.ac_check.specs.Meanings.{meaning_view, entries_view}
 use Rattle.ac_check.proofs.Names.{not_among}
 use Rattle.ac_check.proofs.scope.Scope.declare.Goals as goal

@@ -1,6 +1,6 @@
 use Rattle.std.proofs.Common.{ap, ◌∙◌, sym, take}
 use Rattle.std.specs.List.{take-map}
-use Rattle.ac_check.specs.Scopes.{Scope}
+use Rattle.ac_rules.specs.Scopes.{Scope}
 use Rattle.ac_check.specs.Meanings.{entries_view}
 use Rattle.ac_check.proofs.scope.Scope.leave.Goals as goal
 

@@ -1,5 +1,5 @@
 use Rattle.std.proofs.Common.{ap, ◌∙◌, option_map}
-use Rattle.ac_check.specs.Scopes.{Scope, meaning_in}
+use Rattle.ac_rules.specs.Scopes.{Scope, meaning_in}
 use Rattle.ac_check.specs.Meanings.{meaning_view}
 use Rattle.ac_check.proofs.Names.{lookup_meaning, view_copied}
 use Rattle.ac_check.proofs.scope.Scope.meaning.Goals as goal

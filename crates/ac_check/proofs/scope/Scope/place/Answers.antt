@@ -1,7 +1,7 @@
 use Rattle.std.proofs.Common.{ap, sym, ◌∙◌, map}
 use Rattle.std.proofs.lemmas.List.{length-map}
-use Rattle.ac_check.specs.Scopes.{Scope}
-use Rattle.ac_check.specs.Resolved.{place_of}
+use Rattle.ac_rules.specs.Scopes.{Scope}
+use Rattle.ac_rules.specs.Resolved.{place_of}
 use Rattle.ac_check.proofs.Names.{place_among, position_found, position_none}
 use Rattle.ac_check.proofs.scope.Scope.place.Goals as goal
 

@@ -6,12 +6,12 @@ use Rattle.ac_syntax.specs.declared.stmt.TaskText.{TaskText}
 use Rattle.ac_syntax.specs.declared.stmt.Stmt.{Stmt}
 use Rattle.ac_syntax.specs.declared.stmt.Stmt.TheVariants.{Declare}
 use Rattle.ac_syntax.proofs.StatementSizes.{size_among, task_among}
-use Rattle.ac_check.specs.Scopes.{Scope, first_task, with_decls, Standing}
-use Rattle.ac_check.specs.Walks.{outcome}
-use Rattle.ac_check.proofs.Outcomes.{passed_on}
+use Rattle.ac_rules.specs.Scopes.{Scope, first_task, with_decls, Standing}
+use Rattle.ac_rules.specs.Walks.{outcome}
+use Rattle.ac_rules.proofs.Outcomes.{passed_on}
 use Rattle.ac_check.proofs.Blocks.{begins_with, declare_on, declare_stopped, outside_decls, statement_on, statement_stopped, named, same_decls, same_scope, task_on, task_stopped, next_task_on, next_task_stopped, next_task_scope, tasks_left}
 use Rattle.ac_check.proofs.Resolving.{statements_on, statements_done, tasks_resolved_on, tasks_done}
-use Rattle.ac_check.proofs.Kept.{unnamed}
+use Rattle.ac_rules.proofs.Kept.{unnamed}
 use Rattle.ac_check.proofs.TaskScopes.{first_on, task_first, decls_first}
 use Rattle.ac_check.proofs.walk.Walk.+statements.Goals as goal
 

@@ -2,9 +2,9 @@ use Rattle.std.proofs.Common.{◌≡◌, ◌+◌, ◌*◌, drop, length}
 use Rattle.std.specs.Prelude.{unwrap_or}
 use Rattle.ac_syntax.specs.Code.{code_size, stop}
 use Rattle.ac_syntax.specs.Statements.{before, code_of, task_before, tasks_of}
-use Rattle.ac_check.specs.Scopes.{first_task, standings_from, behind_code}
-use Rattle.ac_check.specs.Resolved.{resolve}
-use Rattle.ac_check.specs.Walks.{outcome}
+use Rattle.ac_rules.specs.Scopes.{first_task, standings_from, behind_code}
+use Rattle.ac_rules.specs.Resolved.{resolve}
+use Rattle.ac_rules.specs.Walks.{outcome}
 use Rattle.ac_check.proofs.Resolving.{listed_before, tasks_before}
 use Rattle.ac_check.proofs.walk.Walk.+statements.Given as goal
 

@@ -1,6 +1,6 @@
 use Rattle.std.proofs.Common.{◌≡◌, false, sym, subst, ◌∙◌}
-use Rattle.ac_check.specs.Faults.{is_in_scope}
-use Rattle.ac_check.proofs.Kept.{undeclared}
+use Rattle.ac_rules.specs.Faults.{is_in_scope}
+use Rattle.ac_rules.proofs.Kept.{undeclared}
 use Rattle.ac_check.proofs.walk.Walk.walk_decl.Goals as goal
 
 pub declare-requires : goal.declare-requires

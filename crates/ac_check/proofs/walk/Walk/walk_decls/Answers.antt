@@ -1,8 +1,8 @@
 use Rattle.std.proofs.Common.{ap, sym, ◌∙◌, drop, ◌+◌, List}
 use Rattle.ac_syntax.specs.declared.decl.Decl.{Decl}
-use Rattle.ac_check.specs.Scopes.{first_task, standing_decls, with_entry, decl_entry}
-use Rattle.ac_check.specs.Walks.{outcome}
-use Rattle.ac_check.proofs.Outcomes.{passed_on, next_item}
+use Rattle.ac_rules.specs.Scopes.{first_task, standing_decls, with_entry, decl_entry}
+use Rattle.ac_rules.specs.Walks.{outcome}
+use Rattle.ac_rules.proofs.Outcomes.{passed_on, next_item}
 use Rattle.ac_check.proofs.TaskScopes.{decl_first}
 use Rattle.ac_check.proofs.Resolving.{outcome_on, scope_on, resolved_on}
 use Rattle.ac_check.proofs.walk.Walk.walk_decls.Goals as goal

@@ -1,7 +1,7 @@
 use Rattle.std.proofs.Common.{◌≡◌, ◌++◌, drop}
-use Rattle.ac_check.specs.Scopes.{first_task, standing_decls, with_decls}
-use Rattle.ac_check.specs.Resolved.{resolve_decls}
-use Rattle.ac_check.specs.Walks.{outcome}
+use Rattle.ac_rules.specs.Scopes.{first_task, standing_decls, with_decls}
+use Rattle.ac_rules.specs.Resolved.{resolve_decls}
+use Rattle.ac_rules.specs.Walks.{outcome}
 use Rattle.ac_check.proofs.walk.Walk.walk_decls.Given as goal
 
 abbrev pub invariant-loop-decl : goal.invariant-loop-decl

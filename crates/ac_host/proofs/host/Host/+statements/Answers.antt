@@ -1,8 +1,8 @@
 use Rattle.std.proofs.Common.{◌≡◌, ◌+◌, ◌<◌, ◌++◌, [], take, drop, length, get_or, refl, sym, ap, subst, ◌∙◌, arith, Err}
-use Rattle.ac_check.specs.Resolved.{resolved_size, no_statement, calls_at, sets_at, sums_at, stables_at}
-use Rattle.ac_check.specs.ResolvedStatements.{resolved_before, resolved_of}
-use Rattle.ac_check.specs.declared.resolved.ResolvedStmt.{ResolvedStmt}
-use Rattle.ac_check.specs.declared.resolved.ResolvedStmt.TheVariants.{Call}
+use Rattle.ac_rules.specs.Resolved.{resolved_size, no_statement, calls_at, sets_at, sums_at, stables_at}
+use Rattle.ac_rules.specs.ResolvedStatements.{resolved_before, resolved_of}
+use Rattle.ac_rules.specs.declared.resolved.ResolvedStmt.{ResolvedStmt}
+use Rattle.ac_rules.specs.declared.resolved.ResolvedStmt.TheVariants.{Call}
 use Rattle.ac_meaning.specs.Environment.{leaving, guarded_at, mark_at, with_name, binds_element, binds_value, after_decls}
 use Rattle.ac_meaning.specs.Execution.{exec_resolved, guards_of_view, guards_of_stable, turns}
 use Rattle.ac_base.specs.declared.reason.Reason.TheVariants.{NamesSpent}
@@ -19,7 +19,7 @@ use Rattle.ac_host.specs.Running.{block_of, statement_outcome, key_ending}
 use Rattle.ac_host.specs.Writing.{WroteSoFar}
 use Rattle.ac_host.proofs.Holding.{counts_back, leaving_counts, held_still}
 use Rattle.ac_host.proofs.Opening.{stable_begins, view_begins}
-use Rattle.ac_check.proofs.SizesAmong.{size_among}
+use Rattle.ac_rules.proofs.SizesAmong.{size_among}
 use Rattle.ac_host.proofs.Steps.{statement_told, statements_next, statements_none, ready_statement}
 use Rattle.ac_host.proofs.Standing.{ready_exec}
 use Rattle.ac_host.proofs.Telling.{broke_nothing, so_far_none, so_far_more, so_far_broke}

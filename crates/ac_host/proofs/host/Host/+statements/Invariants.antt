@@ -1,7 +1,7 @@
 use Rattle.std.proofs.Common.{◌≡◌, ◌+◌, ◌*◌, ◌++◌, ℕ, List, drop, take}
 use Rattle.ac_model.specs.Cursors.{plain_mark}
-use Rattle.ac_check.specs.Resolved.{resolved_size, no_statement}
-use Rattle.ac_check.specs.ResolvedStatements.{resolved_before, resolved_of}
+use Rattle.ac_rules.specs.Resolved.{resolved_size, no_statement}
+use Rattle.ac_rules.specs.ResolvedStatements.{resolved_before, resolved_of}
 use Rattle.ac_calls.specs.Holdings.{Guards, Held, number_of, names_of}
 use Rattle.ac_meaning.specs.Environment.{State}
 use Rattle.ac_meaning.specs.Execution.{exec_resolved, turns, guards_of_loop}

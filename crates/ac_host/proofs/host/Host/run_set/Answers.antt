@@ -1,4 +1,4 @@
-use Rattle.ac_check.specs.Resolved.{sets_at}
+use Rattle.ac_rules.specs.Resolved.{sets_at}
 use Rattle.ac_host.proofs.Commands.{command_ran}
 use Rattle.ac_host.proofs.Standing.{ready_stand}
 use Rattle.ac_host.proofs.host.Host.run_set.Goals as goal

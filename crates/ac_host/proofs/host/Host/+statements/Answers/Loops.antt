@@ -1,6 +1,6 @@
 -- What the goals of loops want, and of their turns.
 use Rattle.std.proofs.Common.{◌++◌, ◌∷◌, take, length, refl, sym, ap, subst, ◌∙◌, arith, Ok}
-use Rattle.ac_check.specs.Resolved.{loops_at, views_at}
+use Rattle.ac_rules.specs.Resolved.{loops_at, views_at}
 use Rattle.ac_calls.specs.Holdings.{number_of, names_of}
 use Rattle.ac_meaning.specs.Environment.{objects_by, leaving, guarded_at, with_name}
 use Rattle.ac_meaning.specs.Execution.{exec_resolved, guards_of_loop, in_order, turns, turn_bound, scoped}

@@ -1,8 +1,0 @@
-use Rattle.ac_check.proofs.FirstFaults as first
-use Rattle.ac_check.proofs.law.one_fault.Goals as goal
-
-pub returns-clause-one : goal.returns-clause-one
-returns-clause-one c = first.one_fault
-
-pub returns-clause-none : goal.returns-clause-none
-returns-clause-none c = first.no_fault

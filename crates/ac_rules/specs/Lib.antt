@@ -1,0 +1,16 @@
+pub mod Table
+pub mod Scopes
+pub mod Rules
+pub mod UsedNames
+pub mod Examples
+pub mod Faults
+pub mod Walks
+pub mod Kept
+pub mod Operations
+pub mod Resolved
+pub mod ResolvedCoded
+pub mod ResolvedStatements
+pub mod ResolvedFall
+pub mod ResolvedExamples
+pub mod TaskExamples
+pub mod HasTasks
