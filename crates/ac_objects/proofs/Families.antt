@@ -7,18 +7,17 @@ use Rattle.ac_model.specs.Rows.{Node}
 use Rattle.ac_calls.specs.Elements.{ElementOf, Text}
 use Rattle.ac_calls.specs.Holdings.{SequenceKind, of_list, of_vector, RowKind, a_sequence, a_map, a_set, a_keyed_set, a_tree}
 use Rattle.ac_calls.specs.KeyedReplies.{KeyedKind, of_hashed, of_ordered}
+use Rattle.ac_sequence_calls.specs.declared.sequence.Sequence.TheVariants.{List, Vector}
 use Rattle.ac_objects.specs.declared.object.Object.{Object}
 use Rattle.ac_objects.specs.declared.object.Object.TheVariants.{Integers, Texts, IntegerSet, TextSet, KeyedSet, IntegersByInteger, IntegersByText, TextsByInteger, TextsByText, IntegerTree, TextTree}
 use Rattle.ac_objects.specs.declared.keyed_set.KeyedSet.{KeyedSet as KeyedTexts}
 use Rattle.ac_objects.specs.declared.map.Map.{Map}
 use Rattle.ac_objects.specs.declared.map.Map.TheVariants as map
-use Rattle.ac_objects.specs.declared.sequence.Sequence.{Sequence}
-use Rattle.ac_objects.specs.declared.sequence.Sequence.TheVariants.{List, Vector}
 use Rattle.ac_objects.specs.declared.set.Set.{Set}
 use Rattle.ac_objects.specs.declared.set.Set.TheVariants as set
 use Rattle.ac_objects.specs.KeyedSets.{keyed_items, keyed_kind}
 use Rattle.ac_objects.specs.Maps.{entries_of, map_kind_of}
-use Rattle.ac_objects.specs.Sequences.{rows_of, kind_of}
+use Rattle.ac_objects.specs.Sequences.{Sequence, rows_of, kind_of}
 use Rattle.ac_objects.specs.Sets.{items_of, set_kind_of}
 use Rattle.ac_objects.specs.World.{in_rows, memory_of}
 

@@ -1,4 +1,3 @@
-pub mod SequenceOperations
 pub mod SetOperations
 pub mod KeyedOperations
 pub mod MapOperations

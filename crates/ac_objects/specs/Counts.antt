@@ -5,26 +5,25 @@ use Rattle.ac_model.specs.Containers.{with_guards, guards_of}
 use Rattle.ac_forms.specs.HolderFields.{with_guards as holder_with}
 use Rattle.ac_calls.specs.Elements.{Text}
 use Rattle.ac_calls.specs.Holdings.{a_keyed_set}
+use Rattle.ac_sequence_calls.specs.Sequences.{with_guards_by}
+use Rattle.ac_sequence_calls.specs.declared.sequence.Sequence.TheVariants.{List, Vector}
 use Rattle.ac_objects.specs.declared.object.Object.{Object}
 use Rattle.ac_objects.specs.declared.object.Object.TheVariants.{Integers, Texts, IntegerSet, TextSet, KeyedSet, IntegersByInteger, IntegersByText, TextsByInteger, TextsByText, IntegerTree, TextTree, IntegerHolder, TextHolder, Queue}
 use Rattle.ac_objects.specs.declared.keyed_set.KeyedSet.{KeyedSet as KeyedTexts}
 use Rattle.ac_objects.specs.declared.map.Map.{Map}
 use Rattle.ac_objects.specs.declared.map.Map.TheVariants as map
-use Rattle.ac_objects.specs.declared.sequence.Sequence.{Sequence}
-use Rattle.ac_objects.specs.declared.sequence.Sequence.TheVariants.{List, Vector}
 use Rattle.ac_objects.specs.declared.set.Set.{Set}
 use Rattle.ac_objects.specs.declared.set.Set.TheVariants as set
 use Rattle.ac_objects.specs.KeyedSets.{keyed_items}
 use Rattle.ac_objects.specs.Maps.{entries_of}
-use Rattle.ac_objects.specs.Sequences.{rows_of}
+use Rattle.ac_objects.specs.Sequences.{Sequence}
 use Rattle.ac_objects.specs.Sets.{items_of, set_kind_of}
 use Rattle.ac_objects.specs.World.{InMemory, in_rows, in_holder, in_queue, memory_of}
 
 -- with this number and these counts
 
 abbrev pub sequence_with : {T : Type 0} → Sequence T → GuardCounts → Sequence T
-sequence_with (List l) counts = List (record l { sequence = with_guards l.sequence counts })
-sequence_with (Vector v) counts = Vector (record v { sequence = with_guards v.sequence counts })
+sequence_with s counts = with_guards_by (λ l given. with_guards l given) (λ v given. with_guards v given) s counts
 
 abbrev pub set_with : {T K : Type 0} → Set T K → GuardCounts → Set T K
 set_with (set.Hashed s) counts = set.Hashed (with_guards s counts)
@@ -54,18 +53,6 @@ with_counts (TextHolder h) counts = TextHolder (holder_with h counts)
 with_counts (Queue q) counts = Queue q
 
 -- the laws of guards, of each type of objects
-
-pub sequence_given : {T : Type 0} (s : Sequence T) (counts : GuardCounts) → guards_of (rows_of (sequence_with s counts)) ≡ counts
-sequence_given (List l) counts = refl
-sequence_given (Vector v) counts = refl
-
-pub sequence_own : {T : Type 0} (s : Sequence T) → sequence_with s (guards_of (rows_of s)) ≡ s
-sequence_own (List l) = refl
-sequence_own (Vector v) = refl
-
-pub sequence_rest : {T : Type 0} (s : Sequence T) (counts others : GuardCounts) → sequence_with (sequence_with s counts) others ≡ sequence_with s others
-sequence_rest (List l) counts others = refl
-sequence_rest (Vector v) counts others = refl
 
 pub set_given : {T K : Type 0} (s : Set T K) (counts : GuardCounts) → guards_of (items_of (set_with s counts)) ≡ counts
 set_given (set.Hashed s) counts = refl

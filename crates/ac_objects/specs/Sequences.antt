@@ -1,13 +1,14 @@
--- Lists and vectors in one type: the rows that one has, and which of the two it is.
+-- A list or a vector of a script: the rows that it has, and which of the two it is.
 use Rattle.ac_model.specs.Containers.{Container}
-use Rattle.ac_calls.specs.Holdings.{SequenceKind, of_list, of_vector}
-use Rattle.ac_objects.specs.declared.sequence.Sequence.{Sequence}
-use Rattle.ac_objects.specs.declared.sequence.Sequence.TheVariants.{List, Vector}
+use Rattle.ac_calls.specs.Holdings.{SequenceKind}
+use Rattle.ac_sequence_calls.specs.Sequences as sequences
+use Rattle.ac_sequence_calls.specs.declared.sequence.Sequence as declared
+
+abbrev pub Sequence : Type 0 → Type 0
+Sequence T = declared.Sequence (Container T) (Container T)
 
 abbrev pub rows_of : {T : Type 0} → Sequence T → Container T
-rows_of (List l) = l.sequence
-rows_of (Vector v) = v.sequence
+rows_of s = sequences.by_kind (λ l. l) (λ v. v) s
 
 abbrev pub kind_of : {T : Type 0} → Sequence T → SequenceKind
-kind_of (List l) = of_list
-kind_of (Vector v) = of_vector
+kind_of s = sequences.kind_of s

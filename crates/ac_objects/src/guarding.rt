@@ -11,7 +11,6 @@ ghost use Rattle.ac_objects.specs.Counts as counts;
 ghost use Rattle.ac_objects.specs.Counts.{with_counts};
 ghost use Rattle.ac_objects.specs.KeyedSets.{keyed_items};
 ghost use Rattle.ac_objects.specs.Maps.{entries_of};
-ghost use Rattle.ac_objects.specs.Sequences.{rows_of};
 ghost use Rattle.ac_objects.specs.Sets.{items_of};
 ghost use Rattle.ac_objects.specs.Standing.{TakesGuards, counts_in_held};
 ghost use Rattle.ac_objects.specs.World.{held_of, state_of, Persists};
@@ -21,47 +20,9 @@ use crate::keyed_set::KeyedSet;
 use crate::map::Map;
 use crate::object::Object;
 use crate::objects::Objects;
-use crate::sequence::Sequence;
 use crate::set::Set;
 use ac_calls::ScriptElement;
 use ac_cursor::{GuardKey, GuardKind, Guarded};
-
-impl<T> Guarded for Sequence<T> {
-    ghost is_set = { λ _. false };
-
-    ghost guards = { λ s. guards_of (rows_of s) };
-
-    ghost with_guards = { counts.sequence_with };
-
-    ghost guards_given = { counts.sequence_given };
-
-    ghost guards_own = { counts.sequence_own };
-
-    ghost rest_kept = { counts.sequence_rest };
-
-    ghost set_kept = { λ _ _. refl };
-
-    fn hold(&mut self, kind: GuardKind) -> GuardKey {
-        match self {
-            Sequence::List(list) => list.hold(kind),
-            Sequence::Vector(vector) => vector.hold(kind),
-        }
-    }
-
-    fn release(&mut self, key: GuardKey) {
-        match self {
-            Sequence::List(list) => list.release(key),
-            Sequence::Vector(vector) => vector.release(key),
-        }
-    }
-
-    fn held(&self, kind: GuardKind) -> u64 {
-        match self {
-            Sequence::List(list) => list.held(kind),
-            Sequence::Vector(vector) => vector.held(kind),
-        }
-    }
-}
 
 impl<T: ScriptElement> Guarded for Set<T> {
     ghost is_set = { λ _. true };

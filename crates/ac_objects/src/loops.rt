@@ -18,9 +18,9 @@ ghost use Rattle.ac_objects.specs.declared.bound.Bound.TheVariants as bound;
 use crate::blocks::LoopKey;
 use crate::bound::Bound;
 use crate::objects::Objects;
-use crate::walking::by_fields;
 use ac_base::NoMemory;
 use ac_cursor::{Cursor, GuardKey, GuardKind};
+use ac_sequence_calls::by_fields;
 
 impl Objects {
     /// Begins a loop over an object, with its guards held. NoMemory where 64 bits don't count one more.

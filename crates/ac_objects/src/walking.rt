@@ -18,6 +18,7 @@ use ac_base::{Fault, Name, Reason};
 use ac_calls::RowObject;
 use ac_cursor::Cursor;
 use ac_holder_calls::refused;
+use ac_sequence_calls::by_fields;
 
 /// The cursor at which a loop over the object begins.
 fn first_in<C: RowObject>(object: &C, backward: bool) -> Cursor
@@ -55,34 +56,6 @@ fn next_in<C: RowObject>(object: &C, backward: bool, at: Cursor) -> Cursor
         },
         Ok(Cursor::NoElement) => Cursor::NoElement,
         Err(_) => Cursor::NoElement,
-    }
-}
-
-/// The cursor, copied field by field: a name whose halves were just written, and which is read as one, waits for them.
-#[inline(always)]
-pub(crate) fn by_fields(c: Cursor) -> Cursor
-    ensures { result ≡ c }
-{
-    match c {
-        Cursor::NoElement => Cursor::NoElement,
-        Cursor::At {
-            object,
-            name: Name { slot, serial },
-        } => Cursor::At {
-            object,
-            name: Name { slot, serial },
-        },
-    }
-}
-
-/// The answer, its cursor copied field by field.
-#[inline(always)]
-pub(crate) fn answer_by_fields(answer: Result<Cursor, Fault>) -> Result<Cursor, Fault>
-    ensures { result ≡ answer }
-{
-    match answer {
-        Ok(c) => Ok(by_fields(c)),
-        Err(fault) => Err(fault),
     }
 }
 

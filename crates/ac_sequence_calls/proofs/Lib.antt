@@ -1,1 +1,2 @@
 pub mod SequenceOperations
+pub mod EitherOperations

@@ -1,1 +1,2 @@
 pub mod SequenceCalls
+pub mod Sequences

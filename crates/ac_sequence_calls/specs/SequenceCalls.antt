@@ -1,8 +1,7 @@
 -- What a call of a list or a vector in scripts comes to in the code, where its arguments are as the object sees them, and as its source does.
 use Rattle.ac_base.specs.declared.fault.Fault.{Fault}
-use Rattle.std.specs.Prelude.{ℕ, Bool, true, false, Result}
+use Rattle.std.specs.Prelude.{Bool, true, false, Result}
 use Rattle.ac_chain.specs.Rearranging.{reversing, sorting}
-use Rattle.ac_model.specs.Objects.{Object}
 use Rattle.ac_model.specs.Containers.{Container}
 use Rattle.ac_syntax.specs.declared.operation.Operation.{Operation}
 use Rattle.ac_syntax.specs.declared.operation.SequenceCall.{SequenceCall}
@@ -10,7 +9,7 @@ use Rattle.ac_syntax.specs.declared.operation.VectorCall.{VectorCall}
 use Rattle.ac_syntax.specs.declared.operation.ListCall.{ListCall}
 use Rattle.ac_calls.specs.Elements.{Tools}
 use Rattle.ac_calls.specs.Holdings.{SequenceKind, of_list, of_vector, reply_by}
-use Rattle.ac_calls.specs.Replies.{Source, itself}
+use Rattle.ac_calls.specs.Replies.{itself}
 use Rattle.ac_calls.specs.SequenceReplies.{sequence_reply}
 use Rattle.ac_calls.specs.ListReplies.{list_alone_reply}
 use Rattle.ac_calls.specs.VectorReplies.{vector_alone_reply}

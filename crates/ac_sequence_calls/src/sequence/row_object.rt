@@ -3,24 +3,28 @@ ghost use Rattle.std.specs.Prelude.{refl};
 ghost use Rattle.ac_syntax.specs.Canonical.{literal_text};
 ghost use Rattle.ac_calls.specs.Holdings.{a_sequence};
 ghost use Rattle.ac_calls.specs.SequenceReplies.{sequence_own};
-ghost use Rattle.ac_objects.specs.Sequences.{rows_of, kind_of};
+ghost use Rattle.ac_sequence_calls.specs.Sequences.{by_kind, kind_of};
 
 use super::Sequence;
-use crate::walking::{answer_by_fields, by_fields};
+use crate::fields::{answer_by_fields, by_fields};
 use ac_base::{Fault, NoMemory, Reason, Value};
 use ac_calls::{ListedRows, RowObject, ScriptElement};
+use ac_chain::{ListLike, VectorLike};
 use ac_cursor::Cursor;
 use ac_io::{Sink, WriteFault};
 use std::alloc::Global;
 
-impl<T: ScriptElement> RowObject for Sequence<T> {
-    type Row = T;
+impl<L: ListLike, V: VectorLike<Element = L::Element>> RowObject for Sequence<L, V>
+where
+    L::Element: ScriptElement,
+{
+    type Row = L::Element;
 
-    ghost rows = { rows_of };
+    ghost rows = { λ s. by_kind L.seen V.seen s };
 
-    ghost kind = { λ s. a_sequence (kind_of s) T.elem };
+    ghost kind = { λ s. a_sequence (kind_of s) L.Element.elem };
 
-    ghost own = { λ _ o. sequence_own T.tools o };
+    ghost own = { λ _ o. sequence_own L.Element.tools o };
 
     #[inline(always)]
     fn law(&self) {
@@ -87,7 +91,7 @@ impl<T: ScriptElement> RowObject for Sequence<T> {
         }
     }
 
-    fn is_like(&self, other: &Sequence<T>) -> bool {
+    fn is_like(&self, other: &Sequence<L, V>) -> bool {
         match self {
             Sequence::List(_) => other.is_list(),
             Sequence::Vector(_) => !other.is_list(),
@@ -95,8 +99,11 @@ impl<T: ScriptElement> RowObject for Sequence<T> {
     }
 }
 
-impl<T: ScriptElement> ListedRows for Sequence<T> {
-    ghost row_text = { λ e. literal_text (T.tools.to_value e) };
+impl<L: ListLike, V: VectorLike<Element = L::Element>> ListedRows for Sequence<L, V>
+where
+    L::Element: ScriptElement,
+{
+    ghost row_text = { λ e. literal_text (L.Element.tools.to_value e) };
 
     ghost listing_is = { λ _ _. refl };
 

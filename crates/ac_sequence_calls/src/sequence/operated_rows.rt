@@ -1,16 +1,22 @@
 //! Operations on lists and vectors as objects with rows.
 ghost use Rattle.ac_calls.specs.Holdings.{reply_by};
-ghost use Rattle.ac_objects.specs.Sequences.{kind_of};
+ghost use Rattle.ac_sequence_calls.specs.Sequences.{kind_of};
 
 use super::Sequence;
+use crate::sequence_operations::{
+    operate_list, operate_list_with, operate_vector, operate_vector_with,
+};
 use ac_base::Fault;
 use ac_calls::{Arguments, OperatedRows, Reply, ScriptElement};
-use ac_sequence_calls::{operate_list, operate_list_with, operate_vector, operate_vector_with};
+use ac_chain::{ListLike, VectorLike};
 use ac_syntax::Operation;
 use std::alloc::Global;
 
-impl<T: ScriptElement> OperatedRows for Sequence<T> {
-    ghost comes_to = { λ s o source args operation. reply_by T.tools o source args (kind_of s) operation };
+impl<L: ListLike, V: VectorLike<Element = L::Element>> OperatedRows for Sequence<L, V>
+where
+    L::Element: ScriptElement,
+{
+    ghost comes_to = { λ s o source args operation. reply_by L.Element.tools o source args (kind_of s) operation };
 
     #[inline(always)]
     fn operate(
@@ -28,7 +34,7 @@ impl<T: ScriptElement> OperatedRows for Sequence<T> {
 
     fn operate_with(
         &mut self,
-        source: &mut Sequence<T>,
+        source: &mut Sequence<L, V>,
         alloc: Global,
         operation: Operation,
         args: &mut Arguments,
