@@ -3,5 +3,9 @@ pub mod OwnInserted
 mod SetOperations
 pub mod Entries
 pub mod MapOperations
+pub mod EitherMap
+pub mod EitherSet
+pub mod EitherKeyedSet
+pub mod KeyedOperations
 pub mod MapWords
 pub mod PutEntries

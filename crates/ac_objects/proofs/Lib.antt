@@ -1,6 +1,3 @@
-pub mod SetOperations
-pub mod KeyedOperations
-pub mod MapOperations
 pub mod Worlds
 pub mod InScope
 pub mod Counted

@@ -34,26 +34,21 @@ use Rattle.ac_meaning.proofs.OnePlace.{guards_are_on_one_object}
 use Rattle.ac_objects.specs.declared.blocks.UpdateKey.{UpdateKey}
 use Rattle.ac_objects.specs.declared.bound.Bound.{Bound as Place}
 use Rattle.ac_objects.specs.declared.bound.Bound.TheVariants as bound
-use Rattle.ac_objects.specs.declared.keyed_set.KeyedSet.{KeyedSet as KeyedTexts}
 use Rattle.ac_objects.specs.declared.object.Object.{Object}
 use Rattle.ac_objects.specs.declared.object.Object.TheVariants.{Integers, Texts, IntegerSet, TextSet, KeyedSet, IntegersByInteger, IntegersByText, TextsByInteger, TextsByText, IntegerTree, TextTree, IntegerHolder, TextHolder, Queue}
 use Rattle.ac_objects.specs.Blocks.{IsHeldAt}
-use Rattle.ac_objects.specs.KeyedSets.{keyed_items, keyed_kind}
+use Rattle.ac_keyed_calls.specs.KeyedSets.{keyed_items, keyed_kind}
 use Rattle.ac_objects.specs.KeyUpdates.{UpdateEnds, key_ended}
 use Rattle.ac_objects.specs.Standing.{StandsAt, counts_in, counts_in_held, held_counts, counts_of}
 use Rattle.ac_objects.specs.Steps.{CanRead}
 use Rattle.ac_objects.specs.World.{World, Counters, world, memory_of, held_in, held_of, AgreesIn, ObjectAgrees, IsKnown, IsSound, Persists, in_rows, state_of}
 use Rattle.ac_objects.proofs.Counted.{is_held, is_own, is_counted, no_set, own_number, less_held, less_goes_on, with_one_less, object_read}
-use Rattle.ac_objects.proofs.Families.{keyed_set, keyed_set_now}
+use Rattle.ac_objects.proofs.Families.{KeyedTexts, keyed_set, keyed_set_now}
 use Rattle.ac_objects.proofs.InScope.{GoesOn, object_there, set_state, set_sound, set_persists, left_object}
 use Rattle.ac_objects.proofs.Places.{set_twice, map_set}
 use Rattle.ac_objects.proofs.Worlds.{known_agrees, stands_in}
 
 -- Why an update is refused
-
--- the reason that the element isn't there, looked for alone, beside another one
-pub beside : (tampers missing : Option Reason) → first_reason (tampers ∷ first_reason (missing ∷ []) ∷ []) ≡ first_reason (tampers ∷ missing ∷ [])
-beside tampers missing = ap (earlier tampers) (with_none_later (first_reason (missing ∷ [])))
 
 -- where nothing refuses it the element is there
 pub update_reads : (h : Held) (at : Mark) → key_update_reason h at ≡ None → (element_value h at).reason ≡ None

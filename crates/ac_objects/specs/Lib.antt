@@ -1,7 +1,4 @@
 pub mod Sequences
-pub mod Maps
-pub mod Sets
-pub mod KeyedSets
 pub mod Shown
 pub mod World
 pub mod Standing

@@ -18,9 +18,9 @@ use Rattle.ac_objects.specs.declared.object.Object.{Object}
 use Rattle.ac_objects.specs.declared.object.Object.TheVariants.{Integers, Texts, IntegerSet, TextSet, KeyedSet, IntegersByInteger, IntegersByText, TextsByInteger, TextsByText, IntegerTree, TextTree, IntegerHolder, TextHolder, Queue}
 use Rattle.ac_calls.specs.Arguments.{SlotAgrees}
 use Rattle.ac_objects.specs.Sequences.{rows_of, kind_of}
-use Rattle.ac_objects.specs.Sets.{items_of, set_kind_of}
-use Rattle.ac_objects.specs.KeyedSets.{keyed_items, keyed_kind}
-use Rattle.ac_objects.specs.Maps.{entries_of, map_kind_of}
+use Rattle.ac_keyed_calls.specs.Sets.{items_of, set_kind_of}
+use Rattle.ac_keyed_calls.specs.KeyedSets.{keyed_items, keyed_kind}
+use Rattle.ac_keyed_calls.specs.Maps.{entries_of, map_kind_of}
 use Rattle.ac_objects.specs.declared.bound.Bound.{Bound}
 use Rattle.ac_objects.specs.declared.bound.Bound.TheVariants as bound
 

@@ -1,130 +1,19 @@
 //! The guards that blocks hold on the objects of a script.
-ghost use Rattle.std.specs.Prelude.{◌≡◌, ◌<◌, true, false, None, Some, refl};
+ghost use Rattle.std.specs.Prelude.{◌≡◌, ◌<◌, true, false, None, Some};
 ghost use Rattle.ac_base.specs.Guards.{raised_kind, count_of, one_more, one_less};
 ghost use Rattle.ac_model.specs.Common.{hold_call};
-ghost use Rattle.ac_model.specs.Containers.{guards_of};
 ghost use Rattle.ac_calls.specs.Holdings.{Held, with_rows_by, is_a_set, guard_on, takes_guards};
 ghost use Rattle.ac_meaning.specs.Environment.{object_at, guarded_at, objects_by};
 ghost use Rattle.ac_meaning.specs.UnderGuards.{held_with, held_without};
 ghost use Rattle.ac_objects.specs.Blocks.{HasRoom, HasRoomForTwo, IsHeldAt};
-ghost use Rattle.ac_objects.specs.Counts as counts;
 ghost use Rattle.ac_objects.specs.Counts.{with_counts};
-ghost use Rattle.ac_objects.specs.KeyedSets.{keyed_items};
-ghost use Rattle.ac_objects.specs.Maps.{entries_of};
-ghost use Rattle.ac_objects.specs.Sets.{items_of};
 ghost use Rattle.ac_objects.specs.Standing.{TakesGuards, counts_in_held};
 ghost use Rattle.ac_objects.specs.World.{held_of, state_of, Persists};
 
 use crate::bound::Bound;
-use crate::keyed_set::KeyedSet;
-use crate::map::Map;
 use crate::object::Object;
 use crate::objects::Objects;
-use crate::set::Set;
-use ac_calls::ScriptElement;
 use ac_cursor::{GuardKey, GuardKind, Guarded};
-
-impl<T: ScriptElement> Guarded for Set<T> {
-    ghost is_set = { λ _. true };
-
-    ghost guards = { λ s. guards_of (items_of s) };
-
-    ghost with_guards = { counts.set_with };
-
-    ghost guards_given = { counts.set_given };
-
-    ghost guards_own = { counts.set_own };
-
-    ghost rest_kept = { counts.set_rest };
-
-    ghost set_kept = { λ _ _. refl };
-
-    fn hold(&mut self, kind: GuardKind) -> GuardKey {
-        match self {
-            Set::Hashed(set) => set.hold(kind),
-            Set::Ordered(set) => set.hold(kind),
-        }
-    }
-
-    fn release(&mut self, key: GuardKey) {
-        match self {
-            Set::Hashed(set) => set.release(key),
-            Set::Ordered(set) => set.release(key),
-        }
-    }
-
-    fn held(&self, kind: GuardKind) -> u64 {
-        match self {
-            Set::Hashed(set) => set.held(kind),
-            Set::Ordered(set) => set.held(kind),
-        }
-    }
-}
-
-impl Guarded for KeyedSet {
-    ghost is_set = { λ _. true };
-
-    ghost guards = { λ s. guards_of (keyed_items s) };
-
-    ghost with_guards = { counts.keyed_set_with };
-
-    ghost guards_given = { counts.keyed_set_given };
-
-    ghost guards_own = { counts.keyed_set_own };
-
-    ghost rest_kept = { counts.keyed_set_rest };
-
-    ghost set_kept = { λ _ _. refl };
-
-    fn hold(&mut self, kind: GuardKind) -> GuardKey {
-        self.set.hold(kind)
-    }
-
-    fn release(&mut self, key: GuardKey) {
-        self.set.release(key)
-    }
-
-    fn held(&self, kind: GuardKind) -> u64 {
-        self.set.held(kind)
-    }
-}
-
-impl<K: ScriptElement, V: ScriptElement> Guarded for Map<K, V> {
-    ghost is_set = { λ _. false };
-
-    ghost guards = { λ m. guards_of (entries_of m) };
-
-    ghost with_guards = { counts.map_with };
-
-    ghost guards_given = { counts.map_given };
-
-    ghost guards_own = { counts.map_own };
-
-    ghost rest_kept = { counts.map_rest };
-
-    ghost set_kept = { λ _ _. refl };
-
-    fn hold(&mut self, kind: GuardKind) -> GuardKey {
-        match self {
-            Map::Hashed(map) => map.hold(kind),
-            Map::Ordered(map) => map.hold(kind),
-        }
-    }
-
-    fn release(&mut self, key: GuardKey) {
-        match self {
-            Map::Hashed(map) => map.release(key),
-            Map::Ordered(map) => map.release(key),
-        }
-    }
-
-    fn held(&self, kind: GuardKind) -> u64 {
-        match self {
-            Map::Hashed(map) => map.held(kind),
-            Map::Ordered(map) => map.held(kind),
-        }
-    }
-}
 
 impl Object {
     /// Holds one guard more. On a set it is a cursor guard, whatever the kind.

@@ -38,4 +38,4 @@ pub use numbered_queue::NumberedQueue;
 pub use object::Object;
 pub use objects::Objects;
 pub use sequence::Sequence;
-pub use set::Set;
+pub use set::{HashedSets, OrderedSets, Set};

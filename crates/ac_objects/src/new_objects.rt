@@ -8,9 +8,9 @@ ghost use Rattle.ac_model.specs.Holders.{empty_holder};
 ghost use Rattle.ac_model.specs.Objects.{plain, empty_object};
 ghost use Rattle.ac_model.specs.Queues.{empty_queue};
 ghost use Rattle.ac_syntax.specs.declared.kind.ElemKind.{ElemKind as Elements};
-ghost use Rattle.ac_objects.specs.Maps.{entries_of, map_kind_of};
+ghost use Rattle.ac_keyed_calls.specs.Maps.{entries_of, map_kind_of};
 ghost use Rattle.ac_objects.specs.Sequences.{rows_of, kind_of};
-ghost use Rattle.ac_objects.specs.Sets.{items_of, set_kind_of};
+ghost use Rattle.ac_keyed_calls.specs.Sets.{items_of, set_kind_of};
 ghost use Rattle.ac_objects.specs.World.{held_of};
 
 use crate::keyed_set::KeyedSet;

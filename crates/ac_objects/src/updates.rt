@@ -2,19 +2,21 @@
 ghost use Rattle.std.specs.Prelude.{◌≡◌, ◌<◌, length, Some, None, IfOk, OnErr, Err};
 ghost use Rattle.ac_base.specs.declared.reason.Reason.{Reason as ReasonData};
 ghost use Rattle.ac_model.specs.Cursors.{plain_mark};
+ghost use Rattle.ac_setwork.specs.KeyCalls.{cursor_guard_of};
 ghost use Rattle.ac_syntax.specs.declared.view_kind.ViewKind.TheVariants as views;
 ghost use Rattle.ac_calls.specs.Elements.{text_in};
-ghost use Rattle.ac_calls.specs.Holdings.{Held, element_value, key_update_reason};
+ghost use Rattle.ac_calls.specs.Holdings.{Held, element_value, key_update_reason, number_of};
 ghost use Rattle.ac_meaning.specs.Environment.{object_at, mark_at, value_at, value_or_zero, objects_by, with_bound, with_name, leaving, binds_object, binds_value};
 ghost use Rattle.ac_meaning.specs.Execution.{head_reason, guards_of_view};
 ghost use Rattle.ac_meaning.specs.UnderGuards.{held_without};
 ghost use Rattle.ac_objects.specs.Blocks.{holding, releasing, guards_of_update_key, IsHeldAt};
-ghost use Rattle.ac_objects.specs.Standing.{TakesGuards, StandsAt, ElementsStand, counts_of};
+ghost use Rattle.ac_objects.specs.Standing.{TakesGuards, StandsAt, ElementsStand, counts_in_held, counts_of};
 ghost use Rattle.ac_objects.specs.KeyUpdates.{UpdateEnds, key_ended};
-ghost use Rattle.ac_objects.specs.World.{state_of, IsKnown, Persists};
+ghost use Rattle.ac_objects.specs.World.{held_of, state_of, IsKnown, ObjectAgrees, Persists};
 
 use crate::blocks::UpdateKey;
 use crate::bound::Bound;
+use crate::object::Object;
 use crate::objects::Objects;
 use crate::reading::copy_element;
 use ac_base::{Fault, KeyedText, NoMemory, Reason, Value};
@@ -172,6 +174,45 @@ impl Objects {
         match &mut self.bounds[place] {
             Bound::Object(object) => object.end_update(at, guard, copy),
             _ => unreachable!(),
+        }
+    }
+}
+
+impl Object {
+    /// Why the update of the element at the cursor is refused: only a keyed set has one.
+    #[tactic(auto, unfolding(crate::specs::World::memory_of))]
+    pub(crate) fn refused_update(&self, at: Cursor) -> Option<Reason>
+        requires { ObjectAgrees self.now at }
+        ensures { result ≡ key_update_reason (held_of self.now) (plain_mark at) }
+    {
+        match self {
+            Object::KeyedSet(set) => set.refuses_update(at),
+            _ => Some(Reason::NoElement),
+        }
+    }
+
+    /// Ends an update of the element at the cursor.
+    #[tactic(auto, unfolding(crate::specs::World::memory_of))]
+    pub(crate) fn end_update(
+        &mut self,
+        at: Cursor,
+        guard: GuardKey,
+        copy: KeyedText,
+    ) -> Option<Reason>
+        requires agrees { ObjectAgrees self.old at }
+        requires element { (element_value (held_of self.old) (plain_mark at)).reason ≡ None }
+        requires own { guard ≡ cursor_guard_of (counts_in_held (held_of self.old)).number }
+        requires held { 0 < (counts_in_held (held_of self.old)).cursor_guards }
+        ensures ended { let w = key_ended (held_of self.old) (plain_mark at) copy in (result ≡ w.reason) × (held_of self.new ≡ w.after) }
+        ensures number { number_of (held_of self.new) ≡ number_of (held_of self.old) }
+        ensures cursors { (c : _) → ObjectAgrees self.old c → ObjectAgrees self.new c }
+    {
+        match self {
+            Object::KeyedSet(set) => set.end_update(at, guard, copy),
+            _ => {
+                self.release(guard);
+                None
+            }
         }
     }
 }

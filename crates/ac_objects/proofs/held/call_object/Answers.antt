@@ -3,10 +3,10 @@ use Rattle.ac_syntax.specs.declared.kind.ElemKind.TheVariants.{Integer, Str}
 use Rattle.ac_calls.specs.Holdings.{a_sequence, a_map, a_set, a_keyed_set, a_tree}
 use Rattle.ac_queue.specs.Shared.{shared}
 use Rattle.ac_objects.specs.declared.object.Object.TheVariants.{Integers, Texts, IntegerSet, TextSet, KeyedSet, IntegersByInteger, IntegersByText, TextsByInteger, TextsByText, IntegerTree, TextTree, IntegerHolder, TextHolder, Queue}
-use Rattle.ac_objects.specs.KeyedSets.{keyed_items, keyed_kind}
-use Rattle.ac_objects.specs.Maps.{entries_of, map_kind_of}
+use Rattle.ac_keyed_calls.specs.KeyedSets.{keyed_items, keyed_kind}
+use Rattle.ac_keyed_calls.specs.Maps.{entries_of, map_kind_of}
 use Rattle.ac_objects.specs.Sequences.{rows_of, kind_of}
-use Rattle.ac_objects.specs.Sets.{items_of, set_kind_of}
+use Rattle.ac_keyed_calls.specs.Sets.{items_of, set_kind_of}
 use Rattle.ac_calls.specs.Arguments.{arguments_of}
 use Rattle.ac_calls.specs.Replied.{told}
 use Rattle.ac_objects.specs.World.{memory_of}

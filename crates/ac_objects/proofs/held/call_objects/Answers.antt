@@ -5,11 +5,11 @@ use Rattle.ac_calls.specs.Holdings.{a_sequence, a_map, a_set, a_keyed_set, a_tre
 use Rattle.ac_queue.specs.Shared.{shared}
 use Rattle.ac_objects.specs.declared.object.Object.TheVariants.{Integers, Texts, IntegerSet, TextSet, KeyedSet, IntegersByInteger, IntegersByText, TextsByInteger, TextsByText, IntegerTree, TextTree, IntegerHolder, TextHolder, Queue}
 use Rattle.ac_calls.specs.Arguments.{arguments_of}
-use Rattle.ac_objects.specs.KeyedSets.{keyed_items, keyed_kind}
-use Rattle.ac_objects.specs.Maps.{entries_of, map_kind_of}
+use Rattle.ac_keyed_calls.specs.KeyedSets.{keyed_items, keyed_kind}
+use Rattle.ac_keyed_calls.specs.Maps.{entries_of, map_kind_of}
 use Rattle.ac_calls.specs.Replied.{told}
 use Rattle.ac_objects.specs.Sequences.{rows_of, kind_of}
-use Rattle.ac_objects.specs.Sets.{items_of, set_kind_of}
+use Rattle.ac_keyed_calls.specs.Sets.{items_of, set_kind_of}
 use Rattle.ac_objects.specs.World.{memory_of, held_in, held_of}
 use Rattle.ac_objects.proofs.Families.{sequence_now, sequence_same, set_now, set_same, keyed_set_now, keyed_set_same, map_now, map_same, integers, texts, integer_set, text_set, keyed_set, integers_by_integer, integers_by_text, texts_by_integer, texts_by_text, integer_tree, text_tree}
 use Rattle.ac_objects.proofs.Apart.{no_integers, no_texts, no_integer_set, no_text_set, no_keyed_set, no_integers_by_integer, no_integers_by_text, no_texts_by_integer, no_texts_by_text, no_integer_tree, no_text_tree, no_integer_holder, no_text_holder}

@@ -4,10 +4,10 @@ use Rattle.ac_syntax.specs.declared.kind.ElemKind.TheVariants.{Integer, Str}
 use Rattle.ac_calls.specs.Holdings.{a_sequence, a_map, a_set, a_keyed_set, a_tree}
 use Rattle.ac_objects.specs.declared.object.Object.TheVariants.{Integers, Texts, IntegerSet, TextSet, KeyedSet, IntegersByInteger, IntegersByText, TextsByInteger, TextsByText, IntegerTree, TextTree, IntegerHolder, TextHolder}
 use Rattle.ac_calls.specs.Arguments.{mark_in}
-use Rattle.ac_objects.specs.KeyedSets.{keyed_items, keyed_kind}
-use Rattle.ac_objects.specs.Maps.{entries_of, map_kind_of}
+use Rattle.ac_keyed_calls.specs.KeyedSets.{keyed_items, keyed_kind}
+use Rattle.ac_keyed_calls.specs.Maps.{entries_of, map_kind_of}
 use Rattle.ac_objects.specs.Sequences.{rows_of, kind_of}
-use Rattle.ac_objects.specs.Sets.{items_of, set_kind_of}
+use Rattle.ac_keyed_calls.specs.Sets.{items_of, set_kind_of}
 use Rattle.ac_objects.specs.World.{memory_of}
 use Rattle.ac_objects.proofs.Families.{sequence_now, sequence_same, set_now, set_same, keyed_set_now, keyed_set_same, map_now, map_same, integers, texts, integer_set, text_set, keyed_set, integers_by_integer, integers_by_text, texts_by_integer, texts_by_text, integer_tree, text_tree}
 use Rattle.ac_objects.proofs.CalledRows.{wrote_to, wrote_lasts}

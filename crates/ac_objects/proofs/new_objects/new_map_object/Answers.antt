@@ -2,7 +2,7 @@ use Rattle.std.proofs.Common.{ap, sym, ◌∙◌}
 use Rattle.ac_model.specs.Objects.{plain}
 use Rattle.ac_syntax.specs.declared.kind.ElemKind.TheVariants.{Integer, Str}
 use Rattle.ac_calls.specs.Holdings.{a_map}
-use Rattle.ac_objects.specs.Maps.{entries_of, map_kind_of}
+use Rattle.ac_keyed_calls.specs.Maps.{entries_of, map_kind_of}
 use Rattle.ac_objects.specs.World.{held_in}
 use Rattle.ac_objects.proofs.Families.{integers_by_integer, texts_by_integer, integers_by_text, texts_by_text}
 use Rattle.ac_objects.proofs.NewObjects.{of_type}

@@ -2,7 +2,7 @@ use Rattle.std.proofs.Common.{ap, ◌∙◌}
 use Rattle.ac_model.specs.Objects.{plain}
 use Rattle.ac_syntax.specs.declared.kind.ElemKind.TheVariants.{Integer, Str}
 use Rattle.ac_calls.specs.Holdings.{a_set, kind_by}
-use Rattle.ac_objects.specs.Sets.{items_of, set_kind_of}
+use Rattle.ac_keyed_calls.specs.Sets.{items_of, set_kind_of}
 use Rattle.ac_objects.specs.World.{held_in}
 use Rattle.ac_objects.proofs.Families.{integer_set, text_set}
 use Rattle.ac_objects.proofs.NewObjects.{of_type}
