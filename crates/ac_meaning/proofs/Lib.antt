@@ -39,3 +39,5 @@ pub mod HoldsOn
 pub mod SortsOfBlocks
 pub mod ExecHolds
 pub mod Suiting
+pub mod Places
+pub mod Sources

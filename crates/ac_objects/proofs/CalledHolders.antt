@@ -32,7 +32,7 @@ use Rattle.ac_objects.specs.Given.{StepsOn}
 use Rattle.ac_holder_calls.specs.HolderCalls.{ChangesHolder, HolderSays, HolderAfter, HolderReplied, HolderRepliedWith}
 use Rattle.ac_objects.specs.Standing.{held_counts}
 use Rattle.ac_objects.specs.World.{in_holder, memory_of, held_in, held_of, AgreesIn}
-use Rattle.ac_objects.proofs.Sources.{holder_own, if_false}
+use Rattle.ac_meaning.proofs.Sources.{holder_own, if_false}
 
 -- what each variant is in memory
 

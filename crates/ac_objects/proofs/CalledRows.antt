@@ -39,7 +39,7 @@ use Rattle.ac_objects.specs.Standing.{held_counts}
 use Rattle.ac_objects.specs.World.{in_rows, memory_of, held_in, held_of, AgreesIn, ObjectAgrees}
 use Rattle.ac_calls.proofs.NoRoot.{no_root}
 use Rattle.ac_calls.proofs.Made.{seen_marks_by}
-use Rattle.ac_objects.proofs.Sources.{rows_alone, if_false, listed}
+use Rattle.ac_meaning.proofs.Sources.{rows_alone, if_false, listed}
 
 -- what lasts of rows through a call that was made
 made_lasts : {V : Type 0} (old new : Container V) (after : Object ℕ V) (reason : Option Reason) → IsValid (plain old.object) →

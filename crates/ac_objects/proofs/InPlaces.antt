@@ -25,8 +25,8 @@ use Rattle.ac_objects.specs.Shown.{Shows}
 use Rattle.ac_objects.specs.Steps.{AllKnown, Advances, CalledIn, CalledInBoth, SaidKnown, placed_of, PlacedKnown, CalledAt, CallsIn, CanCall, CalledBounds, CanCallIn}
 use Rattle.ac_objects.specs.World.{World, Counters, world, state_of, held_of, IsSound, memory_of}
 use Rattle.ac_objects.proofs.Memory.{all_agree_in}
-use Rattle.ac_objects.proofs.Places.{same_some, get_own, get_other, set_same, set_around, found_or}
-use Rattle.ac_objects.proofs.Sources.{itself_alone}
+use Rattle.ac_meaning.proofs.Places.{same_some, get_own, get_other, set_same, set_around, found_or}
+use Rattle.ac_meaning.proofs.Sources.{itself_alone}
 use Rattle.ac_objects.proofs.Worlds.{stands_in, object_there_in, state_set, set_advances, advances_then, object_replaces, none_known, known_agrees, found_known}
 
 -- the arguments agree with each object

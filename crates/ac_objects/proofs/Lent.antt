@@ -24,7 +24,7 @@ use Rattle.ac_objects.specs.Lent.{StandOnce, QueuesLent, bound_with, queue_held,
 use Rattle.ac_objects.specs.Steps.{Advances}
 use Rattle.ac_objects.specs.World.{World, Counters, world, counted, bound_of, held_in, held_of, state_of, memory_of, IsSound}
 use Rattle.ac_objects.proofs.CalledQueues.{queue_memory, lasts}
-use Rattle.ac_objects.proofs.Places.{get_other, set_same, set_twice}
+use Rattle.ac_meaning.proofs.Places.{get_other, set_same, set_twice}
 use Rattle.ac_objects.proofs.Worlds.{state_set, bound_there, bound_past, set_advances, same_advances, advances_then, object_replaces, none_known}
 
 -- A queue that goes to a place of an environment, if one stands there

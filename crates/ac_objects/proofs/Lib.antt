@@ -6,7 +6,6 @@ pub mod Memory
 pub mod Given
 pub mod Found
 pub mod Walked
-pub mod Sources
 pub mod Families
 pub mod Apart
 pub mod CalledRows
@@ -14,7 +13,6 @@ pub mod CalledHolders
 pub mod CalledQueues
 pub mod NewObjects
 pub mod Declaring
-pub mod Places
 pub mod InPlaces
 pub mod Names
 pub mod Lasting

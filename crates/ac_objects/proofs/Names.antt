@@ -34,7 +34,7 @@ use Rattle.ac_objects.specs.Given.{HoldsObject, HoldsValue, IsVariable, HoldsCur
 use Rattle.ac_objects.specs.Standing.{ElementsStand}
 use Rattle.ac_objects.specs.Steps.{Advances, CanRead, AssignsTo, WritesAt, SetsMark, SetsValue, StandsSomewhere, marked}
 use Rattle.ac_objects.specs.World.{World, Counters, world, state_of, bound_of, held_of, IsKnown, IsSound, cursor_in}
-use Rattle.ac_objects.proofs.Places.{all_at, set_same, found_or}
+use Rattle.ac_meaning.proofs.Places.{all_at, set_same, found_or}
 use Rattle.ac_objects.proofs.Worlds.{stands_in, object_there_in, bound_there, bound_past, state_set, set_advances, same_advances, object_replaces, none_known, known_agrees}
 
 -- Reading

@@ -31,7 +31,7 @@ use Rattle.ac_objects.specs.Declarations.{object_declared}
 use Rattle.ac_objects.specs.World.{World, Counters, world, counted, held_of, bound_of, state_of, ObjectAgrees, BoundAgrees, IsKnown, cursor_in, IsSound, Persists}
 use Rattle.ac_objects.proofs.Given.{none_agrees, other_agrees}
 use Rattle.ac_objects.proofs.InScope.{no_cursor}
-use Rattle.ac_objects.proofs.Sources.{if_true, if_false}
+use Rattle.ac_meaning.proofs.Sources.{if_true, if_false}
 
 -- a number is taken
 

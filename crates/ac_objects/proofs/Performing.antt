@@ -30,8 +30,8 @@ use Rattle.ac_objects.specs.Standing.{ElementsStand}
 use Rattle.ac_objects.specs.Steps.{AssignsTo, SaidKnown, placed_of, PlacedKnown, CalledAt, IsPerformed, PerformsAt, reply_in, if_integer, sum_given}
 use Rattle.ac_objects.specs.World.{World, state_of, Persists}
 use Rattle.ac_objects.proofs.Lasting.{elements_last}
-use Rattle.ac_objects.proofs.Places.{set_same}
-use Rattle.ac_objects.proofs.Sources.{IsInteger, Looks, values_look}
+use Rattle.ac_meaning.proofs.Places.{set_same}
+use Rattle.ac_meaning.proofs.Sources.{IsInteger, Looks, values_look}
 
 -- the steps of the definition
 

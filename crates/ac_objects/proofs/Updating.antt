@@ -45,7 +45,7 @@ use Rattle.ac_objects.specs.World.{World, Counters, world, memory_of, held_in, h
 use Rattle.ac_objects.proofs.Counted.{is_held, is_own, is_counted, no_set, own_number, less_held, less_goes_on, with_one_less, object_read}
 use Rattle.ac_objects.proofs.Families.{KeyedTexts, keyed_set, keyed_set_now}
 use Rattle.ac_objects.proofs.InScope.{GoesOn, object_there, set_state, set_sound, set_persists, left_object}
-use Rattle.ac_objects.proofs.Places.{set_twice, map_set}
+use Rattle.ac_meaning.proofs.Places.{set_twice, map_set}
 use Rattle.ac_objects.proofs.Worlds.{known_agrees, stands_in}
 
 -- Why an update is refused

@@ -17,7 +17,7 @@ use Rattle.ac_objects.specs.Standing.{HeldCounts, counts_in, counts_of}
 use Rattle.ac_objects.specs.Steps.{Replaces, Advances}
 use Rattle.ac_objects.specs.World.{World, Counters, world, state_of, bound_of, held_of, ObjectAgrees, BoundAgrees, IsKnown, IsSound, cursor_in, memory_of}
 use Rattle.ac_objects.proofs.Memory.{none_in, agrees_if_own}
-use Rattle.ac_objects.proofs.Places.{same_some, all_at, all_set, all_by, map_set, map_get, map_same}
+use Rattle.ac_meaning.proofs.Places.{same_some, all_at, all_set, all_by, map_set, map_get, map_same}
 
 -- what is seen of a place
 

@@ -1,6 +1,6 @@
 use Rattle.std.proofs.Common.{◌∙◌}
 use Rattle.ac_objects.specs.declared.bound.Bound.TheVariants as bound
-use Rattle.ac_objects.proofs.Places.{found_or}
+use Rattle.ac_meaning.proofs.Places.{found_or}
 use Rattle.ac_objects.proofs.Names.{takes_integer, writes_at}
 use Rattle.ac_objects.proofs.assigning.put_element.Goals as goal
 

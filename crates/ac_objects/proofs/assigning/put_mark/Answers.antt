@@ -1,6 +1,6 @@
 use Rattle.std.proofs.Common.{refl}
 use Rattle.ac_objects.proofs.Names.{sets_mark}
-use Rattle.ac_objects.proofs.Places.{seen_there}
+use Rattle.ac_meaning.proofs.Places.{seen_there}
 use Rattle.ac_objects.proofs.assigning.put_mark.Goals as goal
 
 pub returns-in-Some : goal.returns-in-Some

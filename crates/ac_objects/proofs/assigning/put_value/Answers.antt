@@ -1,6 +1,6 @@
 use Rattle.std.proofs.Common.{refl}
 use Rattle.ac_objects.specs.declared.bound.Bound.TheVariants as bound
-use Rattle.ac_objects.proofs.Places.{seen_there, seen_past}
+use Rattle.ac_meaning.proofs.Places.{seen_there, seen_past}
 use Rattle.ac_objects.proofs.Names.{can_read, sets_nothing, sets_past, sets_variable, sets_element}
 use Rattle.ac_objects.proofs.assigning.put_value.Goals as goal
 

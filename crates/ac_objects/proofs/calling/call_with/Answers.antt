@@ -1,7 +1,7 @@
 use Rattle.std.proofs.Common.{arith}
 use Rattle.ac_objects.specs.declared.bound.Bound.TheVariants as bound
 use Rattle.ac_calls.specs.Replied.{told}
-use Rattle.ac_objects.proofs.Places.{within}
+use Rattle.ac_meaning.proofs.Places.{within}
 use Rattle.ac_objects.proofs.InPlaces.{taken_is, left_is, both_ready, put_back}
 use Rattle.ac_objects.proofs.calling.call_with.Goals as goal
 

@@ -1,6 +1,6 @@
 use Rattle.std.proofs.Common.{refl}
 use Rattle.ac_objects.proofs.Lent.{exchanged_put, exchanged_out, none_out}
-use Rattle.ac_objects.proofs.Places.{seen_there, seen_past}
+use Rattle.ac_meaning.proofs.Places.{seen_there, seen_past}
 use Rattle.ac_objects.proofs.lending.exchange.Goals as goal
 
 pub returns-in-Some-clause-put : goal.returns-in-Some-clause-put

@@ -2,7 +2,7 @@ use Rattle.std.proofs.Common.{length, refl, sym}
 use Rattle.std.proofs.lemmas.Bool.{ltb-false}
 use Rattle.ac_objects.specs.World.{counted}
 use Rattle.ac_objects.proofs.Found.{holds_object, holds_none}
-use Rattle.ac_objects.proofs.Places.{seen_there, seen_past}
+use Rattle.ac_meaning.proofs.Places.{seen_there, seen_past}
 use Rattle.ac_objects.proofs.objects.Objects.object_at.Goals as goal
 
 pub returns-in-Some : goal.returns-in-Some

@@ -6,7 +6,7 @@ use Rattle.ac_calls.specs.Answers.{answers_value}
 use Rattle.ac_calls.specs.Replies.{value_argument}
 use Rattle.ac_objects.specs.World.{counted, state_of}
 use Rattle.ac_objects.specs.declared.bound.Bound.TheVariants as bound
-use Rattle.ac_objects.proofs.Places.{seen_there, seen_past}
+use Rattle.ac_meaning.proofs.Places.{seen_there, seen_past}
 use Rattle.ac_objects.proofs.Names.{read_found, read_past, say_found, say_past, can_read_in}
 use Rattle.ac_objects.proofs.objects.Objects.read_name.Goals as goal
 
