@@ -116,7 +116,7 @@ another_stays see o (Some s) args reason after h t f =
     (s, refl, itself_or s (arguments_seen (see s) args) (o.number == s.number) reason after h t f)
 
 -- what is held in this way
-mapped : {S R : Type 0} (f : S → R) (found : Option S) (t : R) → option_map f found ≡ Some t → (s : S) × (found ≡ Some s) × (f s ≡ t)
+pub mapped : {S R : Type 0} (f : S → R) (found : Option S) (t : R) → option_map f found ≡ Some t → (s : S) × (found ≡ Some s) × (f s ≡ t)
 mapped f None t e = none_some t e
 mapped f (Some s) t e = let p : f s ≡ t = cc in (s, refl, p)
 

@@ -121,7 +121,7 @@ designated rooted o at d = ap (element_reason rooted o) d.is ∙ there rooted o 
 
 -- It goes on
 
-named_by_names : {V : Type 0} (rows : List (Row ℕ V)) (n : ℕ) → is_named rows n ≡ list_any (λ (m : ℕ). m == n) (names rows)
+pub named_by_names : {V : Type 0} (rows : List (Row ℕ V)) (n : ℕ) → is_named rows n ≡ list_any (λ (m : ℕ). m == n) (names rows)
 named_by_names [] n = refl
 named_by_names (r ∷ rows) n = ap (λ b. (r.name == n) || b) (named_by_names rows n)
 

@@ -32,7 +32,7 @@ rooted_in_frame of_cursor = false
 rooted_in_frame of_value = false
 rooted_in_frame (of_element object at) = false
 
-goes_on : (h : Held) (now : State) (place : ℕ) (b : Bound) → bound_at now place ≡ b → (guards : Guards) → is_guarded guards (number_of h) ≡ true →
+pub goes_on : (h : Held) (now : State) (place : ℕ) (b : Bound) → bound_at now place ≡ b → (guards : Guards) → is_guarded guards (number_of h) ≡ true →
     frame guards b ≡ frame guards (binds_object h) → GuardedGoesOn h now place
 unfolding number_in_frame rooted_in_frame names_in_frame
 goes_on h now place (binds_object k) f guards g e =
@@ -63,7 +63,7 @@ no_row : {V : Type 0} (rows : List (Row ℕ V)) (name : ℕ) → names rows ≡ 
 no_row [] name e there = cc
 no_row (r ∷ rows) name e there = cc
 
-designated_held : (kind : RowKind) (o : Object ℕ (RowOf kind)) (k : Held) (at : Mark) → number_of k ≡ o.number → has_root k ≡ have_root kind →
+pub designated_held : (kind : RowKind) (o : Object ℕ (RowOf kind)) (k : Held) (at : Mark) → number_of k ≡ o.number → has_root k ≡ have_root kind →
     names_of k ≡ names o.rows → Designates (have_root kind) o at → (element_value k at).reason ≡ None
 designated_held kind o (of_rows other now) at number rooted same d =
     element_refused other now at
@@ -93,7 +93,7 @@ and_true : (a : Bool) → (a && true) ≡ a
 and_true true = refl
 and_true false = refl
 
-element_goes_on : (h : Held) (now : State) (place : ℕ) (b : Bound) → bound_at now place ≡ b → (guards : Guards) →
+pub element_goes_on : (h : Held) (now : State) (place : ℕ) (b : Bound) → bound_at now place ≡ b → (guards : Guards) →
     is_element_guarded guards (number_of h) ≡ true → frame guards b ≡ frame guards (binds_object h) → ElementGoesOn h now place
 unfolding number_in_frame has_element_in_frame
 element_goes_on h now place (binds_object k) f guards g e =

@@ -229,6 +229,26 @@ object_meant (Some (a_cursor t v)) typed h = none_some typed h
 object_meant (Some (a_value k w)) typed h = none_some typed h
 object_meant (Some a_task) typed h = none_some typed h
 
+-- What stands behind the names of tasks is an integer
+
+int_there : (locals : List Decl) (k : ℕ) (x : Entry) → slice_get (int_entries locals) k ≡ Some x → x.meaning ≡ a_value Integer true
+unfolding int_entries
+int_there [] k x h = none_some x h
+int_there (TypeDecl _ _ _ ∷ decls) k x h = int_there decls k x h
+int_there (Object _ _ _ _ ∷ decls) k x h = int_there decls k x h
+int_there (CursorVar _ _ _ ∷ decls) k x h = int_there decls k x h
+int_there (IntVar line name ∷ decls) zero x h = ap (λ (y : Entry). y.meaning) (sym (same_Some (entry name (a_value Integer true)) x h))
+int_there (IntVar line name ∷ decls) (suc k) x h = int_there decls k x h
+int_there (TextVar _ _ ∷ decls) k x h = int_there decls k x h
+
+behind_integer : (names : Scope) (locals : List Decl) (k : ℕ) (x : Entry) → AllTasks names → slice_get (names ++ int_entries locals) k ≡ Some x →
+    is_task x.meaning ≡ false → x.meaning ≡ a_value Integer true
+unfolding AllTasks
+behind_integer [] locals k x tasks h plain = int_there locals k x h
+behind_integer (t ∷ names) locals zero x tasks h plain =
+    absurd (true≢false (sym (ap is_task tasks.0) ∙ (ap (λ (y : Entry). is_task y.meaning) (same_Some t x h) ∙ plain)))
+behind_integer (t ∷ names) locals (suc k) x tasks h plain = behind_integer names locals k x tasks.1 h plain
+
 -- In a task
 
 module _ (before names : Scope) (locals : List Decl) (ints : AreIntegers locals) (none : first_task before ≡ None) (tasks : AllTasks names)
@@ -251,6 +271,18 @@ module _ (before names : Scope) (locals : List Decl) (ints : AreIntegers locals)
       let q = behind_tasks names (int_entries locals) p.0 x tasks p.2 plain.no_task in
       lt_true (n - length (before ++ names)) (length locals)
       (omega (arith, p.1, q.0, q.1, length_both before names, int_length locals ints))
+
+  -- a local is an integer
+  pub local_integer : (name : List ℕ) (plain : IsPlain (meaning_in in_task name)) → is_local in_task (length before) name ≡ true →
+      plain.meaning ≡ a_value Integer true
+  local_integer name plain local =
+      let n = place_of in_task name in
+      let x = entry name plain.meaning in
+      let there : slice_get (before ++ (names ++ int_entries locals)) n ≡ Some x =
+      subst (λ s. slice_get s n ≡ Some x) (append_assoc before names (int_entries locals)) (place_found in_task name plain.meaning plain.is) in
+      let beyond : length before < n = true_lt (length before) n local in
+      let p = past before (names ++ int_entries locals) n x (omega (arith, beyond)) there in
+      behind_integer names locals p.0 x tasks p.2 plain.no_task
 
   -- an object stands before the block
   pub object_outside : (name : List ℕ) (typed : Typed) → object_of in_task name ≡ Some typed →

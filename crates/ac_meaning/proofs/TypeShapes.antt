@@ -13,7 +13,7 @@ use Rattle.ac_calls.specs.Holdings.{new_held}
 use Rattle.ac_meaning.specs.HoldsTypes.{shape_of, shape_of_type}
 use Rattle.ac_meaning.proofs.CallsStay.{none_some}
 
-abbrev def_by : (bounded : Bool) → Kind → ElemKind → Option ElemKind → (keyed : Bool) → TypeDef
+abbrev pub def_by : (bounded : Bool) → Kind → ElemKind → Option ElemKind → (keyed : Bool) → TypeDef
 def_by bounded k first second keyed = record { bounded = bounded; kind = k; first = first; second = second; keyed = keyed }
 
 -- a new object is of its type

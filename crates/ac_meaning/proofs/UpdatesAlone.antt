@@ -93,7 +93,7 @@ unguarded_frame guards h now free n root has =
     ap (λ t. names_if t (names_of now)) own ∙ sym (ap (λ t. names_if t (names_of h)) free) in
     λ i. of_object (n i) (root i) (none i) (has i && is_element_guarded guards (n i))
 
-found_frame : (guards held : Guards) (e : State) (place : ℕ) (h : Held) → object_at (under held e) place ≡ Some h →
+pub found_frame : (guards held : Guards) (e : State) (place : ℕ) (h : Held) → object_at (under held e) place ≡ Some h →
     frame guards (bound_at e place) ≡ frame guards (binds_object h)
 found_frame guards held e place h there =
     sym (frame_under guards held (bound_at e place))

@@ -10,6 +10,7 @@ pub mod Walks
 pub mod FitsScope
 pub mod HoldsTypes
 pub mod Suits
+pub mod ValueTypes
 pub mod HistoryLines
 pub mod Numbers
 pub mod Laws

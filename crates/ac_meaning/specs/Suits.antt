@@ -114,7 +114,7 @@ pub record GivesObject (scope : Scope) (e : State) (typed : Typed) (arg : Arg) :
   pub there : object_at e (place_of scope name) ≡ Some held
   pub shape : shape_of held ≡ shape_of_type typed.def
 
--- as its letter asks it of a call on an object of the type. Of a value that it has the type is told by the rules alone
+-- as its letter asks it of a call on an object of the type. That a value has the type is told in `ValueTypes`
 abbrev pub Suits : Scope → State → Typed → Letter → Arg → Type 0
 Suits scope e typed letter.Cursor arg = GivesCursor (argument e (resolve_arg scope arg))
 Suits scope e typed letter.CursorVariable arg = GivesCursor (argument e (resolve_arg scope arg))

@@ -8,6 +8,7 @@ ghost use Rattle.ac_meaning.specs.Walks.{WalksInOrder};
 ghost use Rattle.ac_meaning.specs.FitsScope.{NamesFound, DeclaredFits, HeadsFit, GoesOnFitting};
 ghost use Rattle.ac_meaning.specs.HoldsTypes.{TypesFound, DeclaredHolds, HeadsHold, GoesOnHolding};
 ghost use Rattle.ac_meaning.specs.Suits.{CallsSuit, BlocksSuit, TasksFit, TasksRun};
+ghost use Rattle.ac_meaning.specs.ValueTypes.{ValuesFound, ValuesDeclared, ValuesInBlocks, ValuesGoOn, AnswersAreTold, ValuesTaken};
 ghost use Rattle.ac_meaning.specs.HistoryLines.{EntriesHaveLines, BlocksAreCounted};
 ghost use Rattle.ac_meaning.specs.Numbers.{NumbersTell, NumbersGoOnDiffering, NextRises, BlocksRise};
 ghost use Rattle.ac_meaning.specs.Numbers.{NewObjectsAreUnguarded, GuardsAreOnOneObject};
@@ -95,6 +96,23 @@ pub fn statements_suit()
     ensures blocks { BlocksSuit }
     ensures fit { TasksFit }
     ensures run { TasksRun }
+{}
+
+/// Values have the types that the checks give them: a variable's value, the copy of an update of a key, and an element that a name stands
+/// for, which is there as long as the name: where a script begins, behind declarations and heads that keep the rules, and after every
+/// statement that does. A call of the table answers what the table says.
+pub fn values_hold()
+    ensures found { ValuesFound }
+    ensures declared { ValuesDeclared }
+    ensures heads { ValuesInBlocks }
+    ensures answers { AnswersAreTold }
+    ensures statements { ValuesGoOn }
+{}
+
+/// So what a command that keeps the rules takes as a value is one of the type that it asks, a literal in a task an integer, and what it
+/// assigns is of its target's type.
+pub fn values_suit()
+    ensures { ValuesTaken }
 {}
 
 /// A legal history of a block of tasks writes one line for each of its entries, with the number of its step, its task's name and its reply.
