@@ -2,6 +2,7 @@ ghost use Rattle.std.specs.Prelude.{◌≡◌, IfOk, []};
 ghost use Rattle.ac_base.specs.Key.{key_of_text};
 
 use crate::fault::NoMemory;
+use crate::key_room::KeyRoom;
 use crate::text::Text;
 use std::alloc::Global;
 use std::marker::Model;
@@ -30,6 +31,14 @@ impl KeyedText {
     {
         let key = text.key_part(alloc)?;
         Ok(KeyedText { text, key })
+    }
+
+    /// The same, with its key in memory that was taken before.
+    pub fn within(text: Text, room: KeyRoom) -> KeyedText
+        ensures { result ≡ text }
+    {
+        let key = text.key_within(room);
+        KeyedText { text, key }
     }
 
     pub fn text(&self) -> &Text

@@ -4,6 +4,7 @@ ghost use Rattle.ac_base.specs.Key.{key_of_text};
 ghost use Rattle.ac_base.specs.Text.{IsText, is_printable, first_bad_place};
 
 use crate::fault::NoMemory;
+use crate::key_room::KeyRoom;
 use std::alloc::Global;
 use std::marker::Model;
 
@@ -34,7 +35,8 @@ pub enum TextFault {
     NoMemory,
 }
 
-const LONGEST: usize = 1_000;
+/// How many bytes a text has at most.
+pub(crate) const LONGEST: usize = 1_000;
 
 fn printable(byte: u8) -> bool
     ensures { result ≡ is_printable byte }
@@ -117,6 +119,16 @@ impl Text {
         Ok(Text {
             bytes: Vec::from_slice(alloc, key)?,
         })
+    }
+
+    /// The same, in memory that was taken before.
+    pub(crate) fn key_within(&self, room: KeyRoom) -> Text
+        ensures { result ≡ key_of_text self.now }
+    {
+        let key = &self.bytes[..key_len(&self.bytes)];
+        Text {
+            bytes: room.filled(key),
+        }
     }
 }
 
