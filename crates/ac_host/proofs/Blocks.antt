@@ -1,6 +1,6 @@
 -- What a block comes to, and what is left behind it.
-use Rattle.std.proofs.Common.{◌≡◌, ◌<◌, ◌≤◌, ℕ, Bool, true, false, List, [], ◌∷◌, ◌++◌, length, nat_lt, refl, sym, ap, subst, ◌∙◌, arith, Option, Some, None, Result, Ok, Err, OnOk, IsErrAnd, if◌then◌else◌}
-use Rattle.std.proofs.lemmas.List.{length-map, take_all, take-append-le}
+use Rattle.std.proofs.Common.{◌≡◌, ◌<◌, ◌≤◌, ℕ, Bool, true, false, List, [], ◌∷◌, ◌++◌, length, ◌+◌, nat_lt, refl, sym, ap, subst, ◌∙◌, arith, Option, Some, None, Result, Ok, Err, OnOk, IsErrAnd, if◌then◌else◌}
+use Rattle.std.proofs.lemmas.List.{length-append, length-map, map_push, take_all, take-append-le}
 use Rattle.std.proofs.lemmas.Option.{slice_get_within}
 use Rattle.std.proofs.lemmas.Result.{err_from_is_err_and, on_ok_weaker}
 use Rattle.ac_base.specs.Guards.{HeldGuard}
@@ -34,7 +34,7 @@ use Rattle.ac_meaning.proofs.NewObjects.{new_objects_are_unguarded}
 use Rattle.ac_meaning.proofs.NextRises.{next_rises}
 use Rattle.ac_meaning.proofs.NumbersApart.{numbers_go_on}
 use Rattle.ac_objects.specs.Blocks.{holding, releasing, IsHeldAt}
-use Rattle.ac_objects.specs.Standing.{TakesGuards, counts_of}
+use Rattle.ac_objects.specs.Standing.{HeldCounts, TakesGuards, counts_in, counts_of}
 use Rattle.ac_objects.specs.World.{World, state_of}
 use Rattle.ac_host.specs.declared.end.HostEnd.{HostEnd}
 use Rattle.ac_host.specs.Ready.{ElementsKept, IsUnder}
@@ -146,6 +146,21 @@ leaving_named more s b count is =
     let within : count ≤ length e.bounds = omega (arith, many_held more s, is) in
     λ i. record e { bounds = (take-append-le count e.bounds (b ∷ []) within ∙ take_all count e.bounds all) i }
 
+pub many_named : (more : Guards) (w now : World) (b : Bound) (count : ℕ) → count ≡ length w.bounds → state_of now ≡ with_name (holding more (state_of w)) b →
+    length now.bounds ≡ count + 1
+many_named more w now b count is named =
+    let e = holding more (state_of w) in
+    let many : length (state_of now).bounds ≡ length (e.bounds ++ b ∷ []) = ap (λ (s : State). length s.bounds) named in
+    omega (arith, many, length-append e.bounds (b ∷ []), many_held more (state_of w), many_names w, many_names now, is)
+
+-- what leaves the counts of objects leaves as many names
+pub same_many : (w now : World) → counts_of (state_of now) ≡ counts_of (state_of w) → length now.bounds ≡ length w.bounds
+same_many w now same =
+    sym (many_names now)
+    ∙ (sym (length-map (state_of now).bounds counts_in)
+    ∙ (ap (λ (l : List (Option HeldCounts)). length l) same
+    ∙ (length-map (state_of w).bounds counts_in ∙ many_names w)))
+
 pub counts_before : (more : Guards) (count : ℕ) (s now : State) → leaving count now ≡ holding more s → counts_of (releasing more (leaving count now)) ≡ counts_of s
 counts_before more count s now is = ap (λ x. counts_of (releasing more x)) is ∙ ap counts_of (released_again more s)
 
@@ -159,7 +174,7 @@ rest_of : List HeldGuard → List HeldGuard
 rest_of [] = []
 rest_of (g ∷ guards) = guards
 
-held_named : (e : State) (b : Bound) (place : ℕ) (g : HeldGuard) → IsHeldAt e place g → IsHeldAt (with_name e b) place g
+pub held_named : (e : State) (b : Bound) (place : ℕ) (g : HeldGuard) → IsHeldAt e place g → IsHeldAt (with_name e b) place g
 held_named e b place g is =
     let at = bound_found e.bounds place (binds_object is.held) (object_there (bound_at e place) is.held is.there) (no_type_object is.held) in
     record {
@@ -206,6 +221,14 @@ loop_cursors_held s place true h takes g others there is =
     subst (IsHeldAt (holding (guards_of_loop true h) s) place) (sym (ap (first_of g) is))
     (held_now (guard_on h guard.Cursors) (objects_by (held_with el) s) place (held_with el h) (takes_still el h ∙ takes) (object_by_there (held_with el) s place h there)
     (sym (number_stays el h)))
+
+-- a name more that holds no object is in no guard's way
+pub held_beside : (f : Held → Held) (e : State) (at : Mark) (place : ℕ) (g : HeldGuard) → IsHeldAt (objects_by f e) place g →
+    IsHeldAt (objects_by f (with_name e (binds_cursor at))) place g
+held_beside f e at place g held =
+    subst (λ s. IsHeldAt s place g)
+    (λ i. record (objects_by f e) { bounds = sym (map_push (bound_by f) e.bounds (binds_cursor at)) i })
+    (held_named (objects_by f e) (binds_cursor at) place g held)
 
 no_more : (g : HeldGuard) (guards : Guards) → g ∷ guards ≡ [] → ⊥
 no_more g guards e = cc

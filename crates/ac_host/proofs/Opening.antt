@@ -1,6 +1,6 @@
 -- What begins a block.
 use Rattle.std.proofs.Common.{◌≡◌, ◌==◌, ◌&&◌, ◌||◌, ◌⊎◌, inl, inr, ℕ, Bool, true, false, List, [], ◌∷◌, ◌++◌, length, slice_get, option_map, refl, sym, ap, subst, ◌∙◌, arith, Option, Some, None}
-use Rattle.std.proofs.lemmas.List.{length-map, take_all}
+use Rattle.std.proofs.lemmas.List.{length-map}
 use Rattle.std.proofs.lemmas.Option.{none-some, same_Some}
 use Rattle.std.proofs.lemmas.Bool.Decides.{nat_tests}
 use Rattle.ac_base.specs.Rows.{Row, names}
@@ -119,9 +119,6 @@ object_there_kept guards more e place h there guarded =
     object_framed more e place f.held f.there (ap (is_guarded more) (sym number) ∙ guarded)
     ∙ sym (λ i. Some (of_object (number i) (rooted i) (all i) (has i && is_element_guarded more (number i))))
 
-left_whole : (e : State) (count : ℕ) → count ≡ length e.bounds → leaving count e ≡ e
-left_whole e count is = ap (λ n. leaving n e) is ∙ (λ i. record e { bounds = take_all (length e.bounds) e.bounds (omega arith) i })
-
 module _ (w : World) (guards : Guards) (e : State) (u : IsUnder w guards e) (place : ℕ) (h : Held) (there : object_at (state_of w) place ≡ Some h) where
   found : object_at (under guards e) place ≡ Some h
   found = ap (λ s. object_at s place) (sym u.is) ∙ there
@@ -139,12 +136,12 @@ module _ (w : World) (guards : Guards) (e : State) (u : IsUnder w guards e) (pla
   below_view Reference = below_one guard.Elements guards u.ready.below
   below_view UpdateKey = below_one guard.Cursors guards u.ready.below
 
-  held_more : (more : Guards) (now : World) → state_of now ≡ holding more (state_of w) → state_of now ≡ under (more ++ guards) e
+  held_more : (more : Guards) (now : State) → now ≡ holding more (state_of w) → now ≡ under (more ++ guards) e
   held_more more now is = is ∙ (ap (holding more) u.is ∙ holding_under more guards e)
 
   pub stable_begins : (now : World) → state_of now ≡ holding (guards_of_stable h) (state_of w) → IsUnder now (guards_of_stable h ++ guards) e
   stable_begins now is = record {
-    is = held_more (guards_of_stable h) now is;
+    is = held_more (guards_of_stable h) (state_of now) is;
     ready = ready_more (guards_of_stable h) guards e (below_one guard.Elements guards u.ready.below) u.ready;
   }
 
@@ -209,18 +206,14 @@ module _ (w : World) (guards : Guards) (e : State) (u : IsUnder w guards e) (pla
 
   pub loop_begins : (elements backward : Bool) (coming : Mark) (now : World) (count : ℕ) → count ≡ length (state_of w).bounds →
       coming ≡ first_mark (number_of h) (in_order backward (names_of h)) → NoRootAmong (names_of h) →
-      state_of now ≡ holding (guards_of_loop elements h) (state_of w) →
+      leaving count (state_of now) ≡ holding (guards_of_loop elements h) (state_of w) →
       Turning now count place backward coming (guards_of_loop elements h ++ guards) e (number_of h) (names_of h) (in_order backward (names_of h))
   loop_begins elements backward coming now count many coming_is no_root is =
       let more = guards_of_loop elements h in
       let as_many : count ≡ length e.bounds = many ∙ (ap (λ (s : State). length s.bounds) u.is ∙ length-map e.bounds _) in
       let guarded = blocks_guard.loops elements h guards in
-      let now_is = held_more more now is in
       record {
-        is =
-            ap (leaving count) now_is
-            ∙ (sym (parts_under.left (more ++ guards) count e)
-            ∙ ap (under (more ++ guards)) (left_whole e count as_many));
+        is = held_more more (leaving count (state_of now)) is;
         ready = ready_more more guards e (below_loop elements) u.ready;
         as_many = as_many;
         rooted = has_root h;

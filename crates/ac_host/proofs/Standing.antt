@@ -109,20 +109,24 @@ element_counts guards (of_queue number q) has g = absurd (cc)
 
 -- What stays of a name, and what it holds
 
-record Framed (guards : Guards) (bs : List Bound) (place : ℕ) (f : Frame) : Type 0 where
-  bound : Bound
-  there : slice_get bs place ≡ Some bound
-  is : frame guards bound ≡ f
+pub record Framed (guards : Guards) (bs : List Bound) (place : ℕ) (f : Frame) : Type 0 where
+  pub bound : Bound
+  pub there : slice_get bs place ≡ Some bound
+  pub is : frame guards bound ≡ f
 
-framed : (guards : Guards) (bs : List Bound) (place : ℕ) (f : Frame) → slice_get (map (frame guards) bs) place ≡ Some f → Framed guards bs place f
+pub framed : (guards : Guards) (bs : List Bound) (place : ℕ) (f : Frame) → slice_get (map (frame guards) bs) place ≡ Some f → Framed guards bs place f
 framed guards [] place f e = absurd (none-some f e)
 framed guards (b ∷ bs) zero f e = record { bound = b; there = refl; is = same_Some (frame guards b) f e }
 framed guards (b ∷ bs) (suc place) f e = let r = framed guards bs place f e in record { bound = r.bound; there = r.there; is = r.is }
 
-frame_there : (guards : Guards) (bs : List Bound) (place : ℕ) (b : Bound) → slice_get bs place ≡ Some b → slice_get (map (frame guards) bs) place ≡ Some (frame guards b)
+pub frame_there : (guards : Guards) (bs : List Bound) (place : ℕ) (b : Bound) → slice_get bs place ≡ Some b → slice_get (map (frame guards) bs) place ≡ Some (frame guards b)
 frame_there guards [] place b e = absurd (none-some b e)
 frame_there guards (x ∷ bs) zero b e = ap (λ (y : Bound). Some (frame guards y)) (same_Some x b e)
 frame_there guards (x ∷ bs) (suc place) b e = frame_there guards bs place b e
+
+pub last_there : (bs : List Bound) (b : Bound) → slice_get (bs ++ b ∷ []) (length bs) ≡ Some b
+last_there [] b = refl
+last_there (x ∷ bs) b = last_there bs b
 
 number_in : Frame → ℕ
 number_in of_type = 0

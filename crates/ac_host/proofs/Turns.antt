@@ -1,6 +1,6 @@
 -- The turns of a loop.
-use Rattle.std.proofs.Common.{◌≡◌, ◌<◌, ◌≤◌, inl, inr, ℕ, Bool, true, false, List, [], ◌∷◌, ◌++◌, take, length, slice_get, refl, sym, ap, subst, ◌∙◌, arith, append_assoc, Some, None}
-use Rattle.std.proofs.lemmas.List.{length-map, length-take}
+use Rattle.std.proofs.Common.{◌≡◌, ◌<◌, inl, inr, ℕ, Bool, true, false, List, [], ◌∷◌, ◌++◌, length, slice_get, refl, sym, ap, subst, ◌∙◌, arith, append_assoc, Some, None}
+use Rattle.std.proofs.lemmas.List.{length-map}
 use Rattle.std.proofs.lemmas.Option.{slice_get_within}
 use Rattle.ac_model.specs.Letters.{Mark, no_mark, mark_at}
 use Rattle.ac_rules.specs.Resolved.{ResolvedCode}
@@ -38,12 +38,6 @@ module _ {w : World} {count object : ℕ} {backward : Bool} {coming : Mark} {gua
   turning_inner =
       let n = slice_get_within (kept guards e) object (of_object number t.rooted all t.has_element) t.there in
       omega (arith, n, length-map e.bounds (frame guards), t.as_many)
-
-  pub turning_names : count ≤ length (state_of w).bounds
-  turning_names =
-      let n : length (take count (state_of w).bounds) ≡ length e.bounds =
-      ap (λ (s : State). length s.bounds) t.is ∙ length-map e.bounds _ in
-      omega (arith, n, t.as_many, length-take count (state_of w).bounds)
 
   abbrev pub found : ObjectKept guards e object number t.rooted all t.has_element
   found = kept_object guards e object number t.rooted all t.has_element t.there

@@ -1,5 +1,5 @@
 -- Updates of a key.
-use Rattle.std.proofs.Common.{◌≡◌, ◌<◌, ◌++◌, ℕ, Bool, true, List, [], ◌∷◌, take, length, refl, sym, ap, subst, ◌∙◌, Option, Some, None, Result, Ok, Err, OnOk}
+use Rattle.std.proofs.Common.{◌≡◌, ◌<◌, ◌++◌, ℕ, Bool, true, List, [], ◌∷◌, take, length, slice_get, refl, sym, ap, subst, ◌∙◌, Option, Some, None, Result, Ok, Err, OnOk}
 use Rattle.ac_base.specs.declared.guard.GuardKind.TheVariants as guard
 use Rattle.ac_base.specs.declared.reason.Reason.{Reason}
 use Rattle.ac_base.specs.declared.value.Value.{Value}
@@ -8,24 +8,25 @@ use Rattle.ac_model.specs.Letters.{Mark}
 use Rattle.ac_syntax.specs.declared.view_kind.ViewKind.TheVariants.{UpdateKey}
 use Rattle.ac_rules.specs.Resolved.{ResolvedCode, views_at}
 use Rattle.ac_calls.specs.Answers.{lines_text, line as line_of, answers_raised}
-use Rattle.ac_calls.specs.Holdings.{Held, takes_guards, Guards, element_value}
-use Rattle.ac_meaning.specs.Environment.{State, under, object_at, guarded_at, mark_at, value_at, value_or_zero, with_name, leaving, binds_value}
+use Rattle.ac_calls.specs.Holdings.{Held, held_under, takes_guards, Guards, element_value}
+use Rattle.ac_meaning.specs.Environment.{Bound, bound_by, bound_in, bound_at, State, under, object_at, guarded_at, mark_at, value_at, value_or_zero, with_name, leaving, binds_type, binds_object, binds_cursor, binds_value, binds_element}
 use Rattle.ac_meaning.specs.Execution.{Outcome, Orders, followed, exec_resolved, guards_of_view, head_reason, key_end, key_body, view_on, on_object}
-use Rattle.ac_meaning.specs.GuardedNames.{kept}
+use Rattle.ac_meaning.specs.GuardedNames.{of_value, frame, kept}
+use Rattle.ac_meaning.proofs.CountsStay.{parts_under}
 use Rattle.ac_meaning.proofs.ExecKeeps.{resolved_keeps}
 use Rattle.ac_objects.specs.declared.blocks.UpdateKey.{UpdateKey as KeyOfUpdate}
 use Rattle.ac_objects.specs.Blocks.{holding, guards_of_update_key, IsHeldAt}
 use Rattle.ac_objects.specs.KeyUpdates.{UpdateEnds}
-use Rattle.ac_objects.specs.Standing.{StandsAt, counts_of}
+use Rattle.ac_objects.specs.Standing.{HasValue, StandsAt, counts_of}
 use Rattle.ac_objects.specs.World.{World, state_of, IsKnown}
 use Rattle.ac_host.specs.declared.end.HostEnd.{HostEnd}
 use Rattle.ac_host.specs.Ready.{IsKept, IsUnder}
 use Rattle.ac_host.specs.Running.{key_ending, IsUpdating}
 use Rattle.ac_host.specs.Writing.{Wrote, Broke, Writes, Ran}
-use Rattle.ac_host.proofs.Blocks.{mark_under, there_within, many_names, view_held}
+use Rattle.ac_host.proofs.Blocks.{mark_under, there_within, many_names, many_under, many_named, same_many, view_held}
 use Rattle.ac_host.proofs.Holding.{held_still}
 use Rattle.ac_host.proofs.Opening.{update_begins, update_element}
-use Rattle.ac_host.proofs.Standing.{kept_stands, ready_exec}
+use Rattle.ac_host.proofs.Standing.{frame_there, framed, kept_stands, last_there, ready_exec}
 use Rattle.ac_host.proofs.Telling.{lines_together, wrote_nothing, wrote_then, broke_before, broke_behind}
 
 -- What its name holds first
@@ -59,6 +60,10 @@ updating_begins w now guards e u place h takes there key at copy none own is obj
           (subst (λ p. IsKept (guards_of_view UpdateKey h ++ guards) (kept (guards_of_view UpdateKey h ++ guards) env) p (plain_mark key.at)) (sym object)
           (subst (IsKept (guards_of_view UpdateKey h ++ guards) (kept (guards_of_view UpdateKey h ++ guards) env) place) (sym mark)
           (update_element w guards e u place h there at copy none)));
+      copy =
+          frame_there (guards_of_update_key key ++ guards) (e.bounds ++ binds_value copy ∷ []) key.names (binds_value copy)
+          (ap (slice_get (e.bounds ++ binds_value copy ∷ [])) (names ∙ many_under w guards e u) ∙ last_there e.bounds (binds_value copy));
+      last = many_named (guards_of_view UpdateKey h) w now (binds_value copy) key.names names is;
       known = known;
       inner =
           subst (λ p. p < key.names) (sym object)
@@ -76,6 +81,26 @@ updating_stands w key k =
     let r = kept_stands (guards_of_update_key key ++ k.guards) k.env key.object (plain_mark key.at) k.element in
     subst (λ s. StandsAt s key.object (plain_mark key.at)) (sym k.stands.is) (record { held = r.held; there = r.there; stands = r.stands })
 
+value_framed : (guards : Guards) (b : Bound) → frame guards b ≡ of_value → (v : Value) × (b ≡ binds_value v)
+value_framed guards binds_type e = absurd (cc)
+value_framed guards (binds_object h) e = absurd (cc)
+value_framed guards (binds_cursor mark) e = absurd (cc)
+value_framed guards (binds_value v) e = (v, refl)
+value_framed guards (binds_element object at) e = absurd (cc)
+
+pub updating_copy : (w : World) (key : KeyOfUpdate) → IsUpdating w key → HasValue (state_of w) key.names
+updating_copy w key k =
+    let held = guards_of_update_key key ++ k.guards in
+    let f = framed held k.env.bounds key.names of_value k.copy in
+    let v = value_framed held f.bound f.is in
+    record {
+      value = v.0;
+      there =
+          ap (λ s. bound_at s key.names) k.stands.is
+          ∙ (parts_under.bound held k.env key.names
+          ∙ ap (bound_by (held_under held)) (ap bound_in f.there ∙ v.1));
+    }
+
 pub updating_held : (w now : World) (key : KeyOfUpdate) → IsUpdating w key → counts_of (state_of now) ≡ counts_of (state_of w) →
     IsHeldAt (state_of now) key.object key.guard
 updating_held w now key k same = held_still (state_of w) (state_of now) key.object key.names key.guard k.inner (ap (take key.names) same) k.guard
@@ -83,16 +108,18 @@ updating_held w now key k same = held_still (state_of w) (state_of now) key.obje
 pub updating_goes_on : (orders : Orders) (code : ResolvedCode) (w now : World) (key : KeyOfUpdate) (k : IsUpdating w key) →
     state_of now ≡ under (guards_of_update_key key ++ k.guards) (exec_resolved orders code (guards_of_update_key key ++ k.guards) k.env).after →
     counts_of (state_of now) ≡ counts_of (state_of w) → IsKnown now key.at → IsUpdating now key
-updating_goes_on orders code w now key k is same known =
+updating_goes_on orders code w now key k is counts known =
     let held = guards_of_update_key key ++ k.guards in
     record {
       guards = k.guards;
       env = (exec_resolved orders code held k.env).after;
       stands = record { is = is; ready = ready_exec orders code held k.env k.stands.ready };
       element = subst (λ l. IsKept held l key.object (plain_mark key.at)) (sym (resolved_keeps orders code held k.env)) k.element;
+      copy = ap (λ l. slice_get l key.names) (resolved_keeps orders code held k.env) ∙ k.copy;
+      last = same_many w now counts ∙ k.last;
       known = known;
       inner = k.inner;
-      guard = updating_held w now key k same;
+      guard = updating_held w now key k counts;
       cursors = k.cursors;
     }
 

@@ -1,5 +1,5 @@
 -- What a statement comes to, and where the turns of a loop stand.
-use Rattle.std.specs.Prelude.{◌≡◌, ◌<◌, ℕ, Bool, true, List, ◌++◌, length, slice_get, Option, Some, Result}
+use Rattle.std.specs.Prelude.{◌≡◌, ◌<◌, ◌+◌, ℕ, Bool, true, List, ◌++◌, length, slice_get, Option, Some, Result}
 use Rattle.ac_base.specs.declared.guard.GuardKind.TheVariants.{Cursors}
 use Rattle.ac_model.specs.Cursors.{plain_mark}
 use Rattle.ac_model.specs.Letters.{Mark}
@@ -9,7 +9,7 @@ use Rattle.ac_rules.specs.declared.resolved.ResolvedStmt.TheVariants.{Call, Set,
 use Rattle.ac_calls.specs.Holdings.{Held, Guards, number_of, names_of}
 use Rattle.ac_meaning.specs.Environment.{State, under, value_at, leaving}
 use Rattle.ac_meaning.specs.Execution.{Outcome, outcome, Orders, commanded, gathered, block_on, exec_resolved, in_order, guards_of_loop, key_end}
-use Rattle.ac_meaning.specs.GuardedNames.{is_guarded, of_object, kept}
+use Rattle.ac_meaning.specs.GuardedNames.{is_guarded, of_object, of_value, kept}
 use Rattle.ac_meaning.specs.Walks.{first_mark}
 use Rattle.ac_objects.specs.declared.blocks.UpdateKey.{UpdateKey}
 use Rattle.ac_objects.specs.Blocks.{guards_of_update_key, IsHeldAt}
@@ -85,12 +85,15 @@ pub record IsTurning (elements : Bool) (w : World) (count object : ℕ) (backwar
   pub names : List ℕ
   pub turning : Turning w count object backward coming (guards_of_loop elements held ++ guards) env (number_of held) (names_of held) names
 
--- an update of a key goes on: its guard is held, among others in such an environment, and its cursor designates an element of its object
+-- an update of a key goes on: its guard is held, among others in such an environment, its cursor designates an element of its object, and
+-- the last name is that of the copy
 pub record IsUpdating (w : World) (key : UpdateKey) : Type 0 where
   pub guards : Guards
   pub env : State
   pub stands : IsUnder w (guards_of_update_key key ++ guards) env
   pub element : IsKept (guards_of_update_key key ++ guards) (kept (guards_of_update_key key ++ guards) env) key.object (plain_mark key.at)
+  pub copy : slice_get (kept (guards_of_update_key key ++ guards) env) key.names ≡ Some of_value
+  pub last : length w.bounds ≡ key.names + 1
   pub known : IsKnown w key.at
   pub inner : key.object < key.names
   pub guard : IsHeldAt (state_of w) key.object key.guard

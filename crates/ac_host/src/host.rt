@@ -1,5 +1,5 @@
 //! The host: it runs statements in order, and writes the line of each command as soon as it has run.
-ghost use Rattle.std.specs.Prelude.{◌≡◌, ◌<◌, ◌++◌, [], ◌∷◌, ℕ, List, take, Some};
+ghost use Rattle.std.specs.Prelude.{◌≡◌, ◌<◌, ◌+◌, ◌++◌, [], ◌∷◌, ℕ, List, length, take, Some};
 ghost use Rattle.ac_base.specs.declared.reason.Reason.TheVariants.{NamesSpent};
 ghost use Rattle.ac_base.specs.declared.fault.Fault.TheVariants as fault;
 ghost use Rattle.ac_model.specs.Cursors.{plain_mark};
@@ -131,6 +131,7 @@ impl Host {
         requires sound { B.is_sound runner.now }
         requires turning { IsTurning elements self.old.objects key.old.names key.old.object key.old.backward (plain_mark key.old.coming) }
         requires known { IsKnown self.old.objects key.old.coming }
+        requires last { length self.old.objects.bounds ≡ key.old.names + 1 }
         ensures runs { Tells B.allows self.old.objects self.new.objects result (λ orders.
             (guards : Guards) (h : Held) (e : State) (names : List ℕ) →
             Turning self.old.objects key.old.names key.old.object key.old.backward (plain_mark key.old.coming)
@@ -144,7 +145,7 @@ impl Host {
             ≡ take key.old.names (counts_of (state_of self.old.objects)) }
     {
         for _ in 0..u64::MAX {
-            if !self.objects.step_loop(elements, key)? {
+            if !self.objects.step_loop(elements, key) {
                 return Ok(());
             }
             self.run_statements(body, sink, runner)?;
@@ -276,7 +277,7 @@ impl Host {
         ensures counts { counts_of (state_of self.new.objects)
             ≡ counts_of (releasing (guards_of_update_key key) (leaving key.names (state_of self.old.objects))) }
     {
-        match self.objects.leave_update(key)? {
+        match self.objects.leave_update(key) {
             Some(reason) => write_refusal(line, reason, &mut self.text, sink),
             None => Ok(()),
         }

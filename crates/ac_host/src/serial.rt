@@ -23,14 +23,14 @@ use std::thread::Threads;
 
 impl Host {
     /// No names yet, and objects whose numbers run from 1.
-    fn new(alloc: Global) -> Host
-        ensures { result.objects ≡ world [] (counted_from 1) }
+    fn new(alloc: Global) -> Result<Host, NoMemory>
+        ensures { IfOk result (λ host. host.objects ≡ world [] (counted_from 1)) }
     {
-        Host {
-            objects: Objects::starting_at(alloc, 1),
+        Ok(Host {
+            objects: Objects::new(alloc)?,
             frame: Frame::new(),
             text: Vec::new(alloc),
-        }
+        })
     }
 
     /// Makes the names of the outermost declarations, for which 64 bits have numbers enough.
@@ -55,7 +55,7 @@ impl Host {
             Writes K.held K.faults K.room K.counts_failures sink.old sink.new (text_with orders script.now) result
             × IfOk result (λ count. count ≡ nodes (run_with orders script.now).after)) }
     {
-        let mut host = Host::new(alloc);
+        let mut host = Host::new(alloc)?;
         host.declare(script.decls())?;
         host.run_statements(script.statements(), sink, runner)?;
         Ok(host.objects.live_nodes()?)

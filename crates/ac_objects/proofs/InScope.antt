@@ -1,20 +1,22 @@
 -- What becomes of the names in scope when one object changes, when names go and when they come.
-use Rattle.std.proofs.Common.{◌≡◌, ◌==◌, ◌+◌, ◌<◌, ◌≤◌, ◌++◌, inl, inr, ℕ, zero, suc, Bool, true, false, List, [], ◌∷◌, map, take, set, get_or, length, slice_get, option_map, refl, sym, ap, subst, ◌∙◌, arith, Option, Some, None, if◌then◌else◌}
+use Rattle.std.proofs.Common.{◌≡◌, ◌==◌, ◌+◌, ◌-◌, ◌<◌, ◌≤◌, ◌++◌, inl, inr, ℕ, zero, suc, Bool, true, false, List, [], ◌∷◌, map, take, set, get_or, length, option_to_list, slice_get, option_map, refl, sym, ap, subst, ◌∙◌, arith, Option, Some, None, if◌then◌else◌}
 use Rattle.std.proofs.lemmas.Bool.{cases_lt}
-use Rattle.std.proofs.lemmas.List.{take-take, take-append-le, length-map, length-take-le, map-set, take-map, map_push}
+use Rattle.std.proofs.lemmas.List.{take-take, take-append-le, length-append, length-map, length-take, length-take-le, map-set, take-map, map_push}
 use Rattle.std.proofs.lemmas.List.Elements.{All-set, All-take, All-push}
 use Rattle.std.proofs.lemmas.Option.{slice_get_past, slice_get-map, slice_get_within, get_or_from_slice_get, none-some, same_Some}
 use Rattle.ac_base.specs.declared.cursor.Cursor.{Cursor}
 use Rattle.ac_base.specs.declared.cursor.Cursor.TheVariants as cursor
 use Rattle.ac_base.specs.declared.value.Value.{Value}
 use Rattle.ac_model.specs.Letters.{Mark}
-use Rattle.ac_calls.specs.Holdings.{Held, number_of}
+use Rattle.ac_calls.specs.Holdings.{Held, Guards, number_of}
 use Rattle.ac_meaning.specs.Environment as meant
+use Rattle.ac_meaning.specs.UnderGuards.{held_with}
 use Rattle.ac_meaning.specs.Numbers.{has_number, times_numbered, NumbersDiffer}
 use Rattle.ac_meaning.proofs.NumbersApart.{numbers_go_on}
 use Rattle.ac_objects.specs.declared.object.Object.{Object}
 use Rattle.ac_objects.specs.declared.bound.Bound.{Bound}
 use Rattle.ac_objects.specs.declared.bound.Bound.TheVariants as bound
+use Rattle.ac_objects.specs.Blocks.{holding}
 use Rattle.ac_objects.specs.Standing.{counts_in, counts_of}
 use Rattle.ac_objects.specs.World.{World, Counters, world, held_of, bound_of, state_of, ObjectAgrees, BoundAgrees, IsKnown, cursor_in, IsSound, Persists, memory_of}
 use Rattle.ac_objects.proofs.Memory.{none_in}
@@ -185,6 +187,55 @@ module _ (w : World) (bounds now : List Bound) (next : Counters) (last : ℕ) (b
       (left_persists bounds next last (cursor_in b) (subst (λ v. IsKnown v (cursor_in b)) (sym view) known))
       (left_sound bounds next last sound))
 
+-- the last name, where it is a variable's
+
+value_bound : (b : Bound) (v : Value) → bound_of b ≡ meant.binds_value v → b ≡ bound.Value v
+value_bound bound.Type v e = absurd (cc)
+value_bound (bound.Object o) v e = absurd (cc)
+value_bound (bound.Cursor c) v e = absurd (cc)
+value_bound (bound.Value w) v e = let same : w ≡ v = cc in ap bound.Value same
+value_bound (bound.Element object at) v e = absurd (cc)
+
+pub held_value : {v w : Value} → Some (bound.Value v) ≡ Some (bound.Value w) → v ≡ w
+held_value e = cc
+
+last_there : {X : Type 0} (xs : List X) (x : X) → slice_get (xs ++ x ∷ []) (length xs) ≡ Some x
+last_there [] x = refl
+last_there (y ∷ xs) x = last_there xs x
+
+-- the last of all names, where it is taken away
+module _ (w : World) (bounds left : List Bound) (next : Counters) (place many : ℕ) (last : Option Bound) (view : world bounds next ≡ w)
+    (long : length w.bounds ≡ place + 1) (counted : many ≡ length bounds) (split : bounds ≡ left ++ option_to_list last) (rest : left ≡ take (many - 1) bounds) where
+  all_long : length bounds ≡ place + 1
+  all_long = ap (λ (v : World). length v.bounds) view ∙ long
+
+  taken : left ≡ take place bounds
+  taken = let same : many - 1 ≡ place = omega (arith, counted, all_long) in rest ∙ ap (λ n. take n bounds) same
+
+  pub last_value : (v : Value) → meant.bound_at (state_of w) place ≡ meant.binds_value v → last ≡ Some (bound.Value v)
+  last_value v at = go last split
+    where
+      short : length left ≡ place
+      short = omega (arith, ap (λ (l : List Bound). length l) taken, length-take place bounds, all_long)
+
+      go : (end : Option Bound) → bounds ≡ left ++ option_to_list end → end ≡ Some (bound.Value v)
+      go None is =
+          absurd (omega (arith, short, ap (λ (l : List Bound). length l) is, length-append left (option_to_list {X = Bound} None), all_long))
+      go (Some b) is =
+          let there : slice_get bounds place ≡ Some b =
+          ap (λ l. slice_get l place) is ∙ (ap (slice_get (left ++ b ∷ [])) (sym short) ∙ last_there left b) in
+          ap Some (value_bound b v (sym (bound_there bounds next place b there) ∙ (ap (λ x. meant.bound_at (state_of x) place) view ∙ at)))
+
+  pub taken_state : state_of (world left next) ≡ meant.leaving place (state_of w)
+  taken_state = ap (λ bs. state_of (world bs next)) taken ∙ (left_state bounds next place ∙ ap (λ x. meant.leaving place (state_of x)) view)
+
+  pub taken_persists : Persists w (world left next)
+  taken_persists = subst (λ bs. Persists w (world bs next)) (sym taken)
+      (subst (λ x. Persists x (world (take place bounds) next)) view (left_persists bounds next place))
+
+  pub taken_sound : IsSound (world bounds next) → IsSound (world left next)
+  taken_sound sound = subst (λ bs. IsSound (world bs next)) (sym taken) (left_sound bounds next place sound)
+
 -- where memory was wanted for it, nothing changed
 module _ (w : World) (bounds now : List Bound) (next : Counters) (b : Bound) (ok : Bool) (view : world bounds next ≡ w)
     (pushed : now ≡ (if ok then bounds ++ b ∷ [] else bounds)) (none : meant.object_in (bound_of b) ≡ None) where
@@ -232,6 +283,14 @@ named_by f e object at = ap (λ bs. record e { bounds = bs }) (map_push (meant.b
 pub value_named : (f : Held → Held) (e : meant.State) (v : Value) →
     meant.objects_by f (meant.with_name e (meant.binds_value v)) ≡ meant.with_name (meant.objects_by f e) (meant.binds_value v)
 value_named f e v = ap (λ bs. record e { bounds = bs }) (map_push (meant.bound_by f) e.bounds (meant.binds_value v))
+
+-- and so do guards that are held on them
+pub cursor_named : (guards : Guards) (e : meant.State) (at : Mark) →
+    holding guards (meant.with_name e (meant.binds_cursor at)) ≡ meant.with_name (holding guards e) (meant.binds_cursor at)
+cursor_named [] e at = refl
+cursor_named (g ∷ guards) e at =
+    ap (meant.objects_by (held_with g)) (cursor_named guards e at)
+    ∙ ap (λ bs. record (holding guards e) { bounds = bs }) (map_push (meant.bound_by (held_with g)) (holding guards e).bounds (meant.binds_cursor at))
 
 -- the counts of the objects below so many names
 

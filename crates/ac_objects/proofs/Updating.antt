@@ -7,7 +7,7 @@ use Rattle.ac_base.specs.declared.cursor.Cursor.{Cursor}
 use Rattle.ac_base.specs.declared.guard.GuardKind.TheVariants as guard
 use Rattle.ac_base.specs.declared.reason.Reason.{Reason}
 use Rattle.ac_base.specs.declared.reason.Reason.TheVariants.{NoElement}
-use Rattle.ac_base.specs.FirstReason.{first_reason, earlier}
+use Rattle.ac_base.specs.FirstReason.{first_reason}
 use Rattle.ac_base.specs.Guards.{HeldGuard, count_of, raised_kind}
 use Rattle.ac_base.specs.declared.value.Value.{Value}
 use Rattle.ac_base.specs.Key.{key_of_text}
@@ -424,11 +424,6 @@ pub copied_there : (w : World) (bs : List Place) (n : Counters) (i : ℕ) (m : M
 copied_there w bs n i m view (Ok v) e h at =
     e ∙ ap (λ found. value_or_zero (element_in found m)) (ap (λ x. object_at (state_of x) i) view ∙ at)
 copied_there w bs n i m view (Err fault) e h at = tt
-
-pub element_copied : (result : Result Text NoMemory) (given meant : Value) → IfOk result (λ made. made ≡ text_in given) → given ≡ meant →
-    IfOk result (λ made. made ≡ text_in meant)
-element_copied (Ok made) given meant e is = e ∙ ap text_in is
-element_copied (Err fault) given meant e is = tt
 
 -- where nothing refuses the head the element stands there
 pub passed_stands : (e : State) (place : ℕ) (h : Held) (m : Mark) → object_at e place ≡ Some h → key_update_reason h m ≡ None → StandsAt e place m

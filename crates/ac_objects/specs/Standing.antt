@@ -1,6 +1,7 @@
 -- What is asked of an environment, and what is told of it whatever a call comes to.
 use Rattle.std.specs.Prelude.{◌≡◌, ◌<◌, ◌+◌, ◌⊎◌, ℕ, Bool, List, map, Option, Some, None}
 use Rattle.ac_base.specs.Guards.{GuardCounts}
+use Rattle.ac_base.specs.declared.value.Value.{Value}
 use Rattle.ac_model.specs.Letters.{Mark, no_mark}
 use Rattle.ac_calls.specs.Holdings.{Held, of_rows, of_holder, of_queue, from_rows, takes_guards, element_value}
 use Rattle.ac_meaning.specs.Environment.{Bound, binds_type, binds_object, binds_cursor, binds_value, binds_element, State, bound_at, object_at, guarded_at}
@@ -20,6 +21,11 @@ pub record StandsAt (e : State) (object : ℕ) (at : Mark) : Type 0 where
   pub held : Held
   pub there : object_at e object ≡ Some held
   pub stands : (element_value held at).reason ≡ None
+
+-- the name at the place is a variable's
+pub record HasValue (e : State) (place : ℕ) : Type 0 where
+  pub value : Value
+  pub there : bound_at e place ≡ binds_value value
 
 -- where a loop goes on: at an element of its object, or at none
 abbrev pub ComingStands : State → (object : ℕ) → Mark → Type 0

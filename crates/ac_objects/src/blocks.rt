@@ -1,4 +1,5 @@
 //! The keys of open blocks.
+use ac_base::KeyRoom;
 use ac_cursor::{Cursor, GuardKey};
 
 /// Why declarations failed.
@@ -26,10 +27,12 @@ pub struct ViewKey {
     pub(crate) guard: GuardKey,
 }
 
-/// An open update of a key: its object, where the element stands, and the guard that it holds. The block's name holds the copy.
+/// An open update of a key: its object, where the element stands, the guard that it holds, and memory for the key that the copy has at the
+/// block's end. The block's name holds the copy.
 pub struct UpdateKey {
     pub(crate) object: usize,
     pub(crate) names: usize,
     pub(crate) at: Cursor,
     pub(crate) guard: GuardKey,
+    pub(crate) room: KeyRoom,
 }

@@ -1,10 +1,10 @@
 //! What begins, goes on with and ends a loop over an object.
-ghost use Rattle.std.specs.Prelude.{◌≡◌, ◌<◌, ◌≤◌, ◌∷◌, ◌+◌, true, false, length, take, None, Some, IfOk, OnErr, Ok};
+ghost use Rattle.std.specs.Prelude.{◌≡◌, ◌<◌, ◌∷◌, ◌+◌, true, false, length, take, None, Some, IfOk, OnErr};
 ghost use Rattle.std.specs.Option.{ForSome};
 ghost use Rattle.ac_model.specs.Letters.{no_mark};
 ghost use Rattle.ac_model.specs.Cursors.{plain_mark};
 ghost use Rattle.ac_calls.specs.Holdings.{Held, names_of, number_of, guard_on};
-ghost use Rattle.ac_meaning.specs.Environment.{object_at, object_in, objects_by, with_name, leaving};
+ghost use Rattle.ac_meaning.specs.Environment.{binds_cursor, object_at, objects_by, with_name, leaving};
 ghost use Rattle.ac_meaning.specs.Execution.{in_order, turn_bound, guards_of_loop};
 ghost use Rattle.ac_meaning.specs.UnderGuards.{held_without};
 ghost use Rattle.ac_meaning.specs.Walks.{first_mark};
@@ -23,7 +23,8 @@ use ac_cursor::{Cursor, GuardKey, GuardKind};
 use ac_sequence_calls::by_fields;
 
 impl Objects {
-    /// Begins a loop over an object, with its guards held. NoMemory where 64 bits don't count one more.
+    /// Begins a loop over an object, with its guards held. The name of its turns is in scope from here on, so that no turn takes memory.
+    /// NoMemory also where 64 bits don't count one guard more.
     pub fn enter_loop(
         &mut self,
         elements: bool,
@@ -36,7 +37,7 @@ impl Objects {
         ensures opened { (h : Held) → object_at (state_of self.old) object ≡ Some h → IfOk result (λ key.
             (plain_mark key.coming ≡ first_mark (number_of h) (in_order backward (names_of h)))
             × (guards_of_loop_key key ≡ guards_of_loop elements h)
-            × (state_of self.new ≡ holding (guards_of_loop elements h) (state_of self.old))) }
+            × (state_of self.new ≡ with_name (holding (guards_of_loop elements h) (state_of self.old)) (binds_cursor no_mark))) }
         ensures named { (h : Held) → object_at (state_of self.old) object ≡ Some h → IfOk result (λ _. NoRootAmong (names_of h)) }
         ensures persists { Persists self.old self.new }
         ensures fault { OnErr result (self.new ≡ self.old) }
@@ -46,6 +47,7 @@ impl Objects {
         }
         let names = self.names();
         let coming = self.first_at(object, backward);
+        self.add(Bound::Cursor(Cursor::NoElement))?;
         let elements = self.hold_elements(object, elements);
         let cursors = self.hold(object, GuardKind::Cursors);
         Ok(LoopKey {
@@ -58,37 +60,37 @@ impl Objects {
         })
     }
 
-    /// Begins the next turn, or says that there is none. The name of the turn before goes.
+    /// Begins the next turn, or says that there is none. The name of the turn before becomes that of this one, or it goes.
     #[inline(always)]
-    pub fn step_loop(&mut self, elements: bool, key: &mut LoopKey) -> Result<bool, NoMemory>
+    pub fn step_loop(&mut self, elements: bool, key: &mut LoopKey) -> bool
         requires object { IsObject (state_of self.old) key.old.object }
         requires inner { key.old.object < key.old.names }
-        requires names { key.old.names ≤ length self.old.bounds }
+        requires last { length self.old.bounds ≡ key.old.names + 1 }
         requires known { IsKnown self.old key.old.coming }
         requires coming { ComingStands (state_of self.old) key.old.object (plain_mark key.old.coming) }
-        ensures turn { result ≡ Ok true → state_of self.new
+        ensures turn { result ≡ true → state_of self.new
             ≡ with_name (leaving key.old.names (state_of self.old)) (turn_bound elements key.old.object (plain_mark key.old.coming)) }
-        ensures goes { result ≡ Ok true → (h : Held) → object_at (state_of self.old) key.old.object ≡ Some h →
+        ensures goes { result ≡ true → (h : Held) → object_at (state_of self.old) key.old.object ≡ Some h →
             StepsOn key.old.backward (number_of h) (names_of h) key.old.coming key.new.coming }
-        ensures more { result ≡ Ok true → plain_mark key.old.coming ≡ no_mark → ⊥ }
-        ensures end { result ≡ Ok false →
+        ensures more { result ≡ true → plain_mark key.old.coming ≡ no_mark → ⊥ }
+        ensures end { result ≡ false →
             (plain_mark key.old.coming ≡ no_mark) × (state_of self.new ≡ leaving key.old.names (state_of self.old)) }
         ensures known { IsKnown self.new key.new.coming }
         ensures key { (key.new.object ≡ key.old.object) × (key.new.names ≡ key.old.names) × (key.new.backward ≡ key.old.backward)
             × (guards_of_loop_key key.new ≡ guards_of_loop_key key.old) }
         ensures persists { Persists self.old self.new }
-        ensures names { key.old.names ≤ length self.new.bounds }
+        ensures last { result ≡ true → length self.new.bounds ≡ key.old.names + 1 }
         ensures counts { take key.old.names (counts_of (state_of self.new)) ≡ take key.old.names (counts_of (state_of self.old)) }
     {
         let coming = by_fields(key.coming);
         if coming == Cursor::NoElement {
             self.leave_scope(key.names);
-            return Ok(false);
+            return false;
         }
         let following = self.next_at(key.object, key.backward, coming);
-        self.name_turn(key.names, elements, key.object, coming)?;
+        self.replace_last(key.names, elements, key.object, coming);
         key.coming = following;
-        Ok(true)
+        true
     }
 
     /// Ends a loop: its name goes, and its guards are released.
@@ -183,47 +185,6 @@ fn put_element_anew(held: &mut Bound, object: usize, at: Cursor)
 }
 
 impl Objects {
-    /// Puts a turn's name behind so many names. Where one name stands there, as that of the turn before, it takes its place.
-    #[inline(always)]
-    fn name_turn(
-        &mut self,
-        names: usize,
-        elements: bool,
-        object: usize,
-        at: Cursor,
-    ) -> Result<(), NoMemory>
-        requires names { names ≤ length self.old.bounds }
-        requires known { IsKnown self.old at }
-        ensures named { IfOk result (λ _. state_of self.new
-            ≡ with_name (leaving names (state_of self.old)) (turn_bound elements object (plain_mark at))) }
-        ensures counts { take names (counts_of (state_of self.new)) ≡ take names (counts_of (state_of self.old)) }
-        ensures names { names ≤ length self.new.bounds }
-        ensures persists { Persists self.old self.new }
-    {
-        if self.names() - names == 1 {
-            self.replace_last(names, elements, object, at);
-            return Ok(());
-        }
-        self.name_anew(names, turn_bound(elements, object, at))
-    }
-
-    /// Puts a name that is no object's behind so many names, in place of all that stand there.
-    #[cold]
-    #[inline(never)]
-    fn name_anew(&mut self, names: usize, bound: Bound) -> Result<(), NoMemory>
-        requires names { names ≤ length self.old.bounds }
-        requires no_object { object_in (bound_of bound) ≡ None }
-        requires known { IsKnown self.old (cursor_in bound) }
-        ensures named { IfOk result (λ _. state_of self.new ≡ with_name (leaving names (state_of self.old)) (bound_of bound)) }
-        ensures counts { take names (counts_of (state_of self.new)) ≡ take names (counts_of (state_of self.old)) }
-        ensures names { names ≤ length self.new.bounds }
-        ensures persists { Persists self.old self.new }
-    {
-        self.leave_scope(names);
-        self.add(bound)?;
-        Ok(())
-    }
-
     /// Puts a turn's name in the place of the last one.
     #[inline(always)]
     fn replace_last(&mut self, last: usize, elements: bool, object: usize, at: Cursor)
@@ -231,7 +192,7 @@ impl Objects {
         requires known { IsKnown self.old at }
         ensures named { state_of self.new ≡ with_name (leaving last (state_of self.old)) (turn_bound elements object (plain_mark at)) }
         ensures counts { take last (counts_of (state_of self.new)) ≡ take last (counts_of (state_of self.old)) }
-        ensures names { last ≤ length self.new.bounds }
+        ensures last { length self.new.bounds ≡ last + 1 }
         ensures persists { Persists self.old self.new }
     {
         put_turn(&mut self.bounds[last], elements, object, at);

@@ -1,5 +1,5 @@
 //! The names of a script in scope, with what they hold, and its commands.
-ghost use Rattle.std.specs.Prelude.{◌≡◌, [], Some, IfOk};
+ghost use Rattle.std.specs.Prelude.{◌≡◌, [], Some, Ok, IfOk};
 ghost use Rattle.ac_meaning.specs.Commands.{called, set_from, summed, sum_of, variable_set};
 ghost use Rattle.ac_calls.specs.Elements.{integer_in};
 ghost use Rattle.ac_meaning.specs.Environment.{object_at, value_at};
@@ -41,16 +41,23 @@ impl Model for Objects {
 }
 
 impl Objects {
-    /// No names, objects whose numbers run from this one, and no block of tasks that has begun.
-    pub fn starting_at(alloc: Global, first: u64) -> Objects
-        ensures { result ≡ world [] (counted_from first) }
+    /// No names, objects whose numbers run from 1, and no block of tasks that has begun. Takes no memory.
+    pub fn new(alloc: Global) -> Result<Objects, NoMemory>
+        ensures { result ≡ Ok (world [] (counted_from 1)) }
     {
-        Objects {
+        Objects::starting_at(alloc, 1)
+    }
+
+    /// The same with numbers that run from this one.
+    pub fn starting_at(alloc: Global, first: u64) -> Result<Objects, NoMemory>
+        ensures { result ≡ Ok (world [] (counted_from first)) }
+    {
+        Ok(Objects {
             alloc,
             mint: TagMint::starting_at(first),
             bounds: Vec::new(alloc),
             blocks: 0,
-        }
+        })
     }
 
     /// Makes a call on the object at this place, and gives its answer, which stands in the frame, to the target.

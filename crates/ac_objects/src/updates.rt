@@ -1,6 +1,7 @@
 //! What begins and ends an update of an element that keeps its key.
-ghost use Rattle.std.specs.Prelude.{◌≡◌, ◌<◌, length, Some, None, IfOk, OnErr, Err};
+ghost use Rattle.std.specs.Prelude.{◌≡◌, ◌<◌, ◌+◌, length, Some, None, IfOk, OnErr, Err};
 ghost use Rattle.ac_base.specs.declared.reason.Reason.{Reason as ReasonData};
+ghost use Rattle.ac_base.specs.declared.value.Value.{Value as ValueData};
 ghost use Rattle.ac_model.specs.Cursors.{plain_mark};
 ghost use Rattle.ac_setwork.specs.KeyCalls.{cursor_guard_of};
 ghost use Rattle.ac_syntax.specs.declared.view_kind.ViewKind.TheVariants as views;
@@ -10,8 +11,9 @@ ghost use Rattle.ac_meaning.specs.Environment.{object_at, mark_at, value_at, val
 ghost use Rattle.ac_meaning.specs.Execution.{head_reason, guards_of_view};
 ghost use Rattle.ac_meaning.specs.UnderGuards.{held_without};
 ghost use Rattle.ac_objects.specs.Blocks.{holding, releasing, guards_of_update_key, IsHeldAt};
-ghost use Rattle.ac_objects.specs.Standing.{TakesGuards, StandsAt, ElementsStand, counts_in_held, counts_of};
+ghost use Rattle.ac_objects.specs.Standing.{TakesGuards, HasValue, StandsAt, counts_in_held, counts_of};
 ghost use Rattle.ac_objects.specs.KeyUpdates.{UpdateEnds, key_ended};
+ghost use Rattle.ac_objects.specs.declared.bound.Bound.TheVariants as bounds;
 ghost use Rattle.ac_objects.specs.World.{held_of, state_of, IsKnown, ObjectAgrees, Persists};
 
 use crate::blocks::UpdateKey;
@@ -19,10 +21,10 @@ use crate::bound::Bound;
 use crate::object::Object;
 use crate::objects::Objects;
 use crate::reading::copy_element;
-use ac_base::{Fault, KeyedText, NoMemory, Reason, Value};
-use ac_calls::ScriptElement;
+use ac_base::{Elem, Fault, KeyRoom, KeyedText, NoMemory, Reason, Value};
 use ac_cursor::{Cursor, GuardKey, GuardKind};
 use ac_model::allowed;
+use std::alloc::Global;
 
 impl Objects {
     /// Begins an update of the element at which a cursor stands: its name holds a copy, and a guard is held.
@@ -47,6 +49,7 @@ impl Objects {
             return Err(Fault::NoMemory);
         }
         let names = self.names();
+        let room = KeyRoom::new(self.alloc)?;
         let copy = self.copy_at(object, at)?;
         self.add(Bound::Value(copy))?;
         let guard = self.hold(object, GuardKind::Cursors);
@@ -55,30 +58,35 @@ impl Objects {
             names,
             at,
             guard,
+            room,
         })
     }
 
     /// Ends an update: its name goes, its guard is released, and the element becomes what the copy is now. Where that has another
-    /// key, the element goes, and this is why.
-    pub fn leave_update(&mut self, key: UpdateKey) -> Result<Option<Reason>, NoMemory>
+    /// key, the element goes, and this is why. Takes no memory.
+    pub fn leave_update(&mut self, key: UpdateKey) -> Option<Reason>
         requires inner { key.object < key.names }
+        requires last { length self.old.bounds ≡ key.names + 1 }
+        requires copy { HasValue (state_of self.old) key.names }
         requires guard { IsHeldAt (state_of self.old) key.object key.guard }
         requires cursors { key.guard.kind ≡ GuardKind.Cursors }
         requires known { IsKnown self.old key.at }
         requires element { StandsAt (state_of self.old) key.object (plain_mark key.at) }
-        requires stand { ElementsStand (state_of self.old) }
-        ensures ended { IfOk result (λ reason. UpdateEnds key (state_of self.old) (state_of self.new) reason) }
+        ensures ended { UpdateEnds key (state_of self.old) (state_of self.new) result }
         ensures persists { Persists self.old self.new }
         ensures counts { counts_of (state_of self.new)
             ≡ counts_of (releasing (guards_of_update_key key) (leaving key.names (state_of self.old))) }
     {
-        match self.copied(key.names) {
-            Ok(element) => Ok(self.settle(key, element)),
-            Err(_) => {
-                self.abandon_update(key);
-                Err(NoMemory)
-            }
-        }
+        let UpdateKey {
+            object,
+            names,
+            at,
+            guard,
+            room,
+        } = key;
+        let value = self.take_value(names);
+        let copy = keyed_text(self.alloc, value, room);
+        self.end_update(object, at, guard, copy)
     }
 
     /// Ends an update whose body didn't end: its name goes, and its guard is released.
@@ -93,6 +101,7 @@ impl Objects {
             names,
             at: _,
             guard,
+            room: _,
         } = key;
         self.leave_scope(names);
         self.release(object, guard);
@@ -121,36 +130,15 @@ impl Objects {
         copy_element(&self.bounds, self.alloc, place, at)
     }
 
-    /// What the copy under a name is, as an element of a keyed set.
-    fn copied(&self, place: usize) -> Result<KeyedText, NoMemory>
-        requires { ElementsStand (state_of self.now) }
-        ensures { IfOk result (λ made. made ≡ text_in (value_at (state_of self.now) place)) }
-    {
-        let read = self.read_name(place)?;
-        KeyedText::from_value(self.alloc, read.into_value())
-    }
-
-    /// The name goes, and the element becomes the copy.
-    fn settle(&mut self, key: UpdateKey, copy: KeyedText) -> Option<Reason>
-        requires inner { key.object < key.names }
-        requires guard { IsHeldAt (state_of self.old) key.object key.guard }
-        requires cursors { key.guard.kind ≡ GuardKind.Cursors }
-        requires known { IsKnown self.old key.at }
-        requires element { StandsAt (state_of self.old) key.object (plain_mark key.at) }
-        ensures ended { copy ≡ text_in (value_at (state_of self.old) key.names) →
-            UpdateEnds key (state_of self.old) (state_of self.new) result }
+    /// Takes the last name out of scope, which a variable has, with what that holds.
+    fn take_value(&mut self, place: usize) -> Value
+        requires last { length self.old.bounds ≡ place + 1 }
+        requires value { HasValue (state_of self.old) place }
+        ensures value { result ≡ value_at (state_of self.old) place }
+        ensures left { state_of self.new ≡ leaving place (state_of self.old) }
         ensures persists { Persists self.old self.new }
-        ensures counts { counts_of (state_of self.new)
-            ≡ counts_of (releasing (guards_of_update_key key) (leaving key.names (state_of self.old))) }
     {
-        let UpdateKey {
-            object,
-            names,
-            at,
-            guard,
-        } = key;
-        self.leave_scope(names);
-        self.end_update(object, at, guard, copy)
+        value_held(self.bounds.pop())
     }
 
     /// Ends an update of the element at the cursor in the object at the place.
@@ -214,5 +202,26 @@ impl Object {
                 None
             }
         }
+    }
+}
+
+/// What a variable holds.
+fn value_held(bound: Option<Bound>) -> Value
+    requires { (v : ValueData) × (bound ≡ Some (bounds.Value v)) }
+    ensures { bound ≡ Some (bounds.Value result) }
+{
+    match bound {
+        Some(Bound::Value(value)) => value,
+        _ => unreachable!(),
+    }
+}
+
+/// A value as an element of a keyed set, its key in memory that was taken before. An integer counts as the blank element.
+fn keyed_text(alloc: Global, value: Value, room: KeyRoom) -> KeyedText
+    ensures { result ≡ text_in value }
+{
+    match value {
+        Value::Int(_) => KeyedText::blank(alloc).unwrap(),
+        Value::Text(text) => KeyedText::within(text, room),
     }
 }

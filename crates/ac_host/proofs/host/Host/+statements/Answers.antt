@@ -613,17 +613,11 @@ run_turns-step_loop-requires-clause-object = loops.run_turns-step_loop-requires-
 pub run_turns-step_loop-requires-clause-inner : goal.run_turns-step_loop-requires-clause-inner
 run_turns-step_loop-requires-clause-inner = loops.run_turns-step_loop-requires-clause-inner
 
-pub run_turns-step_loop-requires-clause-names : goal.run_turns-step_loop-requires-clause-names
-run_turns-step_loop-requires-clause-names = loops.run_turns-step_loop-requires-clause-names
-
 pub run_turns-step_loop-requires-clause-coming : goal.run_turns-step_loop-requires-clause-coming
 run_turns-step_loop-requires-clause-coming = loops.run_turns-step_loop-requires-clause-coming
 
-pub run_turns-returns-in_err-step_loop-clause-runs : goal.run_turns-returns-in_err-step_loop-clause-runs
-run_turns-returns-in_err-step_loop-clause-runs = loops.run_turns-returns-in_err-step_loop-clause-runs
-
-pub run_turns-returns-then-not-branch-clause-runs : goal.run_turns-returns-then-not-branch-clause-runs
-run_turns-returns-then-not-branch-clause-runs = loops.run_turns-returns-then-not-branch-clause-runs
+pub run_turns-returns-then-not-step_loop-clause-runs : goal.run_turns-returns-then-not-step_loop-clause-runs
+run_turns-returns-then-not-step_loop-clause-runs = loops.run_turns-returns-then-not-step_loop-clause-runs
 
 pub run_turns-returns-clause-runs : goal.run_turns-returns-clause-runs
 run_turns-returns-clause-runs = loops.run_turns-returns-clause-runs

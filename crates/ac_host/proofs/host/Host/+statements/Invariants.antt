@@ -1,4 +1,4 @@
-use Rattle.std.proofs.Common.{◌≡◌, ◌+◌, ◌*◌, ◌++◌, ℕ, List, drop, take}
+use Rattle.std.proofs.Common.{◌≡◌, ◌+◌, ◌*◌, ◌++◌, ℕ, List, drop, length, take}
 use Rattle.ac_model.specs.Cursors.{plain_mark}
 use Rattle.ac_rules.specs.Resolved.{resolved_size, no_statement}
 use Rattle.ac_rules.specs.ResolvedStatements.{resolved_before, resolved_of}
@@ -73,6 +73,7 @@ invariant-run_turns-loop g l =
       key : (l.key.object ≡ l.fn.key.object) × (l.key.names ≡ l.fn.key.names) × (l.key.backward ≡ l.fn.key.backward)
           × (guards_of_loop_key l.key ≡ guards_of_loop_key l.fn.key);
       known : IsKnown l.self.objects l.key.coming;
+      last : length l.self.objects.bounds ≡ l.key.names + 1;
       persists : Persists l.fn.self.objects l.self.objects;
       counts : take l.fn.key.names (counts_of (state_of l.self.objects)) ≡ take l.fn.key.names (counts_of (state_of l.fn.self.objects));
     }

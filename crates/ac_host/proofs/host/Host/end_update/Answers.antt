@@ -1,14 +1,7 @@
-use Rattle.std.proofs.Common.{◌++◌, subst}
-use Rattle.ac_objects.specs.Blocks.{guards_of_update_key}
+use Rattle.std.proofs.Common.{subst}
 use Rattle.ac_objects.specs.KeyUpdates.{UpdateEnds}
 use Rattle.ac_objects.specs.World.{state_of}
-use Rattle.ac_calls.specs.Answers.{lines_text}
-use Rattle.ac_host.specs.declared.end.HostEnd.TheVariants.{NoMemory}
-use Rattle.ac_host.specs.Running.{key_ending}
-use Rattle.ac_host.proofs.Blocks.{ran_broke}
-use Rattle.ac_host.proofs.Standing.{ready_stand}
-use Rattle.ac_host.proofs.Telling.{broke_nothing}
-use Rattle.ac_host.proofs.Updating.{updating_stands, ended_silent, ended_line}
+use Rattle.ac_host.proofs.Updating.{updating_copy, updating_stands, ended_silent, ended_line}
 use Rattle.ac_host.proofs.host.Host.end_update.Goals as goal
 
 pub leave_update-requires : goal.leave_update-requires
@@ -17,27 +10,20 @@ leave_update-requires g c =
     let w = c.args.self.now.objects in
     record {
       inner = k.inner;
+      last = k.last;
+      copy = updating_copy w c.args.key k;
       guard = k.guard;
       cursors = k.cursors;
       known = k.known;
       element = updating_stands w c.args.key k;
-      stand = ready_stand w (record { guards = guards_of_update_key c.args.key ++ k.guards; env = k.env; stands = k.stands });
     }
-
-pub returns-in_err-reason-clause-runs : goal.returns-in_err-reason-clause-runs
-returns-in_err-reason-clause-runs g c guards e u =
-    let sink = g.K.Sink in
-    let ended = key_ending c.args.line c.args.key guards e in
-    ran_broke sink.held sink.faults sink.room sink.counts_failures c.args.sink.now c.args.sink.now c.leave_update.new.self guards ended NoMemory
-    c.from_residual.result c.from_residual.ensures.1
-    (broke_nothing sink.held sink.faults sink.room sink.counts_failures c.args.sink.now (lines_text ended.lines))
 
 pub returns-in-Some-clause-runs : goal.returns-in-Some-clause-runs
 returns-in-Some-clause-runs g c guards e u =
     let sink = g.K.Sink in
     let old = c.args.self.now.objects in
     let now = c.leave_update.new.self in
-    let ends = subst (UpdateEnds c.args.key (state_of old) (state_of now)) c.in-Some.is c.in_ok-reason.ensures.ended in
+    let ends = subst (UpdateEnds c.args.key (state_of old) (state_of now)) c.in-Some.is c.leave_update.ensures.ended in
     ended_line sink.held sink.faults sink.room sink.counts_failures c.args.sink.now c.write_refusal.new.sink old now c.args.line c.args.key guards e
     c.in-Some.reason c.write_refusal.result ends u c.write_refusal.ensures
 
@@ -46,5 +32,5 @@ returns-in-None-clause-runs g c guards e u =
     let sink = g.K.Sink in
     let old = c.args.self.now.objects in
     let now = c.leave_update.new.self in
-    let ends = subst (UpdateEnds c.args.key (state_of old) (state_of now)) c.in-None.is c.in_ok-reason.ensures.ended in
+    let ends = subst (UpdateEnds c.args.key (state_of old) (state_of now)) c.in-None.is c.leave_update.ensures.ended in
     ended_silent sink.held sink.faults sink.room sink.counts_failures c.args.sink.now old now c.args.line c.args.key guards e _ ends u

@@ -7,8 +7,8 @@ use Rattle.ac_host.proofs.Scripts.{script_begins, script_tells, none_told, if_ok
 use Rattle.ac_host.proofs.Telling.{broke_nothing, broke_behind_all}
 use Rattle.ac_host.proofs.host.Host.run_by.Goals as goal
 
-pub returns-in_err-declare : goal.returns-in_err-declare
-returns-in_err-declare g c =
+pub returns-in_err-host : goal.returns-in_err-host
+returns-in_err-host g c =
     let sink = g.K.Sink in
     let exit = c.from_residual.ensures.1 in
     none_told (λ orders. (
@@ -18,13 +18,24 @@ returns-in_err-declare g c =
       if_ok_exit _ _ c.from_residual.result exit,
     ))
 
+pub returns-in_err-declare : goal.returns-in_err-declare
+returns-in_err-declare g c =
+    let sink = g.K.Sink in
+    let exit = c.from_residual-in_err-declare.ensures.1 in
+    none_told (λ orders. (
+      writes_broke sink.held sink.faults sink.room sink.counts_failures c.args.sink.now c.args.sink.now (text_with orders c.args.script.now) NoMemory
+          c.from_residual-in_err-declare.result exit
+          (broke_nothing sink.held sink.faults sink.room sink.counts_failures c.args.sink.now (text_with orders c.args.script.now)),
+      if_ok_exit _ _ c.from_residual-in_err-declare.result exit,
+    ))
+
 pub run_statements-requires : goal.run_statements-requires
 run_statements-requires g c = record {
   sound = c.requires;
   ready = record {
     guards = [];
     env = (after_decls c.decls.result.now first_state).after;
-    stands = script_begins c.new-host.result.objects c.declare.new.self.objects c.decls.result.now c.new-host.ensures c.in_ok-declare.ensures;
+    stands = script_begins c.in_ok-host.host.objects c.declare.new.self.objects c.decls.result.now c.in_ok-host.ensures c.in_ok-declare.ensures;
   };
 }
 
@@ -34,10 +45,10 @@ returns-in_err-run_statements g c =
     let ds = c.decls.result.now in
     let code = c.statements.result.now in
     let script = c.args.script.now in
-    let stands = script_begins c.new-host.result.objects c.declare.new.self.objects ds c.new-host.ensures c.in_ok-declare.ensures in
+    let stands = script_begins c.in_ok-host.host.objects c.declare.new.self.objects ds c.in_ok-host.ensures c.in_ok-declare.ensures in
     let exit = c.from_residual-in_err-run_statements.ensures.1 in
     let end = c.in_err-run_statements.field-0.0 in
-    script_tells c.new-host.result.objects c.declare.new.self.objects ds c.new-host.ensures c.in_ok-declare.ensures c.in_err-run_statements.ensures.runs
+    script_tells c.in_ok-host.host.objects c.declare.new.self.objects ds c.in_ok-host.ensures c.in_ok-declare.ensures c.in_err-run_statements.ensures.runs
     (λ orders runs.
     let ran = runs [] (after_decls ds first_state).after stands in
     let is = script_comes orders script code ds c.statements.ensures c.decls.ensures in (
@@ -54,9 +65,9 @@ returns-in_err-live_nodes g c =
     let ds = c.decls.result.now in
     let code = c.statements.result.now in
     let script = c.args.script.now in
-    let stands = script_begins c.new-host.result.objects c.declare.new.self.objects ds c.new-host.ensures c.in_ok-declare.ensures in
+    let stands = script_begins c.in_ok-host.host.objects c.declare.new.self.objects ds c.in_ok-host.ensures c.in_ok-declare.ensures in
     let exit = c.from_residual-in_err-live_nodes.ensures.1 in
-    script_tells c.new-host.result.objects c.declare.new.self.objects ds c.new-host.ensures c.in_ok-declare.ensures c.in_ok-run_statements.ensures.runs
+    script_tells c.in_ok-host.host.objects c.declare.new.self.objects ds c.in_ok-host.ensures c.in_ok-declare.ensures c.in_ok-run_statements.ensures.runs
     (λ orders runs.
     let ran = runs [] (after_decls ds first_state).after stands in
     let is = script_comes orders script code ds c.statements.ensures c.decls.ensures in (
@@ -74,8 +85,8 @@ returns g c =
     let ds = c.decls.result.now in
     let code = c.statements.result.now in
     let script = c.args.script.now in
-    let stands = script_begins c.new-host.result.objects c.declare.new.self.objects ds c.new-host.ensures c.in_ok-declare.ensures in
-    script_tells c.new-host.result.objects c.declare.new.self.objects ds c.new-host.ensures c.in_ok-declare.ensures c.in_ok-run_statements.ensures.runs
+    let stands = script_begins c.in_ok-host.host.objects c.declare.new.self.objects ds c.in_ok-host.ensures c.in_ok-declare.ensures in
+    script_tells c.in_ok-host.host.objects c.declare.new.self.objects ds c.in_ok-host.ensures c.in_ok-declare.ensures c.in_ok-run_statements.ensures.runs
     (λ orders runs.
     let ran = runs [] (after_decls ds first_state).after stands in
     let is = script_comes orders script code ds c.statements.ensures c.decls.ensures in (

@@ -1,25 +1,25 @@
 -- What the goals of loops want, and of their turns.
-use Rattle.std.proofs.Common.{◌++◌, ◌∷◌, take, length, refl, sym, ap, subst, ◌∙◌, arith, Ok}
+use Rattle.std.proofs.Common.{◌++◌, ◌∷◌, ◌+◌, take, length, refl, sym, ap, subst, ◌∙◌, arith}
 use Rattle.ac_rules.specs.Resolved.{loops_at, views_at}
 use Rattle.ac_calls.specs.Holdings.{number_of, names_of}
-use Rattle.ac_meaning.specs.Environment.{objects_by, leaving, guarded_at, with_name}
+use Rattle.ac_meaning.specs.Environment.{binds_cursor, leaving, guarded_at, objects_by, with_name}
 use Rattle.ac_meaning.specs.Execution.{exec_resolved, guards_of_loop, in_order, turns, turn_bound, scoped}
 use Rattle.ac_host.specs.declared.end.HostEnd.TheVariants.{NoMemory}
 use Rattle.ac_objects.specs.Blocks.{guard_if, guards_of_loop_key, IsHeldAt}
 use Rattle.ac_objects.specs.Standing.{counts_of}
 use Rattle.ac_objects.specs.World.{state_of}
 use Rattle.ac_model.specs.Cursors.{plain_mark}
-use Rattle.ac_model.specs.Letters.{mark_at as mark_of_name}
-use Rattle.ac_host.proofs.ByOrders.{on_exit, told_by_some, tells_none, tells_as, tells_behind, tells_off, tells_before, tells_then, tells_stopped}
+use Rattle.ac_model.specs.Letters.{no_mark, mark_at as mark_of_name}
+use Rattle.ac_host.proofs.ByOrders.{on_exit, told_by_some, tells_none, tells_as, tells_behind, tells_before, tells_then, tells_stopped}
 use Rattle.ac_host.proofs.Counting.{same_count, holding_count, releasing_count}
-use Rattle.ac_host.proofs.Blocks.{taken, ran_inside, ran_as, ran_broke, ran_nowhere, ran_all, there_within, many_names, many_under, leaving_held, counts_before, loop_cursors_held, loop_elements_held, loop_comes, inner_by, loop_left}
+use Rattle.ac_host.proofs.Blocks.{taken, ran_inside, ran_as, ran_broke, ran_nowhere, ran_all, there_within, many_names, many_under, many_named, same_many, leaving_named, counts_before, held_named, held_beside, loop_cursors_held, loop_elements_held, loop_comes, inner_by, loop_left}
 use Rattle.ac_host.specs.Running.{block_of}
 use Rattle.ac_host.specs.Writing.{WroteSoFar}
 use Rattle.ac_meaning.specs.UnderGuards.{held_without}
 use Rattle.ac_host.proofs.Holding.{counts_back, held_still, held_behind}
 use Rattle.ac_host.proofs.Opening.{loop_begins}
 use Rattle.ac_host.proofs.Telling.{broke_nothing, so_far_none, so_far_more, so_far_broke, so_far_stopped}
-use Rattle.ac_host.proofs.Turns.{held, turning_inner, turning_names, turning_there, turning_stands, turning_none, turning_next, turn_begins, turn_ends, turn_goes, turning_at}
+use Rattle.ac_host.proofs.Turns.{held, turning_inner, turning_there, turning_stands, turning_none, turning_next, turn_begins, turn_ends, turn_goes, turning_at}
 use Rattle.ac_host.proofs.host.Host.+statements.Goals as goal
 
 pub run_loop-run_turns-ended-requires : goal.run_loop-run_turns-ended-requires
@@ -47,9 +47,11 @@ run_loop-run_turns-ended-requires g t c κs within =
                 turning =
                     turning_at refl key.0 key.2
                     (loop_begins old r.guards r.env r.stands c.args.object o.held o.there c.args.elements c.args.backward (plain_mark k.coming) now k.names
-                    (key.1 ∙ sym (many_names old)) is.0 (c.in_ok-key.ensures.named o.held o.there) is.2);
+                    (key.1 ∙ sym (many_names old)) is.0 (c.in_ok-key.ensures.named o.held o.there)
+                    (ap (leaving k.names) is.2
+                    ∙ leaving_named (guards_of_loop c.args.elements o.held) (state_of old) (binds_cursor no_mark) k.names (key.1 ∙ sym (many_names old))));
               },
-              key.3,
+              (key.3, many_named (guards_of_loop c.args.elements o.held) old now (binds_cursor no_mark) k.names key.1 is.2),
             ),
           ),
         ),
@@ -77,7 +79,8 @@ run_loop-leave_loop-requires-clause-cursors g t c =
     subst (λ p. IsHeldAt (state_of c.run_turns-ended.new.self.objects) p k.cursors) (sym (ended.0 ∙ key.0))
     (held_still mid (state_of c.run_turns-ended.new.self.objects) c.args.object c.in_ok-key.key.names k.cursors within c.run_turns-ended.ensures.counts
     (subst (λ s. IsHeldAt s c.args.object k.cursors) (sym is.2)
-    (loop_cursors_held (state_of old) c.args.object c.args.elements o.held o.takes k.cursors (guard_if k.elements) o.there (ended.2 ∙ is.1))))
+    (held_named _ (binds_cursor no_mark) c.args.object k.cursors
+    (loop_cursors_held (state_of old) c.args.object c.args.elements o.held o.takes k.cursors (guard_if k.elements) o.there (ended.2 ∙ is.1)))))
 
 pub run_loop-leave_loop-requires-clause-elements : goal.run_loop-leave_loop-requires-clause-elements
 run_loop-leave_loop-requires-clause-elements g t c x some =
@@ -93,8 +96,9 @@ run_loop-leave_loop-requires-clause-elements g t c x some =
     subst (λ p. IsHeldAt (objects_by (held_without k.cursors) now) p x) (sym (ended.0 ∙ key.0))
     (held_behind mid now c.args.object c.in_ok-key.key.names k.cursors x within c.run_turns-ended.ensures.counts
     (subst (λ s. IsHeldAt (objects_by (held_without k.cursors) s) c.args.object x) (sym is.2)
+    (held_beside (held_without k.cursors) _ no_mark c.args.object x
     (loop_elements_held (state_of old) c.args.object c.args.elements o.held o.takes k.cursors x o.there
-    (sym (ap (λ l. k.cursors ∷ guard_if l) some) ∙ (ended.2 ∙ is.1)))))
+    (sym (ap (λ l. k.cursors ∷ guard_if l) some) ∙ (ended.2 ∙ is.1))))))
 
 pub run_loop-returns-clause-runs : goal.run_loop-returns-clause-runs
 run_loop-returns-clause-runs g t c =
@@ -114,7 +118,8 @@ run_loop-returns-clause-runs g t c =
     let begun =
     turning_at refl key.0 key.2
     (loop_begins old guards e u c.args.object o.held o.there c.args.elements c.args.backward (plain_mark k.coming) now k.names
-    (key.1 ∙ sym (many_names old)) is.0 (c.in_ok-key.ensures.named o.held o.there) is.2) in
+    (key.1 ∙ sym (many_names old)) is.0 (c.in_ok-key.ensures.named o.held o.there)
+    (ap (leaving k.names) is.2 ∙ leaving_named more (state_of old) (binds_cursor no_mark) k.names (key.1 ∙ sym (many_names old)))) in
     ran_as sink.held sink.faults sink.room sink.counts_failures c.args.sink.now c.run_turns-ended.new.sink c.leave_loop.new.self guards _ _ c.run_turns-ended.result
     (loop_comes orders c.args.body.now guards e c.args.line k.names c.args.elements c.args.backward c.args.object k.object o.held
     (ap (λ s. guarded_at s c.args.object) (sym u.is) ∙ o.guarded) key.0 (key.1 ∙ many_under old guards e u))
@@ -162,7 +167,7 @@ run_loop-returns-clause-leaves g t c =
           ap counts_of (loop_left (state_of then) (state_of c.leave_loop.new.self) (guards_of_loop_key c.run_turns-ended.new.key) more c.run_turns-ended.new.key.names k.names c.leave_loop.ensures.left (ended.2 ∙ is.1) ended.1)
           ∙ (counts_back more k.names (state_of then) (state_of now) c.run_turns-ended.ensures.counts
           ∙ counts_before more k.names (state_of old) (state_of now)
-          (ap (leaving k.names) is.2 ∙ leaving_held more (state_of old) k.names (key.1 ∙ sym (many_names old))));
+          (ap (leaving k.names) is.2 ∙ leaving_named more (state_of old) (binds_cursor no_mark) k.names (key.1 ∙ sym (many_names old))));
     }
 
 -- The turns of a loop
@@ -181,6 +186,7 @@ run_turns-loop-init g t c =
       });
       key = (refl, refl, refl, refl);
       known = c.requires.known;
+      last = c.requires.last;
       persists = λ x known. known;
       counts = refl;
     }
@@ -195,31 +201,14 @@ pub run_turns-step_loop-requires-clause-inner : goal.run_turns-step_loop-require
 run_turns-step_loop-requires-clause-inner g t c =
     let r = c.requires.turning in turning_inner ((told_by_some c.loop.invariant.told).1 r.guards r.held r.env r.names r.turning).turning
 
-pub run_turns-step_loop-requires-clause-names : goal.run_turns-step_loop-requires-clause-names
-run_turns-step_loop-requires-clause-names g t c =
-    let r = c.requires.turning in
-    let many = turning_names ((told_by_some c.loop.invariant.told).1 r.guards r.held r.env r.names r.turning).turning in
-    omega (arith, many, many_names c.loop.self.objects)
-
 pub run_turns-step_loop-requires-clause-coming : goal.run_turns-step_loop-requires-clause-coming
 run_turns-step_loop-requires-clause-coming g t c =
     let r = c.requires.turning in turning_stands ((told_by_some c.loop.invariant.told).1 r.guards r.held r.env r.names r.turning).turning
 
-pub run_turns-returns-in_err-step_loop-clause-runs : goal.run_turns-returns-in_err-step_loop-clause-runs
-run_turns-returns-in_err-step_loop-clause-runs g t c =
+pub run_turns-returns-then-not-step_loop-clause-runs : goal.run_turns-returns-then-not-step_loop-clause-runs
+run_turns-returns-then-not-step_loop-clause-runs g t c =
     let sink = g.K.Sink in
-    tells_off _ _ c.loop.invariant.told c.from_residual.ensures.1 (λ orders so_far guards h e names begun.
-    let now = so_far guards h e names begun in
-    ran_broke sink.held sink.faults sink.room sink.counts_failures c.args.sink.now c.loop.sink c.step_loop.new.self (guards_of_loop c.args.elements h ++ guards)
-    (turns (exec_resolved orders c.args.body.now) guards c.args.elements c.args.key.now.object h names e) NoMemory c.from_residual.result
-    c.from_residual.ensures.1
-    (so_far_stopped sink.held sink.faults sink.room sink.counts_failures c.args.sink.now c.loop.sink _
-    (turns (exec_resolved orders c.args.body.now) guards c.args.elements c.args.key.now.object h names e) now.so_far))
-
-pub run_turns-returns-then-not-branch-clause-runs : goal.run_turns-returns-then-not-branch-clause-runs
-run_turns-returns-then-not-branch-clause-runs g t c =
-    let sink = g.K.Sink in
-    let end = c.in_ok-step_loop.ensures.end (ap Ok c.if-not-branch.true) in
+    let end = c.step_loop.ensures.end c.if-not-step_loop.true in
     tells_behind c.loop.invariant.told (same_count end.1) (λ orders so_far guards h e names begun.
     let now = so_far guards h e names begun in
     let none = turning_none now.turning end.0 in
@@ -245,7 +234,7 @@ pub run_turns-run_statements-requires : goal.run_turns-run_statements-requires
 run_turns-run_statements-requires g t c κs within =
     let r = c.requires.turning in
     let now = ((told_by_some c.loop.invariant.told).1 r.guards r.held r.env r.names r.turning).turning in
-    let next = turning_next now (c.in_ok-step_loop.ensures.more (ap Ok c.if-not-branch.false)) in (
+    let next = turning_next now (c.step_loop.ensures.more c.if-not-step_loop.false) in (
       omega arith,
       (
         within.0,
@@ -256,7 +245,7 @@ run_turns-run_statements-requires g t c κs within =
             record {
               guards = guards_of_loop c.args.elements r.held ++ r.guards;
               env = _;
-              stands = turn_begins now c.args.elements next.name next.rest c.step_loop.new.self next.is (c.in_ok-step_loop.ensures.turn (ap Ok c.if-not-branch.false));
+              stands = turn_begins now c.args.elements next.name next.rest c.step_loop.new.self next.is (c.step_loop.ensures.turn c.if-not-step_loop.false);
             },
           ),
         ),
@@ -267,21 +256,21 @@ pub run_turns-returns-in_err-run_statements-clause-runs : goal.run_turns-returns
 run_turns-returns-in_err-run_statements-clause-runs g t c =
     let sink = g.K.Sink in
     let object = c.args.key.now.object in
-    let turned_on = c.in_ok-step_loop.ensures.turn (ap Ok c.if-not-branch.false) in
+    let turned_on = c.step_loop.ensures.turn c.if-not-step_loop.false in
     tells_stopped _ _ c.loop.invariant.told (tells_before (same_count turned_on) c.in_err-run_statements.ensures.runs (λ orders runs. runs))
-    c.from_residual-in_err-run_statements.ensures.1 (λ orders so_far runs guards h e names begun.
+    c.from_residual.ensures.1 (λ orders so_far runs guards h e names begun.
     let body = exec_resolved orders c.args.body.now in
     let held_guards = guards_of_loop c.args.elements h ++ guards in
     let now = so_far guards h e names begun in
     let at = turning_at refl (sym c.loop.invariant.key.0) refl now.turning in
-    let next = turning_next at (c.in_ok-step_loop.ensures.more (ap Ok c.if-not-branch.false)) in
+    let next = turning_next at (c.step_loop.ensures.more c.if-not-step_loop.false) in
     let start = with_name now.env (turn_bound c.args.elements object (mark_of_name (number_of h) next.name)) in
     let turned = turn_begins at c.args.elements next.name next.rest c.step_loop.new.self next.is
-    (c.in_ok-step_loop.ensures.turn (ap Ok c.if-not-branch.false)
+    (c.step_loop.ensures.turn c.if-not-step_loop.false
     ∙ ap (λ p. with_name (leaving c.loop.key.names (state_of c.loop.self.objects)) (turn_bound c.args.elements p (plain_mark c.loop.key.coming))) c.loop.invariant.key.0) in
     ran_broke sink.held sink.faults sink.room sink.counts_failures c.args.sink.now c.run_statements.new.sink c.run_statements.new.self.objects held_guards
-    (turns body guards c.args.elements object h names e) c.in_err-run_statements.field-0.0 c.from_residual-in_err-run_statements.result
-    c.from_residual-in_err-run_statements.ensures.1
+    (turns body guards c.args.elements object h names e) c.in_err-run_statements.field-0.0 c.from_residual.result
+    c.from_residual.ensures.1
     (so_far_broke sink.held sink.faults sink.room sink.counts_failures c.args.sink.now c.loop.sink c.run_statements.new.sink
     (turns body guards c.args.elements object h now.names now.env) (turns body guards c.args.elements object h names e)
     (scoped now.env (body held_guards) start) (turns body guards c.args.elements object h next.rest) _
@@ -293,21 +282,21 @@ run_turns-loop-preserved g t c =
     let sink = g.K.Sink in
     let object = c.args.key.now.object in
     let before = c.loop.invariant in
-    let step = c.in_ok-step_loop.ensures in
+    let step = c.step_loop.ensures in
     let ok = c.in_ok-run_statements.ensures in
     let key = step.key in
-    let turned_on = step.turn (ap Ok c.if-not-branch.false) in
+    let turned_on = step.turn c.if-not-step_loop.false in
     record {
       told = tells_then before.told (tells_before (same_count turned_on) ok.runs (λ orders runs. runs)) (λ orders so_far runs guards h e names begun.
           let body = exec_resolved orders c.args.body.now in
           let held_guards = guards_of_loop c.args.elements h ++ guards in
           let now = so_far guards h e names begun in
           let at = turning_at refl (sym before.key.0) refl now.turning in
-          let next = turning_next at (step.more (ap Ok c.if-not-branch.false)) in
+          let next = turning_next at (step.more c.if-not-step_loop.false) in
           let b = turn_bound c.args.elements object (mark_of_name (number_of h) next.name) in
           let start = with_name now.env b in
           let turned = turn_begins at c.args.elements next.name next.rest c.step_loop.new.self next.is
-          (step.turn (ap Ok c.if-not-branch.false)
+          (step.turn c.if-not-step_loop.false
           ∙ ap (λ p. with_name (leaving c.loop.key.names (state_of c.loop.self.objects)) (turn_bound c.args.elements p (plain_mark c.loop.key.coming))) before.key.0) in
           let ran = runs held_guards start turned in
           record {
@@ -316,7 +305,7 @@ run_turns-loop-preserved g t c =
             turning =
                 turning_at key.1 (key.0 ∙ before.key.0) key.2
                 (turn_ends at orders c.args.body.now b next.name next.rest c.run_statements.new.self.objects (plain_mark c.step_loop.new.key.coming) next.is turned.ready ran.after
-                (turn_goes now.turning next.name next.rest (plain_mark c.step_loop.new.key.coming) next.is (step.goes (ap Ok c.if-not-branch.false))));
+                (turn_goes now.turning next.name next.rest (plain_mark c.step_loop.new.key.coming) next.is (step.goes c.if-not-step_loop.false)));
             so_far =
                 so_far_more sink.held sink.faults sink.room sink.counts_failures c.args.sink.now c.loop.sink c.run_statements.new.sink
                 (turns body guards c.args.elements object h now.names now.env) (turns body guards c.args.elements object h names e)
@@ -325,6 +314,7 @@ run_turns-loop-preserved g t c =
           });
       key = (key.0 ∙ before.key.0, key.1 ∙ before.key.1, key.2 ∙ before.key.2, key.3 ∙ before.key.3);
       known = ok.leaves.persists c.step_loop.new.key.coming step.known;
+      last = same_many c.step_loop.new.self c.run_statements.new.self.objects ok.leaves.counts ∙ (step.last c.if-not-step_loop.false ∙ ap (λ n. n + 1) (sym key.1));
       persists = λ x known. ok.leaves.persists x (step.persists x (before.persists x known));
       counts =
           ap (take c.args.key.now.names) ok.leaves.counts
