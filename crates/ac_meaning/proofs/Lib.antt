@@ -56,3 +56,9 @@ pub mod ValueHeads
 pub mod ExecValues
 pub mod TaskIntegers
 pub mod ValuesTaken
+pub mod TableLetters
+pub mod ReadParts
+pub mod SequenceReads
+pub mod KeyedReads
+pub mod OtherReads
+pub mod RepliesRead

@@ -11,6 +11,7 @@ pub mod FitsScope
 pub mod HoldsTypes
 pub mod Suits
 pub mod ValueTypes
+pub mod ReadsByLetter
 pub mod HistoryLines
 pub mod Numbers
 pub mod Laws

@@ -9,6 +9,7 @@ ghost use Rattle.ac_meaning.specs.FitsScope.{NamesFound, DeclaredFits, HeadsFit,
 ghost use Rattle.ac_meaning.specs.HoldsTypes.{TypesFound, DeclaredHolds, HeadsHold, GoesOnHolding};
 ghost use Rattle.ac_meaning.specs.Suits.{CallsSuit, BlocksSuit, TasksFit, TasksRun};
 ghost use Rattle.ac_meaning.specs.ValueTypes.{ValuesFound, ValuesDeclared, ValuesInBlocks, ValuesGoOn, AnswersAreTold, ValuesTaken};
+ghost use Rattle.ac_meaning.specs.ReadsByLetter.{ReadsByLetter};
 ghost use Rattle.ac_meaning.specs.HistoryLines.{EntriesHaveLines, BlocksAreCounted};
 ghost use Rattle.ac_meaning.specs.Numbers.{NumbersTell, NumbersGoOnDiffering, NextRises, BlocksRise};
 ghost use Rattle.ac_meaning.specs.Numbers.{NewObjectsAreUnguarded, GuardsAreOnOneObject};
@@ -113,6 +114,12 @@ pub fn values_hold()
 /// assigns is of its target's type.
 pub fn values_suit()
     ensures { ValuesTaken }
+{}
+
+/// A reply reads of a call's arguments what their letters in the table say, and nothing else: where a cursor is asked the cursor, where an
+/// integer the integer, where an element or a key the value as one of that type, and an object only where one is asked.
+pub fn replies_read_by_letter()
+    ensures { ReadsByLetter }
 {}
 
 /// A legal history of a block of tasks writes one line for each of its entries, with the number of its step, its task's name and its reply.
