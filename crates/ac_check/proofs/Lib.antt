@@ -1,4 +1,5 @@
 pub mod Groups
+pub mod NameOrders
 pub mod Names
 pub mod Blocks
 pub mod Resolving

@@ -1,4 +1,5 @@
 pub mod Meanings
+pub mod NameOrders
 pub mod Rows
 pub mod Views
 pub mod BlockHeads

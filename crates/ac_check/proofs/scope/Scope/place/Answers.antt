@@ -1,24 +1,23 @@
-use Rattle.std.proofs.Common.{ap, sym, ◌∙◌, map}
-use Rattle.std.proofs.lemmas.List.{length-map}
+use Rattle.std.proofs.Common.{rules, ◌≡◌, length, ap, subst, sym, ◌∙◌}
 use Rattle.ac_rules.specs.Scopes.{Scope}
 use Rattle.ac_rules.specs.Resolved.{place_of}
-use Rattle.ac_check.proofs.Names.{place_among, position_found, position_none}
+use Rattle.ac_check.specs.NameOrders.{IsPlace, bytes_of}
+use Rattle.ac_check.proofs.Names.{place_among, no_place}
 use Rattle.ac_check.proofs.scope.Scope.place.Goals as goal
 
-pub returns-in-Some : goal.returns-in-Some
-returns-in-Some c =
+pub returns-in-Ok : goal.returns-in-Ok
+returns-in-Ok c =
     let name = c.args.name.now in
-    let names = c.self.inside.names.entries in
-    position_found _ (map (λ n. n.0) names) c.in-Some.place (sym c.in-Some.ensures.index)
-    ∙ place_among name names
-    ∙ ap (λ (scope : Scope). place_of scope name) c.self.view_is
+    let named = c.self.inside.names.items in
+    let at = subst (λ l. IsPlace (bytes_of l) name c.in-Ok.place) c.deref.ensures.value c.in-Ok.ensures.found in
+    sym at.is_first ∙ place_among name named ∙ ap (λ (scope : Scope). place_of scope name) c.self.view_is
 
-pub returns-in-None : goal.returns-in-None
-returns-in-None c =
+pub returns-in-Err : goal.returns-in-Err
+returns-in-Err c =
     let name = c.args.name.now in
-    let names = c.self.inside.names.entries in
-    c.len.ensures.len
-    ∙ sym (length-map names _)
-    ∙ position_none _ (map (λ n. n.0) names) (sym c.in-None.ensures.index)
-    ∙ place_among name names
+    let named = c.self.inside.names.items in
+    let len : c.len.result ≡ length named = search rules in
+    len
+    ∙ sym (no_place name named _ _ _ c.deref.ensures.value c.deref-2.ensures.value c.self.invariant c.in-Err.ensures.absent)
+    ∙ place_among name named
     ∙ ap (λ (scope : Scope). place_of scope name) c.self.view_is
