@@ -3,7 +3,7 @@
 
     bench/cost.py [--program PATH] [--seconds N] [--only WORDS] [--page] [FOLDER]
 
-The program is PATH, or what the environment variable ADACONT names, or `crates/adacont/out/adacont`. This tool makes the scripts: long inputs, long runs, names and keys of one hash, large objects, small stacks, inputs and outputs that fail, threads that can't be started. A run is stopped once it has taken N seconds of the processor, or ten times as many by the clock.
+The program is PATH, or what the environment variable ADACONT names, or `crates/adacont/out/adacont`. This tool makes the scripts: long inputs, long runs, many names, keys of one hash, large objects, small stacks, inputs and outputs that fail, threads that can't be started. A run is stopped once it has taken N seconds of the processor, or ten times as many by the clock.
 
 Prints for each script how its runs ended, the seconds of the processor and how many of them the system took, the most memory, and the bytes written; where a script has several runs, the most of each. Then `yes` if all is as wanted, or what isn't. Each text is compared byte by byte with the one that the rules of the language give: the whole of it where the status is 0 or 1, a prefix otherwise. Only of tasks that may go in any order the length alone is compared. A run may take ten seconds of the processor, if nothing else is said. The exit status is 1 if anything isn't as wanted. Needs cc, and Linux with the GNU C library; not part of the gate.
 
@@ -14,7 +14,6 @@ With FOLDER the scripts are its `*.ada`, each with 4 GiB of address space. Where
 import argparse
 import contextlib
 import fcntl
-import functools
 import glob
 import itertools
 import os
@@ -140,52 +139,7 @@ def in_any_order(name, script, **others):
     return Case(name, lambda: bare(script), size=sum(len(piece) * times for piece, times in told(script)), **others)
 
 
-# Names and keys of one hash
-
-FOLD_FACTOR = 0x9E3779B97F4A7C15
-FOLD_BEGIN = 0x243F6A8885A308D3
-HALF = (1 << 64) - 1
-LETTERS = b"abcdefghijklmnopqrstuvwxyz"
-IN_NAMES = LETTERS + b"0123456789_"
-
-
-def folded(state, number, size):
-    """The state of the kit's `FoldHasher` after a write of up to 8 bytes."""
-    product = (state ^ number) * (FOLD_FACTOR ^ 2 * size)
-    return (product ^ product >> 64) & HALF
-
-
-def after_byte(state, byte):
-    return folded(state, byte * 0x010101, 1)
-
-
-def last_bytes(state):
-    """The bytes after which a name's hash is one that is wanted, where the state before them is this one."""
-    factor = FOLD_FACTOR ^ 2
-    for byte in IN_NAMES:
-        product = (state ^ byte * 0x010101) * factor
-        product ^= product >> 64
-        if (product ^ product >> 32) & 0xFE00007F == 0:
-            yield byte
-
-
-@functools.cache
-def names_of_one_bucket(count, size=5):
-    """Names that a look-up compares with one another.
-
-    The names in scope stand in the kit's `IndexMap`, whose hasher has no secret. The hashes of these names begin in one group of a table of 128 and have one tag: seven low bits are 0, and of the eight high ones all but the lowest. One of 16,384 names is such a one.
-    """
-    begin = folded(FOLD_BEGIN, size, 8)
-    made = []
-    for first in itertools.product(LETTERS, *[IN_NAMES] * (size - 2)):
-        state = begin
-        for byte in first:
-            state = after_byte(state, byte)
-        made += [bytes(first) + bytes([byte]) for byte in last_bytes(state)]
-        if len(made) >= count:
-            return [name.decode() for name in made[:count]]
-    raise ValueError("there aren't so many")
-
+# Keys of one hash
 
 def integers_of_one_hash(count):
     """Integers with one hash: one more in a byte is 31 less in the next, whatever the other bytes are."""
@@ -230,6 +184,11 @@ def names_in_order(size):
     return [f"n{number:03d}".ljust(size, "x") for number in range(1000)]
 
 
+def names_alike(size):
+    """Names that are compared up to their last bytes."""
+    return [f"{number:03d}".rjust(size, "x") for number in range(1000)]
+
+
 def input_cases():
     for name, piece in (("blanks", " "), ("line feeds", "\n"), ("comments", "-- x\n")):
         yield written(name, filled(piece))
@@ -246,7 +205,7 @@ def input_cases():
     yield written("assignments", filled("x:=1;", "x:integer;\n"), ("2: 1\n", (INPUT_LIMIT - len("x:integer;\n")) // len("x:=1;")))
     yield assignments("1,000 names, assignments of the last", lambda: names_in_order(4))
     yield assignments("1,000 names of 64 bytes, assignments of the last", lambda: names_in_order(64))
-    yield assignments("1,000 names in one bucket, assignments of the last", lambda: names_of_one_bucket(1000), within=1)
+    yield assignments("1,000 names that differ in their last bytes, assignments of the last", lambda: names_alike(64), within=1)
 
 
 def deep_blocks(**others):
