@@ -3,7 +3,7 @@ use Rattle.std.proofs.Common.{◌≡◌, ◌+◌, ◌<◌, ◌≤◌, ℕ, zero,
 use Rattle.ac_rules.specs.Resolved.{ResolvedCode, no_statement, resolved_size}
 use Rattle.ac_rules.specs.ResolvedStatements.{resolved_before, resolved_of}
 use Rattle.ac_rules.specs.declared.resolved.ResolvedStmt.{ResolvedStmt}
-use Rattle.ac_rules.specs.declared.resolved.ResolvedStmt.TheVariants.{Call, Set, Sum, Loop, View, Stable, Declare, Tasks}
+use Rattle.ac_rules.specs.declared.resolved.ResolvedStmt.TheVariants.{Call, Set, Sum, Loop, View, Stable, Declare, Tasks, Handled}
 
 size_before : (stmt : ResolvedStmt) (rest : ResolvedCode) →
     resolved_size (resolved_before stmt rest) ≡ resolved_size (resolved_before stmt no_statement) + resolved_size rest
@@ -15,6 +15,7 @@ size_before (View _ _ _ _ _) rest = omega arith
 size_before (Stable _ _ _) rest = omega arith
 size_before (Declare _ _ _) rest = omega arith
 size_before (Tasks _ _) rest = omega arith
+size_before (Handled _ _) rest = omega arith
 
 -- a statement among others isn't larger than all together
 pub size_among : (stmts : List ResolvedStmt) (i : ℕ) (d : ResolvedStmt) → i < length stmts →

@@ -2,6 +2,7 @@
 use Rattle.std.specs.Prelude.{◌≡◌, ℕ, ◌+◌, Bool, false, List, [], ◌∷◌, map, length, unwrap_or, Option, None, option_map}
 use Rattle.std.specs.List.{position_or_len}
 use Rattle.std.specs.Str.{bytes_eq}
+use Rattle.ac_base.specs.declared.reason.Exception.{Exception}
 use Rattle.ac_syntax.specs.Code.{Simple, call_at, set_at, sum_at, Head, loop_at, view_at, stable_at, declare_at, tasks_at, task_at, Code, stop, one, block}
 use Rattle.ac_syntax.specs.declared.arg.Arg.{Arg}
 use Rattle.ac_syntax.specs.declared.arg.Arg.TheVariants as arg
@@ -38,6 +39,11 @@ pub data ResolvedHead : Type 0 where
   gathers_at : (line : ℕ) → ResolvedHead
   -- one of them, with as many locals: its body is its commands
   works_at : (line : ℕ) (name : List ℕ) (locals : ℕ) → ResolvedHead
+  -- a block with handlers: its body is a block of what is tried, and behind that its handlers
+  begins_at : ResolvedHead
+  tries_at : ResolvedHead
+  -- a handler, of this exception or of all others: its body is what it does
+  handles_at : (catches : Option Exception) → ResolvedHead
 
 -- statements in order: none, or a command and what follows it, or a block with its body and what follows it
 pub data ResolvedCode : Type 0 where

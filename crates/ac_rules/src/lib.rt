@@ -15,7 +15,7 @@ pub use examples::{
 pub use law::{each_script, one_fault, one_row, places, rules_kept};
 pub use limits::{MOST_NAMES, MOST_ROOM};
 pub use resolved::{
-    ResolvedArg, ResolvedArgs, ResolvedDecl, ResolvedDecls, ResolvedStmt, ResolvedStmts,
-    ResolvedTask, ResolvedTasks,
+    ResolvedArg, ResolvedArgs, ResolvedDecl, ResolvedDecls, ResolvedHandler, ResolvedHandlers,
+    ResolvedStmt, ResolvedStmts, ResolvedTask, ResolvedTasks,
 };
 pub use rows::{Answer, Letter};

@@ -1,9 +1,9 @@
 //! Statements with nothing left to look up: each name is its place among those in scope where the item stands, and each call the operation
 //! that it means.
 ghost use Rattle.std.specs.Prelude.{◌≡◌};
-ghost use Rattle.ac_rules.specs.ResolvedStatements.{resolved_of, resolved_tasks_of};
+ghost use Rattle.ac_rules.specs.ResolvedStatements.{resolved_of, resolved_tasks_of, resolved_handlers_of};
 
-use ac_base::Value;
+use ac_base::{Exception, Value};
 use ac_syntax::{Ident, Operation, TypeDef, ViewKind};
 use std::marker::Model;
 
@@ -143,6 +143,11 @@ pub enum ResolvedStmt {
         line: u64,
         tasks: ResolvedTasks,
     },
+    /// What is tried, and the handlers of the exceptions that leave it.
+    Handled {
+        body: ResolvedStmts,
+        handlers: ResolvedHandlers,
+    },
 }
 
 /// Statements in order.
@@ -230,6 +235,54 @@ impl ResolvedTasks {
 
     pub fn items(&self) -> &[ResolvedTask]
         ensures { resolved_tasks_of result.now ≡ self.now }
+    {
+        &self.items
+    }
+}
+
+/// A handler of an exception, or with none named of all others, and its statements.
+#[derive(Drop)]
+#[cycle(resolved)]
+pub struct ResolvedHandler {
+    pub catches: Option<Exception>,
+    pub body: ResolvedStmts,
+}
+
+/// Handlers in order.
+#[derive(Drop)]
+#[cycle(resolved)]
+pub struct ResolvedHandlers {
+    items: Vec<ResolvedHandler>,
+}
+
+impl Model for ResolvedHandlers {
+    ghost use Rattle.ac_rules.specs.Resolved.{ResolvedCode, resolved_size};
+    ghost use Rattle.ac_rules.specs.ResolvedCoded.{coded_resolved};
+
+    ghost Value = { ResolvedCode };
+
+    ghost coded = { coded_resolved };
+
+    ghost use Rattle.ac_rules.specs.ResolvedStatements.{resolved_handlers_of};
+
+    ghost view = { λ handlers. resolved_handlers_of handlers.items.items };
+
+    ghost size = { resolved_size };
+
+    ghost use Rattle.ac_rules.specs.ResolvedFall.{resolved_handlers_fall};
+
+    ghost size_decreases = { λ a h. resolved_handlers_fall a.items.items };
+}
+
+impl ResolvedHandlers {
+    pub fn from_vec(items: Vec<ResolvedHandler>) -> ResolvedHandlers
+        ensures { result ≡ resolved_handlers_of items.items }
+    {
+        ResolvedHandlers { items }
+    }
+
+    pub fn items(&self) -> &[ResolvedHandler]
+        ensures { resolved_handlers_of result.now ≡ self.now }
     {
         &self.items
     }
