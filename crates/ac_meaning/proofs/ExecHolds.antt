@@ -1,25 +1,26 @@
 -- Statements that keep the rules leave each name what it holds, by its type.
-use Rattle.std.proofs.Common.{◌≡◌, ◌++◌, ℕ, Bool, List, [], ◌∷◌, map, length, refl, ap, ◌∙◌, option_map, Option, Some, None}
+use Rattle.std.proofs.Common.{◌≡◌, ◌++◌, ℕ, Bool, false, List, [], ◌∷◌, map, length, refl, ap, ◌∙◌, option_map, Option, Some, None}
 use Rattle.ac_base.specs.declared.reason.Reason.{Reason}
 use Rattle.ac_base.specs.declared.value.Value.{Value}
 use Rattle.ac_model.specs.Letters.{Mark, mark_at as mark_of_name}
-use Rattle.ac_syntax.specs.Code.{loop_at, view_at, stable_at, declare_at, tasks_at, task_at, Code, stop, one, block}
+use Rattle.ac_syntax.specs.Code.{Head, loop_at, view_at, stable_at, declare_at, tasks_at, task_at, Code, stop, one, block}
 use Rattle.ac_syntax.specs.Nesting.{AreStatements}
 use Rattle.ac_syntax.specs.declared.script.Script.{Script}
 use Rattle.ac_syntax.specs.declared.view_kind.ViewKind.{ViewKind}
 use Rattle.ac_syntax.specs.declared.view_kind.ViewKind.TheVariants.{Query, Update, Reference, UpdateKey}
 use Rattle.ac_rules.specs.Faults.{IsChecked}
 use Rattle.ac_rules.specs.Kept.{KeepsRules}
-use Rattle.ac_rules.specs.Resolved.{ResolvedSimple, loops_at, views_at, stables_at, place_of, resolve, resolve_simple, resolve_decls}
-use Rattle.ac_rules.specs.Scopes.{Scope, inside, with_decls}
+use Rattle.ac_rules.specs.Resolved.{ResolvedSimple, loops_at, views_at, stables_at, place_of, resolve, resolve_simple, resolve_head, resolve_decls}
+use Rattle.ac_rules.specs.Scopes.{Scope, inside, behind_block, with_decls}
 use Rattle.ac_rules.proofs.Kept.{rules_kept}
 use Rattle.ac_calls.specs.Holdings.{Held, of_rows, of_holder, of_queue, Guards, names_of, number_of, element_value}
 use Rattle.ac_meaning.specs.Commands.{performed}
 use Rattle.ac_meaning.specs.Environment.{Bound, binds_type, binds_object, binds_cursor, binds_value, binds_element, State, first_state, under, at_rest, object_at, guarded_at, mark_at, value_at, value_or_zero, with_name, leaving, Declared, after_decls}
-use Rattle.ac_meaning.specs.Execution.{Outcome, Orders, scoped, commanded, guards_of_loop, guards_of_stable, guards_of_view, in_order, turn_bound, head_reason, turns, key_body, viewed, view_on, on_object, after_declared, exec, run_with}
+use Rattle.ac_meaning.specs.Execution.{End, Outcome, Orders, passed_on, unless_raised, followed, scoped, commanded, guards_of_loop, guards_of_stable, guards_of_view, in_order, turn_bound, head_reason, key_end, turns_behind, key_body, viewed, view_on, on_object, after_declared, block_on, exec, exec_behind, run_with}
 use Rattle.ac_meaning.specs.HoldsTypes.{has_line, shape_of, HoldsTypes, GoesOnHolding}
 use Rattle.ac_meaning.specs.Stays.{HeldStays, BoundStays, EachStays}
 use Rattle.ac_meaning.proofs.CommandsStay.{command_stays}
+use Rattle.ac_meaning.proofs.Ends.{none_runs_behind}
 use Rattle.ac_meaning.proofs.ExecKeeps.{Extends, decls_extend}
 use Rattle.ac_meaning.proofs.HoldsHeads.{declared_holds, heads_hold}
 use Rattle.ac_meaning.proofs.HoldsLists.{first_ones}
@@ -34,22 +35,27 @@ module _ (body : Guards → State → Outcome) (scope inner : Scope) (keeps : Ke
   scoped_sorts : (held : Guards) (e : State) (b : Bound) → HoldsTypes inner (with_name e b) → sorts (scoped e (body held) (with_name e b)).after ≡ sorts e
   scoped_sorts held e b h = sorts_back e (body held (with_name e b)).after (b ∷ []) (keeps held (with_name e b) h)
 
-  turns_sorts : (elements : Bool) (object : ℕ) (h : Held) (names : List ℕ) (e : State) → HoldsTypes scope e →
+  turns_sorts : (elements : Bool) (object : ℕ) (h : Held) (names : List ℕ) (end : End) (e : State) → HoldsTypes scope e →
       ((now : State) (mark : Mark) → HoldsTypes scope now → HoldsTypes inner (with_name now (turn_bound elements object mark))) →
-      sorts (turns body guards elements object h names e).after ≡ sorts e
-  turns_sorts elements object h [] e holds each = refl
-  turns_sorts elements object h (name ∷ names) e holds each =
+      sorts (turns_behind body guards elements object h names end e).after ≡ sorts e
+  turns_sorts elements object h [] end e holds each = refl
+  turns_sorts elements object h (name ∷ names) (Some raised) e holds each = refl
+  turns_sorts elements object h (name ∷ names) None e holds each =
       let mark = mark_of_name (number_of h) name in
       let b = turn_bound elements object mark in
-      let now = (scoped e (body (guards_of_loop elements h ++ guards)) (with_name e b)).after in
-      let first : sorts now ≡ sorts e = scoped_sorts (guards_of_loop elements h ++ guards) e b (each e mark holds) in
-      turns_sorts elements object h names now (holds_on scope e now first holds) each ∙ first
+      let turn = scoped e (body (guards_of_loop elements h ++ guards)) (with_name e b) in
+      let first : sorts turn.after ≡ sorts e = scoped_sorts (guards_of_loop elements h ++ guards) e b (each e mark holds) in
+      turns_sorts elements object h names turn.end turn.after (holds_on scope e turn.after first holds) each ∙ first
 
   loop_sorts : (number : ℕ) (elements backward : Bool) (object : ℕ) (found : Option Held) (e : State) → HoldsTypes scope e →
       ((now : State) (mark : Mark) → HoldsTypes scope now → HoldsTypes inner (with_name now (turn_bound elements object mark))) →
       sorts (on_object body guards (loops_at number elements backward object) found e).after ≡ sorts e
   loop_sorts number elements backward object None e holds each = refl
-  loop_sorts number elements backward object (Some h) e holds each = turns_sorts elements object h (in_order backward (names_of h)) e holds each
+  loop_sorts number elements backward object (Some h) e holds each = turns_sorts elements object h (in_order backward (names_of h)) None e holds each
+
+  unless_sorts : (next : State → Outcome) (end : End) (left : State) → sorts (next left).after ≡ sorts left → sorts (unless_raised next end left).after ≡ sorts left
+  unless_sorts next None left h = h
+  unless_sorts next (Some raised) left h = refl
 
   key_sorts : (number object : ℕ) (at : Mark) (h : Held) (e : State) →
       HoldsTypes inner (with_name e (binds_value (value_or_zero (element_value h at).answer))) → sorts (key_body body guards number object at h e).after ≡ sorts e
@@ -58,7 +64,9 @@ module _ (body : Guards → State → Outcome) (scope inner : Scope) (keeps : Ke
       let b = binds_value (value_or_zero (element_value h at).answer) in
       let r = body held (with_name e b) in
       let left = leaving (length e.bounds) r.after in
-      key_end_sorts number object held left at (value_at r.after (length e.bounds)) (object_at (under held left) object) refl ∙ scoped_sorts held e b holds
+      let copy = value_at r.after (length e.bounds) in
+      unless_sorts (key_end number object at copy held) r.end left (key_end_sorts number object held left at copy (object_at (under held left) object) refl)
+      ∙ scoped_sorts held e b holds
 
   viewed_sorts : (number : ℕ) (view : ViewKind) (object : ℕ) (at : Mark) (h : Held) (e : State) →
       HoldsTypes inner (with_name e (binds_element object at)) →
@@ -123,47 +131,64 @@ commanded_sorts : (guards : Guards) (e : State) (simple : ResolvedSimple) → so
 commanded_sorts guards e simple =
     sorts-at_rest (performed (under guards e) simple).after ∙ (command_sorts (under guards e) simple ∙ sorts-under guards e)
 
--- what follows
-sorts_then : (scope : Scope) (e now : State) (next : State → Outcome) → HoldsTypes scope e → sorts now ≡ sorts e →
-    ((later : State) → HoldsTypes scope later → sorts (next later).after ≡ sorts later) → sorts (next now).after ≡ sorts e
-sorts_then scope e now next holds first rest = rest now (holds_on scope e now first holds) ∙ first
+-- what a block comes to, as it is passed on
+abbrev pub blocked : (propagates : Bool) → Orders → Head → (body : Code) → Scope → Guards → State → Outcome
+blocked propagates orders head body scope guards e =
+    passed_on propagates
+    (block_on (λ held. exec_behind propagates orders body (inside scope head) held None) guards orders (resolve (inside scope head) body) e (resolve_head scope head))
 
-pub exec_sorts : (orders : Orders) (code : Code) (scope : Scope) (guards : Guards) (e : State) → AreStatements code → KeepsRules scope code →
-    HoldsTypes scope e → sorts (exec orders code scope guards e).after ≡ sorts e
-exec_sorts orders stop scope guards e are kept holds = refl
-exec_sorts orders (one simple rest) scope guards e are kept holds =
-    sorts_then scope e (commanded guards e (resolve_simple scope simple)).after (exec orders rest scope guards) holds (commanded_sorts guards e (resolve_simple scope simple))
-    (λ later h. exec_sorts orders rest scope guards later are kept.rest h)
-exec_sorts orders (block (loop_at line name elements backward object) body rest) scope guards e are kept holds =
+-- what follows
+sorts_then : (scope : Scope) (e : State) (r : Outcome) (next : End → State → Outcome) → HoldsTypes scope e → sorts r.after ≡ sorts e →
+    ((end : End) (later : State) → HoldsTypes scope later → sorts (next end later).after ≡ sorts later) → sorts (followed r next).after ≡ sorts e
+sorts_then scope e r next holds first rest = rest r.end r.after (holds_on scope e r.after first holds) ∙ first
+
+pub exec_sorts : (propagates : Bool) (orders : Orders) (code : Code) (scope : Scope) (guards : Guards) (end : End) (e : State) → AreStatements code →
+    KeepsRules scope code → HoldsTypes scope e → sorts (exec_behind propagates orders code scope guards end e).after ≡ sorts e
+exec_sorts propagates orders stop scope guards end e are kept holds = refl
+exec_sorts propagates orders (one simple rest) scope guards (Some raised) e are kept holds =
+    ap (λ (r : Outcome). sorts r.after) (none_runs_behind propagates orders rest scope guards raised e)
+exec_sorts propagates orders (one simple rest) scope guards None e are kept holds =
+    sorts_then scope e (passed_on propagates (commanded guards e (resolve_simple scope simple))) (exec_behind propagates orders rest scope guards) holds
+    (commanded_sorts guards e (resolve_simple scope simple))
+    (λ end later h. exec_sorts propagates orders rest scope guards end later are kept.rest h)
+exec_sorts propagates orders (block head body rest) scope guards (Some raised) e are kept holds =
+    ap (λ (r : Outcome). sorts r.after) (none_runs_behind propagates orders rest (behind_block scope head) guards raised e)
+exec_sorts propagates orders (block (loop_at line name elements backward object) body rest) scope guards None e are kept holds =
     let head = loop_at line name elements backward object in
-    sorts_then scope e _ (exec orders rest scope guards) holds
-    (loop_sorts (exec orders body (inside scope head)) scope (inside scope head) (λ held now h. exec_sorts orders body (inside scope head) held now are.0 kept.body h)
+    let inner : Guards → State → Outcome = λ held. exec_behind propagates orders body (inside scope head) held None in
+    sorts_then scope e (blocked propagates orders head body scope guards e) (exec_behind propagates orders rest scope guards) holds
+    (loop_sorts inner scope (inside scope head) (λ held now h. exec_sorts propagates orders body (inside scope head) held None now are.0 kept.body h)
     guards line elements backward (place_of scope object) (guarded_at (under guards e) (place_of scope object)) e holds
     (λ now mark h. heads_hold.loops scope now line name elements backward object mark h kept.head))
-    (λ later h. exec_sorts orders rest scope guards later are.1 kept.rest h)
-exec_sorts orders (block (view_at line view object at name) body rest) scope guards e are kept holds =
+    (λ end later h. exec_sorts propagates orders rest scope guards end later are.1 kept.rest h)
+exec_sorts propagates orders (block (view_at line view object at name) body rest) scope guards None e are kept holds =
     let head = view_at line view object at name in
-    sorts_then scope e _ (exec orders rest scope guards) holds
-    (placed_sorts (exec orders body (inside scope head)) scope (inside scope head) (λ held now h. exec_sorts orders body (inside scope head) held now are.0 kept.body h)
+    let inner : Guards → State → Outcome = λ held. exec_behind propagates orders body (inside scope head) held None in
+    sorts_then scope e (blocked propagates orders head body scope guards e) (exec_behind propagates orders rest scope guards) holds
+    (placed_sorts inner scope (inside scope head) (λ held now h. exec_sorts propagates orders body (inside scope head) held None now are.0 kept.body h)
     guards line view (place_of scope object) (option_map (place_of scope) at) e (guarded_at (under guards e) (place_of scope object))
     (λ mark. heads_hold.views scope e line view object at name mark holds kept.head)
     (λ v. heads_hold.copies scope e line view object at name v holds kept.head))
-    (λ later h. exec_sorts orders rest scope guards later are.1 kept.rest h)
-exec_sorts orders (block (stable_at line object) body rest) scope guards e are kept holds =
-    sorts_then scope e _ (exec orders rest scope guards) holds
-    (stable_sorts (exec orders body scope) scope scope (λ held now h. exec_sorts orders body scope held now are.0 kept.body h)
+    (λ end later h. exec_sorts propagates orders rest scope guards end later are.1 kept.rest h)
+exec_sorts propagates orders (block (stable_at line object) body rest) scope guards None e are kept holds =
+    let inner : Guards → State → Outcome = λ held. exec_behind propagates orders body scope held None in
+    sorts_then scope e (blocked propagates orders (stable_at line object) body scope guards e) (exec_behind propagates orders rest scope guards) holds
+    (stable_sorts inner scope scope (λ held now h. exec_sorts propagates orders body scope held None now are.0 kept.body h)
     guards line (place_of scope object) (guarded_at (under guards e) (place_of scope object)) e holds)
-    (λ later h. exec_sorts orders rest scope guards later are.1 kept.rest h)
-exec_sorts orders (block (declare_at line decls) body rest) scope guards e are kept holds =
-    let inner = with_decls scope decls in
-    sorts_then scope e _ (exec orders rest scope guards) holds
-    (declared_sorts (exec orders body inner) scope inner (λ held now h. exec_sorts orders body inner held now are.0 kept.body h)
+    (λ end later h. exec_sorts propagates orders rest scope guards end later are.1 kept.rest h)
+exec_sorts propagates orders (block (declare_at line decls) body rest) scope guards None e are kept holds =
+    let within = with_decls scope decls in
+    let inner : Guards → State → Outcome = λ held. exec_behind propagates orders body within held None in
+    sorts_then scope e (blocked propagates orders (declare_at line decls) body scope guards e) (exec_behind propagates orders rest scope guards) holds
+    (declared_sorts inner scope within (λ held now h. exec_sorts propagates orders body within held None now are.0 kept.body h)
     guards e (after_decls (resolve_decls scope decls) e) _ refl (decls_extend (resolve_decls scope decls) e)
     (declared_holds.decls scope decls e holds kept.decls))
-    (λ later h. exec_sorts orders rest scope guards later are.1 kept.rest h)
-exec_sorts orders (block (tasks_at line) body rest) scope guards e are kept holds =
-    sorts_then scope e _ (exec orders rest scope guards) holds (gathered_sorts (orders e.blocks) (resolve scope body) e) (λ later h. exec_sorts orders rest scope guards later are.2 kept.rest h)
-exec_sorts orders (block (task_at line name locals) body rest) scope guards e are kept holds = absurd are
+    (λ end later h. exec_sorts propagates orders rest scope guards end later are.1 kept.rest h)
+exec_sorts propagates orders (block (tasks_at line) body rest) scope guards None e are kept holds =
+    sorts_then scope e (blocked propagates orders (tasks_at line) body scope guards e) (exec_behind propagates orders rest scope guards) holds
+    (gathered_sorts (orders e.blocks) (resolve scope body) e)
+    (λ end later h. exec_sorts propagates orders rest scope guards end later are.2 kept.rest h)
+exec_sorts propagates orders (block (task_at line name locals) body rest) scope guards None e are kept holds = absurd are
 
 script_holds : (orders : Orders) (script : Script) → IsChecked script → AreStatements script.stmts →
     (after_decls (resolve_decls [] script.decls) first_state).spent ≡ None → HoldsTypes (with_decls [] script.decls) (run_with orders script).after
@@ -172,14 +197,14 @@ script_holds orders script checked are none =
     let scope = with_decls [] script.decls in
     let e = (after_decls (resolve_decls [] script.decls) first_state).after in
     let holds : HoldsTypes scope e = declared_holds.script script checked none in
-    holds_on scope e (exec orders script.stmts scope [] e).after
-    (exec_sorts orders script.stmts scope [] e are (rules_kept script checked).code holds) holds
+    holds_on scope e (exec false orders script.stmts scope [] e).after
+    (exec_sorts false orders script.stmts scope [] None e are (rules_kept script checked).code holds) holds
 
 pub goes_on_holding : GoesOnHolding
 goes_on_holding = record {
   commands = λ scope e simple holds. holds_on scope e (performed e simple).after (command_sorts e simple) holds;
-  statements = λ orders code scope guards e are kept holds.
-      holds_on scope e (exec orders code scope guards e).after (exec_sorts orders code scope guards e are kept holds) holds;
+  statements = λ propagates orders code scope guards end e are kept holds.
+      holds_on scope e (exec_behind propagates orders code scope guards end e).after (exec_sorts propagates orders code scope guards end e are kept holds) holds;
   script = script_holds;
   guarded = λ scope guards e holds. holds_on scope e (under guards e) (sorts-under guards e) holds;
   rested = λ scope e holds. holds_on scope e (at_rest e) (sorts-at_rest e) holds;

@@ -8,10 +8,10 @@ use Rattle.ac_syntax.specs.declared.view_kind.ViewKind.{ViewKind}
 use Rattle.ac_syntax.specs.declared.view_kind.ViewKind.TheVariants.{Query, Update, Reference, UpdateKey}
 use Rattle.ac_rules.specs.declared.resolved.ResolvedDecl.{ResolvedDecl}
 use Rattle.ac_rules.specs.declared.resolved.ResolvedDecl.TheVariants as decl
-use Rattle.ac_rules.specs.Resolved.{ResolvedHead, loops_at, views_at, stables_at, declares_at, gathers_at, works_at, ResolvedCode, no_statement, a_command, a_block, resolve}
+use Rattle.ac_rules.specs.Resolved.{ResolvedHead, loops_at, views_at, stables_at, declares_at, gathers_at, works_at, begins_at, tries_at, handles_at, ResolvedCode, no_statement, a_command, a_block, resolve}
 use Rattle.ac_calls.specs.Holdings.{Held, Guards, names_of, number_of, element_value}
 use Rattle.ac_meaning.specs.Environment.{Bound, binds_element, binds_value, State, under, object_at, guarded_at, mark_at, value_at, value_or_zero, with_name, leaving, Declared, unless_spent, after_decl, after_decls}
-use Rattle.ac_meaning.specs.Execution.{Outcome, Orders, scoped, commanded, guards_of_loop, guards_of_stable, guards_of_view, in_order, turn_bound, head_reason, turns, key_body, viewed, view_on, on_object, after_declared, block_on, exec_resolved}
+use Rattle.ac_meaning.specs.Execution.{End, Outcome, Orders, passed_on, unless_raised, scoped, commanded, guards_of_loop, guards_of_stable, guards_of_view, in_order, turn_bound, head_reason, key_end, turns_behind, key_body, viewed, view_on, on_object, after_declared, block_on, takes, resolved_behind}
 use Rattle.ac_meaning.specs.GuardedNames.{kept, ResolvedKeepsGuarded, KeepsGuarded}
 use Rattle.ac_meaning.proofs.Resolved.{runs_resolved}
 use Rattle.ac_meaning.proofs.Frames.{kept_weaker, kept_back}
@@ -73,13 +73,20 @@ module _ (body : Guards → State → Outcome) (keeps : KeepsAll body) (guards :
   scoped_keeps more e b =
       let now = with_name e b in back e now (body (more ++ guards) now).after (name_extends e b) (under_more more now)
 
-  turns_keep : (elements : Bool) (object : ℕ) (h : Held) (names : List ℕ) (e : State) →
-      kept guards (turns body guards elements object h names e).after ≡ kept guards e
-  turns_keep elements object h [] e = refl
-  turns_keep elements object h (name ∷ names) e =
+  turns_keep : (elements : Bool) (object : ℕ) (h : Held) (names : List ℕ) (end : End) (e : State) →
+      kept guards (turns_behind body guards elements object h names end e).after ≡ kept guards e
+  turns_keep elements object h [] end e = refl
+  turns_keep elements object h (name ∷ names) (Some raised) e = refl
+  turns_keep elements object h (name ∷ names) None e =
       let b = turn_bound elements object (mark_of_name (number_of h) name) in
       let more = guards_of_loop elements h in
-      turns_keep elements object h names (scoped e (body (more ++ guards)) (with_name e b)).after ∙ scoped_keeps more e b
+      let turn = scoped e (body (more ++ guards)) (with_name e b) in
+      turns_keep elements object h names turn.end turn.after ∙ scoped_keeps more e b
+
+  unless_keeps : (next : State → Outcome) (end : End) (e left : State) → kept guards left ≡ kept guards e → kept guards (next left).after ≡ kept guards e →
+      kept guards (unless_raised next end left).after ≡ kept guards e
+  unless_keeps next None e left h k = k
+  unless_keeps next (Some raised) e left h k = h
 
   key_keeps : (number object : ℕ) (at : Mark) (h : Held) (e : State) → object_at (under guards e) object ≡ Some h →
       head_reason UpdateKey h at ≡ None → kept guards (key_body body guards number object at h e).after ≡ kept guards e
@@ -88,9 +95,11 @@ module _ (body : Guards → State → Outcome) (keeps : KeepsAll body) (guards :
       let b = binds_value (value_or_zero (element_value h at).answer) in
       let r = body held (with_name e b) in
       let left = leaving (length e.bounds) r.after in
-      key_end_keeps guards held number object e left at (value_at r.after (length e.bounds)) h there
+      let copy = value_at r.after (length e.bounds) in
+      unless_keeps (key_end number object at copy held) r.end e left (scoped_keeps (guards_of_view UpdateKey h) e b)
+      (key_end_keeps guards held number object e left at copy h there
       (updates_are_alone.found guards e object h at there none)
-      (scoped_keeps (guards_of_view UpdateKey h) e b) (object_at (under held left) object) refl
+      (scoped_keeps (guards_of_view UpdateKey h) e b) (object_at (under held left) object) refl)
 
   viewed_keeps : (number : ℕ) (view : ViewKind) (object : ℕ) (at : Mark) (h : Held) (e : State) → object_at (under guards e) object ≡ Some h →
       head_reason view h at ≡ None → kept guards (viewed body guards number view object at h e).after ≡ kept guards e
@@ -107,7 +116,7 @@ module _ (body : Guards → State → Outcome) (keeps : KeepsAll body) (guards :
   loop_keeps : (number : ℕ) (elements backward : Bool) (object : ℕ) (found : Option Held) (e : State) →
       kept guards (on_object body guards (loops_at number elements backward object) found e).after ≡ kept guards e
   loop_keeps number elements backward object None e = refl
-  loop_keeps number elements backward object (Some h) e = turns_keep elements object h (in_order backward (names_of h)) e
+  loop_keeps number elements backward object (Some h) e = turns_keep elements object h (in_order backward (names_of h)) None e
 
   placed_keeps : (number : ℕ) (view : ViewKind) (object : ℕ) (at : Option ℕ) (e : State) (found : Option Held) →
       guarded_at (under guards e) object ≡ found → kept guards (on_object body guards (views_at number view object at) found e).after ≡ kept guards e
@@ -133,15 +142,32 @@ module _ (body : Guards → State → Outcome) (keeps : KeepsAll body) (guards :
   block_keeps orders tasks e (declares_at number decls) = declared_keeps e (after_decls decls e) _ refl (decls_extend decls e)
   block_keeps orders tasks e (gathers_at number) = gathered_keeps guards (orders e.blocks) tasks e
   block_keeps orders tasks e (works_at number name locals) = refl
+  block_keeps orders tasks e begins_at = keeps guards e
+  block_keeps orders tasks e tries_at = keeps guards e
+  block_keeps orders tasks e (handles_at catches) = refl
+
+either_keeps : (guards : Guards) (e : State) (b : Bool) (x y : Outcome) → kept guards x.after ≡ kept guards e → kept guards y.after ≡ kept guards e →
+    kept guards (if b then x else y).after ≡ kept guards e
+either_keeps guards e true x y h k = h
+either_keeps guards e false x y h k = k
 
 pub resolved_keeps : ResolvedKeepsGuarded
-resolved_keeps orders no_statement guards e = refl
-resolved_keeps orders (a_command simple rest) guards e =
-    resolved_keeps orders rest guards (commanded guards e simple).after ∙ commanded_keeps guards e simple
-resolved_keeps orders (a_block head body rest) guards e =
-    resolved_keeps orders rest guards (block_on (exec_resolved orders body) guards orders body e head).after
-    ∙ block_keeps (exec_resolved orders body) (resolved_keeps orders body) guards orders body e head
+resolved_keeps propagates orders no_statement guards end e = refl
+resolved_keeps propagates orders (a_command simple rest) guards None e =
+    let r = passed_on propagates (commanded guards e simple) in
+    resolved_keeps propagates orders rest guards r.end r.after ∙ commanded_keeps guards e simple
+resolved_keeps propagates orders (a_command simple rest) guards (Some raised) e = resolved_keeps propagates orders rest guards (Some raised) e
+resolved_keeps propagates orders (a_block head body rest) guards None e =
+    let inner : Guards → State → Outcome = λ held. resolved_behind propagates orders body held None in
+    let r = passed_on propagates (block_on inner guards orders body e head) in
+    resolved_keeps propagates orders rest guards r.end r.after
+    ∙ block_keeps inner (λ held. resolved_keeps propagates orders body held None) guards orders body e head
+resolved_keeps propagates orders (a_block head body rest) guards (Some raised) e =
+    either_keeps guards e (takes head raised) (resolved_behind propagates orders body guards None e)
+    (resolved_behind propagates orders rest guards (Some raised) e)
+    (resolved_keeps propagates orders body guards None e) (resolved_keeps propagates orders rest guards (Some raised) e)
 
 pub exec_keeps : KeepsGuarded
-exec_keeps orders code scope guards e =
-    ap (λ (r : Outcome). kept guards r.after) (sym (runs_resolved orders code scope guards e)) ∙ resolved_keeps orders (resolve scope code) guards e
+exec_keeps propagates orders code scope guards end e =
+    ap (λ (r : Outcome). kept guards r.after) (sym (runs_resolved propagates orders code scope guards end e))
+    ∙ resolved_keeps propagates orders (resolve scope code) guards end e

@@ -17,19 +17,20 @@ use Rattle.ac_rules.specs.Kept.{CommandKept, HeadKept, KeepsRules}
 use Rattle.ac_rules.specs.Resolved.{loops_at, views_at, stables_at, place_of, ResolvedCode, resolve, resolve_simple, resolve_decls}
 use Rattle.ac_rules.specs.declared.resolved.ResolvedDecl.{ResolvedDecl}
 use Rattle.ac_rules.specs.declared.resolved.ResolvedDecl.TheVariants as decl
-use Rattle.ac_rules.specs.Scopes.{Scope, behind_words, inside, with_decls}
+use Rattle.ac_rules.specs.Scopes.{Scope, behind_words, inside, behind_block, with_decls}
 use Rattle.ac_rules.proofs.Kept.{rules_kept}
 use Rattle.ac_calls.specs.Holdings.{Held, of_rows, of_holder, of_queue, Guards, names_of, number_of, new_held, element_value, key_updated}
 use Rattle.ac_meaning.specs.Environment.{Bound, binds_type, binds_object, binds_cursor, binds_element, binds_value, State, first_state, under, bound_at, with_bound, object_at, guarded_at, mark_at, value_at, value_or_zero, with_name, leaving, Declared, unless_spent, after_decl, after_decls}
 use Rattle.ac_meaning.specs.Commands.{performed}
-use Rattle.ac_meaning.specs.Execution.{Outcome, outcome as come_to, Orders, run_by, gathered, scoped, commanded, guards_of_loop, guards_of_stable, guards_of_view, in_order, turn_bound, head_reason, key_end_on, turns, key_body, viewed, view_on, on_object, after_declared, exec, run_with, no_orders}
+use Rattle.ac_meaning.specs.Execution.{End, Outcome, outcome as come_to, Orders, passed_on, unless_raised, followed, run_by, gathered, scoped, commanded, guards_of_loop, guards_of_stable, guards_of_view, in_order, turn_bound, head_reason, key_end, key_end_on, turns_behind, key_body, viewed, view_on, on_object, after_declared, exec_behind, run_with, no_orders}
 use Rattle.ac_meaning.specs.GuardedNames.{kept}
 use Rattle.ac_meaning.specs.HoldsTypes.{HoldsTypes}
 use Rattle.ac_meaning.specs.TaskBlocks.{queue_places, block_of, block_fits, queue_left, queues_left}
 use Rattle.ac_meaning.specs.ValueTypes.{ObjectsSound, HoldsValues, ValuesGoOn}
 use Rattle.ac_meaning.proofs.CommandKinds.{Goes, goes_same, goes_then}
 use Rattle.ac_meaning.proofs.CommandsKeepTypes.{command_goes}
-use Rattle.ac_meaning.proofs.ExecHolds.{exec_sorts}
+use Rattle.ac_meaning.proofs.Ends.{none_runs_behind}
+use Rattle.ac_meaning.proofs.ExecHolds.{blocked, exec_sorts}
 use Rattle.ac_meaning.proofs.ExecKeeps.{Extends, KeepsAll, decls_extend, exec_keeps}
 use Rattle.ac_meaning.proofs.Frames.{frame_stays, kept_weaker, kept_back}
 use Rattle.ac_meaning.proofs.GuardedPlaces.{guarded_is_there}
@@ -80,20 +81,23 @@ module _ (body : Guards → State → Outcome) (scope inner : Scope) (keeps : Ke
   left_values : (more : Guards) (e left : State) → HoldsValues scope guards e → Left (more ++ guards) e left → HoldsValues scope guards left
   left_values more e left holds l = values_on scope guards e left holds l.goes l.sort (kept_weaker more guards e left l.stays)
 
-  turns_go : (elements : Bool) (object : ℕ) (h : Held) (names : List ℕ) (e : State) → HoldsValues scope guards e →
+  turns_go : (elements : Bool) (object : ℕ) (h : Held) (names : List ℕ) (end : End) (e : State) → HoldsValues scope guards e →
       IsLooped elements h guards (bound_at e object) → EachNamed (names_of h) names →
       ((now : State) (name : ℕ) → HoldsValues scope guards now →
       IsLooped elements h guards (bound_at now object) → IsNamedIn (names_of h) name →
       HoldsValues inner (guards_of_loop elements h ++ guards) (with_name now (turn_bound elements object (mark_of_name (number_of h) name)))) →
-      Goes e (turns body guards elements object h names e).after
-  turns_go elements object h [] e holds same named each = goes_same e holds.sound
-  turns_go elements object h (name ∷ names) e holds same named each =
+      Goes e (turns_behind body guards elements object h names end e).after
+  turns_go elements object h [] end e holds same named each = goes_same e holds.sound
+  turns_go elements object h (name ∷ names) (Some raised) e holds same named each = goes_same e holds.sound
+  turns_go elements object h (name ∷ names) None e holds same named each =
       let more = guards_of_loop elements h in
       let b = turn_bound elements object (mark_of_name (number_of h) name) in
-      let left = (scoped e (body (more ++ guards)) (with_name e b)).after in
+      let turn = scoped e (body (more ++ guards)) (with_name e b) in
+      let end = turn.end in
+      let left = turn.after in
       let l = scoped_left more e b (each e name holds same named.0) in
-      goes_then e left (turns body guards elements object h names left).after l.goes
-      (turns_go elements object h names left (left_values more e left holds l) (frame_stays (more ++ guards) e left object l.stays ∙ same) named.1 each)
+      goes_then e left (turns_behind body guards elements object h names end left).after l.goes
+      (turns_go elements object h names end left (left_values more e left holds l) (frame_stays (more ++ guards) e left object l.stays ∙ same) named.1 each)
 
   loop_goes : (number : ℕ) (elements backward : Bool) (object : ℕ) (found : Option Held) (e : State) → guarded_at (under guards e) object ≡ found →
       HoldsValues scope guards e →
@@ -104,7 +108,7 @@ module _ (body : Guards → State → Outcome) (scope inner : Scope) (keeps : Ke
   loop_goes number elements backward object None e f holds each = goes_same e holds.sound
   loop_goes number elements backward object (Some h) e f holds each =
       let there = guarded_is_there (under guards e) object h f in
-      turns_go elements object h (in_order backward (names_of h)) e holds (found_frame (guards_of_loop elements h ++ guards) guards e object h there)
+      turns_go elements object h (in_order backward (names_of h)) None e holds (found_frame (guards_of_loop elements h ++ guards) guards e object h there)
       (each_in_order backward (names_of h)) (each h there)
 
   key_end_goes : (number object : ℕ) (held : Guards) (e : State) (at : Mark) (copy : Value) (found : Option Held) → ObjectsSound e →
@@ -120,6 +124,10 @@ module _ (body : Guards → State → Outcome) (scope inner : Scope) (keeps : Ke
         sound = sound-at_rest (with_bound e object (binds_object after)) (sound-with_bound e object (binds_object after) sound is);
       }
 
+  unless_goes : (next : State → Outcome) (end : End) (left : State) → ObjectsSound left → Goes left (next left).after → Goes left (unless_raised next end left).after
+  unless_goes next None left sound g = g
+  unless_goes next (Some raised) left sound g = goes_same left sound
+
   key_goes : (number object : ℕ) (at : Mark) (h : Held) (e : State) →
       HoldsValues inner (guards_of_view UpdateKey h ++ guards) (with_name e (binds_value (value_or_zero (element_value h at).answer))) →
       Goes e (key_body body guards number object at h e).after
@@ -129,8 +137,11 @@ module _ (body : Guards → State → Outcome) (scope inner : Scope) (keeps : Ke
       let r = body held (with_name e b) in
       let left = leaving (length e.bounds) r.after in
       let l = scoped_left (guards_of_view UpdateKey h) e b holds in
-      goes_then e left (key_end_on number object left at (value_at r.after (length e.bounds)) (object_at (under held left) object)).after l.goes
-      (key_end_goes number object held left at (value_at r.after (length e.bounds)) (object_at (under held left) object) l.goes.sound refl)
+      let copy = value_at r.after (length e.bounds) in
+      let end = r.end in
+      goes_then e left (unless_raised (key_end number object at copy held) end left).after l.goes
+      (unless_goes (key_end number object at copy held) end left l.goes.sound
+      (key_end_goes number object held left at copy (object_at (under held left) object) l.goes.sound refl))
 
   viewed_goes : (number : ℕ) (view : ViewKind) (object : ℕ) (at : Mark) (h : Held) (e : State) →
       ((element_value h at).reason ≡ None → HoldsValues inner (guards_of_view view h ++ guards) (with_name e (binds_element object at))) →
@@ -250,9 +261,12 @@ more_values scope more guards e holds = record {
 }
 
 -- what follows
-go_on : (scope : Scope) (guards : Guards) (e now : State) (next : State → Outcome) → HoldsValues scope guards e → Goes e now → sorts now ≡ sorts e →
-    kept guards now ≡ kept guards e → ((later : State) → HoldsValues scope guards later → Goes later (next later).after) → Goes e (next now).after
-go_on scope guards e now next holds g sorted same rest = goes_then e now (next now).after g (rest now (values_on scope guards e now holds g sorted same))
+go_on : (scope : Scope) (guards : Guards) (e : State) (r : Outcome) (next : End → State → Outcome) → HoldsValues scope guards e → Goes e r.after →
+    sorts r.after ≡ sorts e → kept guards r.after ≡ kept guards e →
+    ((end : End) (later : State) → HoldsValues scope guards later → Goes later (next end later).after) → Goes e (followed r next).after
+go_on scope guards e r next holds g sorted same rest =
+    let end = r.end in
+    goes_then e r.after (next end r.after).after g (rest end r.after (values_on scope guards e r.after holds g sorted same))
 
 -- the block alone
 block_kept : (scope : Scope) (head : Head) (body rest : Code) → KeepsRules scope (block head body rest) → KeepsRules scope (block head body stop)
@@ -269,90 +283,105 @@ copy_or scope guards e line view object at name h mark holds kept there none is 
     (copy_values scope guards e line object at name h mark holds (subst (λ v. HeadKept scope (view_at line v object at name)) is kept) there
     (subst (λ v. head_reason v h mark ≡ None) is none))
 
-pub exec_goes : (orders : Orders) (code : Code) (scope : Scope) (guards : Guards) (e : State) → AreStatements code → KeepsRules scope code →
-    HoldsValues scope guards e → Goes e (exec orders code scope guards e).after
-exec_goes orders stop scope guards e are kept holds = goes_same e holds.sound
-exec_goes orders (one simple rest) scope guards e are kept holds =
-    go_on scope guards e (commanded guards e (resolve_simple scope simple)).after (exec orders rest scope guards) holds
+pub exec_goes : (propagates : Bool) (orders : Orders) (code : Code) (scope : Scope) (guards : Guards) (end : End) (e : State) → AreStatements code →
+    KeepsRules scope code → HoldsValues scope guards e → Goes e (exec_behind propagates orders code scope guards end e).after
+exec_goes propagates orders stop scope guards end e are kept holds = goes_same e holds.sound
+exec_goes propagates orders (one simple rest) scope guards (Some raised) e are kept holds =
+    subst (λ (r : Outcome). Goes e r.after) (sym (none_runs_behind propagates orders rest scope guards raised e)) (goes_same e holds.sound)
+exec_goes propagates orders (one simple rest) scope guards None e are kept holds =
+    go_on scope guards e (passed_on propagates (commanded guards e (resolve_simple scope simple))) (exec_behind propagates orders rest scope guards) holds
     (commanded_goes scope guards e simple holds kept.first)
-    (exec_sorts orders (one simple stop) scope guards e tt (record { first = kept.first; rest = tt }) holds.types)
-    (exec_keeps orders (one simple stop) scope guards e)
-    (λ later h. exec_goes orders rest scope guards later are kept.rest h)
-exec_goes orders (block (loop_at line name elements backward object) body rest) scope guards e are kept holds =
+    (exec_sorts propagates orders (one simple stop) scope guards None e tt (record { first = kept.first; rest = tt }) holds.types)
+    (exec_keeps propagates orders (one simple stop) scope guards None e)
+    (λ end later h. exec_goes propagates orders rest scope guards end later are kept.rest h)
+exec_goes propagates orders (block head body rest) scope guards (Some raised) e are kept holds =
+    subst (λ (r : Outcome). Goes e r.after) (sym (none_runs_behind propagates orders rest (behind_block scope head) guards raised e)) (goes_same e holds.sound)
+exec_goes propagates orders (block (loop_at line name elements backward object) body rest) scope guards None e are kept holds =
     let head = loop_at line name elements backward object in
-    let inner = inside scope head in
+    let within = inside scope head in
     let place = place_of scope object in
-    go_on scope guards e (exec orders (block head body stop) scope guards e).after (exec orders rest scope guards) holds
-    (loop_goes (exec orders body inner) scope inner (exec_keeps orders body inner) (λ held now h. exec_sorts orders body inner held now are.0 kept.body h)
-    (λ held now h. exec_goes orders body inner held now are.0 kept.body h)
+    let inner : Guards → State → Outcome = λ held. exec_behind propagates orders body within held None in
+    go_on scope guards e (blocked propagates orders head body scope guards e) (exec_behind propagates orders rest scope guards) holds
+    (loop_goes inner scope within (λ held now. exec_keeps propagates orders body within held None now)
+    (λ held now h. exec_sorts propagates orders body within held None now are.0 kept.body h)
+    (λ held now h. exec_goes propagates orders body within held None now are.0 kept.body h)
     guards line elements backward place (guarded_at (under guards e) place) e refl holds
     (λ h there now n values same named. turn_values scope guards now line name elements backward object h n values kept.head
     (sound_at (under guards e) place h (sound-under guards e holds.sound) there) named same))
-    (exec_sorts orders (block head body stop) scope guards e (are.0, tt) (block_kept scope head body rest kept) holds.types)
-    (exec_keeps orders (block head body stop) scope guards e)
-    (λ later h. exec_goes orders rest scope guards later are.1 kept.rest h)
-exec_goes orders (block (view_at line view object at name) body rest) scope guards e are kept holds =
+    (exec_sorts propagates orders (block head body stop) scope guards None e (are.0, tt) (block_kept scope head body rest kept) holds.types)
+    (exec_keeps propagates orders (block head body stop) scope guards None e)
+    (λ end later h. exec_goes propagates orders rest scope guards end later are.1 kept.rest h)
+exec_goes propagates orders (block (view_at line view object at name) body rest) scope guards None e are kept holds =
     let head = view_at line view object at name in
-    let inner = inside scope head in
+    let within = inside scope head in
     let place = place_of scope object in
-    go_on scope guards e (exec orders (block head body stop) scope guards e).after (exec orders rest scope guards) holds
-    (placed_goes (exec orders body inner) scope inner (exec_keeps orders body inner) (λ held now h. exec_sorts orders body inner held now are.0 kept.body h)
-    (λ held now h. exec_goes orders body inner held now are.0 kept.body h)
+    let inner : Guards → State → Outcome = λ held. exec_behind propagates orders body within held None in
+    go_on scope guards e (blocked propagates orders head body scope guards e) (exec_behind propagates orders rest scope guards) holds
+    (placed_goes inner scope within (λ held now. exec_keeps propagates orders body within held None now)
+    (λ held now h. exec_sorts propagates orders body within held None now are.0 kept.body h)
+    (λ held now h. exec_goes propagates orders body within held None now are.0 kept.body h)
     guards line view place (option_map (place_of scope) at) e (guarded_at (under guards e) place) refl holds.sound
     (λ h mark there none stands. view_values scope guards e line view object at name h mark holds kept.head there none stands)
     (λ h mark there none is. copy_or scope guards e line view object at name h mark holds kept.head there none is))
-    (exec_sorts orders (block head body stop) scope guards e (are.0, tt) (block_kept scope head body rest kept) holds.types)
-    (exec_keeps orders (block head body stop) scope guards e)
-    (λ later h. exec_goes orders rest scope guards later are.1 kept.rest h)
-exec_goes orders (block (stable_at line object) body rest) scope guards e are kept holds =
+    (exec_sorts propagates orders (block head body stop) scope guards None e (are.0, tt) (block_kept scope head body rest kept) holds.types)
+    (exec_keeps propagates orders (block head body stop) scope guards None e)
+    (λ end later h. exec_goes propagates orders rest scope guards end later are.1 kept.rest h)
+exec_goes propagates orders (block (stable_at line object) body rest) scope guards None e are kept holds =
     let head = stable_at line object in
+    let within = scope in
     let place = place_of scope object in
-    go_on scope guards e (exec orders (block head body stop) scope guards e).after (exec orders rest scope guards) holds
-    (stable_goes (exec orders body scope) scope scope (exec_keeps orders body scope) (λ held now h. exec_sorts orders body scope held now are.0 kept.body h)
-    (λ held now h. exec_goes orders body scope held now are.0 kept.body h)
+    let inner : Guards → State → Outcome = λ held. exec_behind propagates orders body within held None in
+    go_on scope guards e (blocked propagates orders head body scope guards e) (exec_behind propagates orders rest scope guards) holds
+    (stable_goes inner scope within (λ held now. exec_keeps propagates orders body within held None now)
+    (λ held now h. exec_sorts propagates orders body within held None now are.0 kept.body h)
+    (λ held now h. exec_goes propagates orders body within held None now are.0 kept.body h)
     guards line place (guarded_at (under guards e) place) e holds.sound (λ h. more_values scope (guards_of_stable h) guards e holds))
-    (exec_sorts orders (block head body stop) scope guards e (are.0, tt) (block_kept scope head body rest kept) holds.types)
-    (exec_keeps orders (block head body stop) scope guards e)
-    (λ later h. exec_goes orders rest scope guards later are.1 kept.rest h)
-exec_goes orders (block (declare_at line decls) body rest) scope guards e are kept holds =
+    (exec_sorts propagates orders (block head body stop) scope guards None e (are.0, tt) (block_kept scope head body rest kept) holds.types)
+    (exec_keeps propagates orders (block head body stop) scope guards None e)
+    (λ end later h. exec_goes propagates orders rest scope guards end later are.1 kept.rest h)
+exec_goes propagates orders (block (declare_at line decls) body rest) scope guards None e are kept holds =
     let head = declare_at line decls in
-    let inner = with_decls scope decls in
+    let within = with_decls scope decls in
     let resolved = resolve_decls scope decls in
-    go_on scope guards e (exec orders (block head body stop) scope guards e).after (exec orders rest scope guards) holds
-    (declared_goes (exec orders body inner) scope inner (exec_keeps orders body inner) (λ held now h. exec_sorts orders body inner held now are.0 kept.body h)
-    (λ held now h. exec_goes orders body inner held now are.0 kept.body h)
+    let inner : Guards → State → Outcome = λ held. exec_behind propagates orders body within held None in
+    go_on scope guards e (blocked propagates orders head body scope guards e) (exec_behind propagates orders rest scope guards) holds
+    (declared_goes inner scope within (λ held now. exec_keeps propagates orders body within held None now)
+    (λ held now h. exec_sorts propagates orders body within held None now are.0 kept.body h)
+    (λ held now h. exec_goes propagates orders body within held None now are.0 kept.body h)
     guards e (after_decls resolved e) (after_decls resolved e).spent refl (decls_extend resolved e) holds.sound (decls_sound resolved e holds.sound)
     (values_declared.decls scope decls guards e holds kept.decls))
-    (exec_sorts orders (block head body stop) scope guards e (are.0, tt) (block_kept scope head body rest kept) holds.types)
-    (exec_keeps orders (block head body stop) scope guards e)
-    (λ later h. exec_goes orders rest scope guards later are.1 kept.rest h)
-exec_goes orders (block (tasks_at line) body rest) scope guards e are kept holds =
+    (exec_sorts propagates orders (block head body stop) scope guards None e (are.0, tt) (block_kept scope head body rest kept) holds.types)
+    (exec_keeps propagates orders (block head body stop) scope guards None e)
+    (λ end later h. exec_goes propagates orders rest scope guards end later are.1 kept.rest h)
+exec_goes propagates orders (block (tasks_at line) body rest) scope guards None e are kept holds =
     let head = tasks_at line in
-    go_on scope guards e (exec orders (block head body stop) scope guards e).after (exec orders rest scope guards) holds
+    go_on scope guards e (blocked propagates orders head body scope guards e) (exec_behind propagates orders rest scope guards) holds
     (gathered_goes (orders e.blocks) (resolve scope body) e holds.sound)
-    (exec_sorts orders (block head body stop) scope guards e (are.0, are.1, tt) (block_kept scope head body rest kept) holds.types)
-    (exec_keeps orders (block head body stop) scope guards e)
-    (λ later h. exec_goes orders rest scope guards later are.2 kept.rest h)
-exec_goes orders (block (task_at line name locals) body rest) scope guards e are kept holds = absurd are
+    (exec_sorts propagates orders (block head body stop) scope guards None e (are.0, are.1, tt) (block_kept scope head body rest kept) holds.types)
+    (exec_keeps propagates orders (block head body stop) scope guards None e)
+    (λ end later h. exec_goes propagates orders rest scope guards end later are.2 kept.rest h)
+exec_goes propagates orders (block (task_at line name locals) body rest) scope guards None e are kept holds = absurd are
 
-pub statements_keep_values : (orders : Orders) (code : Code) (scope : Scope) (guards : Guards) (e : State) → AreStatements code → KeepsRules scope code →
-    HoldsValues scope guards e → HoldsValues scope guards (exec orders code scope guards e).after
-statements_keep_values orders code scope guards e are kept holds =
-    values_on scope guards e (exec orders code scope guards e).after holds (exec_goes orders code scope guards e are kept holds)
-    (exec_sorts orders code scope guards e are kept holds.types) (exec_keeps orders code scope guards e)
+pub statements_keep_values : (propagates : Bool) (orders : Orders) (code : Code) (scope : Scope) (guards : Guards) (end : End) (e : State) →
+    AreStatements code → KeepsRules scope code → HoldsValues scope guards e → HoldsValues scope guards (exec_behind propagates orders code scope guards end e).after
+statements_keep_values propagates orders code scope guards end e are kept holds =
+    values_on scope guards e (exec_behind propagates orders code scope guards end e).after holds
+    (exec_goes propagates orders code scope guards end e are kept holds)
+    (exec_sorts propagates orders code scope guards end e are kept holds.types) (exec_keeps propagates orders code scope guards end e)
 
 script_values : (orders : Orders) (script : Script) → IsChecked script → AreStatements script.stmts →
     (after_decls (resolve_decls [] script.decls) first_state).spent ≡ None → HoldsValues (with_decls [] script.decls) [] (run_with orders script).after
 unfolding run_with
 script_values orders script checked are none =
-    statements_keep_values orders script.stmts (with_decls [] script.decls) [] (after_decls (resolve_decls [] script.decls) first_state).after are
+    statements_keep_values false orders script.stmts (with_decls [] script.decls) [] None (after_decls (resolve_decls [] script.decls) first_state).after are
     (rules_kept script checked).code (values_declared.script script checked none)
 
 pub values_go_on : ValuesGoOn
 values_go_on = record {
   commands = λ scope guards e simple holds kept.
       values_on scope guards e (commanded guards e (resolve_simple scope simple)).after holds (commanded_goes scope guards e simple holds kept)
-      (exec_sorts no_orders (one simple stop) scope guards e tt (record { first = kept; rest = tt }) holds.types) (exec_keeps no_orders (one simple stop) scope guards e);
+      (exec_sorts false no_orders (one simple stop) scope guards None e tt (record { first = kept; rest = tt }) holds.types)
+      (exec_keeps false no_orders (one simple stop) scope guards None e);
   statements = statements_keep_values;
   script = script_values;
 }

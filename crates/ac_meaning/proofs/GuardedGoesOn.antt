@@ -9,7 +9,7 @@ use Rattle.ac_syntax.specs.declared.view_kind.ViewKind.{ViewKind}
 use Rattle.ac_syntax.specs.declared.view_kind.ViewKind.TheVariants.{Query, Update, Reference, UpdateKey}
 use Rattle.ac_calls.specs.Holdings.{RowKind, RowOf, have_root, Held, of_rows, of_holder, of_queue, Guards, number_of, names_of, holds_element, has_root, element_value}
 use Rattle.ac_meaning.specs.Environment.{Bound, binds_type, binds_object, binds_cursor, binds_value, binds_element, object_in, State, bound_at, with_name, leaving}
-use Rattle.ac_meaning.specs.Execution.{exec_resolved, guards_of_loop, guards_of_view}
+use Rattle.ac_meaning.specs.Execution.{exec_resolved, resolved_behind, guards_of_loop, guards_of_view}
 use Rattle.ac_meaning.specs.GuardedNames.{is_guarded, is_element_guarded, Frame, of_type, of_object, of_cursor, of_value, of_element, names_if, frame, GuardedGoesOn, GuardedStays, DesignatedStays, ElementGoesOn, ElementsStay, ViewsGuardElements, BlocksGuard, TurnsKeepNames}
 use Rattle.ac_meaning.proofs.CallsStay.{none_some}
 use Rattle.ac_meaning.proofs.HoldersStay.{element_stands, stands_there}
@@ -52,10 +52,10 @@ goes_on h now place (binds_value v) f guards g e = absurd (cc)
 goes_on h now place (binds_element object at) f guards g e = absurd (cc)
 
 pub guarded_stays : GuardedStays
-guarded_stays orders code guards e place h there g =
-    let now = (exec_resolved orders code guards e).after in
+guarded_stays propagates orders code guards end e place h there g =
+    let now = (resolved_behind propagates orders code guards end e).after in
     goes_on h now place (bound_at now place) refl guards g
-    (frame_stays guards e now place (resolved_keeps orders code guards e) ∙ ap (frame guards) (object_there (bound_at e place) h there))
+    (frame_stays guards e now place (resolved_keeps propagates orders code guards end e) ∙ ap (frame guards) (object_there (bound_at e place) h there))
 
 -- so an element that a cursor designates stands
 
@@ -73,8 +73,8 @@ designated_held kind o (of_holder e h) at number rooted same d = absurd (no_row 
 designated_held kind o (of_queue n q) at number rooted same d = absurd (no_row o.rows d.name (sym same) d.named)
 
 pub designated_stays : DesignatedStays
-designated_stays orders code guards e place kind o at there g stands =
-    let on = guarded_stays orders code guards e place (of_rows kind o) there g in
+designated_stays propagates orders code guards end e place kind o at there g stands =
+    let on = guarded_stays propagates orders code guards end e place (of_rows kind o) there g in
     record {
       held = on.held;
       there = on.there;
@@ -117,10 +117,10 @@ element_goes_on h now place (binds_value v) f guards g e = absurd (cc)
 element_goes_on h now place (binds_element object at) f guards g e = absurd (cc)
 
 pub elements_stay : ElementsStay
-elements_stay orders code guards e place h there g =
-    let now = (exec_resolved orders code guards e).after in
+elements_stay propagates orders code guards end e place h there g =
+    let now = (resolved_behind propagates orders code guards end e).after in
     element_goes_on h now place (bound_at now place) refl guards g
-    (frame_stays guards e now place (resolved_keeps orders code guards e) ∙ ap (frame guards) (object_there (bound_at e place) h there))
+    (frame_stays guards e now place (resolved_keeps propagates orders code guards end e) ∙ ap (frame guards) (object_there (bound_at e place) h there))
 
 own_guard : (n : ℕ) (others : Bool) → ((n == n) || others) ≡ true
 own_guard n others = go (n == n) (grind (arith))
@@ -159,11 +159,11 @@ pub blocks_guard : BlocksGuard
 blocks_guard = record { loops = loops_guard; views = views_guard; stables = λ h guards. own_guard (number_of h) _ }
 
 pub turns_keep_names : TurnsKeepNames
-turns_keep_names orders code elements guards e place h b there =
+turns_keep_names propagates orders code elements guards e place h b there =
     let held = guards_of_loop elements h ++ guards in
     let start = with_name e b in
-    let now = (exec_resolved orders code held start).after in
+    let now = (exec_resolved propagates orders code held start).after in
     let left = leaving (length e.bounds) now in
     goes_on h left place (bound_at left place) refl held (loops_guard elements h guards)
-    (frame_stays held e left place (kept_back held e now (b ∷ []) (resolved_keeps orders code held start))
+    (frame_stays held e left place (kept_back held e now (b ∷ []) (resolved_keeps propagates orders code held None start))
     ∙ ap (frame held) (object_there (bound_at e place) h there))

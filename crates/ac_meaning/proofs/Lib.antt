@@ -62,3 +62,4 @@ pub mod SequenceReads
 pub mod KeyedReads
 pub mod OtherReads
 pub mod RepliesRead
+pub mod Ends

@@ -12,10 +12,10 @@ use Rattle.ac_syntax.specs.declared.view_kind.ViewKind.TheVariants.{Query, Updat
 use Rattle.ac_rules.specs.declared.resolved.ResolvedDecl.{ResolvedDecl}
 use Rattle.ac_rules.specs.declared.resolved.ResolvedDecl.TheVariants as decl
 use Rattle.ac_rules.specs.Scopes.{Scope}
-use Rattle.ac_rules.specs.Resolved.{ResolvedSimple, ResolvedHead, loops_at, views_at, stables_at, declares_at, gathers_at, works_at, ResolvedCode, no_statement, a_command, a_block, resolve}
+use Rattle.ac_rules.specs.Resolved.{ResolvedSimple, ResolvedHead, loops_at, views_at, stables_at, declares_at, gathers_at, works_at, begins_at, tries_at, handles_at, ResolvedCode, no_statement, a_command, a_block, resolve}
 use Rattle.ac_calls.specs.Holdings.{Held, Guards, names_of, number_of, element_value}
 use Rattle.ac_meaning.specs.Environment.{Bound, binds_type, binds_cursor, binds_element, binds_value, State, under, object_at, guarded_at, mark_at, value_at, value_or_zero, with_name, leaving, Declared, unless_spent, after_decl, after_decls}
-use Rattle.ac_meaning.specs.Execution.{Outcome, Orders, scoped, commanded, guards_of_loop, guards_of_stable, guards_of_view, in_order, turn_bound, head_reason, key_end, key_end_on, gathered, turns, key_body, viewed, view_on, on_object, after_declared, block_on, exec, exec_resolved}
+use Rattle.ac_meaning.specs.Execution.{End, Outcome, Orders, passed_on, unless_raised, scoped, commanded, guards_of_loop, guards_of_stable, guards_of_view, in_order, turn_bound, head_reason, key_end, key_end_on, gathered, turns_behind, key_body, viewed, view_on, on_object, after_declared, block_on, takes, exec_behind, resolved_behind}
 use Rattle.ac_meaning.specs.Numbers.{NextRises, BlocksRise}
 use Rattle.ac_meaning.proofs.Resolved.{runs_resolved}
 use Rattle.ac_meaning.proofs.CommandsStay.{command_stays}
@@ -72,14 +72,21 @@ module _ (body : Guards → State → Outcome) (rises : (guards : Guards) (e : S
   scoped_rises : (held : Guards) (e start : State) → Rises e start → Rises e (scoped e (body held) start).after
   scoped_rises held e start h = rises_then e start (body held start).after h (rises held start)
 
-  pub turns_rise : (elements : Bool) (object : ℕ) (h : Held) (names : List ℕ) (e : State) → Rises e (turns body guards elements object h names e).after
-  turns_rise elements object h [] e = equal_rises e e refl refl
-  turns_rise elements object h (name ∷ names) e =
+  pub turns_rise : (elements : Bool) (object : ℕ) (h : Held) (names : List ℕ) (end : End) (e : State) →
+      Rises e (turns_behind body guards elements object h names end e).after
+  turns_rise elements object h [] end e = equal_rises e e refl refl
+  turns_rise elements object h (name ∷ names) (Some raised) e = equal_rises e e refl refl
+  turns_rise elements object h (name ∷ names) None e =
       let b = turn_bound elements object (mark_of_name (number_of h) name) in
-      let now = (scoped e (body (guards_of_loop elements h ++ guards)) (with_name e b)).after in
-      rises_then e now (turns body guards elements object h names now).after
+      let turn = scoped e (body (guards_of_loop elements h ++ guards)) (with_name e b) in
+      let end = turn.end in
+      rises_then e turn.after (turns_behind body guards elements object h names end turn.after).after
       (scoped_rises (guards_of_loop elements h ++ guards) e (with_name e b) (name_rises e b))
-      (turns_rise elements object h names now)
+      (turns_rise elements object h names end turn.after)
+
+  pub unless_rises : (next : State → Outcome) (end : End) (e : State) → Rises e (next e).after → Rises e (unless_raised next end e).after
+  unless_rises next None e h = h
+  unless_rises next (Some raised) e h = equal_rises e e refl refl
 
   key_rises : (number object : ℕ) (at : Mark) (h : Held) (e : State) → Rises e (key_body body guards number object at h e).after
   key_rises number object at h e =
@@ -88,8 +95,9 @@ module _ (body : Guards → State → Outcome) (rises : (guards : Guards) (e : S
       let r = body held start in
       let left = leaving (length e.bounds) r.after in
       let copy = value_at r.after (length e.bounds) in
-      rises_then e left (key_end number object at copy held left).after (rises held start)
-      (key_end_rises number object left at copy (object_at (under held left) object))
+      let end = r.end in
+      rises_then e left (unless_raised (key_end number object at copy held) end left).after (rises held start)
+      (unless_rises (key_end number object at copy held) end left (key_end_rises number object left at copy (object_at (under held left) object)))
 
   viewed_rises : (number : ℕ) (view : ViewKind) (object : ℕ) (at : Mark) (h : Held) (e : State) →
       Rises e (viewed body guards number view object at h e).after
@@ -105,12 +113,15 @@ module _ (body : Guards → State → Outcome) (rises : (guards : Guards) (e : S
 
   object_rises : (head : ResolvedHead) (found : Option Held) (e : State) → Rises e (on_object body guards head found e).after
   object_rises head None e = equal_rises e e refl refl
-  object_rises (loops_at number elements backward object) (Some h) e = turns_rise elements object h (in_order backward (names_of h)) e
+  object_rises (loops_at number elements backward object) (Some h) e = turns_rise elements object h (in_order backward (names_of h)) None e
   object_rises (views_at number view object at) (Some h) e = view_rises number view object (mark_at e at) h e _ refl
   object_rises (stables_at number object) (Some h) e = rises (guards_of_stable h ++ guards) e
   object_rises (declares_at number decls) (Some h) e = equal_rises e e refl refl
   object_rises (gathers_at number) (Some h) e = equal_rises e e refl refl
   object_rises (works_at number name locals) (Some h) e = equal_rises e e refl refl
+  object_rises begins_at (Some h) e = equal_rises e e refl refl
+  object_rises tries_at (Some h) e = equal_rises e e refl refl
+  object_rises (handles_at catches) (Some h) e = equal_rises e e refl refl
 
   declared_rises : (e : State) (d : Declared) (spent : Option ℕ) → d.spent ≡ spent → Rises e d.after → Rises e (after_declared body guards e d).after
   declared_rises e d None f h = rw (f, after_declared) (scoped_rises guards e d.after h)
@@ -123,21 +134,40 @@ module _ (body : Guards → State → Outcome) (rises : (guards : Guards) (e : S
   block_rises orders tasks e (declares_at number decls) = declared_rises e (after_decls decls e) _ refl (decls_rise decls e)
   block_rises orders tasks e (gathers_at number) = gathered_rises (orders e.blocks) tasks e
   block_rises orders tasks e (works_at number name locals) = equal_rises e e refl refl
+  block_rises orders tasks e begins_at = rises guards e
+  block_rises orders tasks e tries_at = rises guards e
+  block_rises orders tasks e (handles_at catches) = equal_rises e e refl refl
 
-pub resolved_rises : (orders : Orders) (code : ResolvedCode) (guards : Guards) (e : State) → Rises e (exec_resolved orders code guards e).after
-resolved_rises orders no_statement guards e = equal_rises e e refl refl
-resolved_rises orders (a_command simple rest) guards e =
-    let now = (commanded guards e simple).after in
-    rises_then e now (exec_resolved orders rest guards now).after (command_rises guards e simple) (resolved_rises orders rest guards now)
-resolved_rises orders (a_block head body rest) guards e =
-    let now = (block_on (exec_resolved orders body) guards orders body e head).after in
-    rises_then e now (exec_resolved orders rest guards now).after
-    (block_rises (exec_resolved orders body) (resolved_rises orders body) guards orders body e head)
-    (resolved_rises orders rest guards now)
+pub either_after : (e : State) (b : Bool) (x y : Outcome) → Rises e x.after → Rises e y.after → Rises e (if b then x else y).after
+either_after e true x y h k = h
+either_after e false x y h k = k
 
-statements_rise : (orders : Orders) (code : Code) (scope : Scope) (guards : Guards) (e : State) → Rises e (exec orders code scope guards e).after
-statements_rise orders code scope guards e =
-    subst (λ (r : Outcome). Rises e r.after) (runs_resolved orders code scope guards e) (resolved_rises orders (resolve scope code) guards e)
+pub resolved_rises : (propagates : Bool) (orders : Orders) (code : ResolvedCode) (guards : Guards) (end : End) (e : State) →
+    Rises e (resolved_behind propagates orders code guards end e).after
+resolved_rises propagates orders no_statement guards end e = equal_rises e e refl refl
+resolved_rises propagates orders (a_command simple rest) guards None e =
+    let r = passed_on propagates (commanded guards e simple) in
+    let end = r.end in
+    rises_then e r.after (resolved_behind propagates orders rest guards end r.after).after (command_rises guards e simple)
+    (resolved_rises propagates orders rest guards end r.after)
+resolved_rises propagates orders (a_command simple rest) guards (Some raised) e = resolved_rises propagates orders rest guards (Some raised) e
+resolved_rises propagates orders (a_block head body rest) guards None e =
+    let inner : Guards → State → Outcome = λ held. resolved_behind propagates orders body held None in
+    let r = passed_on propagates (block_on inner guards orders body e head) in
+    let end = r.end in
+    rises_then e r.after (resolved_behind propagates orders rest guards end r.after).after
+    (block_rises inner (λ held. resolved_rises propagates orders body held None) guards orders body e head)
+    (resolved_rises propagates orders rest guards end r.after)
+resolved_rises propagates orders (a_block head body rest) guards (Some raised) e =
+    either_after e (takes head raised) (resolved_behind propagates orders body guards None e)
+    (resolved_behind propagates orders rest guards (Some raised) e)
+    (resolved_rises propagates orders body guards None e) (resolved_rises propagates orders rest guards (Some raised) e)
+
+statements_rise : (propagates : Bool) (orders : Orders) (code : Code) (scope : Scope) (guards : Guards) (end : End) (e : State) →
+    Rises e (exec_behind propagates orders code scope guards end e).after
+statements_rise propagates orders code scope guards end e =
+    subst (λ (r : Outcome). Rises e r.after) (runs_resolved propagates orders code scope guards end e)
+    (resolved_rises propagates orders (resolve scope code) guards end e)
 
 pub decl_next : (e : State) (d : ResolvedDecl) → e.next ≤ (after_decl e d).after.next
 decl_next e d = (decl_rises e d).0
@@ -145,12 +175,12 @@ decl_next e d = (decl_rises e d).0
 pub next_rises : NextRises
 next_rises = record {
   decls = λ ds e. (decls_rise ds e).0;
-  resolved = λ orders code guards e. (resolved_rises orders code guards e).0;
-  statements = λ orders code scope guards e. (statements_rise orders code scope guards e).0;
+  resolved = λ propagates orders code guards end e. (resolved_rises propagates orders code guards end e).0;
+  statements = λ propagates orders code scope guards end e. (statements_rise propagates orders code scope guards end e).0;
 }
 
 pub blocks_rise : BlocksRise
 blocks_rise = record {
-  resolved = λ orders code guards e. (resolved_rises orders code guards e).1;
-  statements = λ orders code scope guards e. (statements_rise orders code scope guards e).1;
+  resolved = λ propagates orders code guards end e. (resolved_rises propagates orders code guards end e).1;
+  statements = λ propagates orders code scope guards end e. (statements_rise propagates orders code scope guards end e).1;
 }

@@ -13,7 +13,7 @@ use Rattle.ac_rules.specs.Resolved.{ResolvedSimple}
 use Rattle.ac_calls.specs.Holdings.{Held, of_rows, of_holder, of_queue, Guards, number_of, have_capacity, kind_by, discipline_by, limit_by, new_held}
 use Rattle.ac_meaning.specs.Environment.{Bound, binds_type, binds_object, binds_cursor, binds_value, binds_element, bound_in, object_in, State, under, with_name, leaving, number_taken, Declared, unless_spent, after_decl, after_decls}
 use Rattle.ac_meaning.specs.Commands.{performed}
-use Rattle.ac_meaning.specs.Execution.{exec, exec_resolved}
+use Rattle.ac_meaning.specs.Execution.{exec_behind, resolved_behind}
 use Rattle.ac_meaning.specs.Stays.{BoundStays, EachStays}
 use Rattle.ac_meaning.specs.GuardedNames.{Frame, of_type, of_object, of_cursor, of_value, of_element, frame, kept}
 use Rattle.ac_meaning.specs.Numbers.{has_number, times_numbered, NumbersDiffer, NumbersTell, NumbersGoOnDiffering}
@@ -180,12 +180,12 @@ numbers_go_on = record {
   first = record { once = λ number. omega arith; below_next = λ number h. refl };
   decls = decls_go_on;
   commands = command_goes_on;
-  resolved = λ orders code guards e d.
-      goes_on e (exec_resolved orders code guards e).after (next_rises.resolved orders code guards e)
-      (λ number. kept_numbered guards e (exec_resolved orders code guards e).after number (resolved_keeps orders code guards e)) d;
-  statements = λ orders code scope guards e d.
-      goes_on e (exec orders code scope guards e).after (next_rises.statements orders code scope guards e)
-      (λ number. kept_numbered guards e (exec orders code scope guards e).after number (exec_keeps orders code scope guards e)) d;
+  resolved = λ propagates orders code guards end e d.
+      goes_on e (resolved_behind propagates orders code guards end e).after (next_rises.resolved propagates orders code guards end e)
+      (λ number. kept_numbered guards e (resolved_behind propagates orders code guards end e).after number (resolved_keeps propagates orders code guards end e)) d;
+  statements = λ propagates orders code scope guards end e d.
+      goes_on e (exec_behind propagates orders code scope guards end e).after (next_rises.statements propagates orders code scope guards end e)
+      (λ number. kept_numbered guards e (exec_behind propagates orders code scope guards end e).after number (exec_keeps propagates orders code scope guards end e)) d;
   guarded = under_goes_on;
   rested = λ e d. under_goes_on [] e d;
   named = named_goes_on;

@@ -5,22 +5,22 @@ use Rattle.ac_base.specs.declared.reason.Reason.TheVariants.{NamesSpent}
 use Rattle.ac_model.specs.Letters.{Mark, mark_at as mark_of_name}
 use Rattle.ac_syntax.specs.declared.view_kind.ViewKind.{ViewKind}
 use Rattle.ac_syntax.specs.declared.view_kind.ViewKind.TheVariants.{Query, Update, Reference, UpdateKey}
-use Rattle.ac_rules.specs.Resolved.{ResolvedHead, loops_at, views_at, stables_at, declares_at, gathers_at, works_at, ResolvedCode, no_statement, a_command, a_block}
+use Rattle.ac_rules.specs.Resolved.{ResolvedHead, loops_at, views_at, stables_at, declares_at, gathers_at, works_at, begins_at, tries_at, handles_at, ResolvedCode, no_statement, a_command, a_block}
 use Rattle.ac_calls.specs.Answers.{answers_raised}
 use Rattle.ac_calls.specs.Holdings.{Held, Guards, names_of, number_of, element_value}
 use Rattle.ac_meaning.specs.Environment.{binds_value, State, under, object_at, guarded_at, mark_at, value_at, value_or_zero, with_name, leaving, after_decls}
-use Rattle.ac_meaning.specs.Execution.{Outcome, outcome, Orders, one_line, followed, scoped, commanded, run_by, gathered, guards_of_loop, guards_of_stable, guards_of_view, in_order, turn_bound, head_reason, key_end, turns, key_body, viewed, on_object, block_on, exec_resolved}
+use Rattle.ac_meaning.specs.Execution.{End, Outcome, ending, outcome, Orders, passed_on, unless_raised, one_line, followed, scoped, commanded, run_by, gathered, guards_of_loop, guards_of_stable, guards_of_view, in_order, turn_bound, head_reason, key_end, turns_behind, key_body, viewed, on_object, block_on, takes, resolved_behind}
 use Rattle.ac_meaning.specs.TaskBlocks.{block_of, block_fits}
 use Rattle.ac_meaning.specs.Laws.{Agree, OrdersTell}
 use Rattle.ac_meaning.proofs.QueuesLeft.{run_blocks}
-use Rattle.ac_meaning.proofs.NextRises.{Rises, decls_rise, command_rises, key_end_rises, turns_rise, block_rises, resolved_rises}
+use Rattle.ac_meaning.proofs.NextRises.{Rises, decls_rise, command_rises, key_end_rises, turns_rise, unless_rises, block_rises, resolved_rises}
 
 -- one after another
-followed_same : (x y : Outcome) (f g : State → Outcome) → y ≡ x → g x.after ≡ f x.after → followed y g ≡ followed x f
-followed_same x y f g p q = ap (λ r. followed r g) p ∙ ap (λ (s : Outcome). outcome (x.lines ++ s.lines) s.after) q
+followed_same : (x y : Outcome) (f g : End → State → Outcome) → y ≡ x → g x.end x.after ≡ f x.end x.after → followed y g ≡ followed x f
+followed_same x y f g p q = ap (λ r. followed r g) p ∙ ap (λ (s : Outcome). ending s.end (x.lines ++ s.lines) s.after) q
 
 scoped_same : (e : State) (body other : State → Outcome) (start : State) → other start ≡ body start → scoped e other start ≡ scoped e body start
-scoped_same e body other start p = ap (λ (r : Outcome). outcome r.lines (leaving (length e.bounds) r.after)) p
+scoped_same e body other start p = ap (λ (r : Outcome). ending r.end r.lines (leaving (length e.bounds) r.after)) p
 
 module _ (orders others : Orders) where
   -- what comes to the same where the orders agree on the blocks that begin in it
@@ -44,20 +44,24 @@ module _ (orders others : Orders) where
 
 module _ (orders others : Orders) (body other : Guards → State → Outcome) (rises : (guards : Guards) (e : State) → Rises e (body guards e).after)
     (told : Told orders others body other) (guards : Guards) where
-  turns_same : (elements : Bool) (object : ℕ) (h : Held) (names : List ℕ) (e : State) →
-      Agree orders others e.blocks (turns body guards elements object h names e).after.blocks →
-      turns other guards elements object h names e ≡ turns body guards elements object h names e
-  turns_same elements object h [] e agree = refl
-  turns_same elements object h (name ∷ names) e agree =
+  turns_same : (elements : Bool) (object : ℕ) (h : Held) (names : List ℕ) (end : End) (e : State) →
+      Agree orders others e.blocks (turns_behind body guards elements object h names end e).after.blocks →
+      turns_behind other guards elements object h names end e ≡ turns_behind body guards elements object h names end e
+  turns_same elements object h [] end e agree = refl
+  turns_same elements object h (name ∷ names) (Some raised) e agree = refl
+  turns_same elements object h (name ∷ names) None e agree =
       let held = guards_of_loop elements h ++ guards in
       let start = with_name e (turn_bound elements object (mark_of_name (number_of h) name)) in
       let first = scoped e (body held) start in
-      let all = turns body guards elements object h names first.after in
-      followed_same first (scoped e (other held) start) (turns body guards elements object h names) (turns other guards elements object h names)
+      let end = first.end in
+      let all = turns_behind body guards elements object h names end first.after in
+      followed_same first (scoped e (other held) start) (turns_behind body guards elements object h names)
+      (turns_behind other guards elements object h names)
       (scoped_same e (body held) (other held) start
       (told held start
-      (fewer orders others e.blocks first.after.blocks all.after.blocks (turns_rise body rises guards elements object h names first.after).1 agree)))
-      (turns_same elements object h names first.after
+      (fewer orders others e.blocks first.after.blocks all.after.blocks
+      (turns_rise body rises guards elements object h names end first.after).1 agree)))
+      (turns_same elements object h names end first.after
       (later orders others e.blocks first.after.blocks all.after.blocks (rises held start).1 agree))
 
   key_same : (number object : ℕ) (at : Mark) (h : Held) (e : State) →
@@ -70,11 +74,14 @@ module _ (orders others : Orders) (body other : Guards → State → Outcome) (r
       let r = body held start in
       let left = leaving n r.after in
       let copy = value_at r.after n in
-      let end = key_end number object at copy held left in
-      ap (λ (s : Outcome). followed (outcome s.lines (leaving n s.after)) (key_end number object at (value_at s.after n) held))
+      let end = r.end in
+      let all = unless_raised (key_end number object at copy held) end left in
+      ap (λ (s : Outcome). followed (ending s.end s.lines (leaving n s.after))
+      (unless_raised (key_end number object at (value_at s.after n) held)))
       (told held start
-      (fewer orders others e.blocks r.after.blocks end.after.blocks
-      (key_end_rises number object left at copy (object_at (under held left) object)).1 agree))
+      (fewer orders others e.blocks r.after.blocks all.after.blocks
+      (unless_rises body rises guards (key_end number object at copy held) end left
+      (key_end_rises number object left at copy (object_at (under held left) object))).1 agree))
 
   viewed_same : (number : ℕ) (view : ViewKind) (object : ℕ) (at : Mark) (h : Held) (e : State) →
       Agree orders others e.blocks (viewed body guards number view object at h e).after.blocks →
@@ -99,13 +106,16 @@ module _ (orders others : Orders) (body other : Guards → State → Outcome) (r
   object_same : (head : ResolvedHead) (found : Option Held) (e : State) →
       Agree orders others e.blocks (on_object body guards head found e).after.blocks → on_object other guards head found e ≡ on_object body guards head found e
   object_same head None e agree = refl
-  object_same (loops_at number elements backward object) (Some h) e agree = turns_same elements object h (in_order backward (names_of h)) e agree
+  object_same (loops_at number elements backward object) (Some h) e agree = turns_same elements object h (in_order backward (names_of h)) None e agree
   object_same (views_at number view object at) (Some h) e agree =
       view_same number view object (mark_at e at) h e (head_reason view h (mark_at e at)) agree
   object_same (stables_at number object) (Some h) e agree = told (guards_of_stable h ++ guards) e agree
   object_same (declares_at number decls) (Some h) e agree = refl
   object_same (gathers_at number) (Some h) e agree = refl
   object_same (works_at number name locals) (Some h) e agree = refl
+  object_same begins_at (Some h) e agree = refl
+  object_same tries_at (Some h) e agree = refl
+  object_same (handles_at catches) (Some h) e agree = refl
 
   abbrev Begun : (body : Guards → State → Outcome) (e : State) (after : State) → Option ℕ → Outcome
   Begun body e after spent =
@@ -129,20 +139,43 @@ module _ (orders others : Orders) (body other : Guards → State → Outcome) (r
       let d = after_decls decls e in declared_same e d.after d.spent (decls_rise decls e) agree
   block_same tasks e (gathers_at number) agree = gathered_same orders others tasks e agree
   block_same tasks e (works_at number name locals) agree = refl
+  block_same tasks e begins_at agree = told guards e agree
+  block_same tasks e tries_at agree = told guards e agree
+  block_same tasks e (handles_at catches) agree = refl
+
+either_same : (orders others : Orders) (from : ℕ) (b : Bool) (x y z w : Outcome) → Agree orders others from (if b then x else y).after.blocks →
+    (Agree orders others from x.after.blocks → z ≡ x) → (Agree orders others from y.after.blocks → w ≡ y) →
+    (if b then z else w) ≡ (if b then x else y)
+either_same orders others from true x y z w agree h k = h agree
+either_same orders others from false x y z w agree h k = k agree
 
 pub orders_tell : OrdersTell
-orders_tell orders others no_statement guards e agree = refl
-orders_tell orders others (a_command simple rest) guards e agree =
-    let first = commanded guards e simple in
-    let all = exec_resolved orders rest guards first.after in
-    followed_same first first (exec_resolved orders rest guards) (exec_resolved others rest guards) refl
-    (orders_tell orders others rest guards first.after (later orders others e.blocks first.after.blocks all.after.blocks (command_rises guards e simple).1 agree))
-orders_tell orders others (a_block head body rest) guards e agree =
-    let first = block_on (exec_resolved orders body) guards orders body e head in
-    let all = exec_resolved orders rest guards first.after in
-    followed_same first (block_on (exec_resolved others body) guards others body e head) (exec_resolved orders rest guards) (exec_resolved others rest guards)
-    (block_same orders others (exec_resolved orders body) (exec_resolved others body) (resolved_rises orders body) (orders_tell orders others body) guards body e head
-    (fewer orders others e.blocks first.after.blocks all.after.blocks (resolved_rises orders rest guards first.after).1 agree))
-    (orders_tell orders others rest guards first.after
+orders_tell propagates orders others no_statement guards end e agree = refl
+orders_tell propagates orders others (a_command simple rest) guards (Some raised) e agree =
+    orders_tell propagates orders others rest guards (Some raised) e agree
+orders_tell propagates orders others (a_command simple rest) guards None e agree =
+    let first = passed_on propagates (commanded guards e simple) in
+    let end = first.end in
+    let all = resolved_behind propagates orders rest guards end first.after in
+    followed_same first first (resolved_behind propagates orders rest guards) (resolved_behind propagates others rest guards) refl
+    (orders_tell propagates orders others rest guards end first.after
+    (later orders others e.blocks first.after.blocks all.after.blocks (command_rises guards e simple).1 agree))
+orders_tell propagates orders others (a_block head body rest) guards (Some raised) e agree =
+    either_same orders others e.blocks (takes head raised)
+    (resolved_behind propagates orders body guards None e) (resolved_behind propagates orders rest guards (Some raised) e)
+    (resolved_behind propagates others body guards None e) (resolved_behind propagates others rest guards (Some raised) e) agree
+    (orders_tell propagates orders others body guards None e) (orders_tell propagates orders others rest guards (Some raised) e)
+orders_tell propagates orders others (a_block head body rest) guards None e agree =
+    let inner : Guards → State → Outcome = λ held. resolved_behind propagates orders body held None in
+    let inner_other : Guards → State → Outcome = λ held. resolved_behind propagates others body held None in
+    let first = passed_on propagates (block_on inner guards orders body e head) in
+    let end = first.end in
+    let all = resolved_behind propagates orders rest guards end first.after in
+    followed_same first (passed_on propagates (block_on inner_other guards others body e head))
+    (resolved_behind propagates orders rest guards) (resolved_behind propagates others rest guards)
+    (ap (passed_on propagates) (block_same orders others inner inner_other (λ held. resolved_rises propagates orders body held None)
+    (λ held. orders_tell propagates orders others body held None) guards body e head
+    (fewer orders others e.blocks first.after.blocks all.after.blocks (resolved_rises propagates orders rest guards end first.after).1 agree)))
+    (orders_tell propagates orders others rest guards end first.after
     (later orders others e.blocks first.after.blocks all.after.blocks
-    (block_rises (exec_resolved orders body) (resolved_rises orders body) guards orders body e head).1 agree))
+    (block_rises inner (λ held. resolved_rises propagates orders body held None) guards orders body e head).1 agree))

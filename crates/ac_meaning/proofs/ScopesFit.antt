@@ -16,7 +16,7 @@ use Rattle.ac_rules.specs.Resolved.{place_of, resolve_decl, resolve_decls}
 use Rattle.ac_calls.specs.Holdings.{Held, Guards}
 use Rattle.ac_meaning.specs.Environment.{Bound, binds_type, binds_object, binds_cursor, binds_value, binds_element, bound_in, object_in, State, under, bound_at, object_at, Declared, after_decl, after_decls, unless_spent}
 use Rattle.ac_meaning.specs.Commands.{performed}
-use Rattle.ac_meaning.specs.Execution.{exec, exec_resolved, turn_bound}
+use Rattle.ac_meaning.specs.Execution.{exec_behind, resolved_behind, turn_bound}
 use Rattle.ac_meaning.specs.Stays.{BoundStays, EachStays}
 use Rattle.ac_meaning.specs.GuardedNames.{Frame, of_type, of_object, of_cursor, of_value, of_element, frame, kept}
 use Rattle.ac_meaning.specs.FitsScope.{Fits, AllFit, FitsScope, NamesFound, DeclaredFits, HeadsFit, GoesOnFitting}
@@ -123,10 +123,10 @@ under_fits scope guards e h = state_fits [] scope e (under guards e) (kept-under
 pub goes_on_fitting : GoesOnFitting
 goes_on_fitting = record {
   commands = λ scope e simple h. all_stay scope e.bounds (performed e simple).after.bounds (command_stays e simple).bounds h;
-  resolved = λ orders code scope guards e h.
-      state_fits guards scope e (exec_resolved orders code guards e).after (resolved_keeps orders code guards e) h;
-  statements = λ orders code scope guards e h.
-      state_fits guards scope e (exec orders code scope guards e).after (exec_keeps orders code scope guards e) h;
+  resolved = λ propagates orders code scope guards end e h.
+      state_fits guards scope e (resolved_behind propagates orders code guards end e).after (resolved_keeps propagates orders code guards end e) h;
+  statements = λ propagates orders code scope guards end e h.
+      state_fits guards scope e (exec_behind propagates orders code scope guards end e).after (exec_keeps propagates orders code scope guards end e) h;
   guarded = under_fits;
   rested = λ scope e h. under_fits scope [] e h;
   left = λ scope more e h. first_ones scope more e.bounds h;

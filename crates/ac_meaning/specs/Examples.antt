@@ -258,7 +258,7 @@ LoopsHoldTheirGuards =
 -- where the numbers of objects are spent the declaration's line says so, and its block is skipped
 abbrev pub SpentNumberSkipsBlock : Type 0
 SpentNumberSkipsBlock =
-    lines_text (exec no_orders
+    lines_text (exec false no_orders
     (block (declare_at 3 (decl.IntVar 4 (codes "n") ∷ list 5 (codes "a") ∷ list 6 (codes "b") ∷ []))
     (one (set_at 8 (codes "n") (number 1)) stop)
     (one (set_at 10 (codes "m") (number 2)) stop))

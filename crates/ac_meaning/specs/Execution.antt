@@ -1,5 +1,9 @@
 -- Execution: the lines of statements and the environment after them, while the guards of the enclosing blocks are held.
 use Rattle.std.specs.Prelude.{ℕ, Bool, true, false, List, [], ◌∷◌, ◌++◌, length, reverse, if◌then◌else◌, Option, Some, None}
+use denote.Enum.Bare.{sameb}
+use Rattle.ac_base.specs.contracts.reason.Exception.{the_type}
+use Rattle.ac_base.specs.declared.reason.Exception.{Exception}
+use Rattle.ac_base.specs.Reason.{exception_of}
 use Rattle.ac_base.specs.declared.value.Value.{Value}
 use Rattle.ac_base.specs.declared.reason.Reason.{Reason}
 use Rattle.ac_base.specs.declared.reason.Reason.TheVariants.{NamesSpent}
@@ -11,31 +15,59 @@ use Rattle.ac_syntax.specs.declared.script.Script.{Script}
 use Rattle.ac_syntax.specs.declared.view_kind.ViewKind.{ViewKind}
 use Rattle.ac_syntax.specs.declared.view_kind.ViewKind.TheVariants.{Query, Update, Reference, UpdateKey}
 use Rattle.ac_rules.specs.Scopes.{Scope, with_decls, inside, behind_block}
-use Rattle.ac_rules.specs.Resolved.{ResolvedSimple, ResolvedHead, loops_at, views_at, stables_at, declares_at, gathers_at, works_at, ResolvedCode, no_statement, a_command, a_block, resolve_simple, resolve_head, resolve_decls, resolve}
-use Rattle.ac_calls.specs.Answers.{Answer, Line, line, answers_raised, lines_text}
+use Rattle.ac_rules.specs.Resolved.{ResolvedSimple, ResolvedHead, loops_at, views_at, stables_at, declares_at, gathers_at, works_at, begins_at, tries_at, handles_at, ResolvedCode, no_statement, a_command, a_block, resolve_simple, resolve_head, resolve_decls, resolve}
+use Rattle.ac_calls.specs.Answers.{Answer, answers_ok, answers_value, answers_truth, answers_place, answers_list, answers_raised, answers_stalled, Line, line, lines_text}
 use Rattle.ac_calls.specs.Holdings.{Held, Guards, names_of, number_of, guard_on, element_value, key_update_reason, key_updated}
 use Rattle.ac_meaning.specs.Environment.{Bound, binds_object, binds_cursor, binds_value, binds_element, State, first_state, under, at_rest, with_bound, object_at, guarded_at, mark_at, value_at, value_or_zero, with_name, leaving, Declared, after_decls}
 use Rattle.ac_meaning.specs.Commands.{performed, number_in}
 use Rattle.ac_meaning.specs.TaskBlocks.{tasks_of, block_of, block_fits, block_lines, after_block}
 
--- what statements come to: their lines, and the environment after them
+-- how statements end: where they raised an exception that no handler took, with it
+abbrev pub End : Type 0
+End = Option Exception
+
+-- what statements come to: their lines, the environment after them, and their end
 pub record Outcome : Type 0 where
   pub lines : List Line
   pub after : State
+  pub end : End
 
+abbrev pub ending : End → List Line → State → Outcome
+ending end lines after = record { lines = lines; after = after; end = end }
+
+-- with a normal end
 abbrev pub outcome : List Line → State → Outcome
-outcome lines after = record { lines = lines; after = after }
+outcome lines after = ending None lines after
+
+-- a command raises where its answer says so: one that is stalled raises nothing
+abbrev pub answer_end : Answer → End
+answer_end answers_ok = None
+answer_end (answers_value _) = None
+answer_end (answers_truth _) = None
+answer_end (answers_place _) = None
+answer_end (answers_list _) = None
+answer_end (answers_raised reason) = Some (exception_of reason)
+answer_end answers_stalled = None
 
 abbrev pub one_line : ℕ → Answer → State → Outcome
-one_line number answer after = outcome (line number answer ∷ []) after
+one_line number answer after = ending (answer_end answer) (line number answer ∷ []) after
 
--- one after another
-abbrev pub followed : Outcome → (State → Outcome) → Outcome
-followed first next = let second = next first.after in outcome (first.lines ++ second.lines) second.after
+-- where exceptions don't propagate, the end of a statement counts as normal at once
+abbrev pub passed_on : (propagates : Bool) → Outcome → Outcome
+passed_on propagates r = ending (if propagates then r.end else None) r.lines r.after
+
+-- one after another: what follows is told how the first ended
+abbrev pub followed : Outcome → (End → State → Outcome) → Outcome
+followed first next = let second = next first.end first.after in ending second.end (first.lines ++ second.lines) second.after
+
+-- only behind a normal end
+abbrev pub unless_raised : (State → Outcome) → End → State → Outcome
+unless_raised next None e = next e
+unless_raised next (Some exception) e = ending (Some exception) [] e
 
 -- what runs with more names, which then go
 abbrev pub scoped : State → (State → Outcome) → State → Outcome
-scoped e body start = let r = body start in outcome r.lines (leaving (length e.bounds) r.after)
+scoped e body start = let r = body start in ending r.end r.lines (leaving (length e.bounds) r.after)
 
 -- a command under the guards, on the environment as they make it
 abbrev pub commanded : Guards → State → ResolvedSimple → Outcome
@@ -90,23 +122,31 @@ abbrev pub end_lines : ℕ → Option Reason → List Line
 end_lines number None = []
 end_lines number (Some reason) = line number (answers_raised reason) ∷ []
 
+abbrev pub reason_end : Option Reason → End
+reason_end None = None
+reason_end (Some reason) = Some (exception_of reason)
+
 abbrev pub key_end_on : ℕ → (object : ℕ) → State → Mark → Value → Option Held → Outcome
 key_end_on number object e at copy None = outcome [] e
 key_end_on number object e at copy (Some h) =
-    let w = key_updated h at copy in outcome (end_lines number w.reason) (at_rest (with_bound e object (binds_object w.after)))
+    let w = key_updated h at copy in ending (reason_end w.reason) (end_lines number w.reason) (at_rest (with_bound e object (binds_object w.after)))
 
 abbrev pub key_end : ℕ → (object : ℕ) → Mark → Value → Guards → State → Outcome
 key_end number object at copy held e = key_end_on number object e at copy (object_at (under held e) object)
 
 -- `body` is the block's body under any guards
 module _ (body : Guards → State → Outcome) (guards : Guards) where
-  -- the turns of a loop over an object: one for each of these names
-  abbrev pub turns : (elements : Bool) → (object : ℕ) → Held → List ℕ → State → Outcome
-  turns elements object h [] e = outcome [] e
-  turns elements object h (name ∷ names) e =
+  -- the turns of a loop over an object: one for each of these names, up to one that raises
+  abbrev pub turns_behind : (elements : Bool) → (object : ℕ) → Held → List ℕ → End → State → Outcome
+  turns_behind elements object h [] end e = ending end [] e
+  turns_behind elements object h (name ∷ names) (Some exception) e = ending (Some exception) [] e
+  turns_behind elements object h (name ∷ names) None e =
       followed
       (scoped e (body (guards_of_loop elements h ++ guards)) (with_name e (turn_bound elements object (mark_of_name (number_of h) name))))
-      (turns elements object h names)
+      (turns_behind elements object h names)
+
+  abbrev pub turns : (elements : Bool) → (object : ℕ) → Held → List ℕ → State → Outcome
+  turns elements object h names e = turns_behind elements object h names None e
 
   -- a view of the element itself
   abbrev pub view_body : ViewKind → (object : ℕ) → Mark → Held → State → Outcome
@@ -117,7 +157,8 @@ module _ (body : Guards → State → Outcome) (guards : Guards) where
   key_body number object at h e =
       let held = guards_of_view UpdateKey h ++ guards in
       let r = body held (with_name e (binds_value (value_or_zero (element_value h at).answer))) in
-      followed (outcome r.lines (leaving (length e.bounds) r.after)) (key_end number object at (value_at r.after (length e.bounds)) held)
+      followed (ending r.end r.lines (leaving (length e.bounds) r.after))
+      (unless_raised (key_end number object at (value_at r.after (length e.bounds)) held))
 
   abbrev pub viewed : ℕ → ViewKind → (object : ℕ) → Mark → Held → State → Outcome
   viewed number Query object at h e = view_body Query object at h e
@@ -138,6 +179,9 @@ module _ (body : Guards → State → Outcome) (guards : Guards) where
   on_object (declares_at number decls) (Some h) e = outcome [] e
   on_object (gathers_at number) (Some h) e = outcome [] e
   on_object (works_at number name locals) (Some h) e = outcome [] e
+  on_object begins_at (Some h) e = outcome [] e
+  on_object tries_at (Some h) e = outcome [] e
+  on_object (handles_at catches) (Some h) e = outcome [] e
 
   -- where no number is left for an object, its line says so and the body is skipped
   abbrev pub after_declared : State → Declared → Outcome
@@ -156,20 +200,49 @@ module _ (body : Guards → State → Outcome) (guards : Guards) where
   block_on orders tasks e (declares_at number decls) = after_declared e (after_decls decls e)
   block_on orders tasks e (gathers_at number) = gathered (orders e.blocks) tasks e
   block_on orders tasks e (works_at number name locals) = outcome [] e
+  block_on orders tasks e begins_at = body guards e
+  block_on orders tasks e tries_at = body guards e
+  -- a handler to which no exception comes
+  block_on orders tasks e (handles_at catches) = outcome [] e
 
--- statements in order, in the scope where they stand
-abbrev pub exec : Orders → Code → Scope → Guards → State → Outcome
-exec orders stop scope guards e = outcome [] e
-exec orders (one simple rest) scope guards e = followed (commanded guards e (resolve_simple scope simple)) (exec orders rest scope guards)
-exec orders (block head body rest) scope guards e =
+-- a handler takes its exception, and one of `others` every exception
+abbrev pub takes_any : Option Exception → Exception → Bool
+takes_any None raised = true
+takes_any (Some own) raised = sameb the_type own raised
+
+abbrev pub takes : ResolvedHead → Exception → Bool
+takes (loops_at _ _ _ _) raised = false
+takes (views_at _ _ _ _) raised = false
+takes (stables_at _ _) raised = false
+takes (declares_at _ _) raised = false
+takes (gathers_at _) raised = false
+takes (works_at _ _ _) raised = false
+takes begins_at raised = false
+takes tries_at raised = false
+takes (handles_at catches) raised = takes_any catches raised
+
+-- statements in order, in the scope where they stand, behind what ended so: behind an exception none runs
+abbrev pub exec_behind : (propagates : Bool) → Orders → Code → Scope → Guards → End → State → Outcome
+exec_behind propagates orders stop scope guards end e = ending end [] e
+exec_behind propagates orders (one simple rest) scope guards None e =
+    followed (passed_on propagates (commanded guards e (resolve_simple scope simple))) (exec_behind propagates orders rest scope guards)
+exec_behind propagates orders (one simple rest) scope guards (Some raised) e = exec_behind propagates orders rest scope guards (Some raised) e
+exec_behind propagates orders (block head body rest) scope guards None e =
     followed
-    (block_on (exec orders body (inside scope head)) guards orders (resolve (inside scope head) body) e (resolve_head scope head))
-    (exec orders rest (behind_block scope head) guards)
+    (passed_on propagates
+    (block_on (λ held. exec_behind propagates orders body (inside scope head) held None) guards orders
+    (resolve (inside scope head) body) e (resolve_head scope head)))
+    (exec_behind propagates orders rest (behind_block scope head) guards)
+exec_behind propagates orders (block head body rest) scope guards (Some raised) e =
+    exec_behind propagates orders rest (behind_block scope head) guards (Some raised) e
 
--- a script: its outermost declarations, and its statements with no guards
+abbrev pub exec : (propagates : Bool) → Orders → Code → Scope → Guards → State → Outcome
+exec propagates orders code scope guards e = exec_behind propagates orders code scope guards None e
+
+-- a script: its outermost declarations, and its statements with no guards. Its exceptions don't propagate: each statement runs whatever the one before it raised
 unfoldable pub run_with : Orders → Script → Outcome
 run_with orders script =
-    exec orders script.stmts (with_decls [] script.decls) [] (after_decls (resolve_decls [] script.decls) first_state).after
+    exec false orders script.stmts (with_decls [] script.decls) [] (after_decls (resolve_decls [] script.decls) first_state).after
 
 unfoldable pub text_with : Orders → Script → List ℕ
 text_with orders script = lines_text (run_with orders script).lines
@@ -185,8 +258,17 @@ unfoldable pub text_of : Script → List ℕ
 text_of script = lines_text (run script).lines
 
 -- the same of resolved statements
-abbrev pub exec_resolved : Orders → ResolvedCode → Guards → State → Outcome
-exec_resolved orders no_statement guards e = outcome [] e
-exec_resolved orders (a_command simple rest) guards e = followed (commanded guards e simple) (exec_resolved orders rest guards)
-exec_resolved orders (a_block head body rest) guards e =
-    followed (block_on (exec_resolved orders body) guards orders body e head) (exec_resolved orders rest guards)
+abbrev pub resolved_behind : (propagates : Bool) → Orders → ResolvedCode → Guards → End → State → Outcome
+resolved_behind propagates orders no_statement guards end e = ending end [] e
+resolved_behind propagates orders (a_command simple rest) guards None e =
+    followed (passed_on propagates (commanded guards e simple)) (resolved_behind propagates orders rest guards)
+resolved_behind propagates orders (a_command simple rest) guards (Some raised) e = resolved_behind propagates orders rest guards (Some raised) e
+resolved_behind propagates orders (a_block head body rest) guards None e =
+    followed (passed_on propagates (block_on (λ held. resolved_behind propagates orders body held None) guards orders body e head))
+    (resolved_behind propagates orders rest guards)
+resolved_behind propagates orders (a_block head body rest) guards (Some raised) e =
+    if takes head raised then resolved_behind propagates orders body guards None e
+    else resolved_behind propagates orders rest guards (Some raised) e
+
+abbrev pub exec_resolved : (propagates : Bool) → Orders → ResolvedCode → Guards → State → Outcome
+exec_resolved propagates orders code guards e = resolved_behind propagates orders code guards None e

@@ -11,7 +11,7 @@ use Rattle.ac_rules.specs.Resolved.{ResolvedCode, ResolvedSimple, place_of, reso
 use Rattle.ac_calls.specs.Holdings.{Held, Guards}
 use Rattle.ac_meaning.specs.Environment.{Bound, binds_type, binds_object, binds_cursor, binds_value, binds_element, State, first_state, under, at_rest, bound_at, object_at, with_name, leaving, after_decls}
 use Rattle.ac_meaning.specs.Commands.{performed}
-use Rattle.ac_meaning.specs.Execution.{Orders, exec, exec_resolved, turn_bound}
+use Rattle.ac_meaning.specs.Execution.{End, Orders, exec_behind, resolved_behind, turn_bound}
 
 abbrev pub Fits : Meaning → Bound → Type 0
 Fits (a_type _) binds_type = ⊤
@@ -60,10 +60,10 @@ pub record HeadsFit : Type 0 where
 -- commands and statements keep it, whatever they are, and so do guards and names that go
 pub record GoesOnFitting : Type 0 where
   pub commands : (scope : Scope) (e : State) (simple : ResolvedSimple) → FitsScope scope e → FitsScope scope (performed e simple).after
-  pub resolved : (orders : Orders) (code : ResolvedCode) (scope : Scope) (guards : Guards) (e : State) → FitsScope scope e →
-      FitsScope scope (exec_resolved orders code guards e).after
-  pub statements : (orders : Orders) (code : Code) (scope : Scope) (guards : Guards) (e : State) → FitsScope scope e →
-      FitsScope scope (exec orders code scope guards e).after
+  pub resolved : (propagates : Bool) (orders : Orders) (code : ResolvedCode) (scope : Scope) (guards : Guards) (end : End) (e : State) → FitsScope scope e →
+      FitsScope scope (resolved_behind propagates orders code guards end e).after
+  pub statements : (propagates : Bool) (orders : Orders) (code : Code) (scope : Scope) (guards : Guards) (end : End) (e : State) → FitsScope scope e →
+      FitsScope scope (exec_behind propagates orders code scope guards end e).after
   pub guarded : (scope : Scope) (guards : Guards) (e : State) → FitsScope scope e → FitsScope scope (under guards e)
   pub rested : (scope : Scope) (e : State) → FitsScope scope e → FitsScope scope (at_rest e)
   pub left : (scope more : Scope) (e : State) → FitsScope (scope ++ more) e → FitsScope scope (leaving (length scope) e)

@@ -15,7 +15,7 @@ use Rattle.ac_rules.specs.Resolved.{ResolvedCode}
 use Rattle.ac_calls.specs.Elements.{ElementOf}
 use Rattle.ac_calls.specs.Holdings.{RowKind, RowOf, Held, of_rows, of_holder, Guards, is_on, number_of, names_of, holds_element, has_root, element_value, held_under}
 use Rattle.ac_meaning.specs.Environment.{Bound, binds_type, binds_object, binds_cursor, binds_value, binds_element, State, under, object_at, with_name}
-use Rattle.ac_meaning.specs.Execution.{Orders, scoped, exec, exec_resolved, guards_of_loop, guards_of_stable, guards_of_view, head_reason}
+use Rattle.ac_meaning.specs.Execution.{End, Orders, scoped, exec_behind, resolved_behind, exec_resolved, guards_of_loop, guards_of_stable, guards_of_view, head_reason}
 
 abbrev pub is_guarded : Guards → ℕ → Bool
 is_guarded guards number = list_any (λ (g : HeldGuard). g.object == number) guards
@@ -49,12 +49,12 @@ kept guards e = map (frame guards) e.bounds
 
 -- statements keep it, whatever they are
 abbrev pub ResolvedKeepsGuarded : Type 0
-ResolvedKeepsGuarded = (orders : Orders) (code : ResolvedCode) (guards : Guards) (e : State) →
-    kept guards (exec_resolved orders code guards e).after ≡ kept guards e
+ResolvedKeepsGuarded = (propagates : Bool) (orders : Orders) (code : ResolvedCode) (guards : Guards) (end : End) (e : State) →
+    kept guards (resolved_behind propagates orders code guards end e).after ≡ kept guards e
 
 abbrev pub KeepsGuarded : Type 0
-KeepsGuarded = (orders : Orders) (code : Code) (scope : Scope) (guards : Guards) (e : State) →
-    kept guards (exec orders code scope guards e).after ≡ kept guards e
+KeepsGuarded = (propagates : Bool) (orders : Orders) (code : Code) (scope : Scope) (guards : Guards) (end : End) (e : State) →
+    kept guards (exec_behind propagates orders code scope guards end e).after ≡ kept guards e
 
 -- an object with a guard stays in its place, with its names in their order
 pub record GuardedGoesOn (h : Held) (now : State) (place : ℕ) : Type 0 where
@@ -65,8 +65,8 @@ pub record GuardedGoesOn (h : Held) (now : State) (place : ℕ) : Type 0 where
   pub names : names_of held ≡ names_of h
 
 abbrev pub GuardedStays : Type 0
-GuardedStays = (orders : Orders) (code : ResolvedCode) (guards : Guards) (e : State) (place : ℕ) (h : Held) →
-    object_at e place ≡ Some h → is_guarded guards (number_of h) ≡ true → GuardedGoesOn h (exec_resolved orders code guards e).after place
+GuardedStays = (propagates : Bool) (orders : Orders) (code : ResolvedCode) (guards : Guards) (end : End) (e : State) (place : ℕ) (h : Held) →
+    object_at e place ≡ Some h → is_guarded guards (number_of h) ≡ true → GuardedGoesOn h (resolved_behind propagates orders code guards end e).after place
 
 -- so a cursor that designates one of its elements goes on to
 pub record DesignatesOn (now : State) (place : ℕ) (at : Mark) : Type 0 where
@@ -76,10 +76,10 @@ pub record DesignatesOn (now : State) (place : ℕ) (at : Mark) : Type 0 where
 
 abbrev pub DesignatedStays : Type 0
 DesignatedStays =
-    (orders : Orders) (code : ResolvedCode) (guards : Guards) (e : State) (place : ℕ) (kind : RowKind) (o : Object ℕ (RowOf kind)) (at : Mark) →
+    (propagates : Bool) (orders : Orders) (code : ResolvedCode) (guards : Guards) (end : End) (e : State) (place : ℕ) (kind : RowKind) (o : Object ℕ (RowOf kind)) (at : Mark) →
     let h = of_rows kind o in
     object_at e place ≡ Some h → is_guarded guards (number_of h) ≡ true → (element_value h at).reason ≡ None →
-    DesignatesOn (exec_resolved orders code guards e).after place at
+    DesignatesOn (resolved_behind propagates orders code guards end e).after place at
 
 -- and a holder with an element has one while an element guard is held on it, so that a name that stands for it finds one
 pub record ElementGoesOn (h : Held) (now : State) (place : ℕ) : Type 0 where
@@ -90,9 +90,9 @@ pub record ElementGoesOn (h : Held) (now : State) (place : ℕ) : Type 0 where
   pub stands : holds_element h ≡ true → (at : Mark) → (element_value held at).reason ≡ None
 
 abbrev pub ElementsStay : Type 0
-ElementsStay = (orders : Orders) (code : ResolvedCode) (guards : Guards) (e : State) (place : ℕ) (h : Held) →
+ElementsStay = (propagates : Bool) (orders : Orders) (code : ResolvedCode) (guards : Guards) (end : End) (e : State) (place : ℕ) (h : Held) →
     object_at e place ≡ Some h → is_element_guarded guards (number_of h) ≡ true →
-    ElementGoesOn h (exec_resolved orders code guards e).after place
+    ElementGoesOn h (resolved_behind propagates orders code guards end e).after place
 
 -- as in every view of its element, which begins only where it has one
 pub record ViewGuards (view : ViewKind) (h : Held) (guards : Guards) : Type 0 where
@@ -112,9 +112,9 @@ pub record BlocksGuard : Type 0 where
 -- so a loop that took its names anew at each turn would find those that stood at its head: where a turn ends its object has them still
 abbrev pub TurnsKeepNames : Type 0
 TurnsKeepNames =
-    (orders : Orders) (code : ResolvedCode) (elements : Bool) (guards : Guards) (e : State) (place : ℕ) (h : Held) (b : Bound) →
+    (propagates : Bool) (orders : Orders) (code : ResolvedCode) (elements : Bool) (guards : Guards) (e : State) (place : ℕ) (h : Held) (b : Bound) →
     object_at e place ≡ Some h →
-    GuardedGoesOn h (scoped e (exec_resolved orders code (guards_of_loop elements h ++ guards)) (with_name e b)).after place
+    GuardedGoesOn h (scoped e (exec_resolved propagates orders code (guards_of_loop elements h ++ guards)) (with_name e b)).after place
 
 -- an update of a key begins only where no other guard is held on its set, so that its end may take the element out
 pub record UpdatesAreAlone : Type 0 where

@@ -22,7 +22,7 @@ use Rattle.ac_calls.specs.KeyedReplies.{KeyedKind, of_hashed, of_ordered}
 use Rattle.ac_calls.specs.Holdings.{of_list, of_vector, RowKind, a_sequence, a_map, a_set, a_keyed_set, a_tree, Held, of_rows, of_holder, of_queue, Guards}
 use Rattle.ac_meaning.specs.Environment.{Bound, binds_type, binds_object, binds_cursor, binds_value, binds_element, State, first_state, under, at_rest, bound_at, object_at, with_name, leaving, after_decls}
 use Rattle.ac_meaning.specs.Commands.{performed}
-use Rattle.ac_meaning.specs.Execution.{Orders, exec, turn_bound, run_with}
+use Rattle.ac_meaning.specs.Execution.{End, Orders, exec_behind, turn_bound, run_with}
 use Rattle.ac_meaning.specs.FitsScope.{FitsScope}
 
 -- An object's kind and the types of its elements
@@ -139,8 +139,8 @@ pub record HeadsHold : Type 0 where
 -- commands keep it, whatever they are, and so do statements that keep the rules, as a script that can run does to its end, guards and names that go
 pub record GoesOnHolding : Type 0 where
   pub commands : (scope : Scope) (e : State) (simple : ResolvedSimple) → HoldsTypes scope e → HoldsTypes scope (performed e simple).after
-  pub statements : (orders : Orders) (code : Code) (scope : Scope) (guards : Guards) (e : State) → AreStatements code →
-      KeepsRules scope code → HoldsTypes scope e → HoldsTypes scope (exec orders code scope guards e).after
+  pub statements : (propagates : Bool) (orders : Orders) (code : Code) (scope : Scope) (guards : Guards) (end : End) (e : State) → AreStatements code →
+      KeepsRules scope code → HoldsTypes scope e → HoldsTypes scope (exec_behind propagates orders code scope guards end e).after
   pub script : (orders : Orders) (script : Script) → IsChecked script → AreStatements script.stmts →
       (after_decls (resolve_decls [] script.decls) first_state).spent ≡ None → HoldsTypes (with_decls [] script.decls) (run_with orders script).after
   pub guarded : (scope : Scope) (guards : Guards) (e : State) → HoldsTypes scope e → HoldsTypes scope (under guards e)

@@ -1,5 +1,6 @@
 -- What holds of every script when it runs.
-use Rattle.std.specs.Prelude.{◌≡◌, ◌<◌, ◌≤◌, ⊤, ℕ, [], length, Some}
+use Rattle.std.specs.Prelude.{◌≡◌, ◌<◌, ◌≤◌, ⊤, ℕ, Bool, false, [], length, Some, None}
+use Rattle.ac_base.specs.declared.reason.Exception.{Exception}
 use Rattle.ac_syntax.specs.Code.{Code}
 use Rattle.ac_syntax.specs.declared.script.Script.{Script}
 use Rattle.ac_rules.specs.Scopes.{Scope}
@@ -13,19 +14,19 @@ use Rattle.ac_calls.specs.Answers.{Answer, answers_ok, answers_value, answers_tr
 use Rattle.ac_meaning.specs.Commands.{performed}
 use Rattle.ac_calls.specs.Holdings.{SequenceKind, Held, Guards, reply_by}
 use Rattle.ac_meaning.specs.Environment.{State, first_state, object_at, after_decls}
-use Rattle.ac_meaning.specs.Execution.{Outcome, Orders, exec, exec_resolved, run_with}
+use Rattle.ac_meaning.specs.Execution.{End, Outcome, Orders, ending, exec_behind, resolved_behind, exec_resolved, run_with}
 
 -- statements come to what they are resolved to comes to
 abbrev pub RunsResolved : Type 0
-RunsResolved = (orders : Orders) (code : Code) (scope : Scope) (guards : Guards) (e : State) →
-    exec_resolved orders (resolve scope code) guards e ≡ exec orders code scope guards e
+RunsResolved = (propagates : Bool) (orders : Orders) (code : Code) (scope : Scope) (guards : Guards) (end : End) (e : State) →
+    resolved_behind propagates orders (resolve scope code) guards end e ≡ exec_behind propagates orders code scope guards end e
 
 -- a script, by what it is resolved to
-abbrev pub run_resolved : Orders → ResolvedScript → Outcome
-run_resolved orders script = exec_resolved orders script.stmts [] (after_decls script.decls first_state).after
+abbrev pub run_resolved : (propagates : Bool) → Orders → ResolvedScript → Outcome
+run_resolved propagates orders script = exec_resolved propagates orders script.stmts [] (after_decls script.decls first_state).after
 
 abbrev pub ScriptRunsResolved : Type 0
-ScriptRunsResolved = (orders : Orders) (script : Script) → run_resolved orders (resolve_script script) ≡ run_with orders script
+ScriptRunsResolved = (orders : Orders) (script : Script) → run_resolved false orders (resolve_script script) ≡ run_with orders script
 
 -- orders that are the same for the blocks from one count up to another
 abbrev pub Agree : (orders others : Orders) → (from to : ℕ) → Type 0
@@ -33,9 +34,9 @@ Agree orders others from to = (block : ℕ) → from ≤ block → block < to �
 
 -- what statements come to is told by the orders of the blocks of tasks that begin in them
 abbrev pub OrdersTell : Type 0
-OrdersTell = (orders others : Orders) (code : ResolvedCode) (guards : Guards) (e : State) →
-    Agree orders others e.blocks (exec_resolved orders code guards e).after.blocks →
-    exec_resolved others code guards e ≡ exec_resolved orders code guards e
+OrdersTell = (propagates : Bool) (orders others : Orders) (code : ResolvedCode) (guards : Guards) (end : End) (e : State) →
+    Agree orders others e.blocks (resolved_behind propagates orders code guards end e).after.blocks →
+    resolved_behind propagates others code guards end e ≡ resolved_behind propagates orders code guards end e
 
 -- what stays of a list or a vector through every operation on it, whatever the source and the arguments
 abbrev pub RepliesStay : Type 0 → Type 0
@@ -68,3 +69,13 @@ IsRefusal answers_stalled = ⊤
 -- a command that is refused, or would wait, leaves the environment
 abbrev pub RefusalsLeave : Type 0
 RefusalsLeave = (e : State) (simple : ResolvedSimple) → IsRefusal (performed e simple).answer → (performed e simple).after ≡ e
+
+-- where exceptions don't propagate, statements behind a normal end end normally
+abbrev pub EndsStayNormal : Type 0
+EndsStayNormal = (orders : Orders) (code : ResolvedCode) (guards : Guards) (e : State) →
+    (exec_resolved false orders code guards e).end ≡ None
+
+-- behind an exception no statement of a text runs
+abbrev pub NoneRunsBehind : Type 0
+NoneRunsBehind = (propagates : Bool) (orders : Orders) (code : Code) (scope : Scope) (guards : Guards) (raised : Exception) (e : State) →
+    exec_behind propagates orders code scope guards (Some raised) e ≡ ending (Some raised) [] e

@@ -22,3 +22,4 @@ pub mod TreeExamples
 pub mod HolderExamples
 pub mod TaskExamples
 pub mod MeaningExamples
+pub mod Propagation

@@ -1,5 +1,5 @@
 -- The numbers of objects: each object in scope has one of its own, and so has the next.
-use Rattle.std.specs.Prelude.{◌≡◌, ◌==◌, ◌+◌, ◌≤◌, ℕ, List, [], ◌∷◌, Some, None, if◌then◌else◌}
+use Rattle.std.specs.Prelude.{◌≡◌, ◌==◌, ◌+◌, ◌≤◌, ℕ, Bool, List, [], ◌∷◌, Some, None, if◌then◌else◌}
 use Rattle.ac_syntax.specs.Code.{Code}
 use Rattle.ac_rules.specs.declared.resolved.ResolvedDecl.{ResolvedDecl}
 use Rattle.ac_rules.specs.Scopes.{Scope}
@@ -10,7 +10,7 @@ use Rattle.ac_meaning.specs.UnderGuards.{held_with, held_without}
 use Rattle.ac_model.specs.Common.{hold_call, release_call}
 use Rattle.ac_meaning.specs.Environment.{Bound, binds_type, binds_object, binds_cursor, binds_value, binds_element, object_in, State, first_state, objects_by, with_bound, under, at_rest, object_at, with_name, leaving, after_decls}
 use Rattle.ac_meaning.specs.Commands.{performed}
-use Rattle.ac_meaning.specs.Execution.{Orders, exec, exec_resolved}
+use Rattle.ac_meaning.specs.Execution.{End, Orders, exec_behind, resolved_behind}
 
 -- one for an object with this number
 abbrev pub has_number : ℕ → Bound → ℕ
@@ -39,10 +39,10 @@ pub record NumbersGoOnDiffering : Type 0 where
   pub first : NumbersDiffer first_state
   pub decls : (decls : List ResolvedDecl) (e : State) → NumbersDiffer e → NumbersDiffer (after_decls decls e).after
   pub commands : (e : State) (simple : ResolvedSimple) → NumbersDiffer e → NumbersDiffer (performed e simple).after
-  pub resolved : (orders : Orders) (code : ResolvedCode) (guards : Guards) (e : State) → NumbersDiffer e →
-      NumbersDiffer (exec_resolved orders code guards e).after
-  pub statements : (orders : Orders) (code : Code) (scope : Scope) (guards : Guards) (e : State) → NumbersDiffer e →
-      NumbersDiffer (exec orders code scope guards e).after
+  pub resolved : (propagates : Bool) (orders : Orders) (code : ResolvedCode) (guards : Guards) (end : End) (e : State) → NumbersDiffer e →
+      NumbersDiffer (resolved_behind propagates orders code guards end e).after
+  pub statements : (propagates : Bool) (orders : Orders) (code : Code) (scope : Scope) (guards : Guards) (end : End) (e : State) → NumbersDiffer e →
+      NumbersDiffer (exec_behind propagates orders code scope guards end e).after
   pub guarded : (guards : Guards) (e : State) → NumbersDiffer e → NumbersDiffer (under guards e)
   pub rested : (e : State) → NumbersDiffer e → NumbersDiffer (at_rest e)
   pub named : (e : State) (b : Bound) → object_in b ≡ None → NumbersDiffer e → NumbersDiffer (with_name e b)
@@ -51,16 +51,17 @@ pub record NumbersGoOnDiffering : Type 0 where
 -- and no number is given again
 pub record NextRises : Type 0 where
   pub decls : (decls : List ResolvedDecl) (e : State) → e.next ≤ (after_decls decls e).after.next
-  pub resolved : (orders : Orders) (code : ResolvedCode) (guards : Guards) (e : State) → e.next ≤ (exec_resolved orders code guards e).after.next
-  pub statements : (orders : Orders) (code : Code) (scope : Scope) (guards : Guards) (e : State) →
-      e.next ≤ (exec orders code scope guards e).after.next
+  pub resolved : (propagates : Bool) (orders : Orders) (code : ResolvedCode) (guards : Guards) (end : End) (e : State) →
+      e.next ≤ (resolved_behind propagates orders code guards end e).after.next
+  pub statements : (propagates : Bool) (orders : Orders) (code : Code) (scope : Scope) (guards : Guards) (end : End) (e : State) →
+      e.next ≤ (exec_behind propagates orders code scope guards end e).after.next
 
 -- nor is a block of tasks counted back
 pub record BlocksRise : Type 0 where
-  pub resolved : (orders : Orders) (code : ResolvedCode) (guards : Guards) (e : State) →
-      e.blocks ≤ (exec_resolved orders code guards e).after.blocks
-  pub statements : (orders : Orders) (code : Code) (scope : Scope) (guards : Guards) (e : State) →
-      e.blocks ≤ (exec orders code scope guards e).after.blocks
+  pub resolved : (propagates : Bool) (orders : Orders) (code : ResolvedCode) (guards : Guards) (end : End) (e : State) →
+      e.blocks ≤ (resolved_behind propagates orders code guards end e).after.blocks
+  pub statements : (propagates : Bool) (orders : Orders) (code : Code) (scope : Scope) (guards : Guards) (end : End) (e : State) →
+      e.blocks ≤ (exec_behind propagates orders code scope guards end e).after.blocks
 
 -- no guard is held on an object that is still to come
 pub record GuardsBelow (guards : Guards) (e : State) : Type 0 where

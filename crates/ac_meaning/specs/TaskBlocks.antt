@@ -19,7 +19,7 @@ use Rattle.ac_syntax.specs.declared.operation.QueueCall.{QueueCall}
 use Rattle.ac_syntax.specs.declared.operation.QueueCall.TheVariants as queue_call
 use Rattle.ac_rules.specs.declared.resolved.ResolvedArg.{ResolvedArg}
 use Rattle.ac_rules.specs.declared.resolved.ResolvedArg.TheVariants.{Lit, NoElement, At}
-use Rattle.ac_rules.specs.Resolved.{ResolvedSimple, calls_at, sets_at, sums_at, ResolvedHead, loops_at, views_at, stables_at, declares_at, gathers_at, works_at, ResolvedCode, no_statement, a_command, a_block}
+use Rattle.ac_rules.specs.Resolved.{ResolvedSimple, calls_at, sets_at, sums_at, ResolvedHead, loops_at, views_at, stables_at, declares_at, gathers_at, works_at, begins_at, tries_at, handles_at, ResolvedCode, no_statement, a_command, a_block}
 use Rattle.ac_calls.specs.Elements.{integer_in}
 use Rattle.ac_calls.specs.Answers.{Answer, answers_ok, answers_integer, answers_truth, answers_raised, answers_stalled, Line, task_line}
 use Rattle.ac_calls.specs.Holdings.{Held, of_rows, of_holder, of_queue}
@@ -128,6 +128,9 @@ task_by (stables_at _ _) steps = []
 task_by (declares_at _ _) steps = []
 task_by (gathers_at _) steps = []
 task_by (works_at number name locals) steps = task name locals steps ∷ []
+task_by begins_at steps = []
+task_by tries_at steps = []
+task_by (handles_at _) steps = []
 
 -- behind each task's name stand its locals, and then those of the next task behind both names
 abbrev pub tasks_from : ResolvedCode → (places : List ℕ) → (first : ℕ) → List Task

@@ -31,7 +31,7 @@ use Rattle.ac_calls.specs.Holdings.{a_tree, Held, of_rows, Guards, number_of, na
 use Rattle.ac_calls.specs.Replies.{Argument, value_argument, Arguments, Reply}
 use Rattle.ac_meaning.specs.Commands.{argument, answer_from}
 use Rattle.ac_meaning.specs.Environment.{Bound, binds_object, binds_value, binds_element, State, first_state, under, bound_at, object_at, element_in, value_at, value_or_zero, with_name, after_decls}
-use Rattle.ac_meaning.specs.Execution.{Orders, commanded, exec, turn_bound, guards_of_loop, guards_of_view, head_reason, run_with}
+use Rattle.ac_meaning.specs.Execution.{End, Orders, commanded, exec_behind, turn_bound, guards_of_loop, guards_of_view, head_reason, run_with}
 use Rattle.ac_meaning.specs.GuardedNames.{is_guarded, is_element_guarded}
 use Rattle.ac_meaning.specs.HoldsTypes.{shape_of, shape_of_type, HoldsTypes}
 
@@ -154,8 +154,8 @@ pub record ValuesInBlocks : Type 0 where
 pub record ValuesGoOn : Type 0 where
   pub commands : (scope : Scope) (guards : Guards) (e : State) (simple : Simple) → HoldsValues scope guards e → CommandKept scope simple →
       HoldsValues scope guards (commanded guards e (resolve_simple scope simple)).after
-  pub statements : (orders : Orders) (code : Code) (scope : Scope) (guards : Guards) (e : State) → AreStatements code → KeepsRules scope code →
-      HoldsValues scope guards e → HoldsValues scope guards (exec orders code scope guards e).after
+  pub statements : (propagates : Bool) (orders : Orders) (code : Code) (scope : Scope) (guards : Guards) (end : End) (e : State) → AreStatements code →
+      KeepsRules scope code → HoldsValues scope guards e → HoldsValues scope guards (exec_behind propagates orders code scope guards end e).after
   pub script : (orders : Orders) (script : Script) → IsChecked script → AreStatements script.stmts →
       (after_decls (resolve_decls [] script.decls) first_state).spent ≡ None →
       HoldsValues (with_decls [] script.decls) [] (run_with orders script).after

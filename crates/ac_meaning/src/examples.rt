@@ -20,6 +20,8 @@ ghost use Rattle.ac_meaning.specs.HolderExamples.{HoldersMeetThemselves, GuardsA
 ghost use Rattle.ac_meaning.specs.MeaningExamples.{RefusalsAreOneLine, UnknownNamesAreRefused, NothingWritesNothing};
 ghost use Rattle.ac_meaning.specs.TaskExamples.{QueuesStall, PrioritiesGoFirst, AllTasksStall, OneItemGoesByTurns};
 ghost use Rattle.ac_meaning.specs.TaskExamples.{TwoItemsGoAsOrdered, RaisedStepGoesOn, LocalsAreOwn, UsesAreTold, BlocksHaveOrders};
+ghost use Rattle.ac_meaning.specs.Propagation.{LoopIsLeft, GoesOnWithout, CopyIsDropped, FirstHandlerTakes};
+ghost use Rattle.ac_meaning.specs.Propagation.{EndsTheScript, StalledRaisesNothing, NoFurtherTurn, EndRaises};
 
 /// What small scripts write, to the byte.
 pub fn list_scripts()
@@ -158,4 +160,16 @@ pub fn meanings()
     ensures refusals_are_one_line { RefusalsAreOneLine }
     ensures unknown_names_are_refused { UnknownNamesAreRefused }
     ensures nothing_writes_nothing { NothingWritesNothing }
+{}
+
+/// What statements with handlers write, where exceptions propagate and where they don't.
+pub fn propagation()
+    ensures loop_is_left { LoopIsLeft }
+    ensures goes_on_without { GoesOnWithout }
+    ensures copy_is_dropped { CopyIsDropped }
+    ensures first_handler_takes { FirstHandlerTakes }
+    ensures ends_the_script { EndsTheScript }
+    ensures stalled_raises_nothing { StalledRaisesNothing }
+    ensures no_further_turn { NoFurtherTurn }
+    ensures end_raises { EndRaises }
 {}

@@ -1,5 +1,6 @@
 //! What holds of every script when it runs.
 ghost use Rattle.ac_meaning.specs.Laws.{RunsResolved, ScriptRunsResolved, OrdersTell, RepliesStay, CommandsStay};
+ghost use Rattle.ac_meaning.specs.Laws.{EndsStayNormal, NoneRunsBehind};
 ghost use Rattle.ac_meaning.specs.Laws.{ObjectsGoOn, NamesStayInScope, RefusalsLeave};
 ghost use Rattle.ac_meaning.specs.Stays.{NamesComeAndGo};
 ghost use Rattle.ac_meaning.specs.GuardedNames.{ResolvedKeepsGuarded, KeepsGuarded, GuardedStays, DesignatedStays, BlocksGuard};
@@ -139,4 +140,10 @@ pub fn numbers_differ()
 /// A command that is refused, or would wait, leaves the environment.
 pub fn refusals_leave()
     ensures { RefusalsLeave }
+{}
+
+/// Where exceptions don't propagate, statements end normally; and behind an exception none runs.
+pub fn statements_end()
+    ensures normal { EndsStayNormal }
+    ensures none_runs { NoneRunsBehind }
 {}
