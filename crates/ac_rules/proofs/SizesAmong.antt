@@ -1,7 +1,8 @@
 -- A statement among others is no larger than all.
 use Rattle.std.proofs.Common.{◌≡◌, ◌+◌, ◌<◌, ◌≤◌, ℕ, zero, suc, List, [], ◌∷◌, length, get_or, arith}
 use Rattle.ac_rules.specs.Resolved.{ResolvedCode, no_statement, resolved_size}
-use Rattle.ac_rules.specs.ResolvedStatements.{resolved_before, resolved_of}
+use Rattle.ac_rules.specs.ResolvedStatements.{resolved_before, resolved_of, resolved_handlers_of}
+use Rattle.ac_rules.specs.declared.resolved.ResolvedHandler.{ResolvedHandler}
 use Rattle.ac_rules.specs.declared.resolved.ResolvedStmt.{ResolvedStmt}
 use Rattle.ac_rules.specs.declared.resolved.ResolvedStmt.TheVariants.{Call, Set, Sum, Loop, View, Stable, Declare, Tasks, Handled}
 
@@ -25,3 +26,11 @@ size_among (stmt ∷ stmts) zero d within = omega (arith, size_before stmt (reso
 size_among (stmt ∷ stmts) (suc i) d within =
     let further : i < length stmts = omega (arith, within) in
     omega (arith, size_before stmt (resolved_of stmts), size_among stmts i d further)
+
+-- and the statements of a handler among others are fewer
+pub handler_among : (handlers : List ResolvedHandler) (i : ℕ) (d : ResolvedHandler) → i < length handlers →
+    resolved_size (get_or handlers i d).body < resolved_size (resolved_handlers_of handlers)
+handler_among [] i d within = absurd (omega (arith, within))
+handler_among (handler ∷ handlers) zero d within = omega arith
+handler_among (handler ∷ handlers) (suc i) d within =
+    let further : i < length handlers = omega (arith, within) in omega (arith, handler_among handlers i d further)
