@@ -27,7 +27,7 @@ use Rattle.ac_calls.specs.Elements.{Text, text_in, texts}
 use Rattle.ac_calls.specs.KeyedReplies.{order_by}
 use Rattle.ac_calls.specs.Holdings.{Held, Guards, Written, of_rows, of_holder, of_queue, as_object, counted_as, a_sequence, a_map, a_set, a_keyed_set, a_tree, number_of, held_on, guarded, held_under, guard_on, with_rows_by, element_value, key_update_reason, key_updated}
 use Rattle.ac_meaning.specs.Environment.{Bound, binds_type, binds_object, binds_cursor, binds_value, binds_element, State, bound_at, bound_by, object_at, objects_by, under, at_rest, value_at, value_in, value_or_zero, element_in, with_bound, leaving}
-use Rattle.ac_meaning.specs.Execution.{end_lines, key_end_on}
+use Rattle.ac_meaning.specs.Execution.{end_lines, key_end_on, reason_end}
 use Rattle.ac_meaning.specs.UnderGuards.{held_without}
 use Rattle.ac_meaning.proofs.CountsStay.{guards_come_and_go, counts_are_the_guards, parts_under, cursors_of, elements_of}
 use Rattle.ac_meaning.proofs.OnePlace.{guards_are_on_one_object}
@@ -396,8 +396,9 @@ module _ (key : UpdateKey) (old new : State) (copy : Text) (result : Option Reas
       ∙ ((λ i. with_bound (others i) key.object (binds_object (after i)))
       ∙ (sym (parts_under.set guards rest key.object (binds_object w.after))
       ∙ sym (counts_are_the_guards.rested guards (with_bound rest key.object (binds_object w.after))))) in
-      subst (λ (x : Option Held). ((key_end_on line key.object rest at v x).lines ≡ end_lines line result) × (new ≡ under guards (key_end_on line key.object rest at v x).after))
-      (sym found) (ap (end_lines line) (sym reason), state)
+      subst (λ (x : Option Held). ((key_end_on line key.object rest at v x).lines ≡ end_lines line result) × (new ≡ under guards (key_end_on line key.object rest at v x).after)
+      × ((key_end_on line key.object rest at v x).end ≡ reason_end result))
+      (sym found) (ap (end_lines line) (sym reason), state, ap reason_end (sym reason))
 
 -- what a name that goes leaves below it
 pub stands_left : (e now : State) (count place : ℕ) (m : Mark) → now ≡ leaving count e → place < count → StandsAt e place m → StandsAt now place m

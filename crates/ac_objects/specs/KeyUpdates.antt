@@ -12,7 +12,7 @@ use Rattle.ac_calls.specs.Elements.{Text, texts}
 use Rattle.ac_calls.specs.KeyedReplies.{order_by}
 use Rattle.ac_calls.specs.Holdings.{Held, Guards, Written, written, of_rows, of_holder, of_queue, a_keyed_set}
 use Rattle.ac_meaning.specs.Environment.{State, under, value_at, leaving}
-use Rattle.ac_meaning.specs.Execution.{key_end, end_lines}
+use Rattle.ac_meaning.specs.Execution.{key_end, end_lines, reason_end}
 use Rattle.ac_objects.specs.declared.blocks.UpdateKey.{UpdateKey}
 use Rattle.ac_objects.specs.Blocks.{guards_of_update_key}
 
@@ -30,4 +30,4 @@ UpdateEnds key old new reason =
     (line : ℕ) (guards : Guards) (e : State) → old ≡ under (guards_of_update_key key ++ guards) e →
     let held = guards_of_update_key key ++ guards in
     let ended = key_end line key.object (plain_mark key.at) (value_at e key.names) held (leaving key.names e) in
-    (ended.lines ≡ end_lines line reason) × (new ≡ under guards ended.after)
+    (ended.lines ≡ end_lines line reason) × (new ≡ under guards ended.after) × (ended.end ≡ reason_end reason)

@@ -89,8 +89,8 @@ impl Objects {
         self.end_update(object, at, guard, copy)
     }
 
-    /// Ends an update whose body didn't end: its name goes, and its guard is released.
-    pub fn abandon_update(&mut self, key: UpdateKey)
+    /// Ends an update whose body was left: its copy is dropped, its name goes, and its guard is released.
+    pub fn drop_update(&mut self, key: UpdateKey)
         requires inner { key.object < key.names }
         requires guard { IsHeldAt (state_of self.old) key.object key.guard }
         ensures left { state_of self.new ≡ releasing (guards_of_update_key key) (leaving key.names (state_of self.old)) }

@@ -3,7 +3,7 @@ use Rattle.ac_meaning.specs.Environment.{objects_by}
 use Rattle.ac_meaning.specs.UnderGuards.{held_without}
 use Rattle.ac_objects.specs.World.{state_of}
 use Rattle.ac_objects.proofs.Counted.{held_left}
-use Rattle.ac_objects.proofs.objects.Objects.abandon_update.Goals as goal
+use Rattle.ac_objects.proofs.objects.Objects.drop_update.Goals as goal
 
 pub release-requires : goal.release-requires
 release-requires c =
