@@ -1,13 +1,13 @@
 -- A script without tasks runs the same by all orders.
-use Rattle.std.proofs.Common.{◌≡◌, ◌||◌, ◌++◌, ℕ, Bool, true, false, List, [], refl, sym, ap, ◌∙◌}
+use Rattle.std.proofs.Common.{◌≡◌, ◌||◌, ◌++◌, ℕ, Bool, true, false, List, [], Some, None, refl, sym, ap, ◌∙◌, if◌then◌else◌}
 use Rattle.ac_syntax.specs.declared.script.Script.{Script}
 use Rattle.ac_rules.specs.HasTasks.{begins_tasks, has_tasks}
-use Rattle.ac_rules.specs.Resolved.{ResolvedHead, loops_at, views_at, stables_at, declares_at, gathers_at, works_at, ResolvedCode, no_statement, a_command, a_block, resolve, resolve_script}
+use Rattle.ac_rules.specs.Resolved.{ResolvedHead, loops_at, views_at, stables_at, declares_at, gathers_at, works_at, begins_at, tries_at, handles_at, ResolvedCode, no_statement, a_command, a_block, resolve, resolve_script}
 use Rattle.ac_rules.specs.Scopes.{with_decls}
 use Rattle.ac_calls.specs.Answers.{lines_text}
 use Rattle.ac_calls.specs.Holdings.{Guards}
 use Rattle.ac_meaning.specs.Environment.{State, first_state, after_decls, guarded_at, nodes, under}
-use Rattle.ac_meaning.specs.Execution.{Outcome, Orders, after_declared, block_on, commanded, exec_resolved, followed, no_orders, on_object, run, run_with, text_of, text_with}
+use Rattle.ac_meaning.specs.Execution.{End, Outcome, Orders, after_declared, block_on, commanded, passed_on, followed, takes, resolved_behind, no_orders, on_object, run, run_with, text_of, text_with}
 use Rattle.ac_meaning.specs.Meanings.{Meaning, IsMeaningBy, is_too_long, is_refused, is_faulty, is_sound, ran, written}
 use Rattle.ac_meaning.proofs.Resolved.{script_runs_resolved}
 use Rattle.ac_top.specs.declared.mode.Task.{Task}
@@ -31,22 +31,35 @@ module _ (orders others : Orders) where
   block_same f h same guards tasks e (declares_at line decls) none = ap (λ b. after_declared b guards e (after_decls decls e)) same
   block_same f h same guards tasks e (gathers_at line) none = absurd (cc)
   block_same f h same guards tasks e (works_at line name locals) none = refl
+  block_same f h same guards tasks e begins_at none = λ i. same i guards e
+  block_same f h same guards tasks e tries_at none = λ i. same i guards e
+  block_same f h same guards tasks e (handles_at catches) none = refl
 
-  exec_same : (code : ResolvedCode) → has_tasks code ≡ false → exec_resolved orders code ≡ exec_resolved others code
-  exec_same no_statement none = refl
-  exec_same (a_command simple rest) none = λ i guards e. followed (commanded guards e simple) (exec_same rest none i guards)
-  exec_same (a_block head body rest) none =
+  exec_same : (propagates : Bool) (code : ResolvedCode) → has_tasks code ≡ false → (guards : Guards) (end : End) (e : State) →
+      resolved_behind propagates orders code guards end e ≡ resolved_behind propagates others code guards end e
+  exec_same propagates no_statement none guards end e = refl
+  exec_same propagates (a_command simple rest) none guards None e =
+      λ i. followed (passed_on propagates (commanded guards e simple)) (λ end now. exec_same propagates rest none guards end now i)
+  exec_same propagates (a_command simple rest) none guards (Some raised) e = exec_same propagates rest none guards (Some raised) e
+  exec_same propagates (a_block head body rest) none guards None e =
       let later = both_none (begins_tasks head || has_tasks body) (has_tasks rest) none in
       let here = both_none (begins_tasks head) (has_tasks body) later.0 in
-      λ i guards e. followed
-      (block_same (exec_resolved orders body) (exec_resolved others body) (exec_same body here.1) guards body e head here.0 i)
-      (exec_same rest later.1 i guards)
+      let own : Guards → State → Outcome = λ held. resolved_behind propagates orders body held None in
+      let other : Guards → State → Outcome = λ held. resolved_behind propagates others body held None in
+      λ i. followed
+      (passed_on propagates (block_same own other (λ j held now. exec_same propagates body here.1 held None now j) guards body e head here.0 i))
+      (λ end now. exec_same propagates rest later.1 guards end now i)
+  exec_same propagates (a_block head body rest) none guards (Some raised) e =
+      let later = both_none (begins_tasks head || has_tasks body) (has_tasks rest) none in
+      let here = both_none (begins_tasks head) (has_tasks body) later.0 in
+      λ i. if takes head raised then exec_same propagates body here.1 guards None e i
+      else exec_same propagates rest later.1 guards (Some raised) e i
 
   pub run_same : (script : Script) → has_tasks (resolve (with_decls [] script.decls) script.stmts) ≡ false → run_with orders script ≡ run_with others script
   run_same script none =
       let r = resolve_script script in
       sym (script_runs_resolved orders script)
-      ∙ (ap (λ (f : Guards → State → Outcome). f [] (after_decls r.decls first_state).after) (exec_same r.stmts none) ∙ script_runs_resolved others script)
+      ∙ (exec_same false r.stmts none [] None (after_decls r.decls first_state).after ∙ script_runs_resolved others script)
 
 -- so what it means is what it means by no orders
 
