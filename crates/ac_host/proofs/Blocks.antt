@@ -1,17 +1,18 @@
 -- What a block comes to, and what is left behind it.
-use Rattle.std.proofs.Common.{◌≡◌, ◌<◌, ◌≤◌, ℕ, Bool, true, false, List, [], ◌∷◌, ◌++◌, length, ◌+◌, nat_lt, refl, sym, ap, subst, ◌∙◌, arith, Option, Some, None, Result, Ok, Err, OnOk, IsErrAnd, if◌then◌else◌}
+use Rattle.std.proofs.Common.{◌≡◌, ◌+◌, ◌<◌, ◌≤◌, ℕ, Bool, true, false, List, [], ◌∷◌, ◌++◌, length, nat_lt, refl, sym, ap, subst, ◌∙◌, arith, Option, Some, None, Result, Ok, Err, OnOk, IfOk, IsErrAnd, is_some, true≢false, if◌then◌else◌}
 use Rattle.std.proofs.lemmas.List.{length-append, length-map, map_push, take_all, take-append-le}
 use Rattle.std.proofs.lemmas.Option.{slice_get_within}
 use Rattle.std.proofs.lemmas.Result.{err_from_is_err_and, on_ok_weaker}
 use Rattle.ac_base.specs.Guards.{HeldGuard}
 use Rattle.ac_base.specs.Limits.{numbers_end}
+use Rattle.ac_base.specs.Reason.{exception_of}
 use Rattle.ac_base.specs.declared.guard.GuardKind.{GuardKind}
 use Rattle.ac_base.specs.declared.guard.GuardKind.TheVariants as guard
 use Rattle.ac_base.specs.declared.reason.Reason.{Reason}
 use Rattle.ac_base.specs.declared.reason.Reason.TheVariants.{NamesSpent}
 use Rattle.ac_base.specs.declared.value.Value.TheVariants as value
 use Rattle.std.specs.Prelude.{pos}
-use Rattle.ac_model.specs.Letters.{Mark, no_mark, mark_at as mark_of_name}
+use Rattle.ac_model.specs.Letters.{Mark, no_mark}
 use Rattle.ac_syntax.specs.declared.view_kind.ViewKind.{ViewKind}
 use Rattle.ac_syntax.specs.declared.view_kind.ViewKind.TheVariants.{Query, Update, Reference, UpdateKey}
 use Rattle.ac_syntax.specs.declared.type_def.TypeDef.{TypeDef}
@@ -19,16 +20,15 @@ use Rattle.ac_rules.specs.Resolved.{ResolvedCode, ResolvedHead, loops_at, views_
 use Rattle.ac_rules.specs.declared.resolved.ResolvedDecl.{ResolvedDecl}
 use Rattle.ac_rules.specs.declared.resolved.ResolvedDecl.TheVariants as decl
 use Rattle.ac_calls.specs.Answers.{line, lines_text, answers_raised}
-use Rattle.ac_calls.specs.Holdings.{Held, of_rows, of_holder, of_queue, takes_guards, Guards, number_of, names_of, new_held, held_under, guard_on}
+use Rattle.ac_calls.specs.Holdings.{Held, of_rows, of_holder, of_queue, takes_guards, Guards, names_of, new_held, held_under, guard_on}
 use Rattle.ac_meaning.specs.Environment.{Bound, binds_type, binds_object, binds_cursor, binds_value, binds_element, bound_by, bound_in, object_in, mark_in, State, objects_by, under, bound_at, object_at, guarded_at, mark_at, with_name, leaving, number_taken, Declared, declared, unless_spent, after_decl, after_decls}
-use Rattle.ac_meaning.specs.Execution.{Outcome, outcome, Orders, one_line, exec_resolved, guards_of_loop, guards_of_stable, guards_of_view, head_reason, in_order, turn_bound, turns, view_on, viewed, on_object, after_declared, scoped}
+use Rattle.ac_meaning.specs.Execution.{End, Outcome, ending, Orders, one_line, exec_resolved, guards_of_loop, guards_of_stable, guards_of_view, head_reason, in_order, turns, turns_behind, view_on, viewed, on_object, after_declared}
 use Rattle.ac_meaning.specs.GuardedNames.{of_element, frame, kept}
 use Rattle.ac_meaning.specs.Numbers.{GuardsBelow}
 use Rattle.ac_meaning.specs.UnderGuards.{held_with, held_without}
 use Rattle.ac_meaning.proofs.BoundsStay.{object_there}
 use Rattle.ac_meaning.proofs.CountsStay.{parts_under, counts_are_the_guards, bound_under}
 use Rattle.ac_meaning.proofs.ExecKeeps.{resolved_keeps}
-use Rattle.ac_meaning.proofs.Frames.{kept_back}
 use Rattle.ac_meaning.proofs.GuardedPlaces.{guarded_is_there, guarded_takes}
 use Rattle.ac_meaning.proofs.NewObjects.{new_objects_are_unguarded}
 use Rattle.ac_meaning.proofs.NextRises.{next_rises}
@@ -39,7 +39,7 @@ use Rattle.ac_objects.specs.World.{World, state_of}
 use Rattle.ac_host.specs.declared.end.HostEnd.{HostEnd}
 use Rattle.ac_host.specs.Ready.{ElementsKept, IsUnder}
 use Rattle.ac_host.specs.Running.{inside}
-use Rattle.ac_host.specs.Writing.{Broke, Writes, Ran, WroteSoFar}
+use Rattle.ac_host.specs.Writing.{Broke, Writes, Reached, Ran, WroteSoFar}
 use Rattle.ac_host.proofs.Holding.{releasing_under, released_again, held_now, object_by_there, number_stays}
 use Rattle.ac_host.proofs.Standing.{elements_longer, kept_named, bound_found, no_type_object, longer}
 use Rattle.ac_host.proofs.Telling.{wrote_nothing, so_far_all}
@@ -73,8 +73,8 @@ many_under w guards e u = sym (many_names w) ∙ (ap (λ (s : State). length s.b
 
 -- Behind the body
 
-module _ {K T : Type 0} (held : K → Option (List ℕ)) (faults : K → ℕ) (room : K → Option ℕ) (counts : K → Bool) where
-  pub ran_inside : (more guards : Guards) (count : ℕ) (a b : K) (now later : World) (r : Outcome) (result : Result T HostEnd) →
+module _ {K : Type 0} (held : K → Option (List ℕ)) (faults : K → ℕ) (room : K → Option ℕ) (counts : K → Bool) where
+  pub ran_inside : (more guards : Guards) (count : ℕ) (a b : K) (now later : World) (r : Outcome) (result : Result End HostEnd) →
       state_of later ≡ releasing more (leaving count (state_of now)) → Ran held faults room counts a b now (more ++ guards) r result →
       Ran held faults room counts a b later guards (inside count r) result
   ran_inside more guards count a b now later r result left ran = record {
@@ -86,44 +86,56 @@ module _ {K T : Type 0} (held : K → Option (List ℕ)) (faults : K → ℕ) (r
         ∙ (ap (λ s. releasing more (leaving count s)) is
         ∙ (ap (releasing more) (sym (parts_under.left (more ++ guards) count r.after)) ∙ releasing_under more guards (leaving count r.after))))
         ran.after;
+    ended = ran.ended;
   }
 
-  pub ran_as : (a b : K) (now : World) (guards : Guards) (r s : Outcome) (result : Result T HostEnd) → r ≡ s →
+  -- where its names have gone before
+  pub ran_released : (more guards : Guards) (a b : K) (now : State) (later : World) (r : Outcome) (result : Result End HostEnd) →
+      state_of later ≡ releasing more now → Reached held faults room counts a b now (more ++ guards) r result → Ran held faults room counts a b later guards r result
+  ran_released more guards a b now later r result left ran = record {
+    writes = ran.writes;
+    after = on_ok_weaker result (λ is. left ∙ (ap (releasing more) is ∙ releasing_under more guards r.after)) ran.after;
+    ended = ran.ended;
+  }
+
+  pub ran_as : (a b : K) (now : World) (guards : Guards) (r s : Outcome) (result : Result End HostEnd) → r ≡ s →
       Ran held faults room counts a b now guards r result → Ran held faults room counts a b now guards s result
   ran_as a b now guards r s result is = subst (λ x. Ran held faults room counts a b now guards x result) is
 
   -- a call that failed hands its end on
-  pub ran_broke : (a b : K) (now : World) (guards : Guards) (r : Outcome) (end : HostEnd) (result : Result T HostEnd) → IsErrAnd result (λ y. y ≡ end) →
-      Broke held faults room counts a b (lines_text r.lines) end → Ran held faults room counts a b now guards r result
+  pub ran_broke : (a b : K) (now : State) (guards : Guards) (r : Outcome) (end : HostEnd) (result : Result End HostEnd) → IsErrAnd result (λ y. y ≡ end) →
+      Broke held faults room counts a b (lines_text r.lines) end → Reached held faults room counts a b now guards r result
   ran_broke a b now guards r end result exit broke =
       let p = err_from_is_err_and result exit in
       let is : Err end ≡ result = ap Err (sym p.2) ∙ sym p.1 in
-      subst (Ran held faults room counts a b now guards r) is (record { writes = broke; after = tt })
+      subst (Reached held faults room counts a b now guards r) is (record { writes = broke; after = tt; ended = tt })
 
-  pub ran_all : (a b : K) (now : World) (guards : Guards) (e : State) (whole : Outcome) (x : T) → state_of now ≡ under guards e →
-      WroteSoFar held faults room counts a b (outcome [] e) whole → Ran held faults room counts a b now guards whole (Ok x)
-  ran_all a b now guards e whole x is so_far = record {
-    writes = so_far_all held faults room counts a b e whole so_far;
+  pub ran_all : (a b : K) (now : State) (guards : Guards) (end : End) (e : State) (whole : Outcome) → now ≡ under guards e →
+      WroteSoFar held faults room counts a b (ending end [] e) whole → Reached held faults room counts a b now guards whole (Ok end)
+  ran_all a b now guards end e whole is so_far = record {
+    writes = so_far_all held faults room counts a b end e whole so_far;
     after = is ∙ ap (under guards) so_far.after;
+    ended = so_far.end;
   }
 
   -- a block on no object, or on one that takes no guards
   pub ran_nowhere : (a : K) (now : World) (guards : Guards) (e : State) → IsUnder now guards e → (body : Guards → State → Outcome) (head : ResolvedHead) (object : ℕ) →
-      guarded_at (state_of now) object ≡ None → (x : T) →
-      Ran held faults room counts a a now guards (on_object body guards head (guarded_at (under guards e) object) e) (Ok x)
-  ran_nowhere a now guards e u body head object none x =
+      guarded_at (state_of now) object ≡ None →
+      Ran held faults room counts a a now guards (on_object body guards head (guarded_at (under guards e) object) e) (Ok None)
+  ran_nowhere a now guards e u body head object none =
       let here : guarded_at (under guards e) object ≡ None = ap (λ s. guarded_at s object) (sym u.is) ∙ none in
-      subst (λ o. Ran held faults room counts a a now guards (on_object body guards head o e) (Ok x)) (sym here)
-      (record { writes = wrote_nothing held faults room counts a; after = u.is })
+      subst (λ o. Ran held faults room counts a a now guards (on_object body guards head o e) (Ok None)) (sym here)
+      (record { writes = wrote_nothing held faults room counts a; after = u.is; ended = refl })
 
   -- a refusal that leaves this environment
-  pub ran_line : (a b : K) (now : World) (guards : Guards) (number : ℕ) (reason : Reason) (e : State) (whole : Outcome) (result : Result T HostEnd) →
+  pub ran_line : (a b : K) (now : World) (guards : Guards) (number : ℕ) (reason : Reason) (e : State) (whole : Outcome) (result : Result End HostEnd) →
       one_line number (answers_raised reason) e ≡ whole → state_of now ≡ under guards e →
-      Writes held faults room counts a b (lines_text (line number (answers_raised reason) ∷ [])) result → Ran held faults room counts a b now guards whole result
-  ran_line a b now guards number reason e whole result is stands writes =
-      subst (λ (x : Outcome). Ran held faults room counts a b now guards x result) is (record { writes = writes; after = on_ok result })
+      Writes held faults room counts a b (lines_text (line number (answers_raised reason) ∷ [])) result →
+      IfOk result (λ end. end ≡ Some (exception_of reason)) → Ran held faults room counts a b now guards whole result
+  ran_line a b now guards number reason e whole result is stands writes ended =
+      subst (λ (x : Outcome). Ran held faults room counts a b now guards x result) is (record { writes = writes; after = on_ok result; ended = ended })
     where
-      on_ok : (r : Result T HostEnd) → OnOk r (state_of now ≡ under guards e)
+      on_ok : (r : Result End HostEnd) → OnOk r (state_of now ≡ under guards e)
       on_ok (Ok x) = stands
       on_ok (Err end) = tt
 
@@ -251,19 +263,19 @@ loop_elements_held s place true h takes g x there is =
 whole_left : (e : State) (count : ℕ) → length e.bounds ≤ count → leaving count e ≡ e
 whole_left e count all = λ i. record e { bounds = take_all count e.bounds all i }
 
-many_exec : (orders : Orders) (code : ResolvedCode) (guards : Guards) (e : State) → length (exec_resolved orders code guards e).after.bounds ≡ length e.bounds
-many_exec orders code guards e = many_kept guards e (exec_resolved orders code guards e).after (resolved_keeps orders code guards e)
+many_exec : (propagates : Bool) (orders : Orders) (code : ResolvedCode) (guards : Guards) (e : State) → length (exec_resolved propagates orders code guards e).after.bounds ≡ length e.bounds
+many_exec propagates orders code guards e = many_kept guards e (exec_resolved propagates orders code guards e).after (resolved_keeps propagates orders code guards None e)
 
-pub stable_comes : (orders : Orders) (code : ResolvedCode) (guards more : Guards) (e : State) (line object count : ℕ) (h : Held) → guarded_at (under guards e) object ≡ Some h →
+pub stable_comes : (propagates : Bool) (orders : Orders) (code : ResolvedCode) (guards more : Guards) (e : State) (line object count : ℕ) (h : Held) → guarded_at (under guards e) object ≡ Some h →
     more ≡ guards_of_stable h → count ≡ length e.bounds →
-    inside count (exec_resolved orders code (more ++ guards) e) ≡ on_object (exec_resolved orders code) guards (stables_at line object) (guarded_at (under guards e) object) e
-stable_comes orders code guards more e line object count h there is many =
+    inside count (exec_resolved propagates orders code (more ++ guards) e) ≡ on_object (exec_resolved propagates orders code) guards (stables_at line object) (guarded_at (under guards e) object) e
+stable_comes propagates orders code guards more e line object count h there is many =
     let held = guards_of_stable h ++ guards in
-    let r = exec_resolved orders code held e in
-    let all : length r.after.bounds ≤ count = omega (arith, many, many_exec orders code held e) in
-    ap (λ m. inside count (exec_resolved orders code (m ++ guards) e)) is
-    ∙ (ap (λ s. outcome r.lines s) (whole_left r.after count all)
-    ∙ ap (λ o. on_object (exec_resolved orders code) guards (stables_at line object) o e) (sym there))
+    let r = exec_resolved propagates orders code held e in
+    let all : length r.after.bounds ≤ count = omega (arith, many, many_exec propagates orders code held e) in
+    ap (λ m. inside count (exec_resolved propagates orders code (m ++ guards) e)) is
+    ∙ (ap (λ s. ending r.end r.lines s) (whole_left r.after count all)
+    ∙ ap (λ o. on_object (exec_resolved propagates orders code) guards (stables_at line object) o e) (sym there))
 
 pub mark_under : (guards : Guards) (e : State) (at : Option ℕ) → mark_at (under guards e) at ≡ mark_at e at
 mark_under guards e None = refl
@@ -288,50 +300,44 @@ view_on_comes : (body : Guards → State → Outcome) (guards : Guards) (e : Sta
     view_on body guards line kind object at h e ≡ inside (length e.bounds) (body (guards_of_view kind h ++ guards) (with_name e (binds_element object at)))
 view_on_comes body guards e line object kind at h other none = rw (none, view_on) (viewed_comes body guards e line object kind at h other)
 
-pub view_comes : (orders : Orders) (code : ResolvedCode) (guards more : Guards) (e : State) (line object count : ℕ) (kind : ViewKind) (at : Option ℕ) (mark : Mark) (h : Held) →
+pub view_comes : (propagates : Bool) (orders : Orders) (code : ResolvedCode) (guards more : Guards) (e : State) (line object count : ℕ) (kind : ViewKind) (at : Option ℕ) (mark : Mark) (h : Held) →
     (kind ≡ UpdateKey → ⊥) → guarded_at (under guards e) object ≡ Some h → more ≡ guards_of_view kind h → count ≡ length e.bounds → mark ≡ mark_at e at → head_reason kind h mark ≡ None →
-    inside count (exec_resolved orders code (more ++ guards) (with_name e (binds_element object mark)))
-    ≡ on_object (exec_resolved orders code) guards (views_at line kind object at) (guarded_at (under guards e) object) e
-view_comes orders code guards more e line object count kind at mark h other there is many mark_is none =
-    ap (λ m. inside count (exec_resolved orders code (m ++ guards) (with_name e (binds_element object mark)))) is
-    ∙ (ap (λ n. inside n (exec_resolved orders code (guards_of_view kind h ++ guards) (with_name e (binds_element object mark)))) many
-    ∙ (sym (view_on_comes (exec_resolved orders code) guards e line object kind mark h other none)
-    ∙ (ap (λ m. view_on (exec_resolved orders code) guards line kind object m h e) mark_is
-    ∙ ap (λ o. on_object (exec_resolved orders code) guards (views_at line kind object at) o e) (sym there))))
+    inside count (exec_resolved propagates orders code (more ++ guards) (with_name e (binds_element object mark)))
+    ≡ on_object (exec_resolved propagates orders code) guards (views_at line kind object at) (guarded_at (under guards e) object) e
+view_comes propagates orders code guards more e line object count kind at mark h other there is many mark_is none =
+    ap (λ m. inside count (exec_resolved propagates orders code (m ++ guards) (with_name e (binds_element object mark)))) is
+    ∙ (ap (λ n. inside n (exec_resolved propagates orders code (guards_of_view kind h ++ guards) (with_name e (binds_element object mark)))) many
+    ∙ (sym (view_on_comes (exec_resolved propagates orders code) guards e line object kind mark h other none)
+    ∙ (ap (λ m. view_on (exec_resolved propagates orders code) guards line kind object m h e) mark_is
+    ∙ ap (λ o. on_object (exec_resolved propagates orders code) guards (views_at line kind object at) o e) (sym there))))
 
 refused_on : (body : Guards → State → Outcome) (guards : Guards) (e : State) (line object : ℕ) (kind : ViewKind) (at : Mark) (h : Held) (reason : Reason) →
     head_reason kind h at ≡ Some reason → view_on body guards line kind object at h e ≡ one_line line (answers_raised reason) e
 refused_on body guards e line object kind at h reason some = rw (some, view_on) refl
 
-pub view_refused : (orders : Orders) (code : ResolvedCode) (guards : Guards) (e : State) (line object : ℕ) (kind : ViewKind) (at : Option ℕ) (mark : Mark) (h : Held) (reason : Reason) →
+pub view_refused : (propagates : Bool) (orders : Orders) (code : ResolvedCode) (guards : Guards) (e : State) (line object : ℕ) (kind : ViewKind) (at : Option ℕ) (mark : Mark) (h : Held) (reason : Reason) →
     guarded_at (under guards e) object ≡ Some h → mark ≡ mark_at e at → head_reason kind h mark ≡ Some reason →
-    one_line line (answers_raised reason) e ≡ on_object (exec_resolved orders code) guards (views_at line kind object at) (guarded_at (under guards e) object) e
-view_refused orders code guards e line object kind at mark h reason there mark_is some =
-    sym (refused_on (exec_resolved orders code) guards e line object kind mark h reason some)
-    ∙ (ap (λ m. view_on (exec_resolved orders code) guards line kind object m h e) mark_is
-    ∙ ap (λ o. on_object (exec_resolved orders code) guards (views_at line kind object at) o e) (sym there))
+    one_line line (answers_raised reason) e ≡ on_object (exec_resolved propagates orders code) guards (views_at line kind object at) (guarded_at (under guards e) object) e
+view_refused propagates orders code guards e line object kind at mark h reason there mark_is some =
+    sym (refused_on (exec_resolved propagates orders code) guards e line object kind mark h reason some)
+    ∙ (ap (λ m. view_on (exec_resolved propagates orders code) guards line kind object m h e) mark_is
+    ∙ ap (λ o. on_object (exec_resolved propagates orders code) guards (views_at line kind object at) o e) (sym there))
 
-many_turns : (orders : Orders) (code : ResolvedCode) (elements : Bool) (guards : Guards) (object : ℕ) (h : Held) (names : List ℕ) (e : State) →
-    length (turns (exec_resolved orders code) guards elements object h names e).after.bounds ≡ length e.bounds
-many_turns orders code elements guards object h [] e = refl
-many_turns orders code elements guards object h (name ∷ names) e =
-    let b = turn_bound elements object (mark_of_name (number_of h) name) in
-    let held = guards_of_loop elements h ++ guards in
-    let start = with_name e b in
-    let now = scoped e (exec_resolved orders code held) start in
-    many_turns orders code elements guards object h names now.after
-    ∙ many_kept held e now.after (kept_back held e (exec_resolved orders code held start).after (b ∷ []) (resolved_keeps orders code held start))
+-- whose names have gone with its last turn
+pub loop_comes : (propagates : Bool) (orders : Orders) (code : ResolvedCode) (guards : Guards) (e : State) (line : ℕ) (elements backward : Bool) (object place : ℕ) (h : Held) →
+    guarded_at (under guards e) object ≡ Some h → place ≡ object →
+    turns (exec_resolved propagates orders code) guards elements place h (in_order backward (names_of h)) e
+    ≡ on_object (exec_resolved propagates orders code) guards (loops_at line elements backward object) (guarded_at (under guards e) object) e
+loop_comes propagates orders code guards e line elements backward object place h there is =
+    ap (λ p. turns (exec_resolved propagates orders code) guards elements p h (in_order backward (names_of h)) e) is
+    ∙ ap (λ o. on_object (exec_resolved propagates orders code) guards (loops_at line elements backward object) o e) (sym there)
 
-pub loop_comes : (orders : Orders) (code : ResolvedCode) (guards : Guards) (e : State) (line count : ℕ) (elements backward : Bool) (object place : ℕ) (h : Held) →
-    guarded_at (under guards e) object ≡ Some h → place ≡ object → count ≡ length e.bounds →
-    inside count (turns (exec_resolved orders code) guards elements place h (in_order backward (names_of h)) e)
-    ≡ on_object (exec_resolved orders code) guards (loops_at line elements backward object) (guarded_at (under guards e) object) e
-loop_comes orders code guards e line count elements backward object place h there is many =
-    let r = turns (exec_resolved orders code) guards elements object h (in_order backward (names_of h)) e in
-    let all : length r.after.bounds ≤ count = omega (arith, many, many_turns orders code elements guards object h (in_order backward (names_of h)) e) in
-    ap (λ p. inside count (turns (exec_resolved orders code) guards elements p h (in_order backward (names_of h)) e)) is
-    ∙ (ap (λ s. outcome r.lines s) (whole_left r.after count all)
-    ∙ ap (λ o. on_object (exec_resolved orders code) guards (loops_at line elements backward object) o e) (sym there))
+-- behind a turn that raises none follows
+pub turns_behind_none : (body : Guards → State → Outcome) (guards : Guards) (elements : Bool) (object : ℕ) (h : Held) (names : List ℕ) (end : End) (e : State) →
+    is_some end ≡ true → turns_behind body guards elements object h names end e ≡ ending end [] e
+turns_behind_none body guards elements object h [] end e some = refl
+turns_behind_none body guards elements object h (name ∷ names) None e some = absurd (true≢false (sym some))
+turns_behind_none body guards elements object h (name ∷ names) (Some raised) e some = refl
 
 -- Declarations
 

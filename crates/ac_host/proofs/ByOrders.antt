@@ -124,6 +124,11 @@ module _ {allows : List ℕ → Type 0} where
             (u.holds orders (subst (λ n. GoBy u.told n orders) (sym t.counted) (go_by_rest t.told u.told a.counters.blocks orders g)));
       }
 
+  -- what came behind it didn't end this
+  pub tells_more : {S T U : Type 0} {a b c : World} {x : S} {y : T} {z : U} {P Q R : Orders → Type 0} → Tells allows a b (Ok x) P →
+      Tells allows b c (Ok y) Q → ((orders : Orders) → P orders → Q orders → R orders) → Tells allows a c (Ok z) R
+  tells_more {R = R} t u then = tells_on (tells_then {R = R} t u then) refl (λ orders holds. holds)
+
   -- what came behind it ended there
   pub tells_stopped : {S T U : Type 0} {a b c d : World} {x : S} {r : Result T HostEnd} (s : Result U HostEnd) (E : HostEnd → Type 0) {P Q R : Orders → Type 0} →
       Tells allows a b (Ok x) P → Tells allows b c r Q → IsErrAnd s E → ((orders : Orders) → P orders → Q orders → R orders) → Tells allows a d s R

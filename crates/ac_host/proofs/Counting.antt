@@ -10,7 +10,7 @@ use Rattle.ac_rules.specs.declared.resolved.ResolvedDecl.{ResolvedDecl}
 use Rattle.ac_rules.specs.declared.resolved.ResolvedDecl.TheVariants as decl
 use Rattle.ac_calls.specs.Holdings.{Held, Guards}
 use Rattle.ac_meaning.specs.Environment.{State, objects_by, under, object_at, leaving, Declared, unless_spent, after_decl, after_decls}
-use Rattle.ac_meaning.specs.Execution.{commanded, key_end_on}
+use Rattle.ac_meaning.specs.Execution.{End, commanded, key_end_on}
 use Rattle.ac_meaning.specs.UnderGuards.{held_without}
 use Rattle.ac_meaning.proofs.CommandsStay.{command_stays}
 use Rattle.ac_objects.specs.declared.blocks.UpdateKey.{UpdateKey}
@@ -69,17 +69,17 @@ key_end_count : (line object : ℕ) (e : State) (at : Mark) (copy : Value) (foun
 key_end_count line object e at copy None = refl
 key_end_count line object e at copy (Some h) = refl
 
-module _ {K T : Type 0} (held : K → Option (List ℕ)) (faults : K → ℕ) (room : K → Option ℕ) (counts : K → Bool) where
-  pub commanded_blocks : {old new : World} {a b : K} {result : Result T HostEnd} (simple : ResolvedSimple) (guards : Guards) (e : State) → IsUnder old guards e →
+module _ {K : Type 0} (held : K → Option (List ℕ)) (faults : K → ℕ) (room : K → Option ℕ) (counts : K → Bool) where
+  pub commanded_blocks : {old : World} {a b : K} {result : Result End HostEnd} (new : World) (simple : ResolvedSimple) (guards : Guards) (e : State) → IsUnder old guards e →
       Ran held faults room counts a b new guards (commanded guards e simple) result → OnOk result (SameCount old new)
-  commanded_blocks {result = result} simple guards e u ran =
+  commanded_blocks {result = result} new simple guards e u ran =
       on_ok_weaker result
       (λ is. ap (λ (s : State). s.blocks) is ∙ ((command_stays (under guards e) simple).blocks ∙ ap (λ (s : State). s.blocks) (sym u.is))) ran.after
 
-  pub ending_blocks : {old new : World} {a b : K} {result : Result T HostEnd} (line : ℕ) (key : UpdateKey) (guards : Guards) (e : State) →
+  pub ending_blocks : {old : World} {a b : K} {result : Result End HostEnd} (new : World) (line : ℕ) (key : UpdateKey) (guards : Guards) (e : State) →
       IsUnder old (guards_of_update_key key ++ guards) e →
-      Ran held faults room counts a b new guards (key_ending line key guards e) result → OnOk result (SameCount old new)
-  ending_blocks {result = result} line key guards e u ran =
+      Ran held faults room counts a b new guards (key_ending line key guards None e) result → OnOk result (SameCount old new)
+  ending_blocks {result = result} new line key guards e u ran =
       let left = leaving key.names e in
       on_ok_weaker result
       (λ is.

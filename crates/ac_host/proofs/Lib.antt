@@ -18,3 +18,4 @@ mod Updating
 mod Scripts
 mod OneLine
 mod TasksRun
+mod Handlers

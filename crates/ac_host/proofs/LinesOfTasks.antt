@@ -26,7 +26,7 @@ entry_lines tasks e = lines_at (slice_get tasks e.task) e.place (reply_answer e.
 
 pub history_next : (tasks : List Task) (history : List Entry) (i : ℕ) (e : Entry) → i < length history →
     told (history_lines tasks (drop i history))
-    ≡ meant.followed (told (entry_lines tasks (get_or history i e))) (λ _. told (history_lines tasks (drop (i + 1) history)))
+    ≡ meant.followed (told (entry_lines tasks (get_or history i e))) (λ _ _. told (history_lines tasks (drop (i + 1) history)))
 history_next tasks history i e within = ap (λ (l : List Entry). told (history_lines tasks l)) (drop_more history i e within)
 
 -- Tasks that aren't over
@@ -37,7 +37,7 @@ nowhere = record { steps = []; place = 0; locals = [] }
 pub stalled_next : (tasks : List Task) (states : List TaskState) (i : ℕ) (t : Task) (place : ℕ) → i < length tasks → i < length states → t ≡ get_or tasks i t →
     ((d : TaskState) → place ≡ (get_or states i d).place) →
     told (stalled_lines (drop i tasks) (drop i states))
-    ≡ meant.followed (told (lines_at (Some t) place answers_stalled)) (λ _. told (stalled_lines (drop (i + 1) tasks) (drop (i + 1) states)))
+    ≡ meant.followed (told (lines_at (Some t) place answers_stalled)) (λ _ _. told (stalled_lines (drop (i + 1) tasks) (drop (i + 1) states)))
 stalled_next tasks states i t place here there is at =
     ap (λ (l : List Task). told (stalled_lines l (drop i states))) (next_item tasks i t here is)
     ∙ (ap (λ (l : List TaskState). told (stalled_lines (t ∷ drop (i + 1) tasks) l)) (drop_more states i nowhere there)

@@ -1,5 +1,5 @@
 -- A whole script: where it begins, and what it comes to.
-use Rattle.std.proofs.Common.{◌≡◌, ◌+◌, ℕ, Bool, List, [], ◌∷◌, map, refl, sym, ap, subst, ◌∙◌, Option, Result, Ok, Err, IsErrAnd, IfOk}
+use Rattle.std.proofs.Common.{◌≡◌, ◌+◌, ℕ, Bool, false, List, [], ◌∷◌, map, refl, sym, ap, subst, ◌∙◌, Option, Result, Ok, Err, IsErrAnd, IfOk}
 use Rattle.std.specs.List.{fold}
 use Rattle.std.proofs.lemmas.List.Elements.{All-nil}
 use Rattle.std.proofs.lemmas.Option.{none-some}
@@ -60,7 +60,7 @@ if_ok_exit P Q (Ok x) exit = absurd exit
 if_ok_exit P Q (Err e) exit = tt
 
 abbrev pub comes_to : Orders → ResolvedCode → List ResolvedDecl → Outcome
-comes_to orders code ds = exec_resolved orders code [] (after_decls ds first_state).after
+comes_to orders code ds = exec_resolved false orders code [] (after_decls ds first_state).after
 
 pub script_comes : (orders : Orders) (script : Script) (code : ResolvedCode) (ds : List ResolvedDecl) →
     code ≡ resolve (with_decls [] script.decls) script.stmts → ds ≡ resolve_decls [] script.decls → comes_to orders code ds ≡ run_with orders script

@@ -282,13 +282,13 @@ ready_stand w r = subst ElementsStand (sym r.stands.is) (elements_stand r.guards
 
 -- What stays ready
 
-pub ready_exec : (orders : Orders) (code : ResolvedCode) (guards : Guards) (e : State) → Ready guards e → Ready guards (exec_resolved orders code guards e).after
-ready_exec orders code guards e r =
-    let now = (exec_resolved orders code guards e).after in
+pub ready_exec : (propagates : Bool) (orders : Orders) (code : ResolvedCode) (guards : Guards) (e : State) → Ready guards e → Ready guards (exec_resolved propagates orders code guards e).after
+ready_exec propagates orders code guards e r =
+    let now = (exec_resolved propagates orders code guards e).after in
     record {
-      below = new_objects_are_unguarded.later guards e now (next_rises.resolved orders code guards e) r.below;
-      differ = numbers_go_on.resolved orders code guards e r.differ;
-      elements = subst (ElementsKept guards) (sym (resolved_keeps orders code guards e)) r.elements;
+      below = new_objects_are_unguarded.later guards e now (next_rises.resolved propagates orders code guards None e) r.below;
+      differ = numbers_go_on.resolved propagates orders code guards None e r.differ;
+      elements = subst (ElementsKept guards) (sym (resolved_keeps propagates orders code guards None e)) r.elements;
     }
 
 guarded_more : (more guards : Guards) (number : ℕ) → is_guarded guards number ≡ true → is_guarded (more ++ guards) number ≡ true

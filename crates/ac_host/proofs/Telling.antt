@@ -4,7 +4,7 @@ use Rattle.std.proofs.lemmas.Option.{none-some, same_Some}
 use Rattle.ac_io.specs.Outside.{Rose, GrewBy, GrewByFront}
 use Rattle.ac_calls.specs.Answers.{Line, line_text, lines_text}
 use Rattle.ac_meaning.specs.Environment.{State}
-use Rattle.ac_meaning.specs.Execution.{Outcome, outcome, followed}
+use Rattle.ac_meaning.specs.Execution.{End, Outcome, ending, followed}
 use Rattle.ac_host.specs.declared.end.HostEnd.{HostEnd}
 use Rattle.ac_host.specs.declared.end.HostEnd.TheVariants.{WriteFault, NoMemory}
 use Rattle.ac_host.specs.Writing.{Wrote, Broke, WroteSoFar}
@@ -134,36 +134,46 @@ module _ {K : Type 0} (held : K → Option (List ℕ)) (faults : K → ℕ) (roo
       subst (λ t. Broke held faults room counts a b t NoMemory) (append-nil x) (broke_behind a b b x [] NoMemory f (broke_nothing b []))
 
   pub so_far_none : (a : K) (whole : Outcome) → WroteSoFar held faults room counts a a whole whole
-  so_far_none a whole = record { done = []; parts = refl; wrote = wrote_nothing a; after = refl }
+  so_far_none a whole = record { done = []; parts = refl; wrote = wrote_nothing a; after = refl; end = refl }
 
-  pub so_far_more : (a b c : K) (left whole first : Outcome) (next : State → Outcome) → left ≡ followed first next →
+  so_far_next : (a b c : K) (left whole first : Outcome) (next : End → State → Outcome) → left ≡ followed first next →
       WroteSoFar held faults room counts a b left whole → Wrote held faults room counts b c (lines_text first.lines) →
-      WroteSoFar held faults room counts a c (next first.after) whole
-  so_far_more a b c left whole first next is so_far f =
-      let rest = lines_text (next first.after).lines in
+      WroteSoFar held faults room counts a c (next first.end first.after) whole
+  so_far_next a b c left whole first next is so_far f =
+      let second = next first.end first.after in
+      let rest = lines_text second.lines in
       let now = lines_text first.lines in
       record {
         done = so_far.done ++ now;
         parts =
             append_assoc so_far.done now rest
-            ∙ (ap (λ t. so_far.done ++ t) (sym (lines_together first.lines (next first.after).lines) ∙ ap (λ (r : Outcome). lines_text r.lines) (sym is))
+            ∙ (ap (λ t. so_far.done ++ t) (sym (lines_together first.lines second.lines) ∙ ap (λ (r : Outcome). lines_text r.lines) (sym is))
             ∙ so_far.parts);
         wrote = wrote_then a b c so_far.done now so_far.wrote f;
         after = ap (λ (r : Outcome). r.after) (sym is) ∙ so_far.after;
+        end = ap (λ (r : Outcome). r.end) (sym is) ∙ so_far.end;
       }
 
-  pub so_far_all : (a b : K) (e : State) (whole : Outcome) → WroteSoFar held faults room counts a b (outcome [] e) whole →
-      Wrote held faults room counts a b (lines_text whole.lines)
-  so_far_all a b e whole so_far = subst (Wrote held faults room counts a b) (sym (append-nil so_far.done) ∙ so_far.parts) so_far.wrote
+  -- behind what ended so
+  pub so_far_more : (a b c : K) (left whole first : Outcome) (next : End → State → Outcome) (end : End) → left ≡ followed first next → first.end ≡ end →
+      WroteSoFar held faults room counts a b left whole → Wrote held faults room counts b c (lines_text first.lines) →
+      WroteSoFar held faults room counts a c (next end first.after) whole
+  so_far_more a b c left whole first next end is ended so_far f =
+      subst (λ (x : End). WroteSoFar held faults room counts a c (next x first.after) whole) ended (so_far_next a b c left whole first next is so_far f)
 
-  pub so_far_broke : (a b c : K) (left whole first : Outcome) (next : State → Outcome) (end : HostEnd) → left ≡ followed first next →
+  pub so_far_all : (a b : K) (end : End) (e : State) (whole : Outcome) → WroteSoFar held faults room counts a b (ending end [] e) whole →
+      Wrote held faults room counts a b (lines_text whole.lines)
+  so_far_all a b end e whole so_far = subst (Wrote held faults room counts a b) (sym (append-nil so_far.done) ∙ so_far.parts) so_far.wrote
+
+  pub so_far_broke : (a b c : K) (left whole first : Outcome) (next : End → State → Outcome) (end : HostEnd) → left ≡ followed first next →
       WroteSoFar held faults room counts a b left whole → Broke held faults room counts b c (lines_text first.lines) end →
       Broke held faults room counts a c (lines_text whole.lines) end
   so_far_broke a b c left whole first next end is so_far f =
-      let rest = lines_text (next first.after).lines in
+      let second = next first.end first.after in
+      let rest = lines_text second.lines in
       let now = lines_text first.lines in
       subst (λ t. Broke held faults room counts a c t end)
-      (ap (λ t. so_far.done ++ t) (sym (lines_together first.lines (next first.after).lines) ∙ ap (λ (r : Outcome). lines_text r.lines) (sym is)) ∙ so_far.parts)
+      (ap (λ t. so_far.done ++ t) (sym (lines_together first.lines second.lines) ∙ ap (λ (r : Outcome). lines_text r.lines) (sym is)) ∙ so_far.parts)
       (broke_behind a b c so_far.done (now ++ rest) end so_far.wrote (broke_before b c now rest end f))
 
   -- memory ended between two parts

@@ -1,6 +1,6 @@
 -- The turns of a loop.
-use Rattle.std.proofs.Common.{◌≡◌, ◌<◌, inl, inr, ℕ, Bool, true, false, List, [], ◌∷◌, ◌++◌, length, slice_get, refl, sym, ap, subst, ◌∙◌, arith, append_assoc, Some, None}
-use Rattle.std.proofs.lemmas.List.{length-map}
+use Rattle.std.proofs.Common.{◌≡◌, ◌<◌, ◌≤◌, inl, inr, ℕ, Bool, true, false, List, [], ◌∷◌, ◌++◌, length, slice_get, refl, sym, ap, subst, ◌∙◌, arith, append_assoc, Some, None}
+use Rattle.std.proofs.lemmas.List.{length-map, take_all}
 use Rattle.std.proofs.lemmas.Option.{slice_get_within}
 use Rattle.ac_model.specs.Letters.{Mark, no_mark, mark_at}
 use Rattle.ac_rules.specs.Resolved.{ResolvedCode}
@@ -120,17 +120,25 @@ module _ {w : World} {count object : ℕ} {backward : Bool} {coming : Mark} {gua
           (subst (λ x. IsKept guards (kept guards e) x mark) p
           (kept_at guards (kept guards e) object number t.rooted all t.has_element name t.there t.guarded (next_among name rest is) t.no_root))
 
-  pub turn_ends : (orders : Orders) (code : ResolvedCode) (b : Bound) (name : ℕ) (rest : List ℕ) (now : World) (next : Mark) → names ≡ name ∷ rest →
-      Ready guards (with_name e b) → state_of now ≡ under guards (exec_resolved orders code guards (with_name e b)).after → next ≡ first_mark number rest →
-      Turning now count object backward next guards (leaving (length e.bounds) (exec_resolved orders code guards (with_name e b)).after) number all rest
-  turn_ends orders code b name rest now next is begun ended next_is =
-      let after = (exec_resolved orders code guards (with_name e b)).after in
+  -- where a turn raises, the names of the loop's head are what is left
+  pub turn_left : (propagates : Bool) (orders : Orders) (code : ResolvedCode) (b : Bound) (now : World) →
+      state_of now ≡ under guards (exec_resolved propagates orders code guards (with_name e b)).after →
+      leaving count (state_of now) ≡ under guards (leaving (length e.bounds) (exec_resolved propagates orders code guards (with_name e b)).after)
+  turn_left propagates orders code b now ended =
+      let after = (exec_resolved propagates orders code guards (with_name e b)).after in
+      ap (leaving count) ended ∙ (ap (λ n. leaving n (under guards after)) t.as_many ∙ sym (parts_under.left guards (length e.bounds) after))
+
+  pub turn_ends : (propagates : Bool) (orders : Orders) (code : ResolvedCode) (b : Bound) (name : ℕ) (rest : List ℕ) (now : World) (next : Mark) → names ≡ name ∷ rest →
+      Ready guards (with_name e b) → state_of now ≡ under guards (exec_resolved propagates orders code guards (with_name e b)).after → next ≡ first_mark number rest →
+      Turning now count object backward next guards (leaving (length e.bounds) (exec_resolved propagates orders code guards (with_name e b)).after) number all rest
+  turn_ends propagates orders code b name rest now next is begun ended next_is =
+      let after = (exec_resolved propagates orders code guards (with_name e b)).after in
       let left = leaving (length e.bounds) after in
-      let same = resolved_keeps orders code guards (with_name e b) in
+      let same = resolved_keeps propagates orders code guards None (with_name e b) in
       let back : kept guards left ≡ kept guards e = kept_back guards e after (b ∷ []) same in
       record {
-        is = ap (leaving count) ended ∙ (ap (λ n. leaving n (under guards after)) t.as_many ∙ sym (parts_under.left guards (length e.bounds) after));
-        ready = ready_back guards e after b same t.ready (ready_exec orders code guards (with_name e b) begun);
+        is = turn_left propagates orders code b now ended;
+        ready = ready_back guards e after b same t.ready (ready_exec propagates orders code guards (with_name e b) begun);
         as_many = t.as_many ∙ sym (many_kept guards e left back);
         rooted = t.rooted;
         has_element = t.has_element;
@@ -141,6 +149,12 @@ module _ {w : World} {count object : ℕ} {backward : Bool} {coming : Mark} {gua
         among = t.among ∙ (ap (λ l. t.before ++ l) is ∙ sym (append_assoc t.before (name ∷ []) rest));
         coming_is = next_is;
       }
+
+  -- and so where no turn is to come
+  pub turns_left : (now : World) → state_of now ≡ leaving count (state_of w) → leaving count (state_of now) ≡ under guards e
+  turns_left now is =
+      let all : length (under guards e).bounds ≤ count = omega (arith, length-map e.bounds (bound_by (held_under guards)), t.as_many) in
+      ap (leaving count) (is ∙ t.is) ∙ (λ i. record (under guards e) { bounds = take_all count (under guards e).bounds all i })
 
   pub turning_next : (coming ≡ no_mark → ⊥) → NextName names
   turning_next some = go names refl

@@ -1,6 +1,9 @@
 -- Updates of a key.
-use Rattle.std.proofs.Common.{◌≡◌, ◌<◌, ◌++◌, ℕ, Bool, true, List, [], ◌∷◌, take, length, slice_get, refl, sym, ap, subst, ◌∙◌, Option, Some, None, Result, Ok, Err, OnOk}
+use Rattle.std.proofs.Common.{◌≡◌, ◌<◌, ◌++◌, ℕ, Bool, true, List, [], ◌∷◌, take, length, slice_get, refl, sym, ap, subst, ◌∙◌, Option, Some, None, Result, Ok, Err, OnOk, IfOk, append-nil}
+use Rattle.std.proofs.lemmas.Result.{IfOk-weaker}
 use Rattle.ac_base.specs.declared.guard.GuardKind.TheVariants as guard
+use Rattle.ac_base.specs.Reason.{exception_of}
+use Rattle.ac_base.specs.declared.reason.Exception.{Exception}
 use Rattle.ac_base.specs.declared.reason.Reason.{Reason}
 use Rattle.ac_base.specs.declared.value.Value.{Value}
 use Rattle.ac_model.specs.Cursors.{plain_mark}
@@ -10,20 +13,20 @@ use Rattle.ac_rules.specs.Resolved.{ResolvedCode, views_at}
 use Rattle.ac_calls.specs.Answers.{lines_text, line as line_of, answers_raised}
 use Rattle.ac_calls.specs.Holdings.{Held, held_under, takes_guards, Guards, element_value}
 use Rattle.ac_meaning.specs.Environment.{Bound, bound_by, bound_in, bound_at, State, under, object_at, guarded_at, mark_at, value_at, value_or_zero, with_name, leaving, binds_type, binds_object, binds_cursor, binds_value, binds_element}
-use Rattle.ac_meaning.specs.Execution.{Outcome, Orders, followed, exec_resolved, guards_of_view, head_reason, key_end, key_body, view_on, on_object}
+use Rattle.ac_meaning.specs.Execution.{End, Outcome, ending, Orders, unless_raised, followed, exec_resolved, guards_of_view, head_reason, key_end, key_body, view_on, on_object}
 use Rattle.ac_meaning.specs.GuardedNames.{of_value, frame, kept}
 use Rattle.ac_meaning.proofs.CountsStay.{parts_under}
 use Rattle.ac_meaning.proofs.ExecKeeps.{resolved_keeps}
 use Rattle.ac_objects.specs.declared.blocks.UpdateKey.{UpdateKey as KeyOfUpdate}
-use Rattle.ac_objects.specs.Blocks.{holding, guards_of_update_key, IsHeldAt}
+use Rattle.ac_objects.specs.Blocks.{holding, releasing, guards_of_update_key, IsHeldAt}
 use Rattle.ac_objects.specs.KeyUpdates.{UpdateEnds}
 use Rattle.ac_objects.specs.Standing.{HasValue, StandsAt, counts_of}
 use Rattle.ac_objects.specs.World.{World, state_of, IsKnown}
 use Rattle.ac_host.specs.declared.end.HostEnd.{HostEnd}
 use Rattle.ac_host.specs.Ready.{IsKept, IsUnder}
-use Rattle.ac_host.specs.Running.{key_ending, IsUpdating}
+use Rattle.ac_host.specs.Running.{inside, key_ending, IsUpdating}
 use Rattle.ac_host.specs.Writing.{Wrote, Broke, Writes, Ran}
-use Rattle.ac_host.proofs.Blocks.{mark_under, there_within, many_names, many_under, many_named, same_many, view_held}
+use Rattle.ac_host.proofs.Blocks.{ran_inside, ran_as, mark_under, there_within, many_names, many_under, many_named, same_many, view_held}
 use Rattle.ac_host.proofs.Holding.{held_still}
 use Rattle.ac_host.proofs.Opening.{update_begins, update_element}
 use Rattle.ac_host.proofs.Standing.{frame_there, framed, kept_stands, last_there, ready_exec}
@@ -105,17 +108,17 @@ pub updating_held : (w now : World) (key : KeyOfUpdate) → IsUpdating w key →
     IsHeldAt (state_of now) key.object key.guard
 updating_held w now key k same = held_still (state_of w) (state_of now) key.object key.names key.guard k.inner (ap (take key.names) same) k.guard
 
-pub updating_goes_on : (orders : Orders) (code : ResolvedCode) (w now : World) (key : KeyOfUpdate) (k : IsUpdating w key) →
-    state_of now ≡ under (guards_of_update_key key ++ k.guards) (exec_resolved orders code (guards_of_update_key key ++ k.guards) k.env).after →
+pub updating_goes_on : (propagates : Bool) (orders : Orders) (code : ResolvedCode) (w now : World) (key : KeyOfUpdate) (k : IsUpdating w key) →
+    state_of now ≡ under (guards_of_update_key key ++ k.guards) (exec_resolved propagates orders code (guards_of_update_key key ++ k.guards) k.env).after →
     counts_of (state_of now) ≡ counts_of (state_of w) → IsKnown now key.at → IsUpdating now key
-updating_goes_on orders code w now key k is counts known =
+updating_goes_on propagates orders code w now key k is counts known =
     let held = guards_of_update_key key ++ k.guards in
     record {
       guards = k.guards;
-      env = (exec_resolved orders code held k.env).after;
-      stands = record { is = is; ready = ready_exec orders code held k.env k.stands.ready };
-      element = subst (λ l. IsKept held l key.object (plain_mark key.at)) (sym (resolved_keeps orders code held k.env)) k.element;
-      copy = ap (λ l. slice_get l key.names) (resolved_keeps orders code held k.env) ∙ k.copy;
+      env = (exec_resolved propagates orders code held k.env).after;
+      stands = record { is = is; ready = ready_exec propagates orders code held k.env k.stands.ready };
+      element = subst (λ l. IsKept held l key.object (plain_mark key.at)) (sym (resolved_keeps propagates orders code held None k.env)) k.element;
+      copy = ap (λ l. slice_get l key.names) (resolved_keeps propagates orders code held None k.env) ∙ k.copy;
       last = same_many w now counts ∙ k.last;
       known = known;
       inner = k.inner;
@@ -125,17 +128,17 @@ updating_goes_on orders code w now key k is counts known =
 
 -- What it comes to
 
-pub update_comes : (orders : Orders) (code : ResolvedCode) (guards : Guards) (e : State) (line object : ℕ) (at : Option ℕ) (s : State) (h : Held) (key : KeyOfUpdate) →
+pub update_comes : (propagates : Bool) (orders : Orders) (code : ResolvedCode) (guards : Guards) (e : State) (line object : ℕ) (at : Option ℕ) (s : State) (h : Held) (key : KeyOfUpdate) →
     guarded_at (under guards e) object ≡ Some h → s ≡ under guards e → head_reason UpdateKey h (mark_at s at) ≡ None →
     guards_of_update_key key ≡ guards_of_view UpdateKey h → key.object ≡ object → key.names ≡ length e.bounds → plain_mark key.at ≡ mark_at s at →
-    followed (exec_resolved orders code (guards_of_update_key key ++ guards) (with_name e (binds_value (copied s at h)))) (key_ending line key guards)
-    ≡ on_object (exec_resolved orders code) guards (views_at line UpdateKey object at) (guarded_at (under guards e) object) e
-update_comes orders code guards e line object at s h key there s_is none own place names mark_is =
-    let body = exec_resolved orders code in
+    followed (exec_resolved propagates orders code (guards_of_update_key key ++ guards) (with_name e (binds_value (copied s at h)))) (key_ending line key guards)
+    ≡ on_object (exec_resolved propagates orders code) guards (views_at line UpdateKey object at) (guarded_at (under guards e) object) e
+update_comes propagates orders code guards e line object at s h key there s_is none own place names mark_is =
+    let body = exec_resolved propagates orders code in
     let mark : mark_at s at ≡ mark_at e at = ap (λ x. mark_at x at) s_is ∙ mark_under guards e at in
     let same = mark_is ∙ mark in
     (λ i. followed (body (own i ++ guards) (with_name e (binds_value (value_or_zero (element_value h (mark i)).answer))))
-    (λ (r : State). key_end line (place i) (same i) (value_at r (names i)) (own i ++ guards) (leaving (names i) r)))
+    (λ (end : End) (r : State). unless_raised (key_end line (place i) (same i) (value_at r (names i)) (own i ++ guards)) end (leaving (names i) r)))
     ∙ (begun body (mark_at e at) (sym (ap (head_reason UpdateKey h) mark) ∙ none)
     ∙ ap (λ o. on_object body guards (views_at line UpdateKey object at) o e) (sym there))
   where
@@ -145,60 +148,82 @@ update_comes orders code guards e line object at s h key there s_is none own pla
 
 -- What was written
 
-module _ {K T : Type 0} (held : K → Option (List ℕ)) (faults : K → ℕ) (room : K → Option ℕ) (counts : K → Bool) where
-  pub ran_then : (a b c : K) (now : World) (guards : Guards) (first : Outcome) (next : State → Outcome) (result : Result T HostEnd) →
-      Wrote held faults room counts a b (lines_text first.lines) → Ran held faults room counts b c now guards (next first.after) result →
+module _ {K : Type 0} (held : K → Option (List ℕ)) (faults : K → ℕ) (room : K → Option ℕ) (counts : K → Bool) where
+  pub ran_then : (a b c : K) (now : World) (guards : Guards) (first : Outcome) (next : End → State → Outcome) (end : End) (result : Result End HostEnd) →
+      end ≡ first.end → Wrote held faults room counts a b (lines_text first.lines) → Ran held faults room counts b c now guards (next end first.after) result →
       Ran held faults room counts a c now guards (followed first next) result
-  ran_then a b c now guards first next result wrote ran =
-      let second = next first.after in
-      record {
-        writes =
-            subst (λ t. Writes held faults room counts a c t result) (sym (lines_together first.lines second.lines)) (both result ran.writes);
-        after = ran.after;
-      }
+  ran_then a b c now guards first next end result ended wrote ran = go (subst (λ (x : End). Ran held faults room counts b c now guards (next x first.after) result) ended ran)
     where
-      both : (r : Result T HostEnd) → Writes held faults room counts b c (lines_text (next first.after).lines) r →
-          Writes held faults room counts a c (lines_text first.lines ++ lines_text (next first.after).lines) r
-      both (Ok x) w = wrote_then held faults room counts a b c (lines_text first.lines) (lines_text (next first.after).lines) wrote w
-      both (Err end) w = broke_behind held faults room counts a b c (lines_text first.lines) (lines_text (next first.after).lines) end wrote w
+      both : (r : Result End HostEnd) → Writes held faults room counts b c (lines_text (next first.end first.after).lines) r →
+          Writes held faults room counts a c (lines_text first.lines ++ lines_text (next first.end first.after).lines) r
+      both (Ok x) w = wrote_then held faults room counts a b c (lines_text first.lines) (lines_text (next first.end first.after).lines) wrote w
+      both (Err stop) w = broke_behind held faults room counts a b c (lines_text first.lines) (lines_text (next first.end first.after).lines) stop wrote w
 
-  abbrev stopped : HostEnd → Result T HostEnd
+      go : Ran held faults room counts b c now guards (next first.end first.after) result → Ran held faults room counts a c now guards (followed first next) result
+      go then =
+          let second = next first.end first.after in
+          record {
+            writes =
+                subst (λ t. Writes held faults room counts a c t result) (sym (lines_together first.lines second.lines)) (both result then.writes);
+            after = then.after;
+            ended = then.ended;
+          }
+
+  abbrev stopped : HostEnd → Result End HostEnd
   stopped end = Err end
 
-  pub ran_stopped : (a b : K) (now : World) (guards : Guards) (first : Outcome) (next : State → Outcome) (end : HostEnd) →
+  pub ran_stopped : (a b : K) (now : World) (guards : Guards) (first : Outcome) (next : End → State → Outcome) (end : HostEnd) →
       Broke held faults room counts a b (lines_text first.lines) end → Ran held faults room counts a b now guards (followed first next) (stopped end)
   ran_stopped a b now guards first next end broke =
-      let second = next first.after in
+      let second = next first.end first.after in
       record {
         writes =
             subst (λ t. Broke held faults room counts a b t end) (sym (lines_together first.lines second.lines))
             (broke_before held faults room counts a b (lines_text first.lines) (lines_text second.lines) end broke);
         after = tt;
+        ended = tt;
       }
 
+  -- where the body was left
+  pub ran_dropped : (a b : K) (now later : World) (line : ℕ) (key : KeyOfUpdate) (guards : Guards) (r : Outcome) (raised : Exception) →
+      state_of later ≡ releasing (guards_of_update_key key) (leaving key.names (state_of now)) →
+      Ran held faults room counts a b now (guards_of_update_key key ++ guards) r (Ok (Some raised)) →
+      Ran held faults room counts a b later guards (followed r (key_ending line key guards)) (Ok (Some raised))
+  ran_dropped a b now later line key guards r raised left ran =
+      ran_as held faults room counts a b later guards (inside key.names r) (followed r next) (Ok (Some raised))
+      ((λ i. ending (sym ran.ended i) (sym (append-nil r.lines) i) (leaving key.names r.after))
+      ∙ ap (λ (end : End). let second = next end r.after in ending second.end (r.lines ++ second.lines) second.after) ran.ended)
+      (ran_inside held faults room counts (guards_of_update_key key) guards key.names a b now later r (Ok (Some raised)) left ran)
+    where
+      next : End → State → Outcome
+      next = key_ending line key guards
+
   -- at the end, where the copy has the element's key
-  pub ended_silent : (a : K) (old now : World) (line : ℕ) (key : KeyOfUpdate) (guards : Guards) (e : State) (x : T) →
+  pub ended_silent : (a : K) (old now : World) (line : ℕ) (key : KeyOfUpdate) (guards : Guards) (e : State) →
       UpdateEnds key (state_of old) (state_of now) None → IsUnder old (guards_of_update_key key ++ guards) e →
-      Ran held faults room counts a a now guards (key_ending line key guards e) (Ok x)
-  ended_silent a old now line key guards e x ends u =
+      Ran held faults room counts a a now guards (key_ending line key guards None e) (Ok None)
+  ended_silent a old now line key guards e ends u =
       let is = ends line guards e u.is in
       record {
         writes = subst (λ l. Wrote held faults room counts a a (lines_text l)) (sym is.0) (wrote_nothing held faults room counts a);
         after = is.1;
+        ended = sym is.2;
       }
 
   -- and where it has another
-  pub ended_line : (a b : K) (old now : World) (line : ℕ) (key : KeyOfUpdate) (guards : Guards) (e : State) (reason : Reason) (result : Result T HostEnd) →
+  pub ended_line : (a b : K) (old now : World) (line : ℕ) (key : KeyOfUpdate) (guards : Guards) (e : State) (reason : Reason) (result : Result End HostEnd) →
       UpdateEnds key (state_of old) (state_of now) (Some reason) → IsUnder old (guards_of_update_key key ++ guards) e →
       Writes held faults room counts a b (lines_text (line_of line (answers_raised reason) ∷ [])) result →
-      Ran held faults room counts a b now guards (key_ending line key guards e) result
-  ended_line a b old now line key guards e reason result ends u writes =
+      IfOk result (λ end. end ≡ Some (exception_of reason)) →
+      Ran held faults room counts a b now guards (key_ending line key guards None e) result
+  ended_line a b old now line key guards e reason result ends u writes ended =
       let is = ends line guards e u.is in
       record {
         writes = subst (λ l. Writes held faults room counts a b (lines_text l) result) (sym is.0) writes;
         after = after result is.1;
+        ended = IfOk-weaker result _ _ (λ end same. same ∙ sym is.2) ended;
       }
     where
-      after : {P : Type 0} (r : Result T HostEnd) → P → OnOk r P
+      after : {P : Type 0} (r : Result End HostEnd) → P → OnOk r P
       after (Ok x) p = p
       after (Err end) p = tt

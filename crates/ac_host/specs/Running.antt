@@ -5,10 +5,10 @@ use Rattle.ac_model.specs.Cursors.{plain_mark}
 use Rattle.ac_model.specs.Letters.{Mark}
 use Rattle.ac_rules.specs.Resolved.{ResolvedCode, ResolvedHead, calls_at, sets_at, sums_at, loops_at, views_at, stables_at, declares_at}
 use Rattle.ac_rules.specs.declared.resolved.ResolvedStmt.{ResolvedStmt}
-use Rattle.ac_rules.specs.declared.resolved.ResolvedStmt.TheVariants.{Call, Set, Sum, Loop, View, Stable, Declare, Tasks}
+use Rattle.ac_rules.specs.declared.resolved.ResolvedStmt.TheVariants.{Call, Set, Sum, Loop, View, Stable, Declare, Tasks, Handled}
 use Rattle.ac_calls.specs.Holdings.{Held, Guards, number_of, names_of}
 use Rattle.ac_meaning.specs.Environment.{State, under, value_at, leaving}
-use Rattle.ac_meaning.specs.Execution.{Outcome, outcome, Orders, commanded, gathered, block_on, exec_resolved, in_order, guards_of_loop, key_end}
+use Rattle.ac_meaning.specs.Execution.{End, Outcome, ending, Orders, passed_on, followed, unless_raised, commanded, gathered, block_on, resolved_behind, exec_resolved, in_order, guards_of_loop, key_end}
 use Rattle.ac_meaning.specs.GuardedNames.{is_guarded, of_object, of_value, kept}
 use Rattle.ac_meaning.specs.Walks.{first_mark}
 use Rattle.ac_objects.specs.declared.blocks.UpdateKey.{UpdateKey}
@@ -22,38 +22,45 @@ use Rattle.ac_host.specs.Told.{Tells}
 use Rattle.ac_host.specs.Writing.{Ran, WroteSoFar}
 
 -- a block, with its body
-abbrev pub block_of : Orders → (body : ResolvedCode) → Guards → State → ResolvedHead → Outcome
-block_of orders body guards e head = block_on (exec_resolved orders body) guards orders body e head
+abbrev pub block_of : (propagates : Bool) → Orders → (body : ResolvedCode) → Guards → State → ResolvedHead → Outcome
+block_of propagates orders body guards e head = block_on (exec_resolved propagates orders body) guards orders body e head
+
+-- a block with handlers: behind an exception that leaves the body, the first that takes it
+abbrev pub handled_of : (propagates : Bool) → Orders → (body handlers : ResolvedCode) → Guards → State → Outcome
+handled_of propagates orders body handlers guards e =
+    followed (passed_on propagates (exec_resolved propagates orders body guards e)) (resolved_behind propagates orders handlers guards)
 
 -- one statement, without what follows it
-abbrev pub statement_outcome : ResolvedStmt → Orders → Guards → State → Outcome
-statement_outcome (Call line target object operation args) orders guards e = commanded guards e (calls_at line target object operation args)
-statement_outcome (Set line target from) orders guards e = commanded guards e (sets_at line target from)
-statement_outcome (Sum line target from minus number) orders guards e = commanded guards e (sums_at line target from minus number)
-statement_outcome (Loop line elements backward object body) orders guards e = block_of orders body guards e (loops_at line elements backward object)
-statement_outcome (View line kind object at body) orders guards e = block_of orders body guards e (views_at line kind object at)
-statement_outcome (Stable line object body) orders guards e = block_of orders body guards e (stables_at line object)
-statement_outcome (Declare line decls body) orders guards e = block_of orders body guards e (declares_at line decls)
-statement_outcome (Tasks line tasks) orders guards e = gathered (orders e.blocks) tasks e
+abbrev pub statement_outcome : ResolvedStmt → (propagates : Bool) → Orders → Guards → State → Outcome
+statement_outcome (Call line target object operation args) propagates orders guards e = commanded guards e (calls_at line target object operation args)
+statement_outcome (Set line target from) propagates orders guards e = commanded guards e (sets_at line target from)
+statement_outcome (Sum line target from minus number) propagates orders guards e = commanded guards e (sums_at line target from minus number)
+statement_outcome (Loop line elements backward object body) propagates orders guards e =
+    block_of propagates orders body guards e (loops_at line elements backward object)
+statement_outcome (View line kind object at body) propagates orders guards e = block_of propagates orders body guards e (views_at line kind object at)
+statement_outcome (Stable line object body) propagates orders guards e = block_of propagates orders body guards e (stables_at line object)
+statement_outcome (Declare line decls body) propagates orders guards e = block_of propagates orders body guards e (declares_at line decls)
+statement_outcome (Tasks line tasks) propagates orders guards e = gathered (orders e.blocks) tasks e
+statement_outcome (Handled body handlers) propagates orders guards e = handled_of propagates orders body handlers guards e
 
 -- with no more than so many names left behind it
 abbrev pub inside : ℕ → Outcome → Outcome
-inside count r = outcome r.lines (leaving count r.after)
+inside count r = ending r.end r.lines (leaving count r.after)
 
--- what an update of a key comes to behind its body, which has left this environment
-abbrev pub key_ending : ℕ → UpdateKey → Guards → State → Outcome
-key_ending line key guards e =
-    key_end line key.object (plain_mark key.at) (value_at e key.names) (guards_of_update_key key ++ guards) (leaving key.names e)
+-- what an update of a key comes to behind its body, which ended so and has left this environment: behind an exception the copy's name goes, and nothing else is done
+abbrev pub key_ending : ℕ → UpdateKey → Guards → End → State → Outcome
+key_ending line key guards end e =
+    unless_raised (key_end line key.object (plain_mark key.at) (value_at e key.names) (guards_of_update_key key ++ guards)) end (leaving key.names e)
 
 -- what runs on the objects comes to this, for whatever environment they are
-abbrev pub Runs : {K T : Type 0} → (K → Option (List ℕ)) → (K → ℕ) → (K → Option ℕ) → (K → Bool) → (sink_old sink_new : K) → (old new : World) →
-    (Guards → State → Outcome) → Result T HostEnd → Type 0
+abbrev pub Runs : {K : Type 0} → (K → Option (List ℕ)) → (K → ℕ) → (K → Option ℕ) → (K → Bool) → (sink_old sink_new : K) → (old new : World) →
+    (Guards → State → Outcome) → Result End HostEnd → Type 0
 Runs held faults room counts_failures sink_old sink_new old new comes_to result =
     (guards : Guards) (e : State) → IsUnder old guards e → Ran held faults room counts_failures sink_old sink_new new guards (comes_to guards e) result
 
 -- the same by orders, told by those of the blocks of tasks that began
-abbrev pub RunsByOrders : {K T : Type 0} → (allows : List ℕ → Type 0) → (K → Option (List ℕ)) → (K → ℕ) → (K → Option ℕ) → (K → Bool) →
-    (sink_old sink_new : K) → (old new : World) → (Orders → Guards → State → Outcome) → Result T HostEnd → Type 0
+abbrev pub RunsByOrders : {K : Type 0} → (allows : List ℕ → Type 0) → (K → Option (List ℕ)) → (K → ℕ) → (K → Option ℕ) → (K → Bool) →
+    (sink_old sink_new : K) → (old new : World) → (Orders → Guards → State → Outcome) → Result End HostEnd → Type 0
 RunsByOrders allows held faults room counts_failures sink_old sink_new old new comes_to result =
     Tells allows old new result (λ orders. Runs held faults room counts_failures sink_old sink_new old new (comes_to orders) result)
 

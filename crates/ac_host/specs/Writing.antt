@@ -1,10 +1,10 @@
 -- What was written of a text when a part of a script ended.
-use Rattle.std.specs.Prelude.{◌≡◌, ◌≢◌, ◌-◌, ◌≤◌, ℕ, Bool, true, List, ◌++◌, length, Option, Some, IfSome, Result, Ok, Err, OnOk}
+use Rattle.std.specs.Prelude.{◌≡◌, ◌≢◌, ◌-◌, ◌≤◌, ℕ, Bool, true, List, ◌++◌, length, Option, Some, IfSome, Result, Ok, Err, OnOk, IfOk}
 use Rattle.ac_io.specs.Outside.{Rose, GrewBy, GrewByFront}
 use Rattle.ac_calls.specs.Answers.{lines_text}
-use Rattle.ac_meaning.specs.Environment.{under}
+use Rattle.ac_meaning.specs.Environment.{State, under}
 use Rattle.ac_calls.specs.Holdings.{Guards}
-use Rattle.ac_meaning.specs.Execution.{Outcome}
+use Rattle.ac_meaning.specs.Execution.{End, Outcome}
 use Rattle.ac_objects.specs.World.{World, state_of}
 use Rattle.ac_host.specs.declared.end.HostEnd.{HostEnd}
 use Rattle.ac_host.specs.declared.end.HostEnd.TheVariants.{WriteFault}
@@ -34,14 +34,20 @@ module _ {K : Type 0} (held : K → Option (List ℕ)) (faults : K → ℕ) (roo
   Writes old new text (Ok _) = Wrote old new text
   Writes old new text (Err end) = Broke old new text end
 
-  -- the lines were written, and then the objects are those of the environment that is left
-  pub record Ran {T : Type 0} (old new : K) (now : World) (guards : Guards) (r : Outcome) (result : Result T HostEnd) : Type 0 where
+  -- the lines were written, and then this is the environment that is left, and the end is told
+  pub record Reached (old new : K) (now : State) (guards : Guards) (r : Outcome) (result : Result End HostEnd) : Type 0 where
     pub writes : Writes old new (lines_text r.lines) result
-    pub after : OnOk result (state_of now ≡ under guards r.after)
+    pub after : OnOk result (now ≡ under guards r.after)
+    pub ended : IfOk result (λ end. end ≡ r.end)
 
-  -- of a whole, a beginning was written, and what is left comes to the same environment
+  -- by the objects
+  abbrev pub Ran : (old new : K) → World → Guards → Outcome → Result End HostEnd → Type 0
+  Ran old new now guards r result = Reached old new (state_of now) guards r result
+
+  -- of a whole, a beginning was written, and what is left comes to the same environment and ends in the same way
   pub record WroteSoFar (old new : K) (left whole : Outcome) : Type 0 where
     pub done : List ℕ
     pub parts : done ++ lines_text left.lines ≡ lines_text whole.lines
     pub wrote : Wrote old new done
     pub after : left.after ≡ whole.after
+    pub end : left.end ≡ whole.end

@@ -1,28 +1,30 @@
 //! The host: it runs statements in order, and writes the line of each command as soon as it has run.
-ghost use Rattle.std.specs.Prelude.{◌≡◌, ◌<◌, ◌+◌, ◌++◌, [], ◌∷◌, ℕ, List, length, take, Some};
+ghost use Rattle.std.specs.Prelude.{◌≡◌, ◌<◌, ◌+◌, ◌++◌, [], ◌∷◌, ℕ, List, length, take, Some, None};
 ghost use Rattle.ac_base.specs.declared.reason.Reason.TheVariants.{NamesSpent};
 ghost use Rattle.ac_base.specs.declared.fault.Fault.TheVariants as fault;
 ghost use Rattle.ac_model.specs.Cursors.{plain_mark};
 ghost use Rattle.ac_rules.specs.Resolved.{calls_at, sets_at, sums_at, loops_at, views_at, stables_at, declares_at};
+ghost use Rattle.ac_rules.specs.ResolvedStatements.{resolved_handlers_of};
 ghost use Rattle.ac_calls.specs.Answers.{line as line_of, lines_text, answers_raised};
 ghost use Rattle.ac_calls.specs.Holdings.{Held, Guards, number_of, names_of};
 ghost use Rattle.ac_meaning.specs.Environment.{State, leaving};
-ghost use Rattle.ac_meaning.specs.Execution.{commanded, exec_resolved, followed, gathered, turns, guards_of_loop};
+ghost use Rattle.ac_meaning.specs.Execution.{commanded, exec_resolved, resolved_behind, followed, turns, guards_of_loop};
 ghost use Rattle.ac_objects.specs.Blocks.{releasing, guards_of_loop_key, guards_of_update_key, guards_of_view_key, IsHeldAt};
 ghost use Rattle.ac_objects.specs.Standing.{TakesGuards, counts_of};
 ghost use Rattle.ac_objects.specs.World.{state_of, IsKnown, Persists};
 ghost use Rattle.ac_host.specs.Ready.{IsReady, IsUnder};
-ghost use Rattle.ac_host.specs.Running.{block_of, statement_outcome, inside, key_ending, Runs, RunsByOrders, Leaves, Turning, IsTurning, IsUpdating};
+ghost use Rattle.ac_host.specs.Running.{block_of, handled_of, statement_outcome, inside, key_ending, Runs, RunsByOrders, Leaves, Turning, IsTurning, IsUpdating};
 ghost use Rattle.ac_host.specs.Told.{Tells};
-ghost use Rattle.ac_host.specs.Writing.{Ran};
+ghost use Rattle.ac_host.specs.Writing.{Ran, Reached};
 
 use crate::end::HostEnd;
+use crate::handling::{handler_of, passed_on};
 use crate::runner::BlockRunner;
 use crate::written::{write_line, write_refusal};
-use ac_base::{Fault, Reason};
+use ac_base::{Exception, Fault, Reason};
 use ac_io::Sink;
 use ac_objects::{DeclareFault, Frame, LoopKey, Objects, UpdateKey, ViewKey};
-use ac_rules::{ResolvedArg, ResolvedDecl, ResolvedStmt, ResolvedStmts};
+use ac_rules::{ResolvedArg, ResolvedDecl, ResolvedHandler, ResolvedStmt, ResolvedStmts};
 use ac_syntax::{Operation, ViewKind};
 
 /// A script that runs: what its names hold, and the line that is made next.
@@ -44,7 +46,7 @@ impl Host {
         args: &[ResolvedArg],
         sink: &mut K,
         _runner: &B,
-    ) -> Result<(), HostEnd>
+    ) -> Result<Option<Exception>, HostEnd>
         requires ready { IsReady self.old.objects }
         ensures runs { Runs K.held K.faults K.room K.counts_failures sink.old sink.new self.old.objects self.new.objects
             (λ guards e. commanded guards e (calls_at line target object operation args.now)) result }
@@ -71,7 +73,7 @@ impl Host {
         target: usize,
         from: &ResolvedArg,
         sink: &mut K,
-    ) -> Result<(), HostEnd>
+    ) -> Result<Option<Exception>, HostEnd>
         requires ready { IsReady self.old.objects }
         ensures runs { Runs K.held K.faults K.room K.counts_failures sink.old sink.new self.old.objects self.new.objects
             (λ guards e. commanded guards e (sets_at line target from.now)) result }
@@ -98,7 +100,7 @@ impl Host {
         minus: bool,
         number: u64,
         sink: &mut K,
-    ) -> Result<(), HostEnd>
+    ) -> Result<Option<Exception>, HostEnd>
         requires ready { IsReady self.old.objects }
         ensures runs { Runs K.held K.faults K.room K.counts_failures sink.old sink.new self.old.objects self.new.objects
             (λ guards e. commanded guards e (sums_at line target from minus number)) result }
@@ -118,16 +120,17 @@ impl Host {
         )
     }
 
-    /// Runs the body of a loop once for each element still to come.
+    /// Runs the body of a loop once for each element still to come, up to a turn that raises. The name of the turns goes with the loop's key.
     #[cycle(statements)]
     fn run_turns<K: Sink, B: BlockRunner>(
         &mut self,
         elements: bool,
         key: &mut LoopKey,
         body: &ResolvedStmts,
+        propagates: bool,
         sink: &mut K,
         runner: &B,
-    ) -> Result<(), HostEnd>
+    ) -> Result<Option<Exception>, HostEnd>
         requires sound { B.is_sound runner.now }
         requires turning { IsTurning elements self.old.objects key.old.names key.old.object key.old.backward (plain_mark key.old.coming) }
         requires known { IsKnown self.old.objects key.old.coming }
@@ -136,8 +139,8 @@ impl Host {
             (guards : Guards) (h : Held) (e : State) (names : List ℕ) →
             Turning self.old.objects key.old.names key.old.object key.old.backward (plain_mark key.old.coming)
             (guards_of_loop elements h ++ guards) e (number_of h) (names_of h) names →
-            Ran K.held K.faults K.room K.counts_failures sink.old sink.new self.new.objects (guards_of_loop elements h ++ guards)
-            (turns (exec_resolved orders body.now) guards elements key.old.object h names e) result) }
+            Reached K.held K.faults K.room K.counts_failures sink.old sink.new (leaving key.old.names (state_of self.new.objects))
+            (guards_of_loop elements h ++ guards) (turns (exec_resolved propagates orders body.now) guards elements key.old.object h names e) result) }
         ensures key { (key.new.object ≡ key.old.object) × (key.new.names ≡ key.old.names)
             × (guards_of_loop_key key.new ≡ guards_of_loop_key key.old) }
         ensures persists { Persists self.old.objects self.new.objects }
@@ -146,9 +149,12 @@ impl Host {
     {
         for _ in 0..u64::MAX {
             if !self.objects.step_loop(elements, key) {
-                return Ok(());
+                return Ok(None);
             }
-            self.run_statements(body, sink, runner)?;
+            let ended = self.run_statements(body, propagates, sink, runner)?;
+            if ended.is_some() {
+                return Ok(ended);
+            }
         }
         Err(HostEnd::NoMemory)
     }
@@ -162,21 +168,22 @@ impl Host {
         backward: bool,
         object: usize,
         body: &ResolvedStmts,
+        propagates: bool,
         sink: &mut K,
         runner: &B,
-    ) -> Result<(), HostEnd>
+    ) -> Result<Option<Exception>, HostEnd>
         requires sound { B.is_sound runner.now }
         requires ready { IsReady self.old.objects }
         ensures runs { RunsByOrders B.allows K.held K.faults K.room K.counts_failures sink.old sink.new
             self.old.objects self.new.objects
-            (λ orders guards e. block_of orders body.now guards e (loops_at line elements backward object)) result }
+            (λ orders guards e. block_of propagates orders body.now guards e (loops_at line elements backward object)) result }
         ensures leaves { Leaves self.old.objects self.new.objects }
     {
         if !self.objects.takes_guards(object) {
-            return Ok(());
+            return Ok(None);
         }
         let mut key = self.objects.enter_loop(elements, backward, object)?;
-        let ended = self.run_turns(elements, &mut key, body, sink, runner);
+        let ended = self.run_turns(elements, &mut key, body, propagates, sink, runner);
         self.objects.leave_loop(key);
         ended
     }
@@ -187,9 +194,10 @@ impl Host {
         &mut self,
         key: ViewKey,
         body: &ResolvedStmts,
+        propagates: bool,
         sink: &mut K,
         runner: &B,
-    ) -> Result<(), HostEnd>
+    ) -> Result<Option<Exception>, HostEnd>
         requires sound { B.is_sound runner.now }
         requires ready { IsReady self.old.objects }
         requires inner { key.object < key.names }
@@ -197,12 +205,12 @@ impl Host {
         ensures runs { Tells B.allows self.old.objects self.new.objects result (λ orders.
             (guards : Guards) (e : State) → IsUnder self.old.objects (guards_of_view_key key ++ guards) e →
             Ran K.held K.faults K.room K.counts_failures sink.old sink.new self.new.objects guards
-            (inside key.names (exec_resolved orders body.now (guards_of_view_key key ++ guards) e)) result) }
+            (inside key.names (exec_resolved propagates orders body.now (guards_of_view_key key ++ guards) e)) result) }
         ensures persists { Persists self.old.objects self.new.objects }
         ensures counts { counts_of (state_of self.new.objects)
             ≡ counts_of (releasing (guards_of_view_key key) (leaving key.names (state_of self.old.objects))) }
     {
-        let ended = self.run_statements(body, sink, runner);
+        let ended = self.run_statements(body, propagates, sink, runner);
         self.objects.leave_view(key);
         ended
     }
@@ -216,20 +224,21 @@ impl Host {
         object: usize,
         at: Option<usize>,
         body: &ResolvedStmts,
+        propagates: bool,
         sink: &mut K,
         runner: &B,
-    ) -> Result<(), HostEnd>
+    ) -> Result<Option<Exception>, HostEnd>
         requires sound { B.is_sound runner.now }
         requires ready { IsReady self.old.objects }
         requires view { kind ≡ ViewKind.UpdateKey → ⊥ }
         requires object { TakesGuards (state_of self.old.objects) object }
         ensures runs { RunsByOrders B.allows K.held K.faults K.room K.counts_failures sink.old sink.new
             self.old.objects self.new.objects
-            (λ orders guards e. block_of orders body.now guards e (views_at line kind object at)) result }
+            (λ orders guards e. block_of propagates orders body.now guards e (views_at line kind object at)) result }
         ensures leaves { Leaves self.old.objects self.new.objects }
     {
         match self.objects.enter_view(kind, object, at) {
-            Ok(key) => self.run_viewed(key, body, sink, runner),
+            Ok(key) => self.run_viewed(key, body, propagates, sink, runner),
             Err(Fault::Raised(reason)) => write_refusal(line, reason, &mut self.text, sink),
             Err(Fault::NoMemory) => Err(HostEnd::NoMemory),
         }
@@ -244,22 +253,25 @@ impl Host {
         object: usize,
         at: Option<usize>,
         body: &ResolvedStmts,
+        propagates: bool,
         sink: &mut K,
         runner: &B,
-    ) -> Result<(), HostEnd>
+    ) -> Result<Option<Exception>, HostEnd>
         requires sound { B.is_sound runner.now }
         requires ready { IsReady self.old.objects }
         ensures runs { RunsByOrders B.allows K.held K.faults K.room K.counts_failures sink.old sink.new
             self.old.objects self.new.objects
-            (λ orders guards e. block_of orders body.now guards e (views_at line kind object at)) result }
+            (λ orders guards e. block_of propagates orders body.now guards e (views_at line kind object at)) result }
         ensures leaves { Leaves self.old.objects self.new.objects }
     {
         if !self.objects.takes_guards(object) {
-            return Ok(());
+            return Ok(None);
         }
         match kind {
-            ViewKind::UpdateKey => self.run_update(line, object, at, body, sink, runner),
-            _ => self.run_element_view(line, kind, object, at, body, sink, runner),
+            ViewKind::UpdateKey => self.run_update(
+                line, object, at, body, propagates, sink, runner,
+            ),
+            _ => self.run_element_view(line, kind, object, at, body, propagates, sink, runner),
         }
     }
 
@@ -269,44 +281,49 @@ impl Host {
         line: u64,
         key: UpdateKey,
         sink: &mut K,
-    ) -> Result<(), HostEnd>
+    ) -> Result<Option<Exception>, HostEnd>
         requires updating { IsUpdating self.old.objects key }
         ensures runs { (guards : Guards) (e : State) → IsUnder self.old.objects (guards_of_update_key key ++ guards) e →
-            Ran K.held K.faults K.room K.counts_failures sink.old sink.new self.new.objects guards (key_ending line key guards e) result }
+            Ran K.held K.faults K.room K.counts_failures sink.old sink.new self.new.objects guards (key_ending line key guards None e) result }
         ensures persists { Persists self.old.objects self.new.objects }
         ensures counts { counts_of (state_of self.new.objects)
             ≡ counts_of (releasing (guards_of_update_key key) (leaving key.names (state_of self.old.objects))) }
     {
         match self.objects.leave_update(key) {
             Some(reason) => write_refusal(line, reason, &mut self.text, sink),
-            None => Ok(()),
+            None => Ok(None),
         }
     }
 
-    /// Runs the body of an update of a key that was begun, and ends it.
+    /// Runs the body of an update of a key that was begun, and ends it, or drops it where the body was left.
     #[cycle(statements)]
     fn run_updated<K: Sink, B: BlockRunner>(
         &mut self,
         line: u64,
         key: UpdateKey,
         body: &ResolvedStmts,
+        propagates: bool,
         sink: &mut K,
         runner: &B,
-    ) -> Result<(), HostEnd>
+    ) -> Result<Option<Exception>, HostEnd>
         requires sound { B.is_sound runner.now }
         requires updating { IsUpdating self.old.objects key }
         ensures runs { Tells B.allows self.old.objects self.new.objects result (λ orders.
             (guards : Guards) (e : State) → IsUnder self.old.objects (guards_of_update_key key ++ guards) e →
             Ran K.held K.faults K.room K.counts_failures sink.old sink.new self.new.objects guards
-            (followed (exec_resolved orders body.now (guards_of_update_key key ++ guards) e) (key_ending line key guards)) result) }
+            (followed (exec_resolved propagates orders body.now (guards_of_update_key key ++ guards) e) (key_ending line key guards)) result) }
         ensures persists { Persists self.old.objects self.new.objects }
         ensures counts { counts_of (state_of self.new.objects)
             ≡ counts_of (releasing (guards_of_update_key key) (leaving key.names (state_of self.old.objects))) }
     {
-        match self.run_statements(body, sink, runner) {
-            Ok(()) => self.end_update(line, key, sink),
+        match self.run_statements(body, propagates, sink, runner) {
+            Ok(None) => self.end_update(line, key, sink),
+            Ok(Some(raised)) => {
+                self.objects.drop_update(key);
+                Ok(Some(raised))
+            }
             Err(end) => {
-                self.objects.abandon_update(key);
+                self.objects.drop_update(key);
                 Err(end)
             }
         }
@@ -319,19 +336,20 @@ impl Host {
         object: usize,
         at: Option<usize>,
         body: &ResolvedStmts,
+        propagates: bool,
         sink: &mut K,
         runner: &B,
-    ) -> Result<(), HostEnd>
+    ) -> Result<Option<Exception>, HostEnd>
         requires sound { B.is_sound runner.now }
         requires ready { IsReady self.old.objects }
         requires object { TakesGuards (state_of self.old.objects) object }
         ensures runs { RunsByOrders B.allows K.held K.faults K.room K.counts_failures sink.old sink.new
             self.old.objects self.new.objects
-            (λ orders guards e. block_of orders body.now guards e (views_at line ViewKind.UpdateKey object at)) result }
+            (λ orders guards e. block_of propagates orders body.now guards e (views_at line ViewKind.UpdateKey object at)) result }
         ensures leaves { Leaves self.old.objects self.new.objects }
     {
         match self.objects.enter_update(object, at) {
-            Ok(key) => self.run_updated(line, key, body, sink, runner),
+            Ok(key) => self.run_updated(line, key, body, propagates, sink, runner),
             Err(Fault::Raised(reason)) => write_refusal(line, reason, &mut self.text, sink),
             Err(Fault::NoMemory) => Err(HostEnd::NoMemory),
         }
@@ -344,21 +362,22 @@ impl Host {
         line: u64,
         object: usize,
         body: &ResolvedStmts,
+        propagates: bool,
         sink: &mut K,
         runner: &B,
-    ) -> Result<(), HostEnd>
+    ) -> Result<Option<Exception>, HostEnd>
         requires sound { B.is_sound runner.now }
         requires ready { IsReady self.old.objects }
         ensures runs { RunsByOrders B.allows K.held K.faults K.room K.counts_failures sink.old sink.new
             self.old.objects self.new.objects
-            (λ orders guards e. block_of orders body.now guards e (stables_at line object)) result }
+            (λ orders guards e. block_of propagates orders body.now guards e (stables_at line object)) result }
         ensures leaves { Leaves self.old.objects self.new.objects }
     {
         if !self.objects.takes_guards(object) {
-            return Ok(());
+            return Ok(None);
         }
         let key = self.objects.enter_stable(object)?;
-        self.run_viewed(key, body, sink, runner)
+        self.run_viewed(key, body, propagates, sink, runner)
     }
 
     /// Runs what stands behind declarations, and then has so many names again.
@@ -367,18 +386,19 @@ impl Host {
         &mut self,
         names: usize,
         body: &ResolvedStmts,
+        propagates: bool,
         sink: &mut K,
         runner: &B,
-    ) -> Result<(), HostEnd>
+    ) -> Result<Option<Exception>, HostEnd>
         requires sound { B.is_sound runner.now }
         requires ready { IsReady self.old.objects }
         ensures runs { RunsByOrders B.allows K.held K.faults K.room K.counts_failures sink.old sink.new
             self.old.objects self.new.objects
-            (λ orders guards e. inside names (exec_resolved orders body.now guards e)) result }
+            (λ orders guards e. inside names (exec_resolved propagates orders body.now guards e)) result }
         ensures persists { Persists self.old.objects self.new.objects }
         ensures counts { counts_of (state_of self.new.objects) ≡ take names (counts_of (state_of self.old.objects)) }
     {
-        let ended = self.run_statements(body, sink, runner);
+        let ended = self.run_statements(body, propagates, sink, runner);
         self.objects.leave_scope(names);
         ended
     }
@@ -390,22 +410,70 @@ impl Host {
         line: u64,
         decls: &[ResolvedDecl],
         body: &ResolvedStmts,
+        propagates: bool,
         sink: &mut K,
         runner: &B,
-    ) -> Result<(), HostEnd>
+    ) -> Result<Option<Exception>, HostEnd>
         requires sound { B.is_sound runner.now }
         requires ready { IsReady self.old.objects }
         ensures runs { RunsByOrders B.allows K.held K.faults K.room K.counts_failures sink.old sink.new
             self.old.objects self.new.objects
-            (λ orders guards e. block_of orders body.now guards e (declares_at line decls.now)) result }
+            (λ orders guards e. block_of propagates orders body.now guards e (declares_at line decls.now)) result }
         ensures leaves { Leaves self.old.objects self.new.objects }
     {
         match self.objects.enter_scope(decls) {
-            Ok(names) => self.run_scope(names, body, sink, runner),
+            Ok(names) => self.run_scope(names, body, propagates, sink, runner),
             Err(DeclareFault::Spent { line }) => {
                 write_refusal(line, Reason::NamesSpent, &mut self.text, sink)
             }
             Err(DeclareFault::NoMemory) => Err(HostEnd::NoMemory),
+        }
+    }
+
+    /// Runs what a block tries, and behind an exception that leaves it the first handler that takes it.
+    #[cycle(statements)]
+    #[inline(never)]
+    fn run_handled<K: Sink, B: BlockRunner>(
+        &mut self,
+        body: &ResolvedStmts,
+        handlers: &[ResolvedHandler],
+        propagates: bool,
+        sink: &mut K,
+        runner: &B,
+    ) -> Result<Option<Exception>, HostEnd>
+        requires sound { B.is_sound runner.now }
+        requires ready { IsReady self.old.objects }
+        ensures runs { RunsByOrders B.allows K.held K.faults K.room K.counts_failures sink.old sink.new
+            self.old.objects self.new.objects (λ orders. handled_of propagates orders body.now (resolved_handlers_of handlers.now)) result }
+        ensures leaves { Leaves self.old.objects self.new.objects }
+    {
+        let ended = self.run_statements(body, propagates, sink, runner)?;
+        match ended {
+            None => Ok(None),
+            Some(raised) => self.run_handler(raised, handlers, propagates, sink, runner),
+        }
+    }
+
+    /// Runs the first of these handlers that takes the exception, which else goes on.
+    #[cycle(statements)]
+    fn run_handler<K: Sink, B: BlockRunner>(
+        &mut self,
+        raised: Exception,
+        handlers: &[ResolvedHandler],
+        propagates: bool,
+        sink: &mut K,
+        runner: &B,
+    ) -> Result<Option<Exception>, HostEnd>
+        requires sound { B.is_sound runner.now }
+        requires ready { IsReady self.old.objects }
+        ensures runs { RunsByOrders B.allows K.held K.faults K.room K.counts_failures sink.old sink.new
+            self.old.objects self.new.objects
+            (λ orders guards e. resolved_behind propagates orders (resolved_handlers_of handlers.now) guards (Some raised) e) result }
+        ensures leaves { Leaves self.old.objects self.new.objects }
+    {
+        match handler_of(handlers, raised) {
+            Some(body) => self.run_statements(body, propagates, sink, runner),
+            None => Ok(Some(raised)),
         }
     }
 
@@ -414,13 +482,14 @@ impl Host {
     fn run_statement<K: Sink, B: BlockRunner>(
         &mut self,
         stmt: &ResolvedStmt,
+        propagates: bool,
         sink: &mut K,
         runner: &B,
-    ) -> Result<(), HostEnd>
+    ) -> Result<Option<Exception>, HostEnd>
         requires sound { B.is_sound runner.now }
         requires ready { IsReady self.old.objects }
         ensures runs { RunsByOrders B.allows K.held K.faults K.room K.counts_failures sink.old sink.new
-            self.old.objects self.new.objects (statement_outcome stmt.now) result }
+            self.old.objects self.new.objects (statement_outcome stmt.now propagates) result }
         ensures leaves { Leaves self.old.objects self.new.objects }
     {
         match stmt {
@@ -453,41 +522,51 @@ impl Host {
                 backward,
                 object,
                 body,
-            } => self.run_loop(*line, *elements, *backward, *object, body, sink, runner),
+            } => self.run_loop(
+                *line, *elements, *backward, *object, body, propagates, sink, runner,
+            ),
             ResolvedStmt::View {
                 line,
                 kind,
                 object,
                 at,
                 body,
-            } => self.run_view(*line, *kind, *object, *at, body, sink, runner),
+            } => self.run_view(*line, *kind, *object, *at, body, propagates, sink, runner),
             ResolvedStmt::Stable { line, object, body } => {
-                self.run_stable(*line, *object, body, sink, runner)
+                self.run_stable(*line, *object, body, propagates, sink, runner)
             }
             ResolvedStmt::Declare { line, decls, body } => {
-                self.run_declare(*line, decls.items(), body, sink, runner)
+                self.run_declare(*line, decls.items(), body, propagates, sink, runner)
             }
             ResolvedStmt::Tasks { tasks, .. } => self.run_tasks(tasks, sink, runner),
+            ResolvedStmt::Handled { body, handlers } => {
+                self.run_handled(body, handlers.items(), propagates, sink, runner)
+            }
         }
     }
 
-    /// Runs statements in order.
+    /// Runs statements in order, where exceptions propagate up to one that raises.
     #[cycle(statements)]
     pub(crate) fn run_statements<K: Sink, B: BlockRunner>(
         &mut self,
         stmts: &ResolvedStmts,
+        propagates: bool,
         sink: &mut K,
         runner: &B,
-    ) -> Result<(), HostEnd>
+    ) -> Result<Option<Exception>, HostEnd>
         requires sound { B.is_sound runner.now }
         requires ready { IsReady self.old.objects }
         ensures runs { RunsByOrders B.allows K.held K.faults K.room K.counts_failures sink.old sink.new
-            self.old.objects self.new.objects (λ orders. exec_resolved orders stmts.now) result }
+            self.old.objects self.new.objects (λ orders. exec_resolved propagates orders stmts.now) result }
         ensures leaves { Leaves self.old.objects self.new.objects }
     {
         for stmt in stmts.items() {
-            self.run_statement(stmt, sink, runner)?;
+            let ended = self.run_statement(stmt, propagates, sink, runner)?;
+            let passed = passed_on(propagates, ended);
+            if passed.is_some() {
+                return Ok(passed);
+            }
         }
-        Ok(())
+        Ok(None)
     }
 }

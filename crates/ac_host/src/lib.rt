@@ -3,6 +3,7 @@
 
 mod end;
 mod fitting;
+mod handling;
 mod host;
 mod line;
 mod named_task;

@@ -10,6 +10,7 @@ use crate::prepared::run_over;
 use crate::runner::BlockRunner;
 use crate::task_code::{next_place, tasks_of};
 use crate::task_lines::write_block;
+use ac_base::Exception;
 use ac_io::Sink;
 use ac_rules::ResolvedTasks;
 
@@ -21,7 +22,7 @@ impl Host {
         tasks: &ResolvedTasks,
         sink: &mut K,
         runner: &B,
-    ) -> Result<(), HostEnd>
+    ) -> Result<Option<Exception>, HostEnd>
         requires sound { B.is_sound runner.now }
         ensures runs { RunsByOrders B.allows K.held K.faults K.room K.counts_failures sink.old sink.new
             self.old.objects self.new.objects (λ orders guards e. gathered (orders e.blocks) tasks.now e) result }
@@ -33,12 +34,12 @@ impl Host {
         let gathered = tasks_of(alloc, &places, first, tasks)?;
         let ranked = ranked(alloc, &self.objects, &places)?;
         if !all_fit(&ranked, &gathered) {
-            return Ok(());
+            return Ok(None);
         }
         let queues = self.objects.lend_queues(&places)?;
         let done = run_over(alloc, queues, &gathered, runner)?;
         write_block(&gathered, &done, &mut self.text, sink)?;
         self.objects.return_queues(&places, done.close());
-        Ok(())
+        Ok(None)
     }
 }

@@ -1,9 +1,11 @@
 //! The line of a command.
-ghost use Rattle.std.specs.Prelude.{◌≡◌, ◌≢◌, ◌≤◌, ℕ, ◌∷◌, ◌++◌, [], false, true, codes, decimal, drop, None, Some, Err, IfSome, OnOk};
+ghost use Rattle.std.specs.Prelude.{◌≡◌, ◌≢◌, ◌≤◌, ℕ, ◌∷◌, ◌++◌, [], false, true, codes, decimal, drop, None, Some, Err, IfSome, IfOk, OnOk};
+ghost use Rattle.ac_base.specs.Reason.{exception_of};
 ghost use Rattle.ac_base.specs.declared.fault.Fault.TheVariants as fault;
 ghost use Rattle.ac_calls.specs.Answers.{Answer, line, lines_text, answers_list, answers_raised};
 ghost use Rattle.ac_meaning.specs.Commands.{Performed};
 ghost use Rattle.ac_meaning.specs.Environment.{State, object_at};
+ghost use Rattle.ac_meaning.specs.Execution.{answer_end};
 ghost use Rattle.ac_calls.specs.Holdings.{Held, listing_of};
 ghost use Rattle.ac_objects.specs.Performs.{Performs, answered};
 ghost use Rattle.ac_objects.specs.Shown.{Shows};
@@ -15,11 +17,11 @@ ghost use Rattle.ac_host.specs.Writing.{Writes};
 use crate::end::HostEnd;
 use crate::line::{begin_line, reason_line, value_line};
 use crate::short::{LINE, put_value, write_numbered};
-use ac_base::{Cursor, Fault, Reason, Value};
+use ac_base::{Cursor, Exception, Fault, Reason, Value};
 use ac_io::{Sink, add_last, pass};
 use ac_objects::{Objects, Said};
 
-/// Writes what a command answered, or why it was refused.
+/// Writes what a command answered, or why it was refused, and says how it ended.
 #[inline(always)]
 pub fn write_line<K: Sink>(
     objects: &Objects,
@@ -29,13 +31,18 @@ pub fn write_line<K: Sink>(
     said: &Said,
     text: &mut Vec<u8>,
     sink: &mut K,
-) -> Result<(), HostEnd>
+) -> Result<Option<Exception>, HostEnd>
     ensures writes { (p : Performed) (old : World) → Performs p object old objects.now (answered said.now done) →
         Writes K.held K.faults K.room K.counts_failures sink.old sink.new (lines_text (line number p.answer ∷ [])) result }
+    ensures ended { (p : Performed) (old : World) → Performs p object old objects.now (answered said.now done) →
+        IfOk result (λ end. end ≡ answer_end p.answer) }
     ensures answered { OnOk result (done ≢ Err fault.NoMemory) }
 {
     match done {
-        Ok(()) => write_answer(objects, object, number, said, text, sink),
+        Ok(()) => {
+            write_answer(objects, object, number, said, text, sink)?;
+            Ok(None)
+        }
         Err(Fault::Raised(reason)) => write_refusal(number, reason, text, sink),
         Err(Fault::NoMemory) => Err(HostEnd::NoMemory),
     }
@@ -185,18 +192,19 @@ fn write_value<K: Sink>(
     Ok(())
 }
 
-/// Writes why a command was refused, or a block doesn't begin.
+/// Writes why a command was refused, or a block doesn't begin, and says what that raises.
 #[inline(never)]
 pub fn write_refusal<K: Sink>(
     number: u64,
     reason: Reason,
     text: &mut Vec<u8>,
     sink: &mut K,
-) -> Result<(), HostEnd>
-    ensures { Writes K.held K.faults K.room K.counts_failures sink.old sink.new
+) -> Result<Option<Exception>, HostEnd>
+    ensures writes { Writes K.held K.faults K.room K.counts_failures sink.old sink.new
         (lines_text (line number (answers_raised reason) ∷ [])) result }
+    ensures ended { IfOk result (λ end. end ≡ Some (exception_of reason)) }
 {
     reason_line(text, number, reason)?;
     pass(text, sink)?;
-    Ok(())
+    Ok(Some(reason.exception()))
 }

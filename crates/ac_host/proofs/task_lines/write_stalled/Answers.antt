@@ -1,4 +1,4 @@
-use Rattle.std.proofs.Common.{◌+◌, ◌<◌, arith, drop, length, Some}
+use Rattle.std.proofs.Common.{◌+◌, ◌<◌, arith, drop, length, refl, Some, None}
 use Rattle.ac_history.specs.Blocks.{present}
 use Rattle.ac_calls.specs.Answers.{answers_stalled}
 use Rattle.ac_meaning.specs.TaskBlocks.{lines_at, stalled_lines}
@@ -20,7 +20,7 @@ returns-in_err-write_step g c =
     (so_far_broke sink.held sink.faults sink.room sink.counts_failures c.args.sink.now c.loop-task.sink c.write_step.new.sink
     (told (stalled_lines (drop i tasks) (drop i states))) (told (stalled_lines tasks states))
     (told (lines_at (Some t) c.next_place-place.result answers_stalled))
-    (λ _. told (stalled_lines (drop (i + 1) tasks) (drop (i + 1) states))) c.in_err-write_step.field-0.0
+    (λ _ _. told (stalled_lines (drop (i + 1) tasks) (drop (i + 1) states))) c.in_err-write_step.field-0.0
     (stalled_next tasks states i t c.next_place-place.result here there c.index-tasks-task.is c.next_place-place.ensures)
     c.loop-task.invariant c.in_err-write_step.ensures)
 
@@ -36,6 +36,6 @@ loop-task-preserved g c =
     so_far_more sink.held sink.faults sink.room sink.counts_failures c.args.sink.now c.loop-task.sink c.write_step.new.sink
     (told (stalled_lines (drop i tasks) (drop i states))) (told (stalled_lines tasks states))
     (told (lines_at (Some t) c.next_place-place.result answers_stalled))
-    (λ _. told (stalled_lines (drop (i + 1) tasks) (drop (i + 1) states)))
+    (λ _ _. told (stalled_lines (drop (i + 1) tasks) (drop (i + 1) states))) None
     (stalled_next tasks states i t c.next_place-place.result here there c.index-tasks-task.is c.next_place-place.ensures)
-    c.loop-task.invariant c.in_ok-write_step.ensures
+    refl c.loop-task.invariant c.in_ok-write_step.ensures

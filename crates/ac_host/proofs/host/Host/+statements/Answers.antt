@@ -1,10 +1,11 @@
-use Rattle.std.proofs.Common.{◌≡◌, ◌+◌, ◌<◌, ◌++◌, [], take, drop, length, get_or, refl, sym, ap, subst, ◌∙◌, arith, Err}
+use Rattle.std.proofs.Common.{◌≡◌, ◌+◌, ◌<◌, ◌++◌, List, [], take, drop, length, get_or, refl, sym, ap, subst, ◌∙◌, arith, Some, None, Ok, Err}
 use Rattle.ac_rules.specs.Resolved.{resolved_size, no_statement, calls_at, sets_at, sums_at, stables_at}
-use Rattle.ac_rules.specs.ResolvedStatements.{resolved_before, resolved_of}
+use Rattle.ac_rules.specs.ResolvedStatements.{resolved_before, resolved_of, resolved_handlers_of}
+use Rattle.ac_rules.specs.declared.resolved.ResolvedDecl.{ResolvedDecl}
 use Rattle.ac_rules.specs.declared.resolved.ResolvedStmt.{ResolvedStmt}
-use Rattle.ac_rules.specs.declared.resolved.ResolvedStmt.TheVariants.{Call}
+use Rattle.ac_rules.specs.declared.resolved.ResolvedStmt.TheVariants.{Call, Declare, Handled}
 use Rattle.ac_meaning.specs.Environment.{leaving, guarded_at, mark_at, with_name, binds_element, binds_value, after_decls}
-use Rattle.ac_meaning.specs.Execution.{exec_resolved, guards_of_view, guards_of_stable, turns}
+use Rattle.ac_meaning.specs.Execution.{End, ending, passed_on, followed, resolved_behind, exec_resolved, guards_of_view, guards_of_stable}
 use Rattle.ac_base.specs.declared.reason.Reason.TheVariants.{NamesSpent}
 use Rattle.ac_syntax.specs.declared.view_kind.ViewKind.TheVariants.{UpdateKey}
 use Rattle.ac_host.specs.declared.end.HostEnd.TheVariants.{NoMemory}
@@ -12,19 +13,19 @@ use Rattle.ac_host.specs.Ready.{IsUnder}
 use Rattle.ac_objects.specs.Blocks.{releasing, guards_of_update_key, guards_of_view_key, IsHeldAt}
 use Rattle.ac_objects.specs.Standing.{counts_of}
 use Rattle.ac_objects.specs.World.{state_of}
-use Rattle.ac_host.proofs.ByOrders.{on_exit, on_ok_always, told_by_some, tells_none, tells_as, tells_behind, tells_on, tells_before, tells_then, tells_stopped}
+use Rattle.ac_host.proofs.ByOrders.{on_exit, on_ok_always, told_by_some, tells_none, tells_as, tells_behind, tells_on, tells_off, tells_before, tells_then, tells_more, tells_stopped}
 use Rattle.ac_host.proofs.Counting.{same_blocks, same_count, holding_count, releasing_count, decls_count, commanded_blocks, ending_blocks}
 use Rattle.ac_host.proofs.Blocks.{taken, ran_inside, ran_as, ran_broke, ran_nowhere, ran_all, ran_line, there_within, many_names, many_under, leaving_held, leaving_named, counts_before, stable_held, view_held, stable_comes, view_comes, view_refused, mark_under, decls_begin, declare_comes, declare_spent, declare_back}
-use Rattle.ac_host.specs.Running.{block_of, statement_outcome, key_ending}
-use Rattle.ac_host.specs.Writing.{WroteSoFar}
+use Rattle.ac_host.specs.Running.{block_of, handled_of, statement_outcome, key_ending}
+use Rattle.ac_host.specs.Writing.{Ran, WroteSoFar}
 use Rattle.ac_host.proofs.Holding.{counts_back, leaving_counts, held_still}
 use Rattle.ac_host.proofs.Opening.{stable_begins, view_begins}
 use Rattle.ac_rules.proofs.SizesAmong.{size_among}
-use Rattle.ac_host.proofs.Steps.{statement_told, statements_next, statements_none, ready_statement}
+use Rattle.ac_host.proofs.Steps.{statement_told, statements_next, statements_none, statements_behind, ready_statement, no_handler_taken, handler_taken, handler_smaller, exec_passed, handled_unasked, end_passed, normal_end}
 use Rattle.ac_host.proofs.Standing.{ready_exec}
-use Rattle.ac_host.proofs.Telling.{broke_nothing, so_far_none, so_far_more, so_far_broke}
+use Rattle.ac_host.proofs.Telling.{wrote_nothing, broke_nothing, so_far_none, so_far_more, so_far_broke}
 use Rattle.ac_host.proofs.Turns.{held}
-use Rattle.ac_host.proofs.Updating.{copied, updating_under, updating_begins, updating_held, updating_goes_on, update_comes, ran_then, ran_stopped}
+use Rattle.ac_host.proofs.Updating.{copied, updating_under, updating_begins, updating_held, updating_goes_on, update_comes, ran_then, ran_stopped, ran_dropped}
 use Rattle.ac_host.proofs.host.Host.+statements.Goals as goal
 use Rattle.ac_host.proofs.host.Host.+statements.Answers.Loops as loops
 mod Loops
@@ -55,14 +56,15 @@ run_statements-run_statement-requires g t c κs within =
 pub run_statements-loop-stmt-init : goal.run_statements-loop-stmt-init
 run_statements-loop-stmt-init g t c =
     let sink = g.K.Sink in
+    let p = c.args.propagates in
     record {
       told = tells_none refl (λ orders guards e u. record {
         env = e;
         under_guards = u;
         so_far =
-            subst (λ code. WroteSoFar sink.held sink.faults sink.room sink.counts_failures c.args.sink.now c.args.sink.now (exec_resolved orders code guards e)
-            (exec_resolved orders c.args.stmts.now guards e)) (sym c.items-stmt-items.ensures)
-            (so_far_none sink.held sink.faults sink.room sink.counts_failures c.args.sink.now (exec_resolved orders c.args.stmts.now guards e));
+            subst (λ code. WroteSoFar sink.held sink.faults sink.room sink.counts_failures c.args.sink.now c.args.sink.now (exec_resolved p orders code guards e)
+            (exec_resolved p orders c.args.stmts.now guards e)) (sym c.items-stmt-items.ensures)
+            (so_far_none sink.held sink.faults sink.room sink.counts_failures c.args.sink.now (exec_resolved p orders c.args.stmts.now guards e));
       });
       leaves = record { persists = λ x known. known; counts = refl };
     }
@@ -70,23 +72,28 @@ run_statements-loop-stmt-init g t c =
 pub run_statements-loop-stmt-preserved : goal.run_statements-loop-stmt-preserved
 run_statements-loop-stmt-preserved g t c =
     let sink = g.K.Sink in
+    let p = c.args.propagates in
     let stmts = c.items-stmt-items.result.now in
     let i = c.loop-stmt.stmt-index in
     let stmt = c.stmt-item.result in
     let before = c.loop-stmt.invariant in
-    let ok = c.in_ok-run_statement.ensures in
+    let ok = c.in_ok-ended.ensures in
+    let ended = c.in_ok-ended.ended in
+    let none = normal_end c.passed_on-passed.result (sym c.is_some.ensures ∙ c.if-is_some.false) in
     record {
-      told = tells_then before.told ok.runs (λ orders so_far runs guards e u.
+      told = tells_more before.told ok.runs (λ orders so_far runs guards e u.
           let now = so_far guards e u in
           let ran = runs guards now.env now.under_guards in
+          let r = statement_outcome stmt p orders guards now.env in
           record {
-            env = (statement_outcome stmt orders guards now.env).after;
-            under_guards = record { is = ran.after; ready = ready_statement orders stmt guards now.env now.under_guards.ready };
+            env = r.after;
+            under_guards = record { is = ran.after; ready = ready_statement p orders stmt guards now.env now.under_guards.ready };
             so_far =
                 so_far_more sink.held sink.faults sink.room sink.counts_failures c.args.sink.now c.loop-stmt.sink c.run_statement.new.sink
-                (exec_resolved orders (resolved_of (drop i stmts)) guards now.env) (exec_resolved orders c.args.stmts.now guards e)
-                (statement_outcome stmt orders guards now.env) (exec_resolved orders (resolved_of (drop (i + 1) stmts)) guards)
-                (statements_next orders stmts i stmt c.loop-stmt-test.true c.stmt-item.is guards now.env) now.so_far ran.writes;
+                (exec_resolved p orders (resolved_of (drop i stmts)) guards now.env) (exec_resolved p orders c.args.stmts.now guards e)
+                (passed_on p r) (resolved_behind p orders (resolved_of (drop (i + 1) stmts)) guards) None
+                (statements_next p orders stmts i stmt c.loop-stmt-test.true c.stmt-item.is guards now.env)
+                (end_passed p r ended c.passed_on-passed.result ran.ended c.passed_on-passed.ensures ∙ none) now.so_far ran.writes;
           });
       leaves = record {
         persists = λ x known. ok.leaves.persists x (before.leaves.persists x known);
@@ -94,34 +101,149 @@ run_statements-loop-stmt-preserved g t c =
       };
     }
 
-pub run_statements-returns-in_err-run_statement-clause-runs : goal.run_statements-returns-in_err-run_statement-clause-runs
-run_statements-returns-in_err-run_statement-clause-runs g t c =
+pub run_statements-returns-in_err-ended-clause-runs : goal.run_statements-returns-in_err-ended-clause-runs
+run_statements-returns-in_err-ended-clause-runs g t c =
     let sink = g.K.Sink in
+    let p = c.args.propagates in
     let stmts = c.items-stmt-items.result.now in
     let i = c.loop-stmt.stmt-index in
     let stmt = c.stmt-item.result in
-    tells_stopped _ _ c.loop-stmt.invariant.told c.in_err-run_statement.ensures.runs c.from_residual.ensures.1 (λ orders so_far runs guards e u.
+    tells_stopped _ _ c.loop-stmt.invariant.told c.in_err-ended.ensures.runs c.from_residual.ensures.1 (λ orders so_far runs guards e u.
     let now = so_far guards e u in
     let ran = runs guards now.env now.under_guards in
-    ran_broke sink.held sink.faults sink.room sink.counts_failures c.args.sink.now c.run_statement.new.sink c.run_statement.new.self.objects guards
-    (exec_resolved orders c.args.stmts.now guards e) c.in_err-run_statement.field-0.0 c.from_residual.result c.from_residual.ensures.1
+    ran_broke sink.held sink.faults sink.room sink.counts_failures c.args.sink.now c.run_statement.new.sink (state_of c.run_statement.new.self.objects) guards
+    (exec_resolved p orders c.args.stmts.now guards e) c.in_err-ended.field-0.0 c.from_residual.result c.from_residual.ensures.1
     (so_far_broke sink.held sink.faults sink.room sink.counts_failures c.args.sink.now c.loop-stmt.sink c.run_statement.new.sink
-    (exec_resolved orders (resolved_of (drop i stmts)) guards now.env) (exec_resolved orders c.args.stmts.now guards e)
-    (statement_outcome stmt orders guards now.env) (exec_resolved orders (resolved_of (drop (i + 1) stmts)) guards) _
-    (statements_next orders stmts i stmt c.loop-stmt-test.true c.stmt-item.is guards now.env) now.so_far ran.writes))
+    (exec_resolved p orders (resolved_of (drop i stmts)) guards now.env) (exec_resolved p orders c.args.stmts.now guards e)
+    (passed_on p (statement_outcome stmt p orders guards now.env)) (resolved_behind p orders (resolved_of (drop (i + 1) stmts)) guards) _
+    (statements_next p orders stmts i stmt c.loop-stmt-test.true c.stmt-item.is guards now.env) now.so_far ran.writes))
+
+-- a statement that raised, where that goes on
+pub run_statements-returns-then-is_some-clause-runs : goal.run_statements-returns-then-is_some-clause-runs
+run_statements-returns-then-is_some-clause-runs g t c =
+    let sink = g.K.Sink in
+    let p = c.args.propagates in
+    let stmts = c.items-stmt-items.result.now in
+    let i = c.loop-stmt.stmt-index in
+    let stmt = c.stmt-item.result in
+    let ended = c.in_ok-ended.ended in
+    let passed = c.passed_on-passed.result in
+    let some = sym c.is_some.ensures ∙ c.if-is_some.true in
+    tells_on (tells_then c.loop-stmt.invariant.told c.in_ok-ended.ensures.runs (λ orders so_far runs guards e u.
+    let now = so_far guards e u in
+    let ran = runs guards now.env now.under_guards in
+    let r = statement_outcome stmt p orders guards now.env in
+    let whole = exec_resolved p orders c.args.stmts.now guards e in
+    ran_all sink.held sink.faults sink.room sink.counts_failures c.args.sink.now c.run_statement.new.sink (state_of c.run_statement.new.self.objects) guards
+    passed r.after whole ran.after
+    (subst (λ left. WroteSoFar sink.held sink.faults sink.room sink.counts_failures c.args.sink.now c.run_statement.new.sink left whole)
+    (statements_behind p orders (drop (i + 1) stmts) guards passed r.after some)
+    (so_far_more sink.held sink.faults sink.room sink.counts_failures c.args.sink.now c.loop-stmt.sink c.run_statement.new.sink
+    (exec_resolved p orders (resolved_of (drop i stmts)) guards now.env) whole
+    (passed_on p r) (resolved_behind p orders (resolved_of (drop (i + 1) stmts)) guards) passed
+    (statements_next p orders stmts i stmt c.loop-stmt-test.true c.stmt-item.is guards now.env)
+    (end_passed p r ended passed ran.ended c.passed_on-passed.ensures) now.so_far ran.writes))))
+    refl (λ orders runs. runs)
 
 pub run_statements-returns-clause-runs : goal.run_statements-returns-clause-runs
 run_statements-returns-clause-runs g t c =
     let sink = g.K.Sink in
+    let p = c.args.propagates in
     let stmts = c.items-stmt-items.result.now in
     let i = c.loop-stmt.stmt-index in
-    tells_behind c.loop-stmt.invariant.told refl (λ orders so_far guards e u.
+    tells_on c.loop-stmt.invariant.told refl (λ orders so_far guards e u.
     let now = so_far guards e u in
-    let none = statements_none orders stmts i c.loop-stmt-test.false guards now.env in
+    let none = statements_none p orders stmts i c.loop-stmt-test.false guards now.env in
     let all = subst (λ left. WroteSoFar sink.held sink.faults sink.room sink.counts_failures c.args.sink.now c.loop-stmt.sink left
-    (exec_resolved orders c.args.stmts.now guards e)) none now.so_far in
-    ran_all sink.held sink.faults sink.room sink.counts_failures c.args.sink.now c.loop-stmt.sink c.loop-stmt.self.objects guards now.env
-    (exec_resolved orders c.args.stmts.now guards e) tt now.under_guards.is all)
+    (exec_resolved p orders c.args.stmts.now guards e)) none now.so_far in
+    ran_all sink.held sink.faults sink.room sink.counts_failures c.args.sink.now c.loop-stmt.sink (state_of c.loop-stmt.self.objects) guards None now.env
+    (exec_resolved p orders c.args.stmts.now guards e) now.under_guards.is all)
+
+-- Handlers
+
+pub run_handled-run_handler-requires : goal.run_handled-run_handler-requires
+run_handled-run_handler-requires g t c κs within =
+    let r = c.requires.ready in
+    let code = c.args.body.now in
+    let some = told_by_some c.in_ok-ended.ensures.runs in
+    let ran = some.1 r.guards r.env r.stands in (
+      omega arith,
+      (
+        within.0,
+        (
+          within.1,
+          (
+            c.requires.sound,
+            record {
+              guards = r.guards;
+              env = (exec_resolved c.args.propagates some.0 code r.guards r.env).after;
+              stands = record { is = ran.after; ready = ready_exec c.args.propagates some.0 code r.guards r.env r.stands.ready };
+            },
+          ),
+        ),
+      ),
+    )
+
+pub run_handled-returns-in_err-ended-clause-runs : goal.run_handled-returns-in_err-ended-clause-runs
+run_handled-returns-in_err-ended-clause-runs g t c =
+    let sink = g.K.Sink in
+    let p = c.args.propagates in
+    let handlers = resolved_handlers_of c.args.handlers.now in
+    let exit = c.from_residual.ensures.1 in
+    tells_off c.from_residual.result _ c.in_err-ended.ensures.runs exit (λ orders runs guards e u.
+    let ran = runs guards e u in
+    let stopped = ran_stopped sink.held sink.faults sink.room sink.counts_failures c.args.sink.now c.run_statements.new.sink c.run_statements.new.self.objects guards
+    (passed_on p (exec_resolved p orders c.args.body.now guards e)) (resolved_behind p orders handlers guards) c.in_err-ended.field-0.0 ran.writes in
+    ran_broke sink.held sink.faults sink.room sink.counts_failures c.args.sink.now c.run_statements.new.sink (state_of c.run_statements.new.self.objects) guards
+    (handled_of p orders c.args.body.now handlers guards e) c.in_err-ended.field-0.0 c.from_residual.result exit stopped.writes)
+
+pub run_handled-returns-in-None-clause-runs : goal.run_handled-returns-in-None-clause-runs
+run_handled-returns-in-None-clause-runs g t c =
+    let sink = g.K.Sink in
+    let p = c.args.propagates in
+    tells_on c.in_ok-ended.ensures.runs refl (λ orders runs guards e u.
+    let ran = runs guards e u in
+    let r = exec_resolved p orders c.args.body.now guards e in
+    ran_as sink.held sink.faults sink.room sink.counts_failures c.args.sink.now c.run_statements.new.sink c.run_statements.new.self.objects guards r _ (Ok None)
+    (handled_unasked p orders c.args.body.now c.args.handlers.now guards e (sym ran.ended ∙ c.in-None.is))
+    (record { writes = ran.writes; after = ran.after; ended = sym c.in-None.is ∙ ran.ended }))
+
+pub run_handled-returns-in-Some-clause-runs : goal.run_handled-returns-in-Some-clause-runs
+run_handled-returns-in-Some-clause-runs g t c =
+    let sink = g.K.Sink in
+    let p = c.args.propagates in
+    let handlers = resolved_handlers_of c.args.handlers.now in
+    tells_then c.in_ok-ended.ensures.runs c.run_handler.ensures.runs (λ orders runs then guards e u.
+    let ran = runs guards e u in
+    let r = exec_resolved p orders c.args.body.now guards e in
+    let next = resolved_behind p orders handlers guards in
+    let stands : IsUnder c.run_statements.new.self.objects guards r.after = record { is = ran.after; ready = ready_exec p orders c.args.body.now guards e u.ready } in
+    ran_as sink.held sink.faults sink.room sink.counts_failures c.args.sink.now c.run_handler.new.sink c.run_handler.new.self.objects guards (followed r next) _ c.run_handler.result
+    (ap (λ first. followed first next) (sym (exec_passed p orders c.args.body.now guards e)))
+    (ran_then sink.held sink.faults sink.room sink.counts_failures c.args.sink.now c.run_statements.new.sink c.run_handler.new.sink c.run_handler.new.self.objects guards
+    r next (Some c.in-Some.raised) c.run_handler.result (sym c.in-Some.is ∙ ran.ended) ran.writes (then guards r.after stands)))
+
+pub run_handler-run_statements-requires : goal.run_handler-run_statements-requires
+run_handler-run_statements-requires g t c κs within =
+    let smaller = handler_smaller (resolved_handlers_of c.args.handlers.now) c.in-Some.body.now c.args.raised (sym c.in-Some.ensures) in
+    (omega (arith, smaller), (within.0, (within.1, (c.requires.sound, c.requires.ready))))
+
+pub run_handler-returns-in-Some-clause-runs : goal.run_handler-returns-in-Some-clause-runs
+run_handler-returns-in-Some-clause-runs g t c =
+    let sink = g.K.Sink in
+    tells_behind c.run_statements.ensures.runs refl (λ orders runs guards e u.
+    ran_as sink.held sink.faults sink.room sink.counts_failures c.args.sink.now c.run_statements.new.sink c.run_statements.new.self.objects guards _ _ c.run_statements.result
+    (handler_taken c.args.propagates orders (resolved_handlers_of c.args.handlers.now) c.in-Some.body.now guards c.args.raised e (sym c.in-Some.ensures))
+    (runs guards e u))
+
+pub run_handler-returns-in-None-clause-runs : goal.run_handler-returns-in-None-clause-runs
+run_handler-returns-in-None-clause-runs g t c =
+    let sink = g.K.Sink in
+    tells_none refl (λ orders guards e u.
+    ran_as sink.held sink.faults sink.room sink.counts_failures c.args.sink.now c.args.sink.now c.args.self.now.objects guards (ending (Some c.args.raised) [] e) _
+    (Ok (Some c.args.raised))
+    (sym (no_handler_taken c.args.propagates orders (resolved_handlers_of c.args.handlers.now) guards c.args.raised e (sym c.in-None.ensures)))
+    (record { writes = wrote_nothing sink.held sink.faults sink.room sink.counts_failures c.args.sink.now; after = u.is; ended = refl }))
 
 -- Commands begin no block of tasks
 
@@ -131,9 +253,9 @@ run_statement-returns-in-Call-clause-runs g t c =
     let r = c.requires.ready in
     let here = c.in-Call in
     let runs = c.run_call.ensures.runs in
-    statement_told sink.held sink.faults sink.room sink.counts_failures (ap (Call here.line here.target here.object here.operation) c.items.ensures ∙ sym here.is)
+    statement_told sink.held sink.faults sink.room sink.counts_failures c.args.propagates (ap (Call here.line here.target here.object here.operation) c.items.ensures ∙ sym here.is)
     (tells_none
-    (commanded_blocks sink.held sink.faults sink.room sink.counts_failures (calls_at here.line here.target here.object here.operation c.items.result.now)
+    (commanded_blocks sink.held sink.faults sink.room sink.counts_failures c.run_call.new.self.objects (calls_at here.line here.target here.object here.operation c.items.result.now)
     r.guards r.env r.stands (runs r.guards r.env r.stands)) (λ orders. runs))
 
 pub run_statement-returns-in-Set-clause-runs : goal.run_statement-returns-in-Set-clause-runs
@@ -142,9 +264,9 @@ run_statement-returns-in-Set-clause-runs g t c =
     let r = c.requires.ready in
     let here = c.in-Set in
     let runs = c.run_set.ensures.runs in
-    statement_told sink.held sink.faults sink.room sink.counts_failures (sym here.is)
+    statement_told sink.held sink.faults sink.room sink.counts_failures c.args.propagates (sym here.is)
     (tells_none
-    (commanded_blocks sink.held sink.faults sink.room sink.counts_failures (sets_at here.line here.target here.from) r.guards r.env r.stands
+    (commanded_blocks sink.held sink.faults sink.room sink.counts_failures c.run_set.new.self.objects (sets_at here.line here.target here.from) r.guards r.env r.stands
     (runs r.guards r.env r.stands)) (λ orders. runs))
 
 pub run_statement-returns-in-Sum-clause-runs : goal.run_statement-returns-in-Sum-clause-runs
@@ -153,15 +275,28 @@ run_statement-returns-in-Sum-clause-runs g t c =
     let r = c.requires.ready in
     let here = c.in-Sum in
     let runs = c.run_sum.ensures.runs in
-    statement_told sink.held sink.faults sink.room sink.counts_failures (sym here.is)
+    statement_told sink.held sink.faults sink.room sink.counts_failures c.args.propagates (sym here.is)
     (tells_none
-    (commanded_blocks sink.held sink.faults sink.room sink.counts_failures (sums_at here.line here.target here.from here.minus here.number) r.guards r.env
+    (commanded_blocks sink.held sink.faults sink.room sink.counts_failures c.run_sum.new.self.objects (sums_at here.line here.target here.from here.minus here.number) r.guards r.env
     r.stands (runs r.guards r.env r.stands)) (λ orders. runs))
+
+pub run_statement-returns-in-Declare-clause-runs : goal.run_statement-returns-in-Declare-clause-runs
+run_statement-returns-in-Declare-clause-runs g t c =
+    let sink = g.K.Sink in
+    let here = c.in-Declare in
+    statement_told sink.held sink.faults sink.room sink.counts_failures c.args.propagates
+    (ap (λ (decls : List ResolvedDecl). Declare here.line decls here.body) c.items-in-Declare.ensures ∙ sym here.is) c.run_declare.ensures.runs
+
+pub run_statement-returns-in-Handled-clause-runs : goal.run_statement-returns-in-Handled-clause-runs
+run_statement-returns-in-Handled-clause-runs g t c =
+    let sink = g.K.Sink in
+    let here = c.in-Handled in
+    statement_told sink.held sink.faults sink.room sink.counts_failures c.args.propagates (ap (Handled here.body) c.items-in-Handled.ensures ∙ sym here.is) c.run_handled.ensures.runs
 
 pub run_statement-returns-in-Tasks-clause-runs : goal.run_statement-returns-in-Tasks-clause-runs
 run_statement-returns-in-Tasks-clause-runs g t c =
     let sink = g.K.Sink in
-    statement_told sink.held sink.faults sink.room sink.counts_failures (sym c.in-Tasks.is) c.run_tasks.ensures.runs
+    statement_told sink.held sink.faults sink.room sink.counts_failures c.args.propagates (sym c.in-Tasks.is) c.run_tasks.ensures.runs
 
 -- Behind the body of a scope and of a view
 
@@ -171,7 +306,7 @@ run_scope-returns-clause-runs g t c =
     let now = c.run_statements-ended.new.self.objects in
     tells_behind c.run_statements-ended.ensures.runs (same_count c.leave_scope.ensures.left) (λ orders runs guards e u.
     ran_inside sink.held sink.faults sink.room sink.counts_failures [] guards c.args.names c.args.sink.now c.run_statements-ended.new.sink
-    now c.leave_scope.new.self (exec_resolved orders c.args.body.now guards e) c.run_statements-ended.result
+    now c.leave_scope.new.self (exec_resolved c.args.propagates orders c.args.body.now guards e) c.run_statements-ended.result
     c.leave_scope.ensures.left (runs guards e u))
 
 pub run_scope-returns-clause-counts : goal.run_scope-returns-clause-counts
@@ -191,7 +326,7 @@ run_viewed-returns-clause-runs g t c =
     let now = c.run_statements-ended.new.self.objects in
     tells_behind c.run_statements-ended.ensures.runs (same_count c.leave_view.ensures.left ∙ releasing_count more (leaving c.args.key.names (state_of now))) (λ orders runs guards e u.
     ran_inside sink.held sink.faults sink.room sink.counts_failures more guards c.args.key.names c.args.sink.now c.run_statements-ended.new.sink
-    now c.leave_view.new.self (exec_resolved orders c.args.body.now (more ++ guards) e) c.run_statements-ended.result
+    now c.leave_view.new.self (exec_resolved c.args.propagates orders c.args.body.now (more ++ guards) e) c.run_statements-ended.result
     c.leave_view.ensures.left (runs (more ++ guards) e u))
 
 pub run_viewed-returns-clause-counts : goal.run_viewed-returns-clause-counts
@@ -243,7 +378,7 @@ run_stable-returns-clause-runs g t c =
     let begun = subst (λ m. IsUnder c.enter_stable.new.self (m ++ guards) e) (sym is.0)
     (stable_begins old guards e u c.args.object o.held o.there c.enter_stable.new.self is.1) in
     ran_as sink.held sink.faults sink.room sink.counts_failures c.args.sink.now c.run_viewed.new.sink c.run_viewed.new.self.objects guards _ _ c.run_viewed.result
-    (stable_comes orders c.args.body.now guards more e c.args.line c.args.object c.in_ok-key.key.names o.held
+    (stable_comes c.args.propagates orders c.args.body.now guards more e c.args.line c.args.object c.in_ok-key.key.names o.held
     (ap (λ s. guarded_at s c.args.object) (sym u.is) ∙ o.guarded) is.0 (key.1 ∙ many_under old guards e u))
     (runs guards e begun))
 
@@ -252,15 +387,15 @@ run_stable-returns-then-not-takes_guards-clause-runs g t c =
     let sink = g.K.Sink in
     let none = c.takes_guards.ensures.no c.if-not-takes_guards.true in
     tells_none refl (λ orders guards e u.
-    ran_nowhere sink.held sink.faults sink.room sink.counts_failures c.args.sink.now c.args.self.now.objects guards e u (exec_resolved orders c.args.body.now)
-    (stables_at c.args.line c.args.object) c.args.object none tt)
+    ran_nowhere sink.held sink.faults sink.room sink.counts_failures c.args.sink.now c.args.self.now.objects guards e u (exec_resolved c.args.propagates orders c.args.body.now)
+    (stables_at c.args.line c.args.object) c.args.object none)
 
 pub run_stable-returns-in_err-key-clause-runs : goal.run_stable-returns-in_err-key-clause-runs
 run_stable-returns-in_err-key-clause-runs g t c =
     let sink = g.K.Sink in
     tells_none (on_exit _ _ c.from_residual.result c.from_residual.ensures.1) (λ orders guards e u.
     ran_broke sink.held sink.faults sink.room sink.counts_failures c.args.sink.now c.args.sink.now _ guards
-    (block_of orders c.args.body.now guards e (stables_at c.args.line c.args.object)) NoMemory c.from_residual.result c.from_residual.ensures.1
+    (block_of c.args.propagates orders c.args.body.now guards e (stables_at c.args.line c.args.object)) NoMemory c.from_residual.result c.from_residual.ensures.1
     (broke_nothing sink.held sink.faults sink.room sink.counts_failures c.args.sink.now _))
 
 pub run_stable-returns-clause-leaves : goal.run_stable-returns-clause-leaves
@@ -331,7 +466,7 @@ run_element_view-returns-in-Ok-clause-runs g t c =
     let begun = subst (λ m. IsUnder now (m ++ guards) (with_name e (binds_element c.args.object at))) (sym is.1)
     (view_begins old guards e u c.args.object o.held o.there c.args.kind at now is.0 is.2) in
     ran_as sink.held sink.faults sink.room sink.counts_failures c.args.sink.now c.run_viewed.new.sink c.run_viewed.new.self.objects guards _ _ c.run_viewed.result
-    (view_comes orders c.args.body.now guards more e c.args.line c.args.object c.in-Ok.key.names c.args.kind c.args.at at o.held c.requires.view
+    (view_comes c.args.propagates orders c.args.body.now guards more e c.args.line c.args.object c.in-Ok.key.names c.args.kind c.args.at at o.held c.requires.view
     (ap (λ s. guarded_at s c.args.object) (sym u.is) ∙ o.guarded) is.1 (key.1 ∙ many_under old guards e u)
     (ap (λ s. mark_at s c.args.at) u.is ∙ mark_under guards e c.args.at) is.0)
     (runs guards (with_name e (binds_element c.args.object at)) begun))
@@ -366,10 +501,10 @@ run_element_view-returns-in-Err-Raised-clause-runs g t c =
     let some = here.ensures.refused o.held here.reason o.there (ap Err here.field-0-is) in
     tells_none (on_ok_always c.write_refusal.result (same_blocks here.ensures.fault)) (λ orders guards e u.
     ran_line sink.held sink.faults sink.room sink.counts_failures c.args.sink.now c.write_refusal.new.sink now guards c.args.line here.reason e _ c.write_refusal.result
-    (view_refused orders c.args.body.now guards e c.args.line c.args.object c.args.kind c.args.at at o.held here.reason
+    (view_refused c.args.propagates orders c.args.body.now guards e c.args.line c.args.object c.args.kind c.args.at at o.held here.reason
     (ap (λ s. guarded_at s c.args.object) (sym u.is) ∙ o.guarded) (ap (λ s. mark_at s c.args.at) u.is ∙ mark_under guards e c.args.at) some)
     (ap state_of here.ensures.fault ∙ u.is)
-    c.write_refusal.ensures)
+    c.write_refusal.ensures.writes c.write_refusal.ensures.ended)
 
 pub run_element_view-returns-in-Err-NoMemory-clause-runs : goal.run_element_view-returns-in-Err-NoMemory-clause-runs
 run_element_view-returns-in-Err-NoMemory-clause-runs g t c =
@@ -377,6 +512,7 @@ run_element_view-returns-in-Err-NoMemory-clause-runs g t c =
     tells_none tt (λ orders guards e u. record {
       writes = broke_nothing sink.held sink.faults sink.room sink.counts_failures c.args.sink.now _;
       after = tt;
+      ended = tt;
     })
 
 -- Updates of a key
@@ -413,7 +549,7 @@ run_update-returns-in-Ok-clause-runs g t c =
     tells_before (same_count is.2 ∙ holding_count (guards_of_view UpdateKey o.held) (state_of old)) c.run_updated.ensures.runs (λ orders runs guards e u.
     let begun = updating_under old c.enter_update.new.self guards e u c.args.object o.held o.there c.in-Ok.key copy is.1 is.2 in
     ran_as sink.held sink.faults sink.room sink.counts_failures c.args.sink.now c.run_updated.new.sink c.run_updated.new.self.objects guards _ _ c.run_updated.result
-    (update_comes orders c.args.body.now guards e c.args.line c.args.object c.args.at (state_of old) o.held c.in-Ok.key
+    (update_comes c.args.propagates orders c.args.body.now guards e c.args.line c.args.object c.args.at (state_of old) o.held c.in-Ok.key
     (ap (λ s. guarded_at s c.args.object) (sym u.is) ∙ o.guarded) u.is is.0 is.1 key.0 (key.1 ∙ many_under old guards e u) key.2)
     (runs guards (with_name e (binds_value copy)) begun))
 
@@ -447,10 +583,10 @@ run_update-returns-in-Err-Raised-clause-runs g t c =
     let some = here.ensures.refused o.held here.reason o.there (ap Err here.field-0-is) in
     tells_none (on_ok_always c.write_refusal.result (same_blocks here.ensures.fault)) (λ orders guards e u.
     ran_line sink.held sink.faults sink.room sink.counts_failures c.args.sink.now c.write_refusal.new.sink now guards c.args.line here.reason e _ c.write_refusal.result
-    (view_refused orders c.args.body.now guards e c.args.line c.args.object UpdateKey c.args.at at o.held here.reason
+    (view_refused c.args.propagates orders c.args.body.now guards e c.args.line c.args.object UpdateKey c.args.at at o.held here.reason
     (ap (λ s. guarded_at s c.args.object) (sym u.is) ∙ o.guarded) (ap (λ s. mark_at s c.args.at) u.is ∙ mark_under guards e c.args.at) some)
     (ap state_of here.ensures.fault ∙ u.is)
-    c.write_refusal.ensures)
+    c.write_refusal.ensures.writes c.write_refusal.ensures.ended)
 
 pub run_update-returns-in-Err-NoMemory-clause-runs : goal.run_update-returns-in-Err-NoMemory-clause-runs
 run_update-returns-in-Err-NoMemory-clause-runs g t c =
@@ -458,52 +594,85 @@ run_update-returns-in-Err-NoMemory-clause-runs g t c =
     tells_none tt (λ orders guards e u. record {
       writes = broke_nothing sink.held sink.faults sink.room sink.counts_failures c.args.sink.now _;
       after = tt;
+      ended = tt;
     })
 
 pub run_updated-end_update-requires : goal.run_updated-end_update-requires
 run_updated-end_update-requires g t c =
     let k = c.requires.updating in
-    let some = told_by_some c.in-Ok.ensures.runs in
+    let some = told_by_some c.in-Ok-None.ensures.runs in
     let ran = some.1 (guards_of_update_key c.args.key ++ k.guards) k.env k.stands in
-    let leaves = c.in-Ok.ensures.leaves in
+    let leaves = c.in-Ok-None.ensures.leaves in
     record {
       updating =
-          updating_goes_on some.0 c.args.body.now c.args.self.now.objects c.run_statements.new.self.objects c.args.key k ran.after leaves.counts
+          updating_goes_on c.args.propagates some.0 c.args.body.now c.args.self.now.objects c.run_statements.new.self.objects c.args.key k ran.after leaves.counts
           (leaves.persists c.args.key.at k.known);
     }
 
-pub run_updated-abandon_update-requires : goal.run_updated-abandon_update-requires
-run_updated-abandon_update-requires g t c =
+pub run_updated-drop_update-requires : goal.run_updated-drop_update-requires
+run_updated-drop_update-requires g t c =
+    let k = c.requires.updating in
+    record {
+      inner = k.inner;
+      guard = updating_held c.args.self.now.objects c.run_statements.new.self.objects c.args.key k c.in-Ok-Some.ensures.leaves.counts;
+    }
+
+pub run_updated-drop_update-requires-in-Err : goal.run_updated-drop_update-requires-in-Err
+run_updated-drop_update-requires-in-Err g t c =
     let k = c.requires.updating in
     record {
       inner = k.inner;
       guard = updating_held c.args.self.now.objects c.run_statements.new.self.objects c.args.key k c.in-Err.ensures.leaves.counts;
     }
 
-pub run_updated-returns-in-Ok-clause-runs : goal.run_updated-returns-in-Ok-clause-runs
-run_updated-returns-in-Ok-clause-runs g t c =
+pub run_updated-returns-in-Ok-None-clause-runs : goal.run_updated-returns-in-Ok-None-clause-runs
+run_updated-returns-in-Ok-None-clause-runs g t c =
     let sink = g.K.Sink in
+    let p = c.args.propagates in
     let k = c.requires.updating in
+    let here = c.in-Ok-None in
     let all = guards_of_update_key c.args.key ++ k.guards in
-    let some = told_by_some c.in-Ok.ensures.runs in
-    let left = (exec_resolved some.0 c.args.body.now all k.env).after in
+    let some = told_by_some here.ensures.runs in
+    let left = (exec_resolved p some.0 c.args.body.now all k.env).after in
     let so_far = some.1 all k.env k.stands in
-    let stands : IsUnder c.run_statements.new.self.objects all left = record { is = so_far.after; ready = ready_exec some.0 c.args.body.now all k.env k.stands.ready } in
-    tells_on c.in-Ok.ensures.runs
-    (ending_blocks sink.held sink.faults sink.room sink.counts_failures c.args.line c.args.key k.guards left stands
+    let stands : IsUnder c.run_statements.new.self.objects all left = record { is = so_far.after; ready = ready_exec p some.0 c.args.body.now all k.env k.stands.ready } in
+    tells_on here.ensures.runs
+    (ending_blocks sink.held sink.faults sink.room sink.counts_failures c.end_update.new.self.objects c.args.line c.args.key k.guards left stands
     (c.end_update.ensures.runs k.guards left stands)) (λ orders runs guards e u.
     let held = guards_of_update_key c.args.key ++ guards in
-    let first = exec_resolved orders c.args.body.now held e in
+    let first = exec_resolved p orders c.args.body.now held e in
     let ran = runs held e u in
     ran_then sink.held sink.faults sink.room sink.counts_failures c.args.sink.now c.run_statements.new.sink c.end_update.new.sink
-    c.end_update.new.self.objects guards first (key_ending c.args.line c.args.key guards) c.end_update.result ran.writes
-    (c.end_update.ensures.runs guards first.after (record { is = ran.after; ready = ready_exec orders c.args.body.now held e u.ready })))
+    c.end_update.new.self.objects guards first (key_ending c.args.line c.args.key guards) None c.end_update.result (sym here.field-0-is ∙ ran.ended) ran.writes
+    (c.end_update.ensures.runs guards first.after (record { is = ran.after; ready = ready_exec p orders c.args.body.now held e u.ready })))
 
-pub run_updated-returns-in-Ok-clause-counts : goal.run_updated-returns-in-Ok-clause-counts
-run_updated-returns-in-Ok-clause-counts g t c =
+pub run_updated-returns-in-Ok-None-clause-counts : goal.run_updated-returns-in-Ok-None-clause-counts
+run_updated-returns-in-Ok-None-clause-counts g t c =
     c.end_update.ensures.counts
     ∙ counts_back (guards_of_update_key c.args.key) c.args.key.names (state_of c.run_statements.new.self.objects) (state_of c.args.self.now.objects)
-    (ap (take c.args.key.names) c.in-Ok.ensures.leaves.counts)
+    (ap (take c.args.key.names) c.in-Ok-None.ensures.leaves.counts)
+
+-- where its body was left
+pub run_updated-returns-in-Ok-Some-clause-runs : goal.run_updated-returns-in-Ok-Some-clause-runs
+run_updated-returns-in-Ok-Some-clause-runs g t c =
+    let sink = g.K.Sink in
+    let here = c.in-Ok-Some in
+    let key = c.args.key in
+    let now = c.run_statements.new.self.objects in
+    tells_on here.ensures.runs (same_count c.drop_update.ensures.left ∙ releasing_count (guards_of_update_key key) (leaving key.names (state_of now)))
+    (λ orders runs guards e u.
+    let held = guards_of_update_key key ++ guards in
+    let first = exec_resolved c.args.propagates orders c.args.body.now held e in
+    ran_dropped sink.held sink.faults sink.room sink.counts_failures c.args.sink.now c.run_statements.new.sink now c.drop_update.new.self c.args.line key guards
+    first here.raised c.drop_update.ensures.left
+    (subst (λ (end : End). Ran sink.held sink.faults sink.room sink.counts_failures c.args.sink.now c.run_statements.new.sink now held first (Ok end))
+    here.field-0-is (runs held e u)))
+
+pub run_updated-returns-in-Ok-Some-clause-counts : goal.run_updated-returns-in-Ok-Some-clause-counts
+run_updated-returns-in-Ok-Some-clause-counts g t c =
+    ap counts_of c.drop_update.ensures.left
+    ∙ counts_back (guards_of_update_key c.args.key) c.args.key.names (state_of c.run_statements.new.self.objects) (state_of c.args.self.now.objects)
+    (ap (take c.args.key.names) c.in-Ok-Some.ensures.leaves.counts)
 
 pub run_updated-returns-in-Err-clause-runs : goal.run_updated-returns-in-Err-clause-runs
 run_updated-returns-in-Err-clause-runs g t c =
@@ -511,12 +680,12 @@ run_updated-returns-in-Err-clause-runs g t c =
     tells_as c.in-Err.ensures.runs tt (λ orders runs guards e u.
     let held = guards_of_update_key c.args.key ++ guards in
     let ran = runs held e u in
-    ran_stopped sink.held sink.faults sink.room sink.counts_failures c.args.sink.now c.run_statements.new.sink c.abandon_update.new.self guards
-    (exec_resolved orders c.args.body.now held e) (key_ending c.args.line c.args.key guards) c.in-Err.end ran.writes)
+    ran_stopped sink.held sink.faults sink.room sink.counts_failures c.args.sink.now c.run_statements.new.sink c.drop_update-in-Err.new.self guards
+    (exec_resolved c.args.propagates orders c.args.body.now held e) (key_ending c.args.line c.args.key guards) c.in-Err.end ran.writes)
 
 pub run_updated-returns-in-Err-clause-counts : goal.run_updated-returns-in-Err-clause-counts
 run_updated-returns-in-Err-clause-counts g t c =
-    ap counts_of c.abandon_update.ensures.left
+    ap counts_of c.drop_update-in-Err.ensures.left
     ∙ counts_back (guards_of_update_key c.args.key) c.args.key.names (state_of c.run_statements.new.self.objects) (state_of c.args.self.now.objects)
     (ap (take c.args.key.names) c.in-Err.ensures.leaves.counts)
 
@@ -550,7 +719,7 @@ run_declare-returns-in-Ok-clause-runs g t c =
     let is = c.in-Ok.ensures.declared in
     tells_before (same_count is.2 ∙ decls_count c.args.decls.now (state_of c.args.self.now.objects)) c.run_scope.ensures.runs (λ orders runs guards e u.
     ran_as sink.held sink.faults sink.room sink.counts_failures c.args.sink.now c.run_scope.new.sink c.run_scope.new.self.objects guards _ _ c.run_scope.result
-    (declare_comes (exec_resolved orders c.args.body.now) old guards e c.args.decls.now c.in-Ok.names u is.1 is.0)
+    (declare_comes (exec_resolved c.args.propagates orders c.args.body.now) old guards e c.args.decls.now c.in-Ok.names u is.1 is.0)
     (runs guards (after_decls c.args.decls.now e).after (decls_begin old c.enter_scope.new.self guards e c.args.decls.now u is.2)))
 
 pub run_declare-returns-in-Err-Spent-clause-runs : goal.run_declare-returns-in-Err-Spent-clause-runs
@@ -563,9 +732,9 @@ run_declare-returns-in-Err-Spent-clause-runs g t c =
     tells_none (on_ok_always c.write_refusal.result (same_count is.1 ∙ decls_count c.args.decls.now (state_of c.args.self.now.objects))) (λ orders guards e u.
     ran_line sink.held sink.faults sink.room sink.counts_failures c.args.sink.now c.write_refusal.new.sink now guards here.line NamesSpent
     (leaving (length e.bounds) (after_decls c.args.decls.now e).after) _ c.write_refusal.result
-    (declare_spent (exec_resolved orders c.args.body.now) old guards e c.args.decls.now here.line u is.0)
+    (declare_spent (exec_resolved c.args.propagates orders c.args.body.now) old guards e c.args.decls.now here.line u is.0)
     (declare_back old now guards e c.args.decls.now u is.1)
-    c.write_refusal.ensures)
+    c.write_refusal.ensures.writes c.write_refusal.ensures.ended)
 
 pub run_declare-returns-in-Err-NoMemory-clause-runs : goal.run_declare-returns-in-Err-NoMemory-clause-runs
 run_declare-returns-in-Err-NoMemory-clause-runs g t c =
@@ -573,6 +742,7 @@ run_declare-returns-in-Err-NoMemory-clause-runs g t c =
     tells_none tt (λ orders guards e u. record {
       writes = broke_nothing sink.held sink.faults sink.room sink.counts_failures c.args.sink.now _;
       after = tt;
+      ended = tt;
     })
 
 -- Loops, and their turns
@@ -625,8 +795,11 @@ run_turns-returns-clause-runs = loops.run_turns-returns-clause-runs
 pub run_turns-run_statements-requires : goal.run_turns-run_statements-requires
 run_turns-run_statements-requires = loops.run_turns-run_statements-requires
 
-pub run_turns-returns-in_err-run_statements-clause-runs : goal.run_turns-returns-in_err-run_statements-clause-runs
-run_turns-returns-in_err-run_statements-clause-runs = loops.run_turns-returns-in_err-run_statements-clause-runs
+pub run_turns-returns-in_err-ended-clause-runs : goal.run_turns-returns-in_err-ended-clause-runs
+run_turns-returns-in_err-ended-clause-runs = loops.run_turns-returns-in_err-ended-clause-runs
+
+pub run_turns-returns-then-is_some-clause-runs : goal.run_turns-returns-then-is_some-clause-runs
+run_turns-returns-then-is_some-clause-runs = loops.run_turns-returns-then-is_some-clause-runs
 
 pub run_turns-loop-preserved : goal.run_turns-loop-preserved
 run_turns-loop-preserved = loops.run_turns-loop-preserved

@@ -25,7 +25,7 @@ returns-in-Some-clause-runs g c guards e u =
     let now = c.leave_update.new.self in
     let ends = subst (UpdateEnds c.args.key (state_of old) (state_of now)) c.in-Some.is c.leave_update.ensures.ended in
     ended_line sink.held sink.faults sink.room sink.counts_failures c.args.sink.now c.write_refusal.new.sink old now c.args.line c.args.key guards e
-    c.in-Some.reason c.write_refusal.result ends u c.write_refusal.ensures
+    c.in-Some.reason c.write_refusal.result ends u c.write_refusal.ensures.writes c.write_refusal.ensures.ended
 
 pub returns-in-None-clause-runs : goal.returns-in-None-clause-runs
 returns-in-None-clause-runs g c guards e u =
@@ -33,4 +33,4 @@ returns-in-None-clause-runs g c guards e u =
     let old = c.args.self.now.objects in
     let now = c.leave_update.new.self in
     let ends = subst (UpdateEnds c.args.key (state_of old) (state_of now)) c.in-None.is c.leave_update.ensures.ended in
-    ended_silent sink.held sink.faults sink.room sink.counts_failures c.args.sink.now old now c.args.line c.args.key guards e _ ends u
+    ended_silent sink.held sink.faults sink.room sink.counts_failures c.args.sink.now old now c.args.line c.args.key guards e ends u

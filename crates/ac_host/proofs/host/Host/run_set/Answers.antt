@@ -11,4 +11,4 @@ returns-clause-runs g c =
     let sink = g.K.Sink in
     command_ran sink.held sink.faults sink.room sink.counts_failures (sets_at c.args.line c.args.target c.args.from.now) c.args.target c.args.self.now.objects c.set-done.new.self
     c.args.sink.now c.write_line.new.sink c.set-done.new.frame.reply.said c.set-done.result c.write_line.result c.set-done.ensures.performed c.write_line.ensures.writes
-    c.write_line.ensures.answered
+    c.write_line.ensures.ended c.write_line.ensures.answered

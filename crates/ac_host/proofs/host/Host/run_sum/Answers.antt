@@ -11,4 +11,4 @@ returns-clause-runs g c =
     let sink = g.K.Sink in
     command_ran sink.held sink.faults sink.room sink.counts_failures (sums_at c.args.line c.args.target c.args.from c.args.minus c.args.number) c.args.target c.args.self.now.objects c.sum-done.new.self
     c.args.sink.now c.write_line.new.sink c.sum-done.new.frame.reply.said c.sum-done.result c.write_line.result c.sum-done.ensures.performed c.write_line.ensures.writes
-    c.write_line.ensures.answered
+    c.write_line.ensures.ended c.write_line.ensures.answered

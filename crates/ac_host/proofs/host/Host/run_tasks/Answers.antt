@@ -13,7 +13,7 @@ use Rattle.ac_host.specs.Writing.{Broke, Wrote}
 use Rattle.ac_host.proofs.Blocks.{ran_broke}
 use Rattle.ac_host.proofs.ByOrders.{on_exit}
 use Rattle.ac_host.proofs.LentQueues.{all_fit, nothing_gathered, new_fits, as_many_tasks, gathered_lines, one_more_counted, gathered_after}
-use Rattle.ac_host.proofs.TasksRun.{nothing_run, none_run, told_one}
+use Rattle.ac_host.proofs.TasksRun.{nothing_run, none_run, told_one, tasks_end}
 use Rattle.ac_host.proofs.host.Host.run_tasks.Goals as goal
 
 pub lend_queues-requires : goal.lend_queues-requires
@@ -68,7 +68,7 @@ returns-then-not-all_fit-clause-runs g c =
     let made_is = c.in_ok-gathered.ensures ∙ ap (λ p. tasks_from tasks p first) c.deref.ensures.value in
     let ranked_is = c.in_ok-ranked.ensures ∙ ap (λ p. map is_ranked (queues_at (state_of old) p)) c.deref-2.ensures.value in
     let test = (λ i. all_fit (sym c.deref-3.ensures.value i) (sym c.deref-4.ensures.value i)) ∙ sym c.all_fit.ensures in
-    none_run sink.held sink.faults sink.room sink.counts_failures tasks c.args.sink.now tt
+    none_run sink.held sink.faults sink.room sink.counts_failures tasks c.args.sink.now
     (nothing_gathered old tasks places first made (queues_at (state_of old) places) c.in_ok-places.ensures first_is made_is refl ranked ranked_is
     (test ∙ c.if-not-all_fit.true))
 
@@ -139,7 +139,7 @@ returns-in_err-write_block-clause-runs g c =
     let end = c.in_err-write_block.field-0.0 in
     let lines = gathered_lines old tasks places first made lent c.in_ok-places.ensures first_is made_is lent_is ranked ranked_is fits ran.order done done_is in
     told_one sink.held sink.faults sink.room sink.counts_failures tasks ran.order ran.allowed (on_exit _ _ result exit) (λ orders go guards e u.
-    ran_broke sink.held sink.faults sink.room sink.counts_failures c.args.sink.now c.write_block.new.sink c.lend_queues.new.self guards
+    ran_broke sink.held sink.faults sink.room sink.counts_failures c.args.sink.now c.write_block.new.sink (state_of c.lend_queues.new.self) guards
     (gathered (orders e.blocks) tasks e) end result exit
     (subst (λ t. Broke sink.held sink.faults sink.room sink.counts_failures c.args.sink.now c.write_block.new.sink t end)
     (ap (λ m. lines_text (block_lines m done)) c.deref-7.ensures.value ∙ lines orders go guards e u) c.in_err-write_block.ensures))
@@ -178,4 +178,5 @@ returns-clause-runs g c =
           subst (Wrote sink.held sink.faults sink.room sink.counts_failures c.args.sink.now c.write_block.new.sink)
           (ap (λ m. lines_text (block_lines m done)) c.deref-7.ensures.value ∙ lines orders go guards e u) c.in_ok-write_block.ensures;
       after = after orders go guards e u;
+      ended = tasks_end (orders e.blocks) tasks e;
     })
