@@ -1,5 +1,5 @@
 -- The canonical text of a script.
-use Rattle.std.specs.Prelude.{ℕ, ◌-◌, ◌^◌, ◌≤◌, ◌==◌, ◌&&◌, ◌||◌, max, pos, negsuc, suc, nat_lt, codes, decimal, replicate, Bool, true, false, List, [], ◌∷◌, ◌++◌, map, flat_map, filter_map, unwrap_or, Option, Some, None, IsTrue, if◌then◌else◌}
+use Rattle.std.specs.Prelude.{ℕ, ◌-◌, ◌^◌, ◌≤◌, ◌==◌, ◌&&◌, ◌||◌, max, pos, negsuc, suc, nat_lt, codes, decimal, replicate, Bool, true, false, List, [], ◌∷◌, ◌++◌, map, flat_map, filter_map, unwrap_or, is_some, not, Option, Some, None, IsTrue, if◌then◌else◌}
 use Rattle.std.specs.Char.{is_ascii_lowercase, to_ascii_lowercase}
 use Rattle.std.specs.List.{list_all}
 use Rattle.std.specs.Fmt.{signed_decimal}
@@ -10,13 +10,14 @@ use Rattle.ac_base.specs.declared.value.Value.TheVariants as value
 use Rattle.ac_syntax.specs.declared.token.Token.{Token}
 use Rattle.ac_syntax.specs.declared.token.Token.TheVariants as token
 use Rattle.ac_syntax.specs.declared.token.Mark.{Mark}
-use Rattle.ac_syntax.specs.declared.token.Mark.TheVariants.{Colon, Semicolon, Comma, Open, Close, Dot, Assign, Plus, Minus}
+use Rattle.ac_syntax.specs.declared.token.Mark.TheVariants.{Colon, Semicolon, Comma, Open, Close, Dot, Assign, Plus, Minus, Arrow}
 use Rattle.ac_syntax.specs.declared.token.Placed.{Placed}
 use Rattle.ac_syntax.specs.declared.script.Script.{Script}
 use Rattle.ac_syntax.specs.Characters.{is_quote, is_printable, is_word_byte}
 use Rattle.ac_syntax.specs.Tokens.{tokens}
+use Rattle.ac_syntax.specs.Keywords.{keyword_text, keyword_of}
 use Rattle.ac_syntax.specs.Items.{Item, item_line, script_items}
-use Rattle.ac_syntax.specs.Parts.{Part, says, marks, names, counts, writes, lacks, item_parts}
+use Rattle.ac_syntax.specs.Parts.{Part, says, keywords, marks, names, counts, writes, lacks, item_parts}
 use Rattle.ac_syntax.specs.Grammar.{Derives}
 use Rattle.ac_syntax.specs.Limits.{AreWithinLimits}
 
@@ -30,6 +31,7 @@ mark_text Dot = codes "."
 mark_text Assign = codes ":="
 mark_text Plus = codes "+"
 mark_text Minus = codes "-"
+mark_text Arrow = codes "=>"
 
 -- a quote is doubled
 abbrev pub quoted_byte : ℕ → List ℕ
@@ -46,6 +48,7 @@ literal_text (value.Text bytes) = quoted bytes
 
 abbrev pub part_text : Part → List ℕ
 part_text (says word) = word
+part_text (keywords own) = keyword_text own
 part_text (marks mark) = mark_text mark
 part_text (names word) = word
 part_text (counts n) = decimal n
@@ -54,6 +57,7 @@ part_text lacks = []
 
 abbrev pub is_part_mark : Mark → Part → Bool
 is_part_mark mark (says _) = false
+is_part_mark mark (keywords _) = false
 is_part_mark mark (marks found) = sameb the_type found mark
 is_part_mark mark (names _) = false
 is_part_mark mark (counts _) = false
@@ -109,6 +113,7 @@ literal_tokens (value.Text bytes) = token.Text bytes ∷ []
 
 abbrev pub part_tokens : Part → List Token
 part_tokens (says word) = token.Word word ∷ []
+part_tokens (keywords own) = token.Keyword own ∷ []
 part_tokens (marks mark) = token.Mark mark ∷ []
 part_tokens (names word) = token.Word word ∷ []
 part_tokens (counts n) = token.Number n ∷ []
@@ -134,12 +139,17 @@ abbrev pub is_lower_word : List ℕ → Bool
 is_lower_word [] = false
 is_lower_word (b ∷ rest) = is_ascii_lowercase b && list_all (λ c. is_word_byte c && to_ascii_lowercase c == c) rest
 
--- a text can write this token
-abbrev pub is_written : Token → Bool
-is_written (token.Word word) = is_lower_word word
-is_written (token.Number n) = nat_lt n (2 ^ 64)
-is_written (token.Text bytes) = list_all is_printable bytes
-is_written (token.Mark _) = true
+-- a text whose exceptions propagate, or one whose exceptions don't, can write this token
+abbrev pub is_written : (propagating : Bool) → Token → Bool
+is_written propagating (token.Word word) = is_lower_word word && not (propagating && is_some (keyword_of word))
+is_written propagating (token.Keyword _) = propagating
+is_written propagating (token.Number n) = nat_lt n (2 ^ 64)
+is_written propagating (token.Text bytes) = list_all is_printable bytes
+is_written propagating (token.Mark _) = true
+
+-- the script begins with the pragma
+abbrev pub propagates_in : Script → Bool
+propagates_in script = is_some script.pragma
 
 -- the lines never fall from this one on
 abbrev pub RisesFrom : ℕ → List ℕ → Type 0
@@ -150,5 +160,5 @@ RisesFrom line (next ∷ lines) = (line ≤ next) × RisesFrom next lines
 pub record IsWellFormed (script : Script) : Type 0 where
   pub derives : Derives (canonical_placed script) script
   pub within : AreWithinLimits (canonical_tokens script)
-  pub written : IsTrue (list_all is_written (canonical_tokens script))
+  pub written : IsTrue (list_all (is_written (propagates_in script)) (canonical_tokens script))
   pub lines : RisesFrom 1 (filter_map item_line (script_items script))

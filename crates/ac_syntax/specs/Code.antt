@@ -1,5 +1,6 @@
 -- Statements as contracts see them.
 use Rattle.std.specs.Prelude.{ℕ, ◌+◌, Bool, List, Option}
+use Rattle.ac_base.specs.declared.reason.Exception.{Exception}
 use Rattle.ac_syntax.specs.declared.arg.Arg.{Arg}
 use Rattle.ac_syntax.specs.declared.decl.Decl.{Decl}
 use Rattle.ac_syntax.specs.declared.view_kind.ViewKind.{ViewKind}
@@ -21,14 +22,28 @@ pub data Head : Type 0 where
   -- one of them: its body is its commands
   task_at : (line : ℕ) (name : List ℕ) (locals : List Decl) → Head
 
--- statements in order: none, or a command and what follows it, or a block with its body and what follows it
-pub data Code : Type 0 where
-  stop : Code
-  one : Simple → Code → Code
-  block : Head → Code → Code → Code
+mutual
+  -- statements in order: none, or a command and what follows it, or a block with its body and what follows it
+  pub data Code : Type 0 where
+    stop : Code
+    one : Simple → Code → Code
+    block : Head → Code → Code → Code
+    -- a block with handlers: the line of its `begin`, what is tried, its handlers, and what follows
+    handled : (line : ℕ) → Code → HandlerCode → Code → Code
 
--- how many commands and blocks there are
-abbrev pub code_size : Code → ℕ
-code_size stop = 0
-code_size (one _ rest) = 1 + code_size rest
-code_size (block _ body rest) = 1 + code_size body + code_size rest
+  -- handlers in order: none, or one with its line and its statements, and those behind it; it takes the named exception, or with None all others
+  pub data HandlerCode : Type 0 where
+    no_handler : HandlerCode
+    handler : (line : ℕ) → Option Exception → Code → HandlerCode → HandlerCode
+
+abbrev mutual
+  -- how many commands, blocks and handlers there are
+  pub code_size : Code → ℕ
+  code_size stop = 0
+  code_size (one _ rest) = 1 + code_size rest
+  code_size (block _ body rest) = 1 + code_size body + code_size rest
+  code_size (handled _ body handlers rest) = 1 + code_size body + handlers_size handlers + code_size rest
+
+  pub handlers_size : HandlerCode → ℕ
+  handlers_size no_handler = 0
+  handlers_size (handler _ _ body more) = 1 + code_size body + handlers_size more

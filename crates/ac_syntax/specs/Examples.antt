@@ -28,7 +28,7 @@ a_list =
     ∷ Object 1 (codes "a") (codes "l") None ∷ []
 
 abbrev pub with_list : Code → Script
-with_list stmts = record { decls = a_list; stmts = stmts }
+with_list stmts = record { pragma = None; decls = a_list; stmts = stmts }
 
 -- words in any case, two items on a line, a comment, spaces around a minus, zeros before a number
 
@@ -114,7 +114,7 @@ abbrev pub RefusesLetterAfterNumber : Type 0
 RefusesLetterAfterNumber = cut_of (codes "12a") ≡ record { placed = []; malformed = Some 1 }
 
 abbrev pub WritesNothing : Type 0
-WritesNothing = canonical_text (record { decls = []; stmts = stop }) ≡ []
+WritesNothing = canonical_text (record { pragma = None; decls = []; stmts = stop }) ≡ []
 
 -- so many blocks from this line on, each in the one before
 
@@ -125,6 +125,7 @@ deep line (suc n) = block (stable_at line (codes "a")) (deep (line + 1) n) stop
 abbrev pub two_lines : Code → Script
 two_lines stmts =
     record {
+      pragma = None;
       decls = TypeDecl 1 (codes "l") (record { bounded = false; kind = kind.List; first = Integer; second = None; keyed = false }) ∷ Object 2 (codes "a") (codes "l") None ∷ [];
       stmts = stmts;
     }

@@ -33,7 +33,7 @@ every_block =
     (block (loop_at 9 (codes "e") true false (codes "a")) stop (block (view_at 10 Query (codes "h") None (codes "q")) stop stop))))
 
 abbrev pub every_form : Script
-every_form = record { decls = every_decl; stmts = every_command every_block }
+every_form = record { pragma = None; decls = every_decl; stmts = every_command every_block }
 
 abbrev pub every_text : List ℕ
 every_text = lines (
@@ -54,7 +54,7 @@ IsEveryFormWell = IsWellFormed every_form
 -- a minus before 0 is read and not written
 
 abbrev pub zero_set : Script
-zero_set = record { decls = []; stmts = one (set_at 1 (codes "x") (Lit (value.Int (pos 0)))) stop }
+zero_set = record { pragma = None; decls = []; stmts = one (set_at 1 (codes "x") (Lit (value.Int (pos 0)))) stop }
 
 abbrev pub SpellsMinusZero : Type 0
 SpellsMinusZero = Spells zero_set (codes "X := -0;")
@@ -64,8 +64,8 @@ WritesZero = canonical_text zero_set ≡ lines (codes "x := 0;" ∷ [])
 
 -- no tokens spell an update of a key without a cursor
 abbrev pub NeedsCursor : Type 0
-NeedsCursor = IsWellFormed (record { decls = []; stmts = block (view_at 1 UpdateKey (codes "b") None (codes "z")) stop stop }) → ⊥
+NeedsCursor = IsWellFormed (record { pragma = None; decls = []; stmts = block (view_at 1 UpdateKey (codes "b") None (codes "z")) stop stop }) → ⊥
 
 -- lines don't fall
 abbrev pub NeedsRisingLines : Type 0
-NeedsRisingLines = IsWellFormed (record { decls = IntVar 2 (codes "n") ∷ IntVar 1 (codes "m") ∷ []; stmts = stop }) → ⊥
+NeedsRisingLines = IsWellFormed (record { pragma = None; decls = IntVar 2 (codes "n") ∷ IntVar 1 (codes "m") ∷ []; stmts = stop }) → ⊥

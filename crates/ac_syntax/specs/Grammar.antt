@@ -11,9 +11,9 @@ use Rattle.ac_syntax.specs.declared.script.Script.{Script}
 use Rattle.ac_syntax.specs.Tokens.{tokens}
 use Rattle.ac_syntax.specs.Items.{Item, item_line, script_items}
 use Rattle.ac_syntax.specs.Order.{AreInOrder}
-use Rattle.ac_syntax.specs.Parts.{Part, says, marks, names, counts, writes, lacks, item_parts}
+use Rattle.ac_syntax.specs.Parts.{Part, says, keywords, marks, names, counts, writes, lacks, item_parts}
 
--- the words that name nothing
+-- the words that name nothing, whatever the script
 unfoldable pub reserved : List (List ℕ)
 reserved =
     codes "type" ∷ codes "is" ∷ codes "bounded" ∷ codes "keyed" ∷ codes "cursor" ∷ codes "integer" ∷ codes "string"
@@ -35,6 +35,7 @@ IsInteger z spelled =
 
 abbrev pub IsPart : Part → List Token → Type 0
 IsPart (says word) spelled = spelled ≡ token.Word word ∷ []
+IsPart (keywords own) spelled = spelled ≡ token.Keyword own ∷ []
 IsPart (marks mark) spelled = spelled ≡ token.Mark mark ∷ []
 IsPart (names word) spelled = (is_reserved word ≡ false) × (spelled ≡ token.Word word ∷ [])
 IsPart (counts n) spelled = spelled ≡ token.Number n ∷ []

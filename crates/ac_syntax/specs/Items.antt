@@ -1,8 +1,9 @@
--- A script as its items in the order of the text: declarations, commands, what begins a block and what closes it.
+-- A script as its items in the order of the text: its pragma, declarations, commands, what begins a block and what closes it, and the heads of handlers.
 use Rattle.std.specs.Prelude.{ℕ, List, [], ◌∷◌, ◌++◌, map, Option, Some, None}
-use Rattle.ac_syntax.specs.Code.{Simple, call_at, set_at, sum_at, Head, loop_at, view_at, stable_at, declare_at, tasks_at, task_at, Code, stop, one, block}
+use Rattle.ac_syntax.specs.Code.{Simple, call_at, set_at, sum_at, Head, loop_at, view_at, stable_at, declare_at, tasks_at, task_at, Code, stop, one, block, handled, HandlerCode, no_handler, handler}
+use Rattle.ac_base.specs.declared.reason.Exception.{Exception}
 use Rattle.ac_syntax.specs.declared.closing.Closing.{Closing}
-use Rattle.ac_syntax.specs.declared.closing.Closing.TheVariants.{EndLoop, End, EndTasks, EndTask}
+use Rattle.ac_syntax.specs.declared.closing.Closing.TheVariants.{EndLoop, End, EndTasks, EndTask, EndTried, EndHandlers, EndOthers}
 use Rattle.ac_syntax.specs.declared.decl.Decl.{Decl}
 use Rattle.ac_syntax.specs.declared.decl.Decl.TheVariants.{TypeDecl, Object, CursorVar, IntVar, TextVar}
 use Rattle.ac_syntax.specs.declared.script.Script.{Script}
@@ -14,8 +15,14 @@ pub data Item : Type 0 where
   opens : Head → Item
   -- the word `begin` after the declarations of a block
   begins : Item
-  -- the words that end a block
+  -- the words that end a block, or what is tried in one
   closes : Closing → Item
+  -- the pragma, on this line
+  propagates : ℕ → Item
+  -- the word `begin` of a block with handlers, on this line
+  tries : ℕ → Item
+  -- a handler's head, on this line
+  catches : ℕ → Option Exception → Item
 
 -- a head without its declarations
 abbrev pub bare : Head → Head
@@ -52,13 +59,40 @@ opening head = opens (bare head) ∷ declared head
 abbrev pub closing : Head → List Item
 closing head = closes (ending head) ∷ []
 
-abbrev pub items : Code → List Item
-items stop = []
-items (one simple rest) = commands simple ∷ items rest
-items (block head body rest) = opening head ++ (items body ++ (closing head ++ items rest))
+-- the end of a block whose last handler takes this
+abbrev pub handler_end : Option Exception → Closing
+handler_end None = EndOthers
+handler_end (Some _) = EndHandlers
+
+-- the end of a block with these handlers, where the one before them takes this
+abbrev pub end_behind : Option Exception → HandlerCode → Closing
+end_behind before no_handler = handler_end before
+end_behind before (handler _ own _ more) = end_behind own more
+
+-- the end of a block with these handlers
+abbrev pub handlers_end : HandlerCode → Closing
+handlers_end no_handler = EndHandlers
+handlers_end (handler _ own _ more) = end_behind own more
+
+abbrev mutual
+  pub items : Code → List Item
+  items stop = []
+  items (one simple rest) = commands simple ∷ items rest
+  items (block head body rest) = opening head ++ (items body ++ (closing head ++ items rest))
+  items (handled line body handlers rest) =
+      tries line ∷ (items body ++ (closes EndTried ∷ (handler_items handlers ++ (closes (handlers_end handlers) ∷ items rest))))
+
+  pub handler_items : HandlerCode → List Item
+  handler_items no_handler = []
+  handler_items (handler line exception body more) = catches line exception ∷ (items body ++ handler_items more)
+
+-- the pragma's item, where there is one
+abbrev pub pragma_items : Option ℕ → List Item
+pragma_items None = []
+pragma_items (Some line) = propagates line ∷ []
 
 abbrev pub script_items : Script → List Item
-script_items script = map declares script.decls ++ items script.stmts
+script_items script = pragma_items script.pragma ++ (map declares script.decls ++ items script.stmts)
 
 abbrev pub decl_line : Decl → ℕ
 decl_line (TypeDecl line _ _) = line
@@ -87,3 +121,6 @@ item_line (commands simple) = Some (simple_line simple)
 item_line (opens head) = Some (head_line head)
 item_line begins = None
 item_line (closes _) = None
+item_line (propagates line) = Some line
+item_line (tries line) = Some line
+item_line (catches line _) = Some line

@@ -4,6 +4,7 @@ pub mod Statements
 pub mod StatementsFall
 pub mod Characters
 pub mod Tokens
+pub mod Keywords
 pub mod Items
 pub mod Kinds
 pub mod Parts
@@ -16,5 +17,6 @@ pub mod RefusalExamples
 pub mod FormExamples
 pub mod WordExamples
 pub mod TaskExamples
+pub mod HandlerExamples
 pub mod Order
 pub mod Nesting

@@ -11,17 +11,19 @@ use Rattle.ac_syntax.specs.declared.token.Mark.TheVariants.{Semicolon, Comma, Op
 
 abbrev pub is_mark : Mark → Token → Bool
 is_mark mark (token.Word _) = false
+is_mark mark (token.Keyword _) = false
 is_mark mark (token.Number _) = false
 is_mark mark (token.Text _) = false
 is_mark mark (token.Mark found) = sameb the_type found mark
 
 abbrev pub is_word_of : List (List ℕ) → Token → Bool
 is_word_of words (token.Word word) = list_any (bytes_eq word) words
+is_word_of words (token.Keyword _) = false
 is_word_of words (token.Number _) = false
 is_word_of words (token.Text _) = false
 is_word_of words (token.Mark _) = false
 
--- the first words of blocks
+-- the first words of blocks, but for `begin`
 abbrev pub block_words : List (List ℕ)
 block_words =
     codes "for" ∷ codes "query" ∷ codes "update" ∷ codes "update_key" ∷ codes "reference" ∷ codes "stable" ∷ codes "declare" ∷ codes "tasks" ∷ []
@@ -39,6 +41,9 @@ task_words = codes "task" ∷ []
 
 abbrev pub begin_words : List (List ℕ)
 begin_words = codes "begin" ∷ []
+
+abbrev pub declare_words : List (List ℕ)
+declare_words = codes "declare" ∷ []
 
 -- a literal may begin behind these marks
 abbrev pub is_before_literal : Token → Bool
@@ -59,6 +64,12 @@ is_open no_task = false
 is_open task_opened = true
 is_open command_due = true
 is_open in_command = true
+
+abbrev pub is_at_front : Progress → Bool
+is_at_front no_task = false
+is_at_front task_opened = true
+is_at_front command_due = false
+is_at_front in_command = false
 
 abbrev pub is_due : Progress → Bool
 is_due no_task = false
@@ -90,6 +101,8 @@ pub record Seen : Type 0 where
   pub minus : Bool
   -- the last token is `end`
   pub ended : Bool
+  -- the declarations of a block await its `begin`
+  pub awaited : Bool
   -- how many tasks the open block of tasks has so far
   pub tasks : ℕ
   pub progress : Progress
@@ -97,11 +110,15 @@ pub record Seen : Type 0 where
   pub commands : ℕ
 
 abbrev pub none_seen : Seen
-none_seen = record { depth = 0; opened = false; minus = false; ended = false; tasks = 0; progress = no_task; commands = 0 }
+none_seen = record { depth = 0; opened = false; minus = false; ended = false; awaited = false; tasks = 0; progress = no_task; commands = 0 }
+
+-- `begin` is the first word of a block where neither a block's declarations nor a task's locals await it
+abbrev pub begins_handled : Seen → Token → Bool
+begins_handled seen token = is_word_of begin_words token && (not seen.awaited && not (is_at_front seen.progress))
 
 -- a block begins with this token; `tasks` behind `end` begins none
 abbrev pub begins_block : Seen → Token → Bool
-begins_block seen token = is_word_of block_words token && not seen.ended
+begins_block seen token = (is_word_of block_words token && not seen.ended) || begins_handled seen token
 
 -- a command of a task begins with this token
 abbrev pub begins_command : Seen → Token → Bool
@@ -113,6 +130,9 @@ depth_after seen token =
     if begins_block seen token then seen.depth + 1
     else if is_word_of end_words token && not (is_open seen.progress) then seen.depth - 1
     else seen.depth
+
+abbrev pub awaited_after : Seen → Token → Bool
+awaited_after seen token = is_word_of declare_words token || (seen.awaited && not (is_word_of begin_words token))
 
 abbrev pub tasks_after : Seen → Token → ℕ
 tasks_after seen token =
@@ -134,6 +154,7 @@ seen_after seen token =
       opened = is_before_literal token;
       minus = is_mark Minus token && seen.opened;
       ended = is_word_of end_words token;
+      awaited = awaited_after seen token;
       tasks = tasks_after seen token;
       progress = progress_after seen.progress token;
       commands = commands_after seen token;
@@ -155,6 +176,7 @@ is_one_too_many seen token =
 -- this token, behind what was seen, is past a limit
 abbrev pub is_past_limit : Seen → Token → Bool
 is_past_limit seen (token.Word word) = nat_lt 64 (length word) || is_one_too_many seen (token.Word word)
+is_past_limit seen (token.Keyword _) = false
 is_past_limit seen (token.Number n) = nat_lt (most seen) n
 is_past_limit seen (token.Text bytes) = nat_lt 1000 (length bytes)
 is_past_limit seen (token.Mark _) = false

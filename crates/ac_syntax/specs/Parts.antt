@@ -1,12 +1,13 @@
 -- The parts of each item, in order. A part is one token, or a literal, which may have two.
 use Rattle.std.specs.Prelude.{ℕ, codes, List, [], ◌∷◌, ◌++◌, Option, Some, None, if◌then◌else◌}
 use Rattle.ac_syntax.specs.Code.{Simple, call_at, set_at, sum_at, Head, loop_at, view_at, stable_at, declare_at, tasks_at, task_at}
-use Rattle.ac_syntax.specs.Items.{Item, declares, commands, opens, begins, closes}
+use Rattle.ac_syntax.specs.Items.{Item, declares, commands, opens, begins, closes, propagates, tries, catches}
+use Rattle.ac_syntax.specs.Keywords.{caught_keyword}
 use Rattle.ac_base.specs.declared.value.Value.{Value}
 use Rattle.ac_syntax.specs.declared.arg.Arg.{Arg}
 use Rattle.ac_syntax.specs.declared.arg.Arg.TheVariants.{Lit, NoElement, Var}
 use Rattle.ac_syntax.specs.declared.closing.Closing.{Closing}
-use Rattle.ac_syntax.specs.declared.closing.Closing.TheVariants.{EndLoop, End, EndTasks, EndTask}
+use Rattle.ac_syntax.specs.declared.closing.Closing.TheVariants.{EndLoop, End, EndTasks, EndTask, EndTried, EndHandlers, EndOthers}
 use Rattle.ac_syntax.specs.declared.decl.Decl.{Decl}
 use Rattle.ac_syntax.specs.declared.decl.Decl.TheVariants.{TypeDecl, Object, CursorVar, IntVar, TextVar}
 use Rattle.ac_syntax.specs.declared.kind.Kind.{Kind}
@@ -16,12 +17,16 @@ use Rattle.ac_syntax.specs.declared.kind.ElemKind.TheVariants.{Integer, Str}
 use Rattle.ac_syntax.specs.declared.view_kind.ViewKind.{ViewKind}
 use Rattle.ac_syntax.specs.declared.view_kind.ViewKind.TheVariants.{Query, Update, Reference, UpdateKey}
 use Rattle.ac_syntax.specs.declared.type_def.TypeDef.{TypeDef}
+use Rattle.ac_syntax.specs.declared.token.Keyword.{Keyword}
+use Rattle.ac_syntax.specs.declared.token.Keyword.TheVariants as keyword
 use Rattle.ac_syntax.specs.declared.token.Mark.{Mark}
-use Rattle.ac_syntax.specs.declared.token.Mark.TheVariants.{Colon, Semicolon, Comma, Open, Close, Dot, Assign, Plus, Minus}
+use Rattle.ac_syntax.specs.declared.token.Mark.TheVariants.{Colon, Semicolon, Comma, Open, Close, Dot, Assign, Plus, Minus, Arrow}
 
 pub data Part : Type 0 where
   -- a reserved word
   says : List ℕ → Part
+  -- a word that is reserved where exceptions propagate
+  keywords : Keyword → Part
   marks : Mark → Part
   -- an identifier
   names : List ℕ → Part
@@ -142,6 +147,9 @@ closing_parts EndLoop = says (codes "end") ∷ says (codes "loop") ∷ marks Sem
 closing_parts End = says (codes "end") ∷ marks Semicolon ∷ []
 closing_parts EndTasks = says (codes "end") ∷ says (codes "tasks") ∷ marks Semicolon ∷ []
 closing_parts EndTask = says (codes "end") ∷ marks Semicolon ∷ []
+closing_parts EndTried = keywords keyword.Exception ∷ []
+closing_parts EndHandlers = says (codes "end") ∷ marks Semicolon ∷ []
+closing_parts EndOthers = says (codes "end") ∷ marks Semicolon ∷ []
 
 unfoldable pub item_parts : Item → List Part
 item_parts (declares decl) = decl_parts decl
@@ -149,3 +157,6 @@ item_parts (commands simple) = simple_parts simple
 item_parts (opens head) = head_parts head
 item_parts begins = says (codes "begin") ∷ []
 item_parts (closes closing) = closing_parts closing
+item_parts (propagates line) = keywords keyword.Pragma ∷ keywords keyword.Propagate ∷ marks Semicolon ∷ []
+item_parts (tries line) = says (codes "begin") ∷ []
+item_parts (catches line exception) = keywords keyword.When ∷ keywords (caught_keyword exception) ∷ marks Arrow ∷ []

@@ -15,7 +15,7 @@ on_list line = lines (codes "type l is list (integer); a : l;" ∷ line ∷ [])
 
 -- an identifier of so many letters
 abbrev pub named : ℕ → Script
-named n = record { decls = IntVar 1 (replicate n 97) ∷ []; stmts = stop }
+named n = record { pragma = None; decls = IntVar 1 (replicate n 97) ∷ []; stmts = stop }
 
 abbrev pub naming : ℕ → List ℕ
 naming n = replicate n 97 ++ codes " : integer;"
@@ -28,7 +28,7 @@ RefusesName65 = IsFirstRefusal (naming 65) 1 Limit
 
 -- a string of so many letters
 abbrev pub with_string : ℕ → Script
-with_string n = record { decls = []; stmts = one (set_at 1 (codes "x") (Lit (value.Text (replicate n 97)))) stop }
+with_string n = record { pragma = None; decls = []; stmts = one (set_at 1 (codes "x") (Lit (value.Text (replicate n 97)))) stop }
 
 abbrev pub string_text : ℕ → List ℕ
 string_text n = codes "x := " ++ 34 ∷ (replicate n 97 ++ 34 ∷ codes ";")
@@ -50,6 +50,7 @@ TakesLeast = Spells least (on_list (codes "a.append (-9223372036854775808);"))
 abbrev pub counting : Code → Script
 counting last =
     record {
+      pragma = None;
       decls = IntVar 1 (codes "n") ∷ [];
       stmts = one (set_at 2 (codes "n") (Lit (value.Int (neg_ℤ (pos (2 ^ 63)))))) (one (sum_at 3 (codes "n") (codes "n") true 1) last);
     }
@@ -73,7 +74,7 @@ abbrev pub RefusesLessTooMuch : Type 0
 RefusesLessTooMuch = IsFirstRefusal (on_list (codes "x := y - 9223372036854775808;")) 2 Limit
 
 abbrev pub too_roomy : Script
-too_roomy = record { decls = a_list ++ Object 2 (codes "b") (codes "l") (Some (2 ^ 63)) ∷ []; stmts = stop }
+too_roomy = record { pragma = None; decls = a_list ++ Object 2 (codes "b") (codes "l") (Some (2 ^ 63)) ∷ []; stmts = stop }
 
 abbrev pub RefusesTooRoomy : Type 0
 RefusesTooRoomy = IsFirstRefusal (on_list (codes "b : l (9223372036854775808);")) 2 Limit

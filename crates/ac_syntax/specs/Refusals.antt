@@ -4,15 +4,16 @@ use Rattle.ac_syntax.specs.declared.token.Placed.{Placed}
 use Rattle.ac_syntax.specs.declared.script.Script.{Script}
 use Rattle.ac_syntax.specs.declared.refusal.RefusalKind.{RefusalKind}
 use Rattle.ac_syntax.specs.declared.refusal.RefusalKind.TheVariants.{Syntax, Limit}
-use Rattle.ac_syntax.specs.Tokens.{Cut, cut_of, tokens}
+use Rattle.ac_syntax.specs.Tokens.{Cut, tokens}
+use Rattle.ac_syntax.specs.Keywords.{script_cut}
 use Rattle.ac_syntax.specs.Grammar.{Derives, BeginsScript}
 use Rattle.ac_syntax.specs.Limits.{seen_of, is_past_limit, AreWithinLimits}
 
 -- the bytes are cut into tokens, and these derive the script within the limits
 pub record Spells (script : Script) (text : List ℕ) : Type 0 where
-  pub whole : (cut_of text).malformed ≡ None
-  pub derives : Derives (cut_of text).placed script
-  pub within : AreWithinLimits (tokens (cut_of text).placed)
+  pub whole : (script_cut text).malformed ≡ None
+  pub derives : Derives (script_cut text).placed script
+  pub within : AreWithinLimits (tokens (script_cut text).placed)
 
 -- the first kind, in this order, of which a token is bad behind those before it: no script begins so, or it is past a limit
 pub data IsBadToken (before : List Placed) (bad : Placed) : RefusalKind → Type 0 where
@@ -32,7 +33,7 @@ pub data IsFirstBad (cut : Cut) : ℕ → RefusalKind → Type 0 where
 
 -- where and why a text is refused before the names in it are looked at
 pub data IsFirstRefusal (text : List ℕ) : ℕ → RefusalKind → Type 0 where
-  first_bad : (line : ℕ) (kind : RefusalKind) → IsFirstBad (cut_of text) line kind → IsFirstRefusal text line kind
+  first_bad : (line : ℕ) (kind : RefusalKind) → IsFirstBad (script_cut text) line kind → IsFirstRefusal text line kind
   -- no token is bad, but the tokens end too early
-  ends_early : (before : List Placed) (last : Placed) → (cut_of text).placed ≡ before ++ last ∷ [] → (cut_of text).malformed ≡ None
-      → HasNoBadToken (cut_of text).placed → ((script : Script) → Derives (cut_of text).placed script → ⊥) → IsFirstRefusal text last.line Syntax
+  ends_early : (before : List Placed) (last : Placed) → (script_cut text).placed ≡ before ++ last ∷ [] → (script_cut text).malformed ≡ None
+      → HasNoBadToken (script_cut text).placed → ((script : Script) → Derives (script_cut text).placed script → ⊥) → IsFirstRefusal text last.line Syntax

@@ -28,6 +28,7 @@ enqueues line item rest = one (call_at line None (codes "a") (codes "enqueue") (
 
 abbrev pub sharing : Script
 sharing = record {
+  pragma = None;
   decls = one_item;
   stmts = block (tasks_at 3)
       (block (task_at 4 (codes "p") []) (enqueues 6 1 (enqueues 7 2 stop))
@@ -56,14 +57,14 @@ IsSharingWell = IsWellFormed sharing
 -- a block without tasks isn't well formed, and no task stands outside a block of tasks
 
 abbrev pub NeedsTask : Type 0
-NeedsTask = IsWellFormed (record { decls = []; stmts = block (tasks_at 1) stop stop }) → ⊥
+NeedsTask = IsWellFormed (record { pragma = None; decls = []; stmts = block (tasks_at 1) stop stop }) → ⊥
 
 abbrev pub NeedsBlock : Type 0
-NeedsBlock = IsWellFormed (record { decls = []; stmts = block (task_at 1 (codes "t") []) stop stop }) → ⊥
+NeedsBlock = IsWellFormed (record { pragma = None; decls = []; stmts = block (task_at 1 (codes "t") []) stop stop }) → ⊥
 
 -- and no block stands in a task
 abbrev pub NeedsCommands : Type 0
-NeedsCommands = IsWellFormed (record { decls = []; stmts = block (tasks_at 1) (block (task_at 1 (codes "t") []) (block (stable_at 1 (codes "a")) stop stop) stop) stop }) → ⊥
+NeedsCommands = IsWellFormed (record { pragma = None; decls = []; stmts = block (tasks_at 1) (block (task_at 1 (codes "t") []) (block (stable_at 1 (codes "a")) stop stop) stop) stop }) → ⊥
 
 -- so many tasks without commands, each on a line of its own, and the end of their block behind the last
 
@@ -72,7 +73,7 @@ tasks_from line zero = stop
 tasks_from line (suc n) = block (task_at line (codes "t") []) stop (tasks_from (line + 1) n)
 
 abbrev pub with_tasks : ℕ → Script
-with_tasks n = record { decls = []; stmts = block (tasks_at 1) (tasks_from 2 n) stop }
+with_tasks n = record { pragma = None; decls = []; stmts = block (tasks_at 1) (tasks_from 2 n) stop }
 
 abbrev pub tasks_text : ℕ → List ℕ
 tasks_text n = codes "tasks" ++ (repeated n (10 ∷ codes "task T is begin end;") ++ codes "end tasks;")
@@ -112,11 +113,11 @@ RefusesDepth17BehindTasks = IsFirstRefusal (heads_text 15 ++ (a_block_text ++ 10
 
 abbrev pub CountsCommands : Type 0
 CountsCommands = seen_of (tokens (cut_of (codes "tasks task T is X : integer; begin A.Print; X := X + 1;")).placed)
-    ≡ record { depth = 1; opened = false; minus = false; ended = false; tasks = 1; progress = command_due; commands = 2 }
+    ≡ record { depth = 1; opened = false; minus = false; ended = false; awaited = false; tasks = 1; progress = command_due; commands = 2 }
 
 -- where a command is due behind so many
 abbrev pub behind_commands : ℕ → Seen
-behind_commands n = record { depth = 1; opened = false; minus = false; ended = false; tasks = 1; progress = command_due; commands = n }
+behind_commands n = record { depth = 1; opened = false; minus = false; ended = false; awaited = false; tasks = 1; progress = command_due; commands = n }
 
 abbrev pub TakesCommand1000 : Type 0
 TakesCommand1000 = is_past_limit (behind_commands 999) (token.Word (codes "x")) ≡ false

@@ -9,7 +9,7 @@ use Rattle.ac_syntax.specs.declared.token.Token.{Token}
 use Rattle.ac_syntax.specs.declared.token.Token.TheVariants.{Word, Number, Text}
 use Rattle.ac_syntax.specs.declared.token.Token.TheVariants as token
 use Rattle.ac_syntax.specs.declared.token.Mark.{Mark}
-use Rattle.ac_syntax.specs.declared.token.Mark.TheVariants.{Colon, Semicolon, Comma, Open, Close, Dot, Assign, Plus, Minus}
+use Rattle.ac_syntax.specs.declared.token.Mark.TheVariants.{Colon, Semicolon, Comma, Open, Close, Dot, Assign, Plus, Minus, Arrow}
 use Rattle.ac_syntax.specs.declared.token.Placed.{Placed}
 use Rattle.ac_syntax.specs.declared.piece.Piece.{Piece}
 
@@ -71,6 +71,11 @@ abbrev pub minus_piece : List ℕ → Option Piece
 minus_piece [] = mark_of 1 Minus
 minus_piece (b ∷ rest) = if b == 45 then blank_of (2 + prefix_len is_comment_byte rest) else mark_of 1 Minus
 
+-- `=>`, after `=`, which is no mark alone
+abbrev pub arrow_piece : List ℕ → Option Piece
+arrow_piece [] = None
+arrow_piece (b ∷ _) = if b == 62 then mark_of 2 Arrow else None
+
 -- any other mark
 abbrev pub mark_piece : ℕ → Option Piece
 mark_piece b =
@@ -91,6 +96,7 @@ piece_at b rest =
     else if is_quote b then string_piece rest
     else if b == 58 then colon_piece rest
     else if b == 45 then minus_piece rest
+    else if b == 61 then arrow_piece rest
     else mark_piece b
 
 abbrev pub front_piece : List ℕ → Option Piece

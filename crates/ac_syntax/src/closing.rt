@@ -1,4 +1,4 @@
-/// The words that end a block.
+/// The words that end a block, or what is tried in one with handlers.
 #[derive(Clone, Copy, PartialEq, Eq)]
 pub enum Closing {
     /// `end loop;`
@@ -9,4 +9,10 @@ pub enum Closing {
     EndTasks,
     /// `end;` of a task.
     EndTask,
+    /// `exception`, which ends what is tried.
+    EndTried,
+    /// `end;` behind a handler that names its exception, where another handler may stand too.
+    EndHandlers,
+    /// `end;` behind the handler of all others.
+    EndOthers,
 }

@@ -3,8 +3,8 @@ ghost use Rattle.std.specs.Prelude.{◌≡◌, ℕ, List, ◌++◌, Some, None, 
 ghost use Rattle.std.specs.List.{list_all};
 ghost use Rattle.ac_syntax.specs.declared.script.Script.{Script};
 ghost use Rattle.ac_syntax.specs.Items.{Item, script_items};
-ghost use Rattle.ac_syntax.specs.Tokens.{cut_of};
-ghost use Rattle.ac_syntax.specs.Canonical.{canonical_text, canonical_placed, canonical_tokens, is_written, IsWellFormed};
+ghost use Rattle.ac_syntax.specs.Keywords.{script_cut};
+ghost use Rattle.ac_syntax.specs.Canonical.{canonical_text, canonical_placed, canonical_tokens, is_written, propagates_in, IsWellFormed};
 ghost use Rattle.ac_syntax.specs.Nesting.{AreStatements};
 ghost use Rattle.ac_syntax.specs.Order.{Context, context_after, at_front, AreInOrder};
 ghost use Rattle.ac_syntax.specs.Refusals.{Spells, IsFirstRefusal};
@@ -13,6 +13,8 @@ ghost use Rattle.ac_syntax.specs.Examples.{SpellsLoosely, WritesStrictly, Spells
 ghost use Rattle.ac_syntax.specs.Examples.{TakesTab, TakesReturnBeforeLineFeed, RefusesLoneReturn, RefusesReturnTwice, RefusesLastReturn, TakesReturnInComment, RefusesTabInString};
 ghost use Rattle.ac_syntax.specs.TaskExamples.{SpellsSharing, WritesSharing, IsSharingWell, NeedsTask, NeedsBlock, NeedsCommands, Takes8Tasks, RefusesTask9};
 ghost use Rattle.ac_syntax.specs.TaskExamples.{TakesTasksAtDepth16, RefusesTasksAtDepth17, RefusesDepth17BehindTasks, CountsCommands, TakesCommand1000, RefusesCommand1001, TakesEndBehind1000};
+ghost use Rattle.ac_syntax.specs.HandlerExamples.{SpellsHandled, WritesHandled, IsHandledWell, NeedsPragma, NeedsHandler, NeedsException, EndsAtOthers, NamesWhen, NamesPragma, NamesPropagate};
+ghost use Rattle.ac_syntax.specs.HandlerExamples.{ReservesWhen, ReservesPragma, WritesNoWhen, NeedsFront, NeedsOnePragma, TakesBegin16, RefusesBegin17, RefusesDepth17InHandler, TakesDeclare16};
 ghost use Rattle.ac_syntax.specs.WordExamples.{ReservesWords, LeavesWords};
 ghost use Rattle.ac_syntax.specs.FormExamples.{SpellsEveryForm, WritesEveryForm, IsEveryFormWell, SpellsMinusZero, WritesZero, NeedsCursor, NeedsRisingLines};
 ghost use Rattle.ac_syntax.specs.RefusalExamples.{TakesName64, RefusesName65, TakesString1000, RefusesString1001, TakesLeast, TakesCounting, RefusesPastGreatest, RefusesLessTooMuch, RefusesTooRoomy, RefusesMalformed};
@@ -25,10 +27,10 @@ pub fn one_refusal()
         Spells script text → IsFirstRefusal text line kind → ⊥ }
 {}
 
-/// The items of a script whose tasks stand in blocks of tasks alone may come in their order, each list of items that may come is a
-/// script's, and each front that may come is the front of one.
+/// The items of a script whose tasks stand in blocks of tasks alone, and whose blocks with handlers stand where exceptions propagate, may come in
+/// their order, each list of items that may come is a script's, and each front that may come is the front of one.
 pub fn items_order()
-    ensures script { (script : Script) → AreStatements script.stmts → AreInOrder (script_items script) }
+    ensures script { (script : Script) → AreStatements (propagates_in script) script.stmts → AreInOrder (script_items script) }
     ensures only { (items : List Item) → AreInOrder items → (script : Script) × (script_items script ≡ items) }
     ensures front { (items : List Item) (context : Context) → context_after at_front items ≡ Some context →
         (more : List Item) × (script : Script) × (script_items script ≡ items ++ more) }
@@ -42,8 +44,8 @@ pub fn items_alone()
 /// The canonical text of a script whose tokens can be written is cut into these, each on its line, and it spells the script where that is
 /// well formed.
 pub fn round_trip()
-    ensures cut { (script : Script) → IsTrue (list_all is_written (canonical_tokens script)) →
-        cut_of (canonical_text script) ≡ record { placed = canonical_placed script; malformed = None } }
+    ensures cut { (script : Script) → IsTrue (list_all (is_written (propagates_in script)) (canonical_tokens script)) →
+        script_cut (canonical_text script) ≡ record { placed = canonical_placed script; malformed = None } }
     ensures spelled { (script : Script) → IsWellFormed script → Spells script (canonical_text script) }
 {}
 
@@ -132,4 +134,35 @@ pub fn task_limits()
     ensures command_1000 { TakesCommand1000 }
     ensures command_1001 { RefusesCommand1001 }
     ensures end_behind { TakesEndBehind1000 }
+{}
+
+/// Blocks with handlers, worked out by hand.
+pub fn handlers()
+    ensures spelled { SpellsHandled }
+    ensures written { WritesHandled }
+    ensures well { IsHandledWell }
+    ensures pragma { NeedsPragma }
+    ensures handler { NeedsHandler }
+    ensures exception { NeedsException }
+    ensures others { EndsAtOthers }
+{}
+
+/// The pragma, and the words that it reserves, worked out by hand.
+pub fn pragma_words()
+    ensures names_when { NamesWhen }
+    ensures names_pragma { NamesPragma }
+    ensures names_propagate { NamesPropagate }
+    ensures reserves_when { ReservesWhen }
+    ensures reserves_pragma { ReservesPragma }
+    ensures unwritten { WritesNoWhen }
+    ensures front { NeedsFront }
+    ensures once { NeedsOnePragma }
+{}
+
+/// The limits of blocks with handlers, worked out by hand.
+pub fn handler_limits()
+    ensures begin_16 { TakesBegin16 }
+    ensures begin_17 { RefusesBegin17 }
+    ensures in_handler { RefusesDepth17InHandler }
+    ensures declare_16 { TakesDeclare16 }
 {}

@@ -25,8 +25,8 @@ pub use fault::ScriptFault;
 pub use ident::{Ident, Idents};
 pub use kind::{ElemKind, Kind};
 pub use law::{
-    blanks, examples, forms, items_alone, items_order, one_refusal, refusals, round_trip,
-    task_limits, tasks, well_formed, words,
+    blanks, examples, forms, handler_limits, handlers, items_alone, items_order, one_refusal,
+    pragma_words, refusals, round_trip, task_limits, tasks, well_formed, words,
 };
 pub use operation::{
     CapacityCall, CommonCall, HolderCall, KeyedCall, ListCall, MapCall, Operation, OrderedCall,
@@ -36,8 +36,8 @@ pub use operation::{
 pub use piece::Piece;
 pub use refusal::RefusalKind;
 pub use script::Script;
-pub use stmt::{Stmt, Stmts, TaskText, TaskTexts};
+pub use stmt::{Handler, Handlers, Stmt, Stmts, TaskText, TaskTexts};
 pub use string_bytes::StringBytes;
-pub use token::{Mark, Placed, Token};
+pub use token::{Keyword, Mark, Placed, Token};
 pub use type_def::TypeDef;
 pub use view_kind::ViewKind;

@@ -1,10 +1,11 @@
 ghost use Rattle.std.specs.Prelude.{◌≡◌};
-ghost use Rattle.ac_syntax.specs.Statements.{code_of, tasks_of};
+ghost use Rattle.ac_syntax.specs.Statements.{code_of, tasks_of, handlers_of};
 
 use crate::arg::{Arg, Args};
 use crate::decl::Decls;
 use crate::ident::Ident;
 use crate::view_kind::ViewKind;
+use ac_base::Exception;
 use std::marker::Model;
 
 /// A statement, with the line of its first token.
@@ -63,6 +64,12 @@ pub enum Stmt {
     Tasks {
         line: u64,
         tasks: TaskTexts,
+    },
+    /// What is tried, and the handlers of the exceptions that leave it.
+    Handled {
+        line: u64,
+        body: Stmts,
+        handlers: Handlers,
     },
 }
 
@@ -151,6 +158,55 @@ impl TaskTexts {
 
     pub fn items(&self) -> &[TaskText]
         ensures { tasks_of result.now ≡ self.now }
+    {
+        &self.items
+    }
+}
+
+/// A handler, with the line of its `when`: the exception that it takes, or None where it takes all others, and its statements.
+#[derive(Drop)]
+#[cycle(statements)]
+pub struct Handler {
+    pub line: u64,
+    pub catches: Option<Exception>,
+    pub body: Stmts,
+}
+
+/// Handlers in order.
+#[derive(Drop)]
+#[cycle(statements)]
+pub struct Handlers {
+    items: Vec<Handler>,
+}
+
+impl Model for Handlers {
+    ghost use Rattle.ac_syntax.specs.Code.{HandlerCode, handlers_size};
+    ghost use Rattle.ac_syntax.specs.Coded.{coded_handlers};
+
+    ghost Value = { HandlerCode };
+
+    ghost coded = { coded_handlers };
+
+    ghost use Rattle.ac_syntax.specs.Statements.{handlers_of};
+
+    ghost view = { λ handlers. handlers_of handlers.items.items };
+
+    ghost size = { handlers_size };
+
+    ghost use Rattle.ac_syntax.specs.StatementsFall.{handlers_fall};
+
+    ghost size_decreases = { λ a h. handlers_fall a.items.items };
+}
+
+impl Handlers {
+    pub fn from_vec(items: Vec<Handler>) -> Handlers
+        ensures { result ≡ handlers_of items.items }
+    {
+        Handlers { items }
+    }
+
+    pub fn items(&self) -> &[Handler]
+        ensures { handlers_of result.now ≡ self.now }
     {
         &self.items
     }
