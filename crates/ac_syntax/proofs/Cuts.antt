@@ -13,7 +13,7 @@ use Rattle.std.specs.Str.Parse.{AllDigits, digits_value}
 use Rattle.ac_syntax.specs.declared.token.Token.{Token}
 use Rattle.ac_syntax.specs.declared.token.Token.TheVariants as token
 use Rattle.ac_syntax.specs.declared.token.Mark.{Mark}
-use Rattle.ac_syntax.specs.declared.token.Mark.TheVariants.{Colon, Semicolon, Comma, Open, Close, Dot, Assign, Plus, Minus}
+use Rattle.ac_syntax.specs.declared.token.Mark.TheVariants.{Colon, Semicolon, Comma, Open, Close, Dot, Assign, Plus, Minus, Arrow}
 use Rattle.ac_syntax.specs.declared.token.Placed.{Placed}
 use Rattle.ac_syntax.specs.Characters.{is_blank, is_word_byte, is_comment_byte, is_quote, is_printable}
 use Rattle.ac_syntax.specs.Tokens.{Cut, cut_from, piece_at, token_of, line_after, string_from, with_byte, with_piece, word_piece, number_piece, number_value}
@@ -244,3 +244,4 @@ cut_mark Plus [] line h = refl
 cut_mark Plus (_ ∷ _) line h = refl
 cut_mark Minus [] line h = refl
 cut_mark Minus (b ∷ rest) line h = cut_minus b rest line (fails_at (λ c. c == 45) ending_bytes b refl h)
+cut_mark Arrow rest line h = refl

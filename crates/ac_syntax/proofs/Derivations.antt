@@ -10,7 +10,7 @@ use Rattle.ac_syntax.specs.declared.token.Placed.{Placed}
 use Rattle.ac_syntax.specs.declared.script.Script.{Script}
 use Rattle.ac_syntax.specs.Tokens.{tokens}
 use Rattle.ac_syntax.specs.Items.{Item, item_line, script_items}
-use Rattle.ac_syntax.specs.Parts.{Part, says, marks, names, counts, writes, lacks, item_parts}
+use Rattle.ac_syntax.specs.Parts.{Part, says, keywords, marks, names, counts, writes, lacks, item_parts}
 use Rattle.ac_syntax.specs.Grammar.{is_reserved, IsPart, AreParts, BeginsOn, AreItems, Derives}
 use Rattle.ac_syntax.specs.Order.{AreInOrder}
 use Rattle.ac_syntax.proofs.Orders.{is_ordered, ordered}
@@ -23,6 +23,7 @@ false-not false p = refl
 -- a test that some tokens spell the part
 abbrev pub is_sayable : Part → Bool
 is_sayable (says _) = true
+is_sayable (keywords _) = true
 is_sayable (marks _) = true
 is_sayable (names word) = not (is_reserved word)
 is_sayable (counts _) = true
@@ -31,6 +32,7 @@ is_sayable lacks = false
 
 pub part_spelled : (part : Part) → is_sayable part ≡ true → IsPart part (part_tokens part)
 part_spelled (says _) p = refl
+part_spelled (keywords _) p = refl
 part_spelled (marks _) p = refl
 part_spelled (names word) p = (false-not (is_reserved word) p, refl)
 part_spelled (counts _) p = refl

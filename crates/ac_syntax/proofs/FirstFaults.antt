@@ -4,7 +4,8 @@ use Rattle.std.specs.Prelude.{Some}
 use Rattle.ac_syntax.specs.declared.token.Placed.{Placed}
 use Rattle.ac_syntax.specs.declared.script.Script.{Script}
 use Rattle.ac_syntax.specs.declared.refusal.RefusalKind.TheVariants.{Syntax, Limit}
-use Rattle.ac_syntax.specs.Tokens.{cut_of, tokens}
+use Rattle.ac_syntax.specs.Keywords.{script_cut}
+use Rattle.ac_syntax.specs.Tokens.{tokens}
 use Rattle.ac_syntax.specs.Grammar.{Derives}
 use Rattle.ac_syntax.specs.Limits.{none_seen, seen_of, is_past_limit}
 use Rattle.ac_syntax.specs.Canonical.{canonical_placed}
@@ -14,7 +15,7 @@ use Rattle.ac_syntax.proofs.Withins.{within_from, none_bad}
 
 -- a token past a limit, behind others with which a script of these tokens begins
 pub limit_at : (text : List ℕ) (script : Script) (before after more : List Placed) (bad : Placed)
-    → (cut_of text).placed ≡ before ++ bad ∷ after → canonical_placed script ≡ before ++ bad ∷ more → is_derived script ≡ true
+    → (script_cut text).placed ≡ before ++ bad ∷ after → canonical_placed script ≡ before ++ bad ∷ more → is_derived script ≡ true
     → within_from none_seen (tokens before) ≡ true → is_past_limit (seen_of (tokens before)) bad.token ≡ true → IsFirstRefusal text bad.line Limit
 limit_at text script before after more bad cut written sayable kept past =
     first_bad bad.line Limit (bad_token before after bad Limit cut (none_bad before (bad ∷ more) script derived kept)
@@ -24,8 +25,8 @@ limit_at text script before after more bad cut written sayable kept past =
 
 -- a malformed piece behind tokens with which a script of these tokens begins
 pub malformed_at : (text : List ℕ) (script : Script) (more : List Placed) (line : ℕ)
-    → (cut_of text).malformed ≡ Some line → canonical_placed script ≡ (cut_of text).placed ++ more → is_derived script ≡ true
-    → within_from none_seen (tokens (cut_of text).placed) ≡ true → IsFirstRefusal text line Syntax
+    → (script_cut text).malformed ≡ Some line → canonical_placed script ≡ (script_cut text).placed ++ more → is_derived script ≡ true
+    → within_from none_seen (tokens (script_cut text).placed) ≡ true → IsFirstRefusal text line Syntax
 malformed_at text script more line cut written sayable kept =
     first_bad line Syntax (malformed_piece line
-    (none_bad (cut_of text).placed more script (subst (λ all. Derives all script) written (script_derives script sayable)) kept) cut)
+    (none_bad (script_cut text).placed more script (subst (λ all. Derives all script) written (script_derives script sayable)) kept) cut)

@@ -6,7 +6,8 @@ use Rattle.std.specs.Prelude.{Some, None}
 use Rattle.ac_syntax.specs.declared.token.Placed.{Placed}
 use Rattle.ac_syntax.specs.declared.script.Script.{Script}
 use Rattle.ac_syntax.specs.declared.refusal.RefusalKind.{RefusalKind}
-use Rattle.ac_syntax.specs.Tokens.{Cut, cut_of, tokens}
+use Rattle.ac_syntax.specs.Keywords.{script_cut}
+use Rattle.ac_syntax.specs.Tokens.{Cut, tokens}
 use Rattle.ac_syntax.specs.Grammar.{Derives}
 use Rattle.ac_syntax.specs.Limits.{AreWithinLimits}
 use Rattle.ac_syntax.specs.Refusals.{Spells, IsBadToken, begins_none, past_limit, HasNoBadToken, IsFirstBad, bad_token, malformed_piece, IsFirstRefusal, first_bad, ends_early}
@@ -73,9 +74,9 @@ one_last xs ys x y e (later mid p) = absurd (omega (arith, ap length e, ap lengt
 
 pub one_refusal : (text : List ℕ) (line place : ℕ) (kind other : RefusalKind)
     → IsFirstRefusal text line kind → IsFirstRefusal text place other → (line ≡ place) × (kind ≡ other)
-one_refusal text line place kind other (first_bad l k h) (first_bad m j i) = one_bad (cut_of text) l m k j h i
-one_refusal text line place kind other (first_bad l k h) (ends_early ys y e whole none uneven) = absurd (not_both (cut_of text) l k h whole none)
-one_refusal text line place kind other (ends_early xs x e whole none uneven) (first_bad m j i) = absurd (not_both (cut_of text) m j i whole none)
+one_refusal text line place kind other (first_bad l k h) (first_bad m j i) = one_bad (script_cut text) l m k j h i
+one_refusal text line place kind other (first_bad l k h) (ends_early ys y e whole none uneven) = absurd (not_both (script_cut text) l k h whole none)
+one_refusal text line place kind other (ends_early xs x e whole none uneven) (first_bad m j i) = absurd (not_both (script_cut text) m j i whole none)
 one_refusal text line place kind other (ends_early xs x e whole none uneven) (ends_early ys y d still nothing odd) =
     (one_last xs ys x y (sym e ∙ d) (places xs ys x y [] [] (sym e ∙ d)), refl)
 
@@ -85,5 +86,5 @@ none_in placed script d within = begun_none_bad placed [] script (subst (λ all.
 
 pub spelled_or_refused : (script : Script) (text : List ℕ) (line : ℕ) (kind : RefusalKind) → Spells script text → IsFirstRefusal text line kind → ⊥
 spelled_or_refused script text line kind s (first_bad l k h) =
-    not_both (cut_of text) l k h s.whole (none_in (cut_of text).placed script s.derives s.within)
+    not_both (script_cut text) l k h s.whole (none_in (script_cut text).placed script s.derives s.within)
 spelled_or_refused script text line kind s (ends_early xs x e whole none uneven) = uneven script s.derives

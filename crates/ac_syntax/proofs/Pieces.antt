@@ -9,7 +9,7 @@ use Rattle.std.proofs.lemmas.Option.{none-some}
 use Rattle.std.specs.Int.{is_in_range}
 use Rattle.std.specs.Char.{is_ascii_alphabetic, is_ascii_digit}
 use Rattle.ac_syntax.specs.Characters.{is_word_byte, is_line_feed, is_blank, is_comment_byte, is_quote, is_printable}
-use Rattle.ac_syntax.specs.Tokens.{piece_at, cut_from, line_after, word_piece, number_piece, colon_piece, minus_piece, mark_piece, Ending, string_from, with_byte, string_piece}
+use Rattle.ac_syntax.specs.Tokens.{piece_at, cut_from, line_after, word_piece, number_piece, colon_piece, minus_piece, arrow_piece, mark_piece, Ending, string_from, with_byte, string_piece}
 use Rattle.ac_syntax.specs.declared.piece.Piece.{Piece}
 use Rattle.ac_syntax.specs.declared.token.Token.{Token}
 use Rattle.ac_syntax.proofs.Fronts.{list_all_front, list_all_weaker}
@@ -100,6 +100,13 @@ plain_minus (b ∷ rest) piece e =
         let skip : (2 + prefix_len is_comment_byte rest) - 1 ≡ suc (prefix_len is_comment_byte rest) = omega arith in
         rw (skip, h) (list_all_front is_comment_byte rest)
 
+plain_arrow : (rest : List ℕ) (piece : Piece) → arrow_piece rest ≡ Some piece → IsPlain rest piece
+plain_arrow [] piece e = absurd (none-some piece e)
+plain_arrow (b ∷ rest) piece e =
+    if_cases (IsPlain (b ∷ rest) piece) (b == 62) _ _ _ e
+    (λ is f. plain_at (b ∷ rest) 2 _ piece f (omega arith) (omega arith) (rw (no_line_feed (λ c. c == 62) refl b is) refl))
+    (λ _ f. absurd (none-some piece f))
+
 plain_mark : (b : ℕ) (rest : List ℕ) (piece : Piece) → mark_piece b ≡ Some piece → IsPlain rest piece
 plain_mark b rest piece e =
     let P = IsPlain rest piece in
@@ -164,4 +171,5 @@ plain_piece b rest piece e =
     if_cases P (is_blank b rest) _ _ _ e (λ _ f. plain_one rest _ piece f) (λ _ e.
     if_cases P (is_quote b) _ _ _ e (λ _ f. plain_string rest piece f) (λ _ e.
     if_cases P (b == 58) _ _ _ e (λ _ f. plain_colon rest piece f) (λ _ e.
-    if_cases P (b == 45) _ _ _ e (λ _ f. plain_minus rest piece f) (λ _ f. plain_mark b rest piece f))))))
+    if_cases P (b == 45) _ _ _ e (λ _ f. plain_minus rest piece f) (λ _ e.
+    if_cases P (b == 61) _ _ _ e (λ _ f. plain_arrow rest piece f) (λ _ f. plain_mark b rest piece f)))))))

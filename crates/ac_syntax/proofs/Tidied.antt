@@ -9,7 +9,7 @@ use Rattle.ac_syntax.specs.declared.token.Token.TheVariants as token
 use Rattle.ac_syntax.specs.declared.token.Mark.TheVariants.{Minus}
 use Rattle.ac_syntax.specs.declared.token.Placed.{Placed}
 use Rattle.ac_syntax.specs.Items.{Item, item_line}
-use Rattle.ac_syntax.specs.Parts.{Part, says, marks, names, counts, writes, lacks, item_parts}
+use Rattle.ac_syntax.specs.Parts.{Part, says, keywords, marks, names, counts, writes, lacks, item_parts}
 use Rattle.ac_syntax.specs.Grammar.{IsPart, AreParts, AreItems}
 use Rattle.ac_syntax.specs.Tokens.{tokens}
 use Rattle.ac_syntax.specs.Limits.{Progress, no_task, task_opened, command_due, in_command, is_due, goes_on, Seen, none_seen, seen_after, is_past_limit, AreWithinLimits}
@@ -44,12 +44,17 @@ zero_counted task_opened n = refl
 zero_counted command_due n = refl
 zero_counted in_command n = refl
 
+zero_awaited : (a : Bool) → ((a && true) && true) ≡ (a && true)
+zero_awaited true = refl
+zero_awaited false = refl
+
 signed_zero : (seen : Seen) → seen_after (seen_after seen (token.Mark Minus)) (token.Number 0) ≡ seen_after seen (token.Number 0)
 signed_zero seen = λ j. record {
   depth = seen.depth;
   opened = false;
   minus = false;
   ended = false;
+  awaited = zero_awaited seen.awaited j;
   tasks = seen.tasks;
   progress = zero_progress seen.progress j;
   commands = zero_counted seen.progress seen.commands j;
@@ -88,6 +93,7 @@ one_tidied t front xs ys h d = subst (λ f. Tidied (f ++ xs) (t ∷ ys)) (sym h)
 
 part_tidied : (part : Part) (front xs ys : List Token) → IsPart part front → Tidied xs ys → Tidied (front ++ xs) (part_tokens part ++ ys)
 part_tidied (says word) front xs ys h d = one_tidied (token.Word word) front xs ys h d
+part_tidied (keywords own) front xs ys h d = one_tidied (token.Keyword own) front xs ys h d
 part_tidied (marks mark) front xs ys h d = one_tidied (token.Mark mark) front xs ys h d
 part_tidied (names word) front xs ys h d = one_tidied (token.Word word) front xs ys h.1 d
 part_tidied (counts n) front xs ys h d = one_tidied (token.Number n) front xs ys h d

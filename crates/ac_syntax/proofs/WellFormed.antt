@@ -11,7 +11,7 @@ use Rattle.ac_syntax.specs.declared.token.Mark.TheVariants.{Minus}
 use Rattle.ac_syntax.specs.declared.token.Placed.{Placed}
 use Rattle.ac_syntax.specs.declared.script.Script.{Script}
 use Rattle.ac_syntax.specs.Items.{Item, item_line, script_items}
-use Rattle.ac_syntax.specs.Parts.{Part, says, marks, names, counts, writes, lacks, item_parts}
+use Rattle.ac_syntax.specs.Parts.{Part, says, keywords, marks, names, counts, writes, lacks, item_parts}
 use Rattle.ac_syntax.specs.Grammar.{IsPart, AreParts, BeginsOn, AreItems}
 use Rattle.ac_syntax.specs.Tokens.{tokens, cut_of}
 use Rattle.ac_syntax.specs.Canonical.{line_reached, part_tokens, on_line, items_placed, canonical_placed, is_written, RisesFrom, IsWellFormed}
@@ -25,6 +25,7 @@ use Rattle.ac_syntax.proofs.Derivations.{is_sayable, begins_on, are_sayable, der
 
 part_sayable : (part : Part) (front : List Token) → IsPart part front → is_sayable part ≡ true
 part_sayable (says _) front h = refl
+part_sayable (keywords _) front h = refl
 part_sayable (marks _) front h = refl
 part_sayable (names word) front h = ap not h.0
 part_sayable (counts _) front h = refl
@@ -38,6 +39,7 @@ parts_sayable (part ∷ parts) spelled h = and_from _ _ (part_sayable part h.0 h
 -- a part has a token
 part_spells : (part : Part) (front : List Token) → IsPart part front → (t : Token) × (more : List Token) × (part_tokens part ≡ t ∷ more)
 part_spells (says word) front h = (token.Word word, [], refl)
+part_spells (keywords own) front h = (token.Keyword own, [], refl)
 part_spells (marks mark) front h = (token.Mark mark, [], refl)
 part_spells (names word) front h = (token.Word word, [], refl)
 part_spells (counts n) front h = (token.Number n, [], refl)
