@@ -12,4 +12,6 @@ mod RoundTrip
 mod Tidied
 mod Rising
 pub mod CutTokens
+pub mod Leading
+mod Modes
 mod WellFormed

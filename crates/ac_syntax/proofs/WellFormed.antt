@@ -1,5 +1,5 @@
 -- A script that some text spells is well formed.
-use Rattle.std.proofs.Common.{◌≡◌, ◌≤◌, ℕ, ℤ, zero, suc, max, pos, negsuc, neg_ℤ, true, not, List, [], ◌∷◌, ◌++◌, map, flat_map, filter_map, length, refl, sym, ap, subst, ◌∙◌, Option, Some, None, inl, inr, arith, eq-eqb}
+use Rattle.std.proofs.Common.{◌≡◌, ◌≤◌, ℕ, ℤ, zero, suc, max, pos, negsuc, neg_ℤ, Bool, true, not, List, [], ◌∷◌, ◌++◌, map, flat_map, filter_map, length, refl, sym, ap, subst, ◌∙◌, Option, Some, None, inl, inr, arith, eq-eqb}
 use Rattle.std.proofs.lemmas.Bool.{and_parts, and_from}
 use Rattle.std.proofs.lemmas.List.{map-append}
 use Rattle.std.proofs.lemmas.List.Folds.{list_all-append}
@@ -16,7 +16,9 @@ use Rattle.ac_syntax.specs.Grammar.{IsPart, AreParts, BeginsOn, AreItems}
 use Rattle.ac_syntax.specs.Tokens.{tokens, cut_of}
 use Rattle.ac_syntax.specs.Canonical.{line_reached, part_tokens, on_line, items_placed, canonical_placed, is_written, RisesFrom, IsWellFormed}
 use Rattle.ac_syntax.specs.Refusals.{Spells}
-use Rattle.ac_syntax.proofs.CutTokens.{cut_tidy}
+use Rattle.ac_syntax.specs.Keywords.{begins_propagating, script_cut}
+use Rattle.ac_syntax.proofs.CutTokens.{script_tidy}
+use Rattle.ac_syntax.proofs.Modes.{same_mode}
 use Rattle.ac_syntax.proofs.Rising.{lines_of, rises_behind}
 use Rattle.ac_syntax.proofs.Tidied.{items_within}
 use Rattle.ac_syntax.proofs.Derivations.{is_sayable, begins_on, are_sayable, derives_so, tokens-on_line}
@@ -54,40 +56,42 @@ parts_spell (part ∷ parts) t more h =
     let first = part_spells part h.0 h.3 in
     (first.0, first.1 ++ flat_map part_tokens parts, ap (λ ts. ts ++ flat_map part_tokens parts) first.2)
 
-integer_written : (z : ℤ) (n : ℕ) → z ≡ neg_ℤ (pos n) → list_all is_written (token.Number n ∷ []) ≡ true → list_all is_written (part_tokens (writes (value.Int z))) ≡ true
-integer_written z zero e h = subst (λ y. list_all is_written (part_tokens (writes (value.Int y))) ≡ true) (sym e) refl
-integer_written z (suc n) e h = subst (λ y. list_all is_written (part_tokens (writes (value.Int y))) ≡ true) (sym e) h
+module _ (mode : Bool) where
+  integer_written : (z : ℤ) (n : ℕ) → z ≡ neg_ℤ (pos n) → list_all (is_written mode) (token.Number n ∷ []) ≡ true → list_all (is_written mode) (part_tokens (writes (value.Int z))) ≡ true
+  integer_written z zero e h = subst (λ y. list_all (is_written mode) (part_tokens (writes (value.Int y))) ≡ true) (sym e) refl
+  integer_written z (suc n) e h = subst (λ y. list_all (is_written mode) (part_tokens (writes (value.Int y))) ≡ true) (sym e) h
 
-part_written : (part : Part) (front : List Token) → IsPart part front → list_all is_written front ≡ true → list_all is_written (part_tokens part) ≡ true
-part_written (says word) front h w = subst (λ ts. list_all is_written ts ≡ true) h w
-part_written (marks mark) front h w = refl
-part_written (names word) front h w = subst (λ ts. list_all is_written ts ≡ true) h.1 w
-part_written (counts n) front h w = subst (λ ts. list_all is_written ts ≡ true) h w
-part_written (writes (value.Int z)) front (inl h) w =
-    subst (λ y. list_all is_written (part_tokens (writes (value.Int y))) ≡ true) (sym h.1) (subst (λ ts. list_all is_written ts ≡ true) h.2 w)
-part_written (writes (value.Int z)) front (inr h) w = integer_written z h.0 h.1 (subst (λ ts. list_all is_written ts ≡ true) h.2 w)
-part_written (writes (value.Text bytes)) front h w = subst (λ ts. list_all is_written ts ≡ true) h w
-part_written lacks front h w = refl
+  part_written : (part : Part) (front : List Token) → IsPart part front → list_all (is_written mode) front ≡ true → list_all (is_written mode) (part_tokens part) ≡ true
+  part_written (says word) front h w = subst (λ ts. list_all (is_written mode) ts ≡ true) h w
+  part_written (keywords own) front h w = subst (λ ts. list_all (is_written mode) ts ≡ true) h w
+  part_written (marks mark) front h w = refl
+  part_written (names word) front h w = subst (λ ts. list_all (is_written mode) ts ≡ true) h.1 w
+  part_written (counts n) front h w = subst (λ ts. list_all (is_written mode) ts ≡ true) h w
+  part_written (writes (value.Int z)) front (inl h) w =
+      subst (λ y. list_all (is_written mode) (part_tokens (writes (value.Int y))) ≡ true) (sym h.1) (subst (λ ts. list_all (is_written mode) ts ≡ true) h.2 w)
+  part_written (writes (value.Int z)) front (inr h) w = integer_written z h.0 h.1 (subst (λ ts. list_all (is_written mode) ts ≡ true) h.2 w)
+  part_written (writes (value.Text bytes)) front h w = subst (λ ts. list_all (is_written mode) ts ≡ true) h w
+  part_written lacks front h w = refl
 
--- both of two lists pass
-both_written : (xs ys : List Token) → list_all is_written (xs ++ ys) ≡ true → (list_all is_written xs ≡ true) × (list_all is_written ys ≡ true)
-both_written xs ys h = and_parts _ _ (sym (list_all-append is_written xs ys) ∙ h)
+  -- both of two lists pass
+  both_written : (xs ys : List Token) → list_all (is_written mode) (xs ++ ys) ≡ true → (list_all (is_written mode) xs ≡ true) × (list_all (is_written mode) ys ≡ true)
+  both_written xs ys h = and_parts _ _ (sym (list_all-append (is_written mode) xs ys) ∙ h)
 
-parts_written : (parts : List Part) (spelled : List Token) → AreParts parts spelled → list_all is_written spelled ≡ true → list_all is_written (flat_map part_tokens parts) ≡ true
-parts_written [] spelled h w = refl
-parts_written (part ∷ parts) spelled h w =
-    let both = both_written h.0 h.1 (subst (λ ts. list_all is_written ts ≡ true) h.2 w) in
-    list_all-append is_written (part_tokens part) (flat_map part_tokens parts) ∙ and_from _ _ (part_written part h.0 h.3 both.0) (parts_written parts h.1 h.4 both.1)
+  parts_written : (parts : List Part) (spelled : List Token) → AreParts parts spelled → list_all (is_written mode) spelled ≡ true → list_all (is_written mode) (flat_map part_tokens parts) ≡ true
+  parts_written [] spelled h w = refl
+  parts_written (part ∷ parts) spelled h w =
+      let both = both_written h.0 h.1 (subst (λ ts. list_all (is_written mode) ts ≡ true) h.2 w) in
+      list_all-append (is_written mode) (part_tokens part) (flat_map part_tokens parts) ∙ and_from _ _ (part_written part h.0 h.3 both.0) (parts_written parts h.1 h.4 both.1)
 
-items_written : (line : ℕ) (items : List Item) (placed : List Placed) → AreItems items placed → list_all is_written (tokens placed) ≡ true → list_all is_written (tokens (items_placed line items)) ≡ true
-items_written line [] placed h w = refl
-items_written line (item ∷ items) placed h w =
-    let reached = line_reached line (item_line item) in
-    let spelled = flat_map part_tokens (item_parts item) in
-    let both = both_written (tokens h.0) (tokens h.1) (sym (ap (list_all is_written) (ap tokens h.2 ∙ map-append (λ (p : Placed). p.token) h.0 h.1)) ∙ w) in
-    ap (list_all is_written) (map-append (λ (p : Placed). p.token) (map (on_line reached) spelled) (items_placed reached items))
-    ∙ list_all-append is_written (tokens (map (on_line reached) spelled)) (tokens (items_placed reached items))
-    ∙ and_from _ _ (ap (list_all is_written) (tokens-on_line reached spelled) ∙ parts_written (item_parts item) (tokens h.0) h.3.spelled both.0) (items_written reached items h.1 h.4 both.1)
+  items_written : (line : ℕ) (items : List Item) (placed : List Placed) → AreItems items placed → list_all (is_written mode) (tokens placed) ≡ true → list_all (is_written mode) (tokens (items_placed line items)) ≡ true
+  items_written line [] placed h w = refl
+  items_written line (item ∷ items) placed h w =
+      let reached = line_reached line (item_line item) in
+      let spelled = flat_map part_tokens (item_parts item) in
+      let both = both_written (tokens h.0) (tokens h.1) (sym (ap (list_all (is_written mode)) (ap tokens h.2 ∙ map-append (λ (p : Placed). p.token) h.0 h.1)) ∙ w) in
+      ap (list_all (is_written mode)) (map-append (λ (p : Placed). p.token) (map (on_line reached) spelled) (items_placed reached items))
+      ∙ list_all-append (is_written mode) (tokens (map (on_line reached) spelled)) (tokens (items_placed reached items))
+      ∙ and_from _ _ (ap (list_all (is_written mode)) (tokens-on_line reached spelled) ∙ parts_written (item_parts item) (tokens h.0) h.3.spelled both.0) (items_written reached items h.1 h.4 both.1)
 
 -- lines
 
@@ -137,12 +141,15 @@ items_told line (item ∷ items) placed h rises =
 pub spelled_well : (script : Script) (text : List ℕ) → Spells script text → IsWellFormed script
 unfolding canonical_placed
 spelled_well script text h =
-    let placed = (cut_of text).placed in
-    let tidy = cut_tidy 0 1 text in
+    let placed = (script_cut text).placed in
+    let mode = begins_propagating (cut_of text).placed in
+    let tidy = script_tidy text in
     let told = items_told 1 (script_items script) placed h.derives.are tidy.rising in
     record {
       derives = derives_so script told.sayable h.derives.ordered;
       within = items_within 1 (script_items script) placed h.derives.are h.within;
-      written = items_written 1 (script_items script) placed h.derives.are tidy.written;
+      written =
+          subst (λ own. list_all (is_written own) (tokens (items_placed 1 (script_items script))) ≡ true) (same_mode script text h.derives)
+          (items_written mode 1 (script_items script) placed h.derives.are tidy.written);
       lines = told.rising;
     }
