@@ -1,5 +1,5 @@
 -- The tokens of a canonical text derive its script, by a test that computes.
-use Rattle.std.proofs.Common.{◌≡◌, ℕ, ◌&&◌, ◌==◌, pos, negsuc, suc, Bool, true, false, not, List, [], ◌∷◌, map, refl, sym, ap, subst, inl, inr, arith}
+use Rattle.std.proofs.Common.{◌≡◌, ℕ, ◌&&◌, ◌==◌, pos, negsuc, suc, Bool, true, false, not, List, [], ◌∷◌, ◌++◌, map, refl, sym, ap, subst, inl, inr, arith}
 use Rattle.std.proofs.lemmas.Bool.{and_parts}
 use Rattle.std.proofs.Math.Bool.{true≢false}
 use Rattle.std.specs.Prelude.{nat_le, Option, Some, None, flat_map}
@@ -100,6 +100,42 @@ pub script_derives : (script : Script) → is_derived script ≡ true → Derive
 script_derives script p =
     let h : (are_sayable 1 (script_items script) ≡ true) × (is_ordered (script_items script) ≡ true) = and_parts _ _ p in
     derives_so script h.0 (ordered (script_items script) h.1)
+
+-- the tokens of items, each item's on a line of its own choice
+abbrev pub placed_on : List ℕ → List Item → List Placed
+placed_on lines [] = []
+placed_on [] (_ ∷ _) = []
+placed_on (line ∷ lines) (item ∷ items) = map (on_line line) (flat_map part_tokens (item_parts item)) ++ placed_on lines items
+
+-- a test that they derive the items
+abbrev pub are_sayable_on : List ℕ → List Item → Bool
+are_sayable_on lines [] = true
+are_sayable_on [] (_ ∷ _) = false
+are_sayable_on (line ∷ lines) (item ∷ items) =
+    (list_all is_sayable (item_parts item) && begins_on (item_line item) (map (on_line line) (flat_map part_tokens (item_parts item)))) && are_sayable_on lines items
+
+items_on : (lines : List ℕ) (items : List Item) → are_sayable_on lines items ≡ true → AreItems items (placed_on lines items)
+items_on lines [] p = refl
+items_on [] (_ ∷ _) p = absurd (true≢false (sym p))
+items_on (line ∷ lines) (item ∷ items) p =
+    let spelled = flat_map part_tokens (item_parts item) in
+    let h : ((list_all is_sayable (item_parts item) && begins_on (item_line item) (map (on_line line) spelled)) ≡ true) × (are_sayable_on lines items ≡ true) = and_parts _ _ p in
+    let k : (list_all is_sayable (item_parts item) ≡ true) × (begins_on (item_line item) (map (on_line line) spelled) ≡ true) = and_parts _ _ h.0 in (
+      map (on_line line) spelled,
+      placed_on lines items,
+      refl,
+      record {
+        spelled = subst (AreParts (item_parts item)) (sym (tokens-on_line line spelled)) (parts_spelled (item_parts item) k.0);
+        begins = begins (item_line item) (map (on_line line) spelled) k.1;
+      },
+      items_on lines items h.1,
+    )
+
+pub derives_on : (lines : List ℕ) (script : Script) → (are_sayable_on lines (script_items script) && is_ordered (script_items script)) ≡ true
+    → Derives (placed_on lines (script_items script)) script
+derives_on lines script p =
+    let h : (are_sayable_on lines (script_items script) ≡ true) × (is_ordered (script_items script) ≡ true) = and_parts _ _ p in
+    record { are = items_on lines (script_items script) h.0; ordered = ordered (script_items script) h.1 }
 
 -- a test that the lines never fall from this one on
 abbrev pub rises : ℕ → List ℕ → Bool

@@ -39,7 +39,8 @@ is_keyword own (token.Mark _) = false
 abbrev type_words : List (List ℕ)
 type_words = codes "type" ∷ []
 
-abbrev head_words : List (List ℕ)
+-- the first words of blocks, and of tasks
+abbrev pub head_words : List (List ℕ)
 head_words =
     codes "for" ∷ codes "query" ∷ codes "update" ∷ codes "update_key" ∷ codes "reference" ∷ codes "stable" ∷ codes "declare" ∷ codes "tasks" ∷ codes "task" ∷ []
 

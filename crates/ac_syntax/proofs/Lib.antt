@@ -13,5 +13,9 @@ mod Tidied
 mod Rising
 pub mod CutTokens
 pub mod Leading
+pub mod Refusing
+mod Semicolons
+mod OuterItems
+mod HandledItems
 mod Modes
 mod WellFormed
