@@ -8,7 +8,7 @@ use Rattle.ac_syntax.specs.declared.stmt.Stmt.{Stmt}
 use Rattle.ac_syntax.specs.declared.stmt.Stmt.TheVariants.{Call, Set, Sum, Loop, View, Stable, Declare, Tasks, Handled}
 use Rattle.ac_syntax.specs.declared.stmt.TaskText.{TaskText}
 use Rattle.ac_syntax.specs.declared.stmt.Handler.{Handler}
-use Rattle.ac_syntax.specs.declared.stmt.Stmts.TheDeep.{deep-Stmt, deep-TaskText, deep-Handler}
+use Rattle.ac_syntax.specs.declared.stmt.Handlers.TheDeep.{deep-Stmt, deep-TaskText, deep-Handler}
 
 -- no body has more statements than all around it together
 pub bodies_fall : (stmts : List Stmt) → max (most deep-Stmt stmts) 0 ≤ code_size (code_of stmts)
