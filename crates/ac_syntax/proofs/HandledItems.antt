@@ -1,10 +1,8 @@
 -- Items of a script with the pragma: which may come at its front, in what is tried, and behind `exception`.
-use Rattle.std.proofs.Common.{◌≡◌, ℕ, true, false, List, [], ◌∷◌, ◌++◌, refl, sym, ap, ◌∙◌, Option, Some, None}
+use Rattle.std.proofs.Common.{◌≡◌, ℕ, true, List, [], ◌∷◌, ◌++◌, refl, ap, ◌∙◌, Some, None}
 use Rattle.std.proofs.lemmas.Option.{none-some}
 use Rattle.std.specs.Prelude.{codes}
-use Rattle.ac_base.specs.declared.reason.Exception.{Exception}
 use Rattle.ac_base.specs.declared.reason.Exception.TheVariants as exception
-use Rattle.ac_syntax.specs.declared.closing.Closing.{Closing}
 use Rattle.ac_syntax.specs.declared.closing.Closing.TheVariants.{EndLoop, End, EndTasks, EndTask, EndTried, EndHandlers, EndOthers}
 use Rattle.ac_syntax.specs.declared.token.Keyword.{Keyword}
 use Rattle.ac_syntax.specs.declared.token.Keyword.TheVariants as keyword
@@ -12,7 +10,6 @@ use Rattle.ac_syntax.specs.declared.token.Mark.TheVariants.{Arrow}
 use Rattle.ac_syntax.specs.declared.token.Token.TheVariants as token
 use Rattle.ac_syntax.specs.declared.token.Placed.{Placed}
 use Rattle.ac_syntax.specs.Items.{Item, declares, commands, opens, begins, closes, propagates, tries, catches}
-use Rattle.ac_syntax.specs.Keywords.{caught_keyword}
 use Rattle.ac_syntax.specs.Parts.{keywords, marks, item_parts}
 use Rattle.ac_syntax.specs.Grammar.{reserved, is_reserved, AreParts}
 use Rattle.ac_syntax.specs.Order.{listing, running, catching, Context, at_front}

@@ -2,7 +2,7 @@
 use Rattle.std.proofs.Common.{◌≡◌, ℕ, Bool, true, false, not, ◌||◌, List, [], ◌∷◌, ◌++◌, length, refl, sym, ap, subst, ◌∙◌, arith}
 use Rattle.std.proofs.lemmas.Bool.{or_right}
 use Rattle.std.proofs.Math.Bool.{true≢false}
-use Rattle.std.specs.Prelude.{codes, Option, Some, None}
+use Rattle.std.specs.Prelude.{codes, Some, None}
 use denote.Enum.Bare.{sameb}
 use Rattle.ac_syntax.specs.contracts.token.Keyword.{the_type}
 use Rattle.ac_syntax.specs.declared.closing.Closing.{Closing}

@@ -211,19 +211,17 @@ module _ (propagating : Bool) where
   stmts_end stage is stop h = (at propagating [] stage, refl, record { closed = refl; begun = is.ends })
   stmts_end stage is (one s rest) h =
       (at propagating [] running, ap (option_and_then (λ next. context_after next (items rest))) (is.commanded s) ∙ code_ends (one s rest) h, at_end_now)
-  stmts_end stage is (block head body rest) h =
-      (
-        at propagating [] running,
-        ap (option_and_then (λ next. context_after next (declared head ++ (items body ++ (closing head ++ items rest))))) (is.opened (bare head)) ∙ code_ends (block head body rest) h,
-        at_end_now,
-      )
-  stmts_end stage is (handled line body handlers rest) h =
-      (
-        at propagating [] running,
-        ap (option_and_then (λ next. context_after next (items body ++ (closes EndTried ∷ (handler_items handlers ++ (closes (handlers_end handlers) ∷ items rest)))))) (is.begun line)
+  stmts_end stage is (block head body rest) h = (
+    at propagating [] running,
+    ap (option_and_then (λ next. context_after next (declared head ++ (items body ++ (closing head ++ items rest))))) (is.opened (bare head)) ∙ code_ends (block head body rest) h,
+    at_end_now,
+  )
+  stmts_end stage is (handled line body handlers rest) h = (
+    at propagating [] running,
+    ap (option_and_then (λ next. context_after next (items body ++ (closes EndTried ∷ (handler_items handlers ++ (closes (handlers_end handlers) ∷ items rest)))))) (is.begun line)
         ∙ code_ends (handled line body handlers rest) h,
-        at_end_now,
-      )
+    at_end_now,
+  )
 
 script_runs : (own : Option ℕ) (decls : List Decl) (code : Code) → AreStatements (is_some own) code → AreInOrder (pragma_items own ++ (map declares decls ++ items code))
 script_runs None [] code h = let found = stmts_end false fronting (front false) code h in record { last = found.0; leads = found.1; ends = found.2 }
@@ -372,14 +370,13 @@ put_tried : (blocks : List Closing) (line : ℕ) (body : Code) (handlers : Handl
     → xs ≡ tries line ∷ (items body ++ (closes EndTried ∷ (handler_items handlers ++ closes (handlers_end handlers) ∷ tail))) → Rests blocks tail → Rests blocks xs
 put_tried [] line body handlers tail xs p r =
     (handled line body handlers r.0, p ∙ ap (λ ys. tries line ∷ (items body ++ (closes EndTried ∷ (handler_items handlers ++ closes (handlers_end handlers) ∷ ys)))) r.1)
-put_tried (l ∷ blocks) line body handlers tail xs p r =
-    (
-      handled line body handlers r.0,
-      r.1,
-      p ∙ ap (λ ys. tries line ∷ (items body ++ (closes EndTried ∷ (handler_items handlers ++ closes (handlers_end handlers) ∷ ys)))) r.2
+put_tried (l ∷ blocks) line body handlers tail xs p r = (
+  handled line body handlers r.0,
+  r.1,
+  p ∙ ap (λ ys. tries line ∷ (items body ++ (closes EndTried ∷ (handler_items handlers ++ closes (handlers_end handlers) ∷ ys)))) r.2
       ∙ sym (tried_around line body handlers r.0 r.1),
-      r.3,
-    )
+  r.3,
+)
 
 put_tries : (blocks : List Closing) (line : ℕ) (xs : List Item) → Rests (EndTried ∷ EndHandlers ∷ blocks) xs → Rests blocks (tries line ∷ xs)
 put_tries blocks line xs r =
@@ -391,16 +388,14 @@ put_tries blocks line xs r =
 -- a handler's head, before its statements and what follows them
 put_catch : (line : ℕ) (own : Option Exception) (blocks : List Closing) (xs : List Item) → Rests (handler_end own ∷ blocks) xs → Caught (Rests blocks) (catches line own ∷ xs)
 put_catch line None blocks xs r =
-    let end = r.3 in
-    (
+    let end = r.3 in (
       handler line None r.0 no_handler,
       end.0,
       ap (λ ys. catches line None ∷ ys) (r.2 ∙ ap (λ ys. items r.0 ++ ys) end.1 ∙ ap (λ ys. ys ++ closes EndOthers ∷ end.0) (sym (append-nil (items r.0)))),
       end.2,
     )
 put_catch line (Some raised) blocks xs r =
-    let more = r.3 in
-    (
+    let more = r.3 in (
       handler line (Some raised) r.0 more.0,
       more.1,
       ap (λ ys. catches line (Some raised) ∷ ys)
@@ -584,8 +579,7 @@ finish (catches n own ∷ xs) mode blocks catching last e end = put_first xs las
 pub script_found : (xs : List Item) → AreInOrder xs → (script : Script) × (script_items script ≡ xs)
 script_found xs ordered =
     let r : Finishes [] fronting xs = finish xs false [] fronting ordered.last ordered.leads ordered.ends in
-    let listed = r.3 in
-    (
+    let listed = r.3 in (
       record { pragma = r.0; decls = listed.0; stmts = listed.3.0 },
       sym (r.2 ∙ ap (λ ys. pragma_items r.0 ++ ys) (listed.2 ∙ ap (λ rest. map declares listed.0 ++ rest) listed.3.1)),
     )

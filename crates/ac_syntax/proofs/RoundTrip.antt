@@ -19,7 +19,7 @@ use Rattle.ac_syntax.specs.declared.token.Token.{Token}
 use Rattle.ac_syntax.specs.declared.token.Token.TheVariants as token
 use Rattle.ac_syntax.specs.declared.token.Mark.TheVariants.{Colon, Semicolon, Comma, Open, Close, Dot, Assign, Plus, Minus, Arrow}
 use Rattle.ac_syntax.specs.declared.token.Placed.{Placed}
-use Rattle.ac_syntax.specs.Code.{Simple, call_at, set_at, sum_at, Head, loop_at, view_at, stable_at, declare_at, tasks_at, task_at, Code, stop, one, block, handled}
+use Rattle.ac_syntax.specs.Code.{call_at, set_at, sum_at, Head, loop_at, view_at, stable_at, declare_at, tasks_at, task_at, Code, stop, one, block, handled}
 use Rattle.ac_syntax.specs.Items.{Item, declares, opens, item_line, bare, items, pragma_items, script_items}
 use Rattle.ac_syntax.specs.Parts.{Part, says, keywords, marks, names, counts, writes, lacks, item_parts}
 use Rattle.ac_syntax.specs.Tokens.{Cut, cut_from, cut_of, tokens}

@@ -1,5 +1,5 @@
 -- How statements are told apart: each is kept as a tree of numbers that gives it back.
-use Rattle.std.specs.Prelude.{◌≡◌, ℕ, ◌-◌, zero, suc, Option, refl}
+use Rattle.std.specs.Prelude.{◌≡◌, ℕ, ◌-◌, suc, Option, refl}
 use Rattle.std.specs.Coded.{Coded, codes}
 use Rattle.std.proofs.Common.{ap, sym}
 use Rattle.std.proofs.Math.Nat.{suc-ne-zero}
@@ -75,7 +75,7 @@ mutual
   code_to_inj (handled _ _ _ _) (block _ _ _) p = absurd (suc-ne-zero 0 (ap (λ g. tag g - 2) p))
   code_to_inj (handled line body hs rest) (handled place inner ks others) p =
       λ i. handled (coded_line.inj line place (ap (λ g. first (second g)) p) i) (code_to_inj body inner (ap (λ g. first (second (second g))) p) i)
-          (handlers_to_inj hs ks (ap (λ g. first (second (second (second g)))) p) i) (code_to_inj rest others (ap (λ g. second (second (second (second g)))) p) i)
+      (handlers_to_inj hs ks (ap (λ g. first (second (second (second g)))) p) i) (code_to_inj rest others (ap (λ g. second (second (second (second g)))) p) i)
 
   handlers_to_inj : (a b : HandlerCode) → handlers_to a ≡ handlers_to b → a ≡ b
   handlers_to_inj no_handler no_handler p = refl
@@ -83,7 +83,7 @@ mutual
   handlers_to_inj (handler _ _ _ _) no_handler p = absurd (suc-ne-zero 0 (ap some_tag p))
   handlers_to_inj (handler line catches body more) (handler place taken inner others) p =
       λ i. handler (coded_line.inj line place (ap first p) i) (coded_catches.inj catches taken (ap (λ g. first (second g)) p) i)
-          (code_to_inj body inner (ap (λ g. first (second (second g))) p) i) (handlers_to_inj more others (ap (λ g. second (second (second g))) p) i)
+      (code_to_inj body inner (ap (λ g. first (second (second g))) p) i) (handlers_to_inj more others (ap (λ g. second (second (second g))) p) i)
 
 pub coded_code : Coded Code
 coded_code = record { code = code_to; inj = code_to_inj }

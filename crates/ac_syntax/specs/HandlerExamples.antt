@@ -1,8 +1,8 @@
 -- Blocks with handlers, the pragma that lets exceptions propagate, and the words that it reserves, worked out by hand.
-use Rattle.std.specs.Prelude.{◌≡◌, ℕ, ◌+◌, zero, suc, pos, codes, false, true, List, [], ◌∷◌, ◌++◌, Some, None}
+use Rattle.std.specs.Prelude.{◌≡◌, ℕ, ◌+◌, zero, suc, pos, codes, false, List, [], ◌∷◌, ◌++◌, Some, None}
 use Rattle.ac_base.specs.declared.reason.Exception.TheVariants as exception
 use Rattle.ac_base.specs.declared.value.Value.TheVariants as value
-use Rattle.ac_syntax.specs.Code.{Code, call_at, set_at, stable_at, declare_at, stop, one, block, handled, no_handler, handler}
+use Rattle.ac_syntax.specs.Code.{Code, call_at, set_at, declare_at, stop, one, block, handled, no_handler, handler}
 use Rattle.ac_syntax.specs.declared.arg.Arg.TheVariants.{Lit}
 use Rattle.ac_syntax.specs.declared.decl.Decl.{Decl}
 use Rattle.ac_syntax.specs.declared.decl.Decl.TheVariants.{TypeDecl, Object, IntVar}

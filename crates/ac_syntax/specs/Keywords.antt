@@ -8,7 +8,7 @@ use Rattle.ac_syntax.specs.declared.token.Keyword.TheVariants as keyword
 use Rattle.ac_syntax.specs.declared.token.Placed.{Placed}
 use Rattle.ac_syntax.specs.declared.token.Token.{Token}
 use Rattle.ac_syntax.specs.declared.token.Token.TheVariants as token
-use Rattle.ac_syntax.specs.Tokens.{Cut, cut_of, tokens}
+use Rattle.ac_syntax.specs.Tokens.{Cut, cut_of}
 
 abbrev pub keyword_text : Keyword → List ℕ
 keyword_text keyword.Pragma = codes "pragma"

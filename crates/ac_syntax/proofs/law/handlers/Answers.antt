@@ -1,4 +1,4 @@
-use Rattle.std.proofs.Common.{refl, take, drop, [], ◌∷◌, ◌++◌, None, ℕ, List}
+use Rattle.std.proofs.Common.{refl, take, drop, [], ◌∷◌, None, ℕ, List}
 use Rattle.std.specs.Prelude.{codes, filter_map}
 use Rattle.std.specs.Fmt.{digits}
 use Rattle.ac_syntax.specs.Code.{stop, handled, no_handler, handler}
