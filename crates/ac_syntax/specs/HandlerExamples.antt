@@ -2,7 +2,7 @@
 use Rattle.std.specs.Prelude.{◌≡◌, ℕ, ◌+◌, zero, suc, pos, codes, false, List, [], ◌∷◌, ◌++◌, Some, None}
 use Rattle.ac_base.specs.declared.reason.Exception.TheVariants as exception
 use Rattle.ac_base.specs.declared.value.Value.TheVariants as value
-use Rattle.ac_syntax.specs.Code.{Code, call_at, set_at, declare_at, stop, one, block, handled, no_handler, handler}
+use Rattle.ac_syntax.specs.Code.{Code, call_at, set_at, declare_at, tasks_at, task_at, stop, one, block, handled, no_handler, handler}
 use Rattle.ac_syntax.specs.declared.arg.Arg.TheVariants.{Lit}
 use Rattle.ac_syntax.specs.declared.decl.Decl.{Decl}
 use Rattle.ac_syntax.specs.declared.decl.Decl.TheVariants.{TypeDecl, Object, IntVar}
@@ -10,8 +10,11 @@ use Rattle.ac_syntax.specs.declared.kind.Kind.TheVariants as kind
 use Rattle.ac_syntax.specs.declared.kind.ElemKind.TheVariants.{Integer}
 use Rattle.ac_syntax.specs.declared.refusal.RefusalKind.TheVariants.{Syntax, Limit}
 use Rattle.ac_syntax.specs.declared.script.Script.{Script}
+use Rattle.ac_syntax.specs.declared.token.Mark.TheVariants.{Arrow}
+use Rattle.ac_syntax.specs.declared.token.Token.TheVariants as token
+use Rattle.ac_syntax.specs.Tokens.{cut_of}
 use Rattle.ac_syntax.specs.Refusals.{Spells, IsFirstRefusal}
-use Rattle.ac_syntax.specs.Canonical.{canonical_text, IsWellFormed}
+use Rattle.ac_syntax.specs.Canonical.{canonical_text, on_line, IsWellFormed}
 use Rattle.ac_syntax.specs.Examples.{lines, repeated}
 
 -- on line 2 a type l of lists of integers, and an object a of it
@@ -71,6 +74,26 @@ NeedsException = IsFirstRefusal (lines (codes "pragma Propagate;" ∷ codes "beg
 abbrev pub EndsAtOthers : Type 0
 EndsAtOthers = IsFirstRefusal (lines (
     codes "pragma Propagate;" ∷ codes "begin exception" ∷ codes "when others =>" ∷ codes "when Program_Error => end;" ∷ [])) 4 Syntax
+
+-- no block with handlers stands in a task
+abbrev pub NeedsStatements : Type 0
+NeedsStatements = IsWellFormed (propagating [] (
+    block (tasks_at 1) (block (task_at 1 (codes "t") []) (handled 1 stop (handler 1 None stop no_handler) stop) stop) stop)) → ⊥
+
+-- each exception by its name
+
+abbrev pub each_exception : Script
+each_exception = propagating [] (
+    handled 1 stop
+    (handler 2 (Some exception.CapacityError) stop (handler 3 (Some exception.ConstraintError) stop (handler 4 (Some exception.ProgramError) stop no_handler))) stop)
+
+abbrev pub SpellsEachException : Type 0
+SpellsEachException = Spells each_exception (lines (
+    codes "pragma Propagate; begin exception" ∷ codes "when Capacity_Error =>" ∷ codes "when Constraint_Error =>" ∷ codes "when Program_Error => end;" ∷ []))
+
+-- `=` alone is no mark
+abbrev pub RefusesEquals : Type 0
+RefusesEquals = cut_of (codes "A => B = C") ≡ record { placed = on_line 1 (token.Word (codes "a")) ∷ on_line 1 (token.Mark Arrow) ∷ on_line 1 (token.Word (codes "b")) ∷ []; malformed = Some 1 }
 
 -- ---- words
 
@@ -136,3 +159,7 @@ declared (suc n) = block (declare_at 1 []) (declared n) stop
 
 abbrev pub TakesDeclare16 : Type 0
 TakesDeclare16 = Spells (propagating [] (declared 16)) (codes "pragma Propagate; " ++ (repeated 16 (codes "declare begin ") ++ repeated 16 (codes "end;")))
+
+-- but one behind it does
+abbrev pub RefusesBeginBehindDeclare : Type 0
+RefusesBeginBehindDeclare = IsFirstRefusal (codes "pragma Propagate; declare begin" ++ repeated 16 (10 ∷ codes "begin")) 17 Limit

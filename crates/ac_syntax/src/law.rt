@@ -13,8 +13,8 @@ ghost use Rattle.ac_syntax.specs.Examples.{SpellsLoosely, WritesStrictly, Spells
 ghost use Rattle.ac_syntax.specs.Examples.{TakesTab, TakesReturnBeforeLineFeed, RefusesLoneReturn, RefusesReturnTwice, RefusesLastReturn, TakesReturnInComment, RefusesTabInString};
 ghost use Rattle.ac_syntax.specs.TaskExamples.{SpellsSharing, WritesSharing, IsSharingWell, NeedsTask, NeedsBlock, NeedsCommands, Takes8Tasks, RefusesTask9};
 ghost use Rattle.ac_syntax.specs.TaskExamples.{TakesTasksAtDepth16, RefusesTasksAtDepth17, RefusesDepth17BehindTasks, CountsCommands, TakesCommand1000, RefusesCommand1001, TakesEndBehind1000};
-ghost use Rattle.ac_syntax.specs.HandlerExamples.{SpellsHandled, WritesHandled, IsHandledWell, NeedsPragma, NeedsHandler, NeedsException, EndsAtOthers, NamesWhen, NamesPragma, NamesPropagate};
-ghost use Rattle.ac_syntax.specs.HandlerExamples.{ReservesWhen, ReservesPragma, WritesNoWhen, NeedsFront, NeedsOnePragma, TakesBegin16, RefusesBegin17, RefusesDepth17InHandler, TakesDeclare16};
+ghost use Rattle.ac_syntax.specs.HandlerExamples.{SpellsHandled, WritesHandled, IsHandledWell, NeedsPragma, NeedsHandler, NeedsException, EndsAtOthers, NeedsStatements, SpellsEachException, RefusesEquals, NamesWhen, NamesPragma, NamesPropagate};
+ghost use Rattle.ac_syntax.specs.HandlerExamples.{ReservesWhen, ReservesPragma, WritesNoWhen, NeedsFront, NeedsOnePragma, TakesBegin16, RefusesBegin17, RefusesDepth17InHandler, TakesDeclare16, RefusesBeginBehindDeclare};
 ghost use Rattle.ac_syntax.specs.WordExamples.{ReservesWords, LeavesWords};
 ghost use Rattle.ac_syntax.specs.FormExamples.{SpellsEveryForm, WritesEveryForm, IsEveryFormWell, SpellsMinusZero, WritesZero, NeedsCursor, NeedsRisingLines};
 ghost use Rattle.ac_syntax.specs.RefusalExamples.{TakesName64, RefusesName65, TakesString1000, RefusesString1001, TakesLeast, TakesCounting, RefusesPastGreatest, RefusesLessTooMuch, RefusesTooRoomy, RefusesMalformed};
@@ -145,6 +145,9 @@ pub fn handlers()
     ensures handler { NeedsHandler }
     ensures exception { NeedsException }
     ensures others { EndsAtOthers }
+    ensures in_task { NeedsStatements }
+    ensures exceptions { SpellsEachException }
+    ensures equals { RefusesEquals }
 {}
 
 /// The pragma, and the words that it reserves, worked out by hand.
@@ -165,4 +168,5 @@ pub fn handler_limits()
     ensures begin_17 { RefusesBegin17 }
     ensures in_handler { RefusesDepth17InHandler }
     ensures declare_16 { TakesDeclare16 }
+    ensures behind_declare { RefusesBeginBehindDeclare }
 {}

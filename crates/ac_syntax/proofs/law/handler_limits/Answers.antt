@@ -1,12 +1,13 @@
 use Rattle.std.proofs.Common.{refl, take, drop, ℕ, zero, suc, ◌+◌, None, [], ◌∷◌, ◌++◌}
 use Rattle.std.specs.Prelude.{codes}
-use Rattle.ac_syntax.specs.Code.{Code, stop, handled, no_handler, handler}
+use Rattle.ac_syntax.specs.Code.{Code, declare_at, stop, block, handled, no_handler, handler}
 use Rattle.ac_syntax.specs.declared.script.Script.{Script}
 use Rattle.ac_syntax.specs.declared.token.Token.TheVariants as token
 use Rattle.ac_syntax.specs.Parts.{item_parts}
 use Rattle.ac_syntax.specs.Grammar.{reserved, is_reserved}
 use Rattle.ac_syntax.specs.Tokens.{tokens}
 use Rattle.ac_syntax.specs.Canonical.{canonical_placed, on_line}
+use Rattle.ac_syntax.specs.Examples.{repeated}
 use Rattle.ac_syntax.specs.HandlerExamples.{propagating, tried, begins_text, declared}
 use Rattle.ac_syntax.proofs.Derivations.{script_derives}
 use Rattle.ac_syntax.proofs.Withins.{within}
@@ -54,3 +55,13 @@ declared_16 = propagating [] (declared 16)
 pub returns-clause-declare_16 : goal.returns-clause-declare_16
 unfolding reserved is_reserved item_parts canonical_placed
 returns-clause-declare_16 c = record { whole = refl; derives = script_derives declared_16 refl; within = within (tokens (canonical_placed declared_16)) refl }
+
+abbrev behind_declare : Script
+behind_declare = propagating [] (block (declare_at 1 []) (trying_deep 2 16 stop) stop)
+
+pub returns-clause-behind_declare : goal.returns-clause-behind_declare
+unfolding reserved is_reserved item_parts canonical_placed
+returns-clause-behind_declare c =
+    limit_at (codes "pragma Propagate; declare begin" ++ repeated 16 (10 ∷ codes "begin")) behind_declare
+    (take 20 (canonical_placed behind_declare)) [] (drop 21 (canonical_placed behind_declare))
+    (on_line 17 (token.Word (codes "begin"))) refl refl refl refl refl

@@ -1,4 +1,5 @@
 use Rattle.std.proofs.Common.{refl, take, drop, [], ◌∷◌, None, ℕ, List}
+use Rattle.std.proofs.lemmas.Option.{none-some}
 use Rattle.std.specs.Prelude.{codes, filter_map}
 use Rattle.std.specs.Fmt.{digits}
 use Rattle.ac_syntax.specs.Code.{stop, handled, no_handler, handler}
@@ -12,7 +13,7 @@ use Rattle.ac_syntax.specs.Grammar.{reserved, is_reserved}
 use Rattle.ac_syntax.specs.Tokens.{tokens}
 use Rattle.ac_syntax.specs.Canonical.{canonical_text, canonical_placed, on_line}
 use Rattle.ac_syntax.specs.Examples.{lines, with_list}
-use Rattle.ac_syntax.specs.HandlerExamples.{propagating, handled_script, handled_lines}
+use Rattle.ac_syntax.specs.HandlerExamples.{propagating, handled_script, handled_lines, each_exception}
 use Rattle.ac_syntax.proofs.Derivations.{script_derives, placed_on, derives_on, rises_from}
 use Rattle.ac_syntax.proofs.Withins.{within}
 use Rattle.ac_syntax.proofs.FirstFaults.{syntax_behind, syntax_at}
@@ -85,3 +86,10 @@ returns-clause-others c =
     syntax_at others_text a_block (take 8 (canonical_placed a_block)) (drop 9 (script_cut others_text).placed) (drop 8 (canonical_placed a_block))
     (on_line 4 (token.Keyword keyword.When)) refl refl refl refl
     (λ more. behind_pragma 1 _ _ _ (behind_begin 2 _ (behind_exception 2 _ (behind_others 3 3 3 _ (no_when 4 more)))))
+
+pub returns-clause-in_task : goal.returns-clause-in_task
+returns-clause-in_task c = λ w. none-some _ w.derives.ordered.leads
+
+pub returns-clause-exceptions : goal.returns-clause-exceptions
+unfolding reserved is_reserved item_parts canonical_placed
+returns-clause-exceptions c = record { whole = refl; derives = script_derives each_exception refl; within = within (tokens (canonical_placed each_exception)) refl }
