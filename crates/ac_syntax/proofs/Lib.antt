@@ -17,5 +17,5 @@ pub mod Refusing
 mod Semicolons
 mod OuterItems
 mod HandledItems
-mod Modes
+pub mod Modes
 mod WellFormed
