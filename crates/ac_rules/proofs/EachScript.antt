@@ -1,13 +1,14 @@
 -- Each script can run, or has a first fault.
 use Rattle.std.proofs.Common.{◌≡◌, ℕ, ◌+◌, List, [], ◌∷◌, ◌++◌, Option, Some, None, refl, ap, inl, inr}
 use Rattle.std.specs.Prelude.{◌⊎◌}
-use Rattle.ac_syntax.specs.Code.{Code, stop, one, block, Simple, call_at, set_at, sum_at, Head, loop_at, view_at, stable_at, declare_at, tasks_at, task_at}
+use Rattle.ac_base.specs.declared.reason.Exception.{Exception}
+use Rattle.ac_syntax.specs.Code.{Code, stop, one, block, handled, HandlerCode, no_handler, handler, Simple, call_at, set_at, sum_at, Head, loop_at, view_at, stable_at, declare_at, tasks_at, task_at}
 use Rattle.ac_syntax.specs.Items.{item_line, commands, opens, bare}
 use Rattle.ac_syntax.specs.declared.decl.Decl.{Decl}
 use Rattle.ac_syntax.specs.declared.decl.Decl.TheVariants.{TypeDecl, Object, CursorVar, IntVar, TextVar}
 use Rattle.ac_syntax.specs.declared.refusal.RefusalKind.{RefusalKind}
 use Rattle.ac_syntax.specs.declared.script.Script.{Script}
-use Rattle.ac_rules.specs.Scopes.{Scope, Standing, with_entry, decl_entry, with_decls, decls_in, behind_words, inside, behind_block, standing_decls, standings_from, standings}
+use Rattle.ac_rules.specs.Scopes.{Scope, Standing, with_entry, decl_entry, with_decls, decls_in, behind_words, inside, behind_block, with_named, standing_decls, standings_from, handler_standings, standings}
 use Rattle.ac_rules.specs.Faults.{capacity, IsFirstFault, IsChecked}
 use Rattle.ac_rules.specs.Walks.{Outcome, goes_on, refused, step, outcome, fault_with}
 use Rattle.ac_rules.proofs.FirstFaults.{faultless, first_fault}
@@ -42,18 +43,34 @@ head_lined (declare_at line decls) = (line, refl)
 head_lined (tasks_at line) = (line, refl)
 head_lined (task_at line name locals) = (line, refl)
 
-code_lined : (scope : Scope) (code : Code) → AreLined (standings_from scope code)
-code_lined scope stop = tt
-code_lined scope (one simple rest) = let h = command_lined simple in (h.0, h.1, code_lined scope rest)
-code_lined scope (block head body rest) =
-    let h = head_lined head in
-    let later = standings_from (behind_block scope head) rest in
-    let within = lined-append (standings_from (inside scope head) body) later (code_lined (inside scope head) body) (code_lined (behind_block scope head) rest) in (
-      h.0,
-      h.1,
-      lined-append (standing_decls (behind_words scope head) (decls_in head)) (standings_from (inside scope head) body ++ later)
-          (decls_lined (behind_words scope head) (decls_in head)) within,
-    )
+mutual
+  code_lined : (scope : Scope) (code : Code) → AreLined (standings_from scope code)
+  code_lined scope stop = tt
+  code_lined scope (one simple rest) = let h = command_lined simple in (h.0, h.1, code_lined scope rest)
+  code_lined scope (block head body rest) =
+      let h = head_lined head in
+      let later = standings_from (behind_block scope head) rest in
+      let within = lined-append (standings_from (inside scope head) body) later (code_lined (inside scope head) body) (code_lined (behind_block scope head) rest) in (
+        h.0,
+        h.1,
+        lined-append (standing_decls (behind_words scope head) (decls_in head)) (standings_from (inside scope head) body ++ later)
+            (decls_lined (behind_words scope head) (decls_in head)) within,
+      )
+  code_lined scope (handled line body handlers rest) =
+      let later = lined-append (handler_standings scope [] handlers) (standings_from scope rest) (handlers_lined scope [] handlers) (code_lined scope rest) in (
+        line,
+        refl,
+        lined-append (standings_from scope body) (handler_standings scope [] handlers ++ standings_from scope rest) (code_lined scope body) later,
+      )
+
+  handlers_lined : (scope : Scope) (named : List Exception) (handlers : HandlerCode) → AreLined (handler_standings scope named handlers)
+  handlers_lined scope named no_handler = tt
+  handlers_lined scope named (handler line own body more) = (
+    line,
+    refl,
+    lined-append (standings_from scope body) (handler_standings scope (with_named named own) more) (code_lined scope body)
+        (handlers_lined scope (with_named named own) more),
+  )
 
 script_lined : (script : Script) → AreLined (standings script)
 unfolding standings

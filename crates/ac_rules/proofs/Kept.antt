@@ -4,17 +4,18 @@ use Rattle.std.specs.Prelude.{if◌then◌else◌, IsTrue}
 use Rattle.std.specs.List.{list_any}
 use Rattle.std.proofs.lemmas.Bool.{and_parts}
 use Rattle.std.proofs.lemmas.List.Elements.{All-nil, All-cons}
-use Rattle.ac_syntax.specs.Code.{Code, stop, one, block, Head, loop_at, view_at, stable_at, declare_at, tasks_at, task_at}
+use Rattle.ac_base.specs.declared.reason.Exception.{Exception}
+use Rattle.ac_syntax.specs.Code.{Code, stop, one, block, handled, HandlerCode, no_handler, handler, Head, loop_at, view_at, stable_at, declare_at, tasks_at, task_at}
 use Rattle.ac_syntax.specs.Items.{declares, opens, bare}
 use Rattle.ac_syntax.specs.declared.decl.Decl.{Decl}
 use Rattle.ac_syntax.specs.declared.refusal.RefusalKind.{RefusalKind}
 use Rattle.ac_syntax.specs.declared.refusal.RefusalKind.TheVariants.{Limit, UnknownName, WrongType, Twice}
 use Rattle.ac_syntax.specs.declared.script.Script.{Script}
-use Rattle.ac_rules.specs.Scopes.{Scope, Standing, standing, with_entry, with_decls, decl_entry, decls_in, behind_words, inside, behind_block, standing_decls, standings_from, standings}
+use Rattle.ac_rules.specs.Scopes.{Scope, Standing, standing, with_entry, with_decls, decl_entry, decls_in, behind_words, inside, behind_block, with_named, standing_decls, standings_from, handler_standings, standings}
 use Rattle.ac_rules.specs.Rules.{is_well_typed, is_decl, is_simple, is_head, suits_decl, suits_simple, suits_head}
-use Rattle.ac_rules.specs.Faults.{used, declared, decl_name, is_in_scope, is_twice, fault, IsChecked}
+use Rattle.ac_rules.specs.Faults.{used, declared, caught, decl_name, is_in_scope, is_twice, is_named, fault, IsChecked}
 use Rattle.ac_rules.specs.Walks.{has_unknown, fault_with}
-use Rattle.ac_rules.specs.Kept.{AreKnown, HeadKept, DeclsKept, KeepsRules, ScriptKept}
+use Rattle.ac_rules.specs.Kept.{AreKnown, HeadKept, DeclsKept, KeepsRules, HandlersKept, ScriptKept}
 
 none_known : {X : Type 0} (kind : RefusalKind) → Some kind ≡ None → X
 none_known kind h = absurd (true≢false (ap is_some h))
@@ -50,15 +51,22 @@ all_known scope (name ∷ names) h =
     let here = no_more (is_in_scope scope name) (list_any (λ n. not (is_in_scope scope n)) names) h in
     All-cons (λ n. IsTrue (is_in_scope scope n)) name names here.0 (all_known scope names here.1)
 
+none_of : (a b : Bool) → (a || b) ≡ false → (a ≡ false) × (b ≡ false)
+none_of true b h = absurd (true≢false h)
+none_of false b h = (refl, h)
+
 record ItemKept (s : Standing) : Type 0 where
   known : AreKnown s.scope (used s.item)
   typed : is_well_typed s ≡ true
+  unnamed : is_named s.named (caught s.item) ≡ false
   new : is_twice s.scope (declared s.item) ≡ false
 
 item_kept : (earlier : List Standing) (s : Standing) → fault earlier s ≡ None → ItemKept s
 item_kept earlier s h =
-    let kept = faultless_by (list_any (λ name. not (is_in_scope s.scope name)) (used s.item)) (is_well_typed s) (is_twice s.scope (declared s.item)) _ h in
-    record { known = all_known s.scope (used s.item) kept.0; typed = kept.1; new = kept.2 }
+    let kept = faultless_by (list_any (λ name. not (is_in_scope s.scope name)) (used s.item)) (is_well_typed s)
+    (is_named s.named (caught s.item) || is_twice s.scope (declared s.item)) _ h in
+    let once = none_of (is_named s.named (caught s.item)) (is_twice s.scope (declared s.item)) kept.2 in
+    record { known = all_known s.scope (used s.item) kept.0; typed = kept.1; unnamed = once.0; new = once.1 }
 
 abbrev AreKept : List Standing → Type 0
 AreKept [] = Unit {0}
@@ -96,21 +104,33 @@ head_kept scope (declare_at line decls) kept = record { known = kept.known; type
 head_kept scope (tasks_at line) kept = record { known = kept.known; typed = refl; suited = kept.typed; new = kept.new }
 head_kept scope (task_at line name locals) kept = record { known = kept.known; typed = refl; suited = kept.typed; new = kept.new }
 
-code_kept : (scope : Scope) (code : Code) → AreKept (standings_from scope code) → KeepsRules scope code
-code_kept scope stop kept = tt
-code_kept scope (one simple rest) (here, kept) =
-    let typed : (is_simple scope simple ≡ true) × (suits_simple scope simple ≡ true) = and_parts _ _ here.typed in
-    record { first = record { known = here.known; typed = typed.0; suited = typed.1 }; rest = code_kept scope rest kept }
-code_kept scope (block head body rest) (here, kept) =
-    let later = standings_from (behind_block scope head) rest in
-    let decls = kept-append (standing_decls (behind_words scope head) (decls_in head)) (standings_from (inside scope head) body ++ later) kept in
-    let code = kept-append (standings_from (inside scope head) body) later decls.1 in
-    record {
-      head = head_kept scope head here;
-      decls = decls_kept (behind_words scope head) (decls_in head) decls.0;
-      body = code_kept (inside scope head) body code.0;
-      rest = code_kept (behind_block scope head) rest code.1;
-    }
+mutual
+  code_kept : (scope : Scope) (code : Code) → AreKept (standings_from scope code) → KeepsRules scope code
+  code_kept scope stop kept = tt
+  code_kept scope (one simple rest) (here, kept) =
+      let typed : (is_simple scope simple ≡ true) × (suits_simple scope simple ≡ true) = and_parts _ _ here.typed in
+      record { first = record { known = here.known; typed = typed.0; suited = typed.1 }; rest = code_kept scope rest kept }
+  code_kept scope (block head body rest) (here, kept) =
+      let later = standings_from (behind_block scope head) rest in
+      let decls = kept-append (standing_decls (behind_words scope head) (decls_in head)) (standings_from (inside scope head) body ++ later) kept in
+      let code = kept-append (standings_from (inside scope head) body) later decls.1 in
+      record {
+        head = head_kept scope head here;
+        decls = decls_kept (behind_words scope head) (decls_in head) decls.0;
+        body = code_kept (inside scope head) body code.0;
+        rest = code_kept (behind_block scope head) rest code.1;
+      }
+  code_kept scope (handled line body handlers rest) (here, kept) =
+      let tried = kept-append (standings_from scope body) (handler_standings scope [] handlers ++ standings_from scope rest) kept in
+      let later = kept-append (handler_standings scope [] handlers) (standings_from scope rest) tried.1 in
+      record { body = code_kept scope body tried.0; handlers = handlers_kept scope [] handlers later.0; rest = code_kept scope rest later.1 }
+
+  handlers_kept : (scope : Scope) (named : List Exception) (handlers : HandlerCode) → AreKept (handler_standings scope named handlers) →
+      HandlersKept scope named handlers
+  handlers_kept scope named no_handler kept = tt
+  handlers_kept scope named (handler line own body more) (here, kept) =
+      let parts = kept-append (standings_from scope body) (handler_standings scope (with_named named own) more) kept in
+      record { new = here.unnamed; body = code_kept scope body parts.0; more = handlers_kept scope (with_named named own) more parts.1 }
 
 pub rules_kept : (script : Script) → IsChecked script → ScriptKept script
 unfolding standings

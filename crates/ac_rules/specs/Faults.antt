@@ -1,8 +1,11 @@
 -- What is faulty in a script, and where the first fault is.
 use Rattle.std.specs.Prelude.{◌≡◌, ℕ, ◌+◌, ◌||◌, nat_lt, nat_le, Bool, false, not, List, [], ◌∷◌, ◌++◌, length, is_some, unwrap_or, Option, Some, None, if◌then◌else◌}
 use Rattle.std.specs.List.{list_any, sum_by}
+use denote.Enum.Bare.{sameb}
+use Rattle.ac_base.specs.contracts.reason.Exception.{the_type}
+use Rattle.ac_base.specs.declared.reason.Exception.{Exception}
 use Rattle.ac_syntax.specs.Code.{Head, loop_at, view_at, stable_at, declare_at, tasks_at, task_at}
-use Rattle.ac_syntax.specs.Items.{Item, declares, commands, opens, begins, closes, item_line}
+use Rattle.ac_syntax.specs.Items.{Item, declares, commands, opens, begins, closes, propagates, tries, catches, item_line}
 use Rattle.ac_syntax.specs.declared.decl.Decl.{Decl}
 use Rattle.ac_syntax.specs.declared.decl.Decl.TheVariants.{TypeDecl, Object, CursorVar, IntVar, TextVar}
 use Rattle.ac_syntax.specs.declared.refusal.RefusalKind.{RefusalKind}
@@ -35,6 +38,9 @@ used (commands simple) = simple_names simple
 used (opens head) = head_names head
 used begins = []
 used (closes _) = []
+used (propagates _) = []
+used (tries _) = []
+used (catches _ _) = []
 
 abbrev pub decl_name : Decl → List ℕ
 decl_name (TypeDecl line name def) = name
@@ -58,6 +64,20 @@ declared (commands simple) = None
 declared (opens head) = head_name head
 declared begins = None
 declared (closes _) = None
+declared (propagates _) = None
+declared (tries _) = None
+declared (catches _ _) = None
+
+-- the exception that an item names
+abbrev pub caught : Item → Option Exception
+caught (declares decl) = None
+caught (commands simple) = None
+caught (opens head) = None
+caught begins = None
+caught (closes _) = None
+caught (propagates _) = None
+caught (tries _) = None
+caught (catches _ own) = own
 
 abbrev pub decl_capacity : Decl → ℕ
 decl_capacity (TypeDecl line name def) = 0
@@ -73,6 +93,9 @@ capacity (commands simple) = 0
 capacity (opens head) = 0
 capacity begins = 0
 capacity (closes _) = 0
+capacity (propagates _) = 0
+capacity (tries _) = 0
+capacity (catches _ _) = 0
 
 abbrev pub is_in_scope : Scope → List ℕ → Bool
 is_in_scope scope name = is_some (meaning_in scope name)
@@ -80,6 +103,14 @@ is_in_scope scope name = is_some (meaning_in scope name)
 abbrev pub is_twice : Scope → Option (List ℕ) → Bool
 is_twice scope None = false
 is_twice scope (Some name) = is_in_scope scope name
+
+abbrev pub is_own : Option Exception → Exception → Bool
+is_own None exception = false
+is_own (Some own) exception = sameb the_type own exception
+
+-- the exception is one of those that were named
+abbrev pub is_named : (named : List Exception) → Option Exception → Bool
+is_named named own = list_any (is_own own) named
 
 -- one name more is one too many
 abbrev pub is_crowded : Scope → Option (List ℕ) → Bool
@@ -95,7 +126,7 @@ abbrev pub fault : List Standing → Standing → Option RefusalKind
 fault earlier s =
     if list_any (λ name. not (is_in_scope s.scope name)) (used s.item) then Some UnknownName
     else if not (is_well_typed s) then Some WrongType
-    else if is_twice s.scope (declared s.item) then Some Twice
+    else if is_named s.named (caught s.item) || is_twice s.scope (declared s.item) then Some Twice
     else if is_crowded s.scope (declared s.item) || nat_lt MOST_ROOM (room_of earlier + capacity s.item) then Some Limit
     else None
 

@@ -1,11 +1,12 @@
 -- What execution may rest on of a script that can run: how each statement keeps the rules, block by block, in the scope where it stands.
-use Rattle.std.specs.Prelude.{◌≡◌, ℕ, false, List, [], ◌∷◌, All, IsTrue}
-use Rattle.ac_syntax.specs.Code.{Simple, Head, Code, stop, one, block}
+use Rattle.std.specs.Prelude.{◌≡◌, ℕ, false, List, [], ◌∷◌, All, IsTrue, Option}
+use Rattle.ac_base.specs.declared.reason.Exception.{Exception}
+use Rattle.ac_syntax.specs.Code.{Simple, Head, Code, stop, one, block, handled, HandlerCode, no_handler, handler}
 use Rattle.ac_syntax.specs.declared.decl.Decl.{Decl}
 use Rattle.ac_syntax.specs.declared.script.Script.{Script}
-use Rattle.ac_rules.specs.Scopes.{Scope, with_entry, with_decls, decl_entry, decls_in, behind_words, inside, behind_block}
+use Rattle.ac_rules.specs.Scopes.{Scope, with_entry, with_decls, decl_entry, decls_in, behind_words, inside, behind_block, with_named}
 use Rattle.ac_rules.specs.Rules.{is_decl, is_simple, is_head, suits_decl, suits_simple, suits_head}
-use Rattle.ac_rules.specs.Faults.{decl_names, head_names, decl_name, head_name, is_in_scope, is_twice}
+use Rattle.ac_rules.specs.Faults.{decl_names, head_names, decl_name, head_name, is_in_scope, is_twice, is_named}
 use Rattle.ac_rules.specs.UsedNames.{simple_names}
 
 -- each of these names is in scope
@@ -49,12 +50,32 @@ pub record BlockKept (Opening Declared Body Rest : Type 0) : Type 0 where
   pub body : Body
   pub rest : Rest
 
--- statements that keep the rules in this scope
-abbrev pub KeepsRules : Scope → Code → Type 0
-KeepsRules scope stop = Unit {0}
-KeepsRules scope (one simple rest) = InTurn (CommandKept scope simple) (KeepsRules scope rest)
-KeepsRules scope (block head body rest) =
-    BlockKept (HeadKept scope head) (DeclsKept (behind_words scope head) (decls_in head)) (KeepsRules (inside scope head) body) (KeepsRules (behind_block scope head) rest)
+-- a block with handlers: what it tries, its handlers, and what is behind it
+pub record HandledKept (Body Handlers Rest : Type 0) : Type 0 where
+  pub body : Body
+  pub handlers : Handlers
+  pub rest : Rest
+
+-- a handler: its exception is new, and then its statements, and those behind it
+pub record HandlerKept (named : List Exception) (own : Option Exception) (Body More : Type 0) : Type 0 where
+  pub new : is_named named own ≡ false
+  pub body : Body
+  pub more : More
+
+abbrev mutual
+  -- statements that keep the rules in this scope
+  pub KeepsRules : Scope → Code → Type 0
+  KeepsRules scope stop = Unit {0}
+  KeepsRules scope (one simple rest) = InTurn (CommandKept scope simple) (KeepsRules scope rest)
+  KeepsRules scope (block head body rest) =
+      BlockKept (HeadKept scope head) (DeclsKept (behind_words scope head) (decls_in head)) (KeepsRules (inside scope head) body) (KeepsRules (behind_block scope head) rest)
+  KeepsRules scope (handled line body handlers rest) = HandledKept (KeepsRules scope body) (HandlersKept scope [] handlers) (KeepsRules scope rest)
+
+  -- handlers behind those that name these exceptions
+  pub HandlersKept : Scope → (named : List Exception) → HandlerCode → Type 0
+  HandlersKept scope named no_handler = Unit {0}
+  HandlersKept scope named (handler line own body more) =
+      HandlerKept named own (KeepsRules scope body) (HandlersKept scope (with_named named own) more)
 
 pub record ScriptKept (script : Script) : Type 0 where
   pub decls : DeclsKept [] script.decls

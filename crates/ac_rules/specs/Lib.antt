@@ -13,4 +13,5 @@ pub mod ResolvedStatements
 pub mod ResolvedFall
 pub mod ResolvedExamples
 pub mod TaskExamples
+pub mod HandlerExamples
 pub mod HasTasks

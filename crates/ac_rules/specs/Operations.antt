@@ -2,7 +2,7 @@
 use Rattle.std.specs.Prelude.{◌≡◌, ◌↔◌, ℕ, List, find, IsTrue, Contains, Option, Some, None, option_map}
 use Rattle.ac_syntax.specs.declared.arg.Arg.{Arg}
 use Rattle.ac_syntax.specs.declared.stmt.Stmt.{Stmt}
-use Rattle.ac_syntax.specs.declared.stmt.Stmt.TheVariants.{Call, Set, Sum, Loop, View, Stable, Declare, Tasks}
+use Rattle.ac_syntax.specs.declared.stmt.Stmt.TheVariants.{Call, Set, Sum, Loop, View, Stable, Declare, Tasks, Handled}
 use Rattle.ac_syntax.specs.declared.operation.Operation.{Operation}
 use Rattle.ac_rules.specs.Table.{Row, rows_of}
 use Rattle.ac_rules.specs.Scopes.{Scope, Typed, object_of}
@@ -39,6 +39,7 @@ meant scope (View line view object at name body) = None
 meant scope (Stable line object body) = None
 meant scope (Declare line decls body) = None
 meant scope (Tasks line tasks) = None
+meant scope (Handled line body handlers) = None
 
 -- a call that keeps the rules: on an object, a row of its type's, whose letters its arguments are and whose answer the target takes
 pub record CallKept (scope : Scope) (typed : Option Typed) (target : Option (List ℕ)) (word : List ℕ) (args : List Arg) : Type 0 where

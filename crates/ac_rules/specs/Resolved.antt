@@ -3,7 +3,8 @@ use Rattle.std.specs.Prelude.{◌≡◌, ℕ, ◌+◌, Bool, false, List, [], �
 use Rattle.std.specs.List.{position_or_len}
 use Rattle.std.specs.Str.{bytes_eq}
 use Rattle.ac_base.specs.declared.reason.Exception.{Exception}
-use Rattle.ac_syntax.specs.Code.{Simple, call_at, set_at, sum_at, Head, loop_at, view_at, stable_at, declare_at, tasks_at, task_at, Code, stop, one, block}
+use Rattle.ac_syntax.specs.Canonical.{propagates_in}
+use Rattle.ac_syntax.specs.Code.{Simple, call_at, set_at, sum_at, Head, loop_at, view_at, stable_at, declare_at, tasks_at, task_at, Code, stop, one, block, handled, HandlerCode, no_handler, handler}
 use Rattle.ac_syntax.specs.declared.arg.Arg.{Arg}
 use Rattle.ac_syntax.specs.declared.arg.Arg.TheVariants as arg
 use Rattle.ac_syntax.specs.declared.decl.Decl.{Decl}
@@ -104,19 +105,29 @@ resolve_head scope (declare_at line decls) = declares_at line (resolve_decls sco
 resolve_head scope (tasks_at line) = gathers_at line
 resolve_head scope (task_at line name locals) = works_at line name (length locals)
 
--- a block's body in the scope inside it
-abbrev pub resolve : Scope → Code → ResolvedCode
-resolve scope stop = no_statement
-resolve scope (one simple rest) = a_command (resolve_simple scope simple) (resolve scope rest)
-resolve scope (block head body rest) = a_block (resolve_head scope head) (resolve (inside scope head) body) (resolve (behind_block scope head) rest)
+abbrev mutual
+  -- a block's body in the scope inside it
+  pub resolve : Scope → Code → ResolvedCode
+  resolve scope stop = no_statement
+  resolve scope (one simple rest) = a_command (resolve_simple scope simple) (resolve scope rest)
+  resolve scope (block head body rest) = a_block (resolve_head scope head) (resolve (inside scope head) body) (resolve (behind_block scope head) rest)
+  resolve scope (handled line body handlers rest) =
+      a_block begins_at (a_block tries_at (resolve scope body) (resolve_handlers scope handlers)) (resolve scope rest)
 
+  -- handlers in the scope around their block
+  pub resolve_handlers : Scope → HandlerCode → ResolvedCode
+  resolve_handlers scope no_handler = no_statement
+  resolve_handlers scope (handler line own body more) = a_block (handles_at own) (resolve scope body) (resolve_handlers scope more)
+
+-- with whether its exceptions propagate
 pub record ResolvedScript : Type 0 where
+  pub propagates : Bool
   pub decls : List ResolvedDecl
   pub stmts : ResolvedCode
 
 abbrev pub resolve_script : Script → ResolvedScript
 resolve_script script =
-    record { decls = resolve_decls [] script.decls; stmts = resolve (with_decls [] script.decls) script.stmts }
+    record { propagates = propagates_in script; decls = resolve_decls [] script.decls; stmts = resolve (with_decls [] script.decls) script.stmts }
 
 -- what a script is resolved to
 pub record IsResolved (script : Script) (decls : List ResolvedDecl) (stmts : ResolvedCode) : Type 0 where

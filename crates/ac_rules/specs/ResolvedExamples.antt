@@ -73,10 +73,12 @@ ResolvesObjects =
 abbrev pub ResolvesScript : Type 0
 ResolvesScript =
     resolve_script (record {
+      pragma = None;
       decls = TypeDecl 1 (codes "l") (list_of Str) ∷ Object 2 A (codes "l") None ∷ [];
       stmts = one (call_at 3 None A (codes "append") (text X ∷ [])) stop;
     })
     ≡ record {
+      propagates = false;
       decls = made.TypeDecl ∷ made.Object 2 (list_of Str) None ∷ [];
       stmts = a_command (calls_at 3 None 1 (operation.Sequence sequence_call.Append) (Lit (value.Text X) ∷ [])) no_statement;
     }

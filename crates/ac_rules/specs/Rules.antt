@@ -7,7 +7,7 @@ use Rattle.ac_base.specs.declared.value.Value.{Value}
 use Rattle.ac_base.specs.declared.value.Value.TheVariants as value
 use Rattle.ac_syntax.specs.contracts.kind.ElemKind.{the_type}
 use Rattle.ac_syntax.specs.Code.{Simple, call_at, set_at, sum_at, Head, loop_at, view_at, stable_at, declare_at, tasks_at, task_at}
-use Rattle.ac_syntax.specs.Items.{declares, commands, opens, begins, closes}
+use Rattle.ac_syntax.specs.Items.{declares, commands, opens, begins, closes, propagates, tries, catches}
 use Rattle.ac_syntax.specs.declared.arg.Arg.{Arg}
 use Rattle.ac_syntax.specs.declared.arg.Arg.TheVariants.{Lit, NoElement, Var}
 use Rattle.ac_syntax.specs.declared.decl.Decl.{Decl}
@@ -15,7 +15,7 @@ use Rattle.ac_syntax.specs.declared.decl.Decl.TheVariants.{TypeDecl, Object, Cur
 use Rattle.ac_syntax.specs.declared.kind.ElemKind.{ElemKind}
 use Rattle.ac_syntax.specs.declared.kind.ElemKind.TheVariants.{Integer, Str}
 use Rattle.ac_syntax.specs.declared.stmt.Stmt.{Stmt}
-use Rattle.ac_syntax.specs.declared.stmt.Stmt.TheVariants.{Call, Set, Sum, Loop, View, Stable, Declare, Tasks}
+use Rattle.ac_syntax.specs.declared.stmt.Stmt.TheVariants.{Call, Set, Sum, Loop, View, Stable, Declare, Tasks, Handled}
 use Rattle.ac_syntax.specs.declared.view_kind.ViewKind.{ViewKind}
 use Rattle.ac_syntax.specs.declared.view_kind.ViewKind.TheVariants.{Query, Update, Reference, UpdateKey}
 use Rattle.ac_syntax.specs.declared.type_def.TypeDef.{TypeDef}
@@ -258,7 +258,7 @@ suits_simple scope simple = suits (first_task scope) (λ first. is_task_simple s
 abbrev pub suits_head : Scope → Head → Bool
 suits_head scope head = suits (first_task scope) (λ _. is_task_head head)
 
--- an item keeps the rules
+-- an item keeps the rules. A block with handlers may stand wherever a block may
 abbrev pub is_well_typed : Standing → Bool
 is_well_typed s = elim s.item [
   | declares decl ↦ is_decl s.scope decl && suits_decl s.scope decl
@@ -266,6 +266,9 @@ is_well_typed s = elim s.item [
   | opens head ↦ is_head s.scope head && suits_head s.scope head
   | begins ↦ true
   | closes _ ↦ true
+  | propagates _ ↦ true
+  | tries _ ↦ suits (first_task s.scope) (λ _. false)
+  | catches _ _ ↦ true
 ]
 
 -- a statement keeps the rules: a command, or a block by its head
@@ -278,6 +281,7 @@ is_stmt scope (View line view object at name body) = is_head scope (view_at line
 is_stmt scope (Stable line object body) = is_head scope (stable_at line object)
 is_stmt scope (Declare line decls body) = true
 is_stmt scope (Tasks line tasks) = true
+is_stmt scope (Handled line body handlers) = true
 
 -- and suits a task, or wherever it stands
 
@@ -290,6 +294,7 @@ is_task_stmt scope first (View line view object at name body) = false
 is_task_stmt scope first (Stable line object body) = false
 is_task_stmt scope first (Declare line decls body) = false
 is_task_stmt scope first (Tasks line tasks) = false
+is_task_stmt scope first (Handled line body handlers) = false
 
 abbrev pub suits_stmt : Scope → Stmt → Bool
 suits_stmt scope stmt = suits (first_task scope) (λ first. is_task_stmt scope first stmt)

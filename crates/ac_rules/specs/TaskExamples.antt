@@ -1,7 +1,7 @@
 -- Blocks of tasks that keep the rules and that break them, worked out by hand.
 use Rattle.std.specs.Prelude.{◌≡◌, ℕ, ◌&&◌, codes, Bool, true, false, not, List, [], ◌∷◌, Some, None, IsTrue}
 use Rattle.std.specs.List.{list_all, list_any}
-use Rattle.ac_syntax.specs.Code.{Code, call_at, tasks_at, task_at, stop, one, block}
+use Rattle.ac_syntax.specs.Code.{Code, call_at, tasks_at, task_at, stop, one, block, no_handler}
 use Rattle.ac_syntax.specs.declared.arg.Arg.TheVariants.{Var}
 use Rattle.ac_syntax.specs.declared.decl.Decl.{Decl}
 use Rattle.ac_syntax.specs.declared.decl.Decl.TheVariants.{TypeDecl, Object, IntVar, TextVar}
@@ -10,7 +10,7 @@ use Rattle.ac_syntax.specs.declared.kind.ElemKind.TheVariants.{Integer}
 use Rattle.ac_syntax.specs.declared.refusal.RefusalKind.TheVariants.{UnknownName, WrongType, Twice}
 use Rattle.ac_syntax.specs.declared.script.Script.{Script}
 use Rattle.ac_syntax.specs.declared.stmt.Stmt.{Stmt}
-use Rattle.ac_syntax.specs.declared.stmt.Stmt.TheVariants.{Set, Sum, Loop, Stable, Declare, Tasks}
+use Rattle.ac_syntax.specs.declared.stmt.Stmt.TheVariants.{Set, Sum, Loop, Stable, Declare, Tasks, Handled}
 use Rattle.ac_rules.specs.Examples.{call, done, number, text, A, B, C, D, N, O, V, X, Y, def, list_of}
 use Rattle.ac_rules.specs.Rules.{is_stmt, suits_stmt}
 use Rattle.ac_rules.specs.Scopes.{Scope, entry, an_object, a_value, a_task, standings}
@@ -45,12 +45,13 @@ SetsLocals = TellsTasks
 
 -- and no block stands in a task
 abbrev pub HasNoBlocks : Type 0
-HasNoBlocks = TellsTasks [] (Loop 1 C false false D stop ∷ Stable 1 D stop ∷ Declare 1 [] stop ∷ Tasks 1 stop ∷ [])
+HasNoBlocks = TellsTasks [] (Loop 1 C false false D stop ∷ Stable 1 D stop ∷ Declare 1 [] stop ∷ Tasks 1 stop ∷ Handled 1 stop no_handler ∷ [])
 
 -- a script with a queue A, an integer N and a block of tasks
 
 abbrev sharing : Code → Script
 sharing tasks = record {
+  pragma = None;
   decls = TypeDecl 1 (codes "q") (def false kind.Queue Integer None false) ∷ Object 2 A (codes "q") None ∷ IntVar 3 N ∷ [];
   stmts = block (tasks_at 4) tasks (one (call_at 20 None A (codes "peak_use") []) stop);
 }
@@ -86,6 +87,7 @@ RefusesTextLocal = outcome 0 (standings (sharing (block (task_at 5 V (TextVar 6 
 -- behind the block its tasks' names are free again
 abbrev pub FreesNames : Type 0
 FreesNames = outcome 0 (standings (record {
+  pragma = None;
   decls = [];
   stmts = block (tasks_at 1) (block (task_at 2 V (IntVar 3 X ∷ [])) stop stop) (block (tasks_at 4) (block (task_at 5 V (IntVar 6 X ∷ [])) stop stop) stop);
 })) ≡ goes_on 0

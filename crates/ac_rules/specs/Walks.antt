@@ -1,10 +1,10 @@
 -- Items as a walk takes them: one by one, with the room that the objects so far have.
-use Rattle.std.specs.Prelude.{◌≡◌, ℕ, ◌+◌, ◌||◌, nat_lt, Bool, not, List, [], ◌∷◌, Option, Some, None, Result, Err, if◌then◌else◌}
+use Rattle.std.specs.Prelude.{◌≡◌, ℕ, ◌+◌, ◌||◌, nat_lt, Bool, false, not, List, [], ◌∷◌, Option, Some, None, Result, Err, if◌then◌else◌}
 use Rattle.std.specs.List.{list_any}
 use Rattle.ac_syntax.specs.Code.{call_at, set_at, sum_at, loop_at, view_at, stable_at, declare_at, tasks_at}
-use Rattle.ac_syntax.specs.Items.{Item, commands, opens, item_line}
+use Rattle.ac_syntax.specs.Items.{Item, commands, opens, tries, item_line}
 use Rattle.ac_syntax.specs.declared.stmt.Stmt.{Stmt}
-use Rattle.ac_syntax.specs.declared.stmt.Stmt.TheVariants.{Call, Set, Sum, Loop, View, Stable, Declare, Tasks}
+use Rattle.ac_syntax.specs.declared.stmt.Stmt.TheVariants.{Call, Set, Sum, Loop, View, Stable, Declare, Tasks, Handled}
 use Rattle.ac_syntax.specs.declared.refusal.RefusalKind.{RefusalKind}
 use Rattle.ac_syntax.specs.declared.refusal.RefusalKind.TheVariants.{Limit, UnknownName, WrongType, Twice}
 use Rattle.ac_syntax.specs.declared.fault.ScriptFault.{ScriptFault}
@@ -12,7 +12,7 @@ use Rattle.ac_syntax.specs.declared.fault.ScriptFault.TheVariants.{Refused}
 use Rattle.ac_rules.specs.Scopes.{Scope, Standing}
 use Rattle.ac_rules.specs.Rules.{is_well_typed}
 use Rattle.ac_rules.specs.declared.limits.TheConstants.{MOST_ROOM}
-use Rattle.ac_rules.specs.Faults.{used, declared, capacity, is_in_scope, is_twice, is_crowded}
+use Rattle.ac_rules.specs.Faults.{used, declared, caught, capacity, is_in_scope, is_twice, is_named, is_crowded}
 
 -- a statement's command, or what begins its block
 abbrev pub stmt_item : Stmt → Item
@@ -24,24 +24,29 @@ stmt_item (View line view object at name body) = opens (view_at line view object
 stmt_item (Stable line object body) = opens (stable_at line object)
 stmt_item (Declare line decls body) = opens (declare_at line [])
 stmt_item (Tasks line tasks) = opens (tasks_at line)
+stmt_item (Handled line body handlers) = tries line
 
 -- one of the names isn't in scope
 abbrev pub has_unknown : Scope → List (List ℕ) → Bool
 has_unknown scope names = list_any (λ name. not (is_in_scope scope name)) names
 
--- what is faulty in what is declared, behind items that give so much room
-abbrev pub declared_fault : (room : ℕ) → Scope → (name : Option (List ℕ)) → (capacity : ℕ) → Option RefusalKind
-declared_fault room scope name capacity =
-    if is_twice scope name then Some Twice
+-- what is faulty in what is named or declared, behind items that give so much room
+abbrev pub declared_or : (is_again : Bool) → (room : ℕ) → Scope → (name : Option (List ℕ)) → (capacity : ℕ) → Option RefusalKind
+declared_or is_again room scope name capacity =
+    if is_again || is_twice scope name then Some Twice
     else if is_crowded scope name || nat_lt MOST_ROOM (room + capacity) then Some Limit
     else None
+
+-- in what is declared alone
+abbrev pub declared_fault : (room : ℕ) → Scope → (name : Option (List ℕ)) → (capacity : ℕ) → Option RefusalKind
+declared_fault room scope name capacity = declared_or false room scope name capacity
 
 -- what is faulty in an item behind items that give so much room
 abbrev pub fault_with : (room : ℕ) → Standing → Option RefusalKind
 fault_with room s =
     if has_unknown s.scope (used s.item) then Some UnknownName
     else if not (is_well_typed s) then Some WrongType
-    else declared_fault room s.scope (declared s.item) (capacity s.item)
+    else declared_or (is_named s.named (caught s.item)) room s.scope (declared s.item) (capacity s.item)
 
 -- where a walk ends: behind all items, with the room that they give in all, or at the first faulty one
 pub data Outcome : Type 0 where

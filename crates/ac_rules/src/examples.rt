@@ -5,6 +5,8 @@ ghost use Rattle.ac_rules.specs.Examples.{ViewsElements, ViewsSets, UpdatesNoKey
 ghost use Rattle.ac_rules.specs.Examples.{CountsNames, MeansByArguments, MeansByKind, TreesMeanByArguments};
 ghost use Rattle.ac_rules.specs.TaskExamples.{CallsQueues, SetsLocals, HasNoBlocks, TakesTasks, RefusesTaskTwice, RefusesLocalAsItsTask, RefusesOuterName};
 ghost use Rattle.ac_rules.specs.TaskExamples.{RefusesLocalOfAnother, RefusesOuterVariable, RefusesTextLocal, FreesNames};
+ghost use Rattle.ac_rules.specs.HandlerExamples.{TakesHandlers, RefusesTwice, RefusesTwiceBehindAnother, RefusesInOrder, TakesInnerHandlers, RefusesUnknownName};
+ghost use Rattle.ac_rules.specs.HandlerExamples.{RefusesNameOfBody, RefusesNameOfHandler, FreesNamesOfHandlers, TriesNothingInTasks, ResolvesHandlers};
 ghost use Rattle.ac_rules.specs.ResolvedExamples.{PlacesInBlocks, PlacesNoName, ResolvesArguments, ResolvesByArguments, ResolvesObjects, ResolvesScript};
 
 /// Commands that keep the rules, and beside them some that break them.
@@ -70,4 +72,19 @@ pub fn task_examples()
     ensures outer_variable { RefusesOuterVariable }
     ensures text_local { RefusesTextLocal }
     ensures frees_names { FreesNames }
+{}
+
+/// Handlers of one block, what they may name, and what they are resolved to.
+pub fn handler_examples()
+    ensures takes_handlers { TakesHandlers }
+    ensures twice { RefusesTwice }
+    ensures twice_behind_another { RefusesTwiceBehindAnother }
+    ensures in_order { RefusesInOrder }
+    ensures inner_handlers { TakesInnerHandlers }
+    ensures unknown_name { RefusesUnknownName }
+    ensures name_of_body { RefusesNameOfBody }
+    ensures name_of_handler { RefusesNameOfHandler }
+    ensures frees_names { FreesNamesOfHandlers }
+    ensures in_tasks { TriesNothingInTasks }
+    ensures resolved { ResolvesHandlers }
 {}

@@ -9,8 +9,8 @@ mod resolved;
 mod rows;
 
 pub use examples::{
-    block_examples, command_examples, declaration_examples, operation_examples, resolved_examples,
-    task_examples,
+    block_examples, command_examples, declaration_examples, handler_examples, operation_examples,
+    resolved_examples, task_examples,
 };
 pub use law::{each_script, one_fault, one_row, places, rules_kept};
 pub use limits::{MOST_NAMES, MOST_ROOM};
