@@ -1,16 +1,18 @@
 -- The items of statements among others, and of a block.
-use Rattle.std.proofs.Common.{◌≡◌, ◌+◌, ◌<◌, ◌≤◌, ℕ, List, [], ◌∷◌, ◌++◌, length, take, drop, get_or, Option, Some, None, refl, sym, ap, ◌∙◌}
+use Rattle.std.proofs.Common.{◌≡◌, ◌+◌, ◌<◌, ◌≤◌, ℕ, List, [], ◌∷◌, ◌++◌, length, take, drop, get_or, Option, Some, None, refl, sym, ap, ◌∙◌, arith}
 use Rattle.std.proofs.lemmas.List.{append_assoc, append-nil, at_drop_all}
-use Rattle.ac_syntax.specs.Code.{Code, Head, loop_at, view_at, stable_at, declare_at, tasks_at, task_at, stop, one, block}
-use Rattle.ac_syntax.specs.Items.{opens, bare}
-use Rattle.ac_syntax.specs.Statements.{before, code_of, task_before, tasks_of}
+use Rattle.ac_base.specs.declared.reason.Exception.{Exception}
+use Rattle.ac_syntax.specs.Code.{Code, Head, loop_at, view_at, stable_at, declare_at, tasks_at, task_at, stop, one, block, handled, HandlerCode, no_handler}
+use Rattle.ac_syntax.specs.Items.{opens, tries, bare}
+use Rattle.ac_syntax.specs.Statements.{before, code_of, task_before, tasks_of, handler_before, handlers_of}
 use Rattle.ac_syntax.specs.declared.decl.Decl.{Decl}
 use Rattle.ac_syntax.specs.declared.refusal.RefusalKind.{RefusalKind}
 use Rattle.ac_syntax.specs.declared.stmt.Stmt.{Stmt}
-use Rattle.ac_syntax.specs.declared.stmt.Stmt.TheVariants.{Call, Set, Sum, Loop, View, Stable, Declare, Tasks}
+use Rattle.ac_syntax.specs.declared.stmt.Stmt.TheVariants.{Call, Set, Sum, Loop, View, Stable, Declare, Tasks, Handled}
 use Rattle.ac_syntax.specs.declared.stmt.TaskText.{TaskText}
-use Rattle.ac_rules.specs.Scopes.{Scope, Entry, entry, a_task, Standing, standing, with_entry, with_decls, decl_entry, decls_in, behind_words, inside, behind_block, behind_code, standing_decls, standings_from}
-use Rattle.ac_rules.specs.Walks.{goes_on, refused, outcome, fault_with, stmt_item}
+use Rattle.ac_syntax.specs.declared.stmt.Handler.{Handler}
+use Rattle.ac_rules.specs.Scopes.{Scope, Entry, entry, a_task, Standing, standing, standing_handler, with_named, with_entry, with_decls, decl_entry, decls_in, behind_words, inside, behind_block, behind_code, standing_decls, standings_from, handler_standings}
+use Rattle.ac_rules.specs.Walks.{goes_on, refused, step, outcome, fault_with, stmt_item}
 use Rattle.ac_rules.proofs.Outcomes.{gone_on, stopped, head_on, next_item}
 
 -- a block's items, with none behind it
@@ -24,6 +26,16 @@ block_end scope head body rest =
     ap (λ (l : List Standing). first ∷ (decls ++ (l ++ later))) (sym (append-nil within))
     ∙ ap (λ (l : List Standing). first ∷ l) (sym (append_assoc decls (within ++ []) later))
 
+-- the same of a block with handlers
+handled_end : (scope : Scope) (line : ℕ) (body : Code) (handlers : HandlerCode) (rest : Code)
+    → standings_from scope (handled line body handlers rest) ≡ standings_from scope (handled line body handlers stop) ++ standings_from scope rest
+handled_end scope line body handlers rest =
+    let tried = standings_from scope body in
+    let taken = handler_standings scope [] handlers in
+    let later = standings_from scope rest in
+    ap (λ (l : List Standing). standing (tries line) scope ∷ (tried ++ (l ++ later))) (sym (append-nil taken))
+    ∙ ap (λ (l : List Standing). standing (tries line) scope ∷ l) (sym (append_assoc tried (taken ++ []) later))
+
 -- a statement's items, and those behind it
 pub standings_before : (scope : Scope) (stmt : Stmt) (rest : Code)
     → standings_from scope (before stmt rest) ≡ standings_from scope (before stmt stop) ++ standings_from scope rest
@@ -35,6 +47,7 @@ standings_before scope (View line kind object at name body) rest = block_end sco
 standings_before scope (Stable line object body) rest = block_end scope (stable_at line object) body rest
 standings_before scope (Declare line decls body) rest = block_end scope (declare_at line decls) body rest
 standings_before scope (Tasks line tasks) rest = block_end scope (tasks_at line) tasks rest
+standings_before scope (Handled line body handlers) rest = handled_end scope line body handlers rest
 
 -- a statement's first item
 pub begins_with : (scope : Scope) (stmt : Stmt) → (later : List Standing) × (standings_from scope (before stmt stop) ≡ standing (stmt_item stmt) scope ∷ later)
@@ -46,6 +59,7 @@ begins_with scope (View _ _ _ _ _ _) = (_, refl)
 begins_with scope (Stable _ _ _) = (_, refl)
 begins_with scope (Declare _ _ _) = (_, refl)
 begins_with scope (Tasks _ _) = (_, refl)
+begins_with scope (Handled _ _ _) = (_, refl)
 
 module _ (room : ℕ) (scope : Scope) (stmt : Stmt) (line : ℕ) (decls : List Decl) (body : Code) (is : stmt ≡ Declare line decls body)
     (judged : fault_with room (standing (stmt_item stmt) scope) ≡ None) where
@@ -120,6 +134,7 @@ named scope name = scope ++ entry name a_task ∷ []
 code_longer : (scope : Scope) (code : Code) → (more : List Entry) × (behind_code scope code ≡ scope ++ more)
 code_longer scope stop = ([], sym (append-nil scope))
 code_longer scope (one _ rest) = code_longer scope rest
+code_longer scope (handled _ _ _ rest) = code_longer scope rest
 code_longer scope (block (loop_at _ _ _ _ _) _ rest) = code_longer scope rest
 code_longer scope (block (view_at _ _ _ _ _) _ rest) = code_longer scope rest
 code_longer scope (block (stable_at _ _) _ rest) = code_longer scope rest
@@ -193,3 +208,56 @@ pub tasks_left : (scope now : Scope) (tasks : List TaskText) (i : ℕ) (code : C
 tasks_left scope now tasks i code end h =
     ap (λ (s : Scope). take (length scope) s) (sym (at_drop_all (λ (l : List TaskText). behind_code now (tasks_of l)) tasks i end) ∙ h)
     ∙ outside_tasks scope code
+
+-- ---- handlers
+
+-- a handler whose head isn't faulty: its statements
+pub handler_whole : (room : ℕ) (scope : Scope) (named : List Exception) (own : Handler)
+    → fault_with room (standing_handler own.line own.catches scope named) ≡ None
+    → outcome room (handler_standings scope named (handler_before own no_handler)) ≡ outcome room (standings_from scope own.body)
+handler_whole room scope named own judged =
+    let none : room + 0 ≡ room = omega arith in
+    ap (λ f. step f (Some own.line) (outcome (room + 0) (standings_from scope own.body ++ []))) judged
+    ∙ ap (λ r. outcome r (standings_from scope own.body ++ [])) none
+    ∙ ap (outcome room) (append-nil (standings_from scope own.body))
+
+-- and one whose head is
+pub handler_refused : (room : ℕ) (scope : Scope) (named : List Exception) (own : Handler) (line : ℕ) (kind : RefusalKind) → own.line ≡ line
+    → fault_with room (standing_handler own.line own.catches scope named) ≡ Some kind
+    → outcome room (handler_standings scope named (handler_before own no_handler)) ≡ refused (Some line) kind
+handler_refused room scope named own line kind stands judged =
+    ap (λ f. step f (Some own.line) (outcome (room + 0) (standings_from scope own.body ++ []))) judged ∙ ap (λ l. refused (Some l) kind) stands
+
+-- a handler's items, and those of the handlers behind it
+handler_end : (scope : Scope) (named : List Exception) (own : Handler) (more : HandlerCode)
+    → handler_standings scope named (handler_before own more)
+    ≡ handler_standings scope named (handler_before own no_handler) ++ handler_standings scope (with_named named own.catches) more
+handler_end scope named own more =
+    let taken = standings_from scope own.body in
+    let later = handler_standings scope (with_named named own.catches) more in
+    ap (λ (l : List Standing). standing_handler own.line own.catches scope named ∷ (l ++ later)) (sym (append-nil taken))
+
+module _ (room : ℕ) (scope : Scope) (named : List Exception) (handlers : List Handler) (i : ℕ) (own : Handler) (within : i < length handlers) (is : own ≡ get_or handlers i own) where
+  front_handlers : outcome room (handler_standings scope named (handlers_of (drop i handlers)))
+      ≡ outcome room (handler_standings scope named (handler_before own no_handler) ++ handler_standings scope (with_named named own.catches) (handlers_of (drop (i + 1) handlers)))
+  front_handlers =
+      ap (λ (l : List Handler). outcome room (handler_standings scope named (handlers_of l))) (next_item handlers i own within is)
+      ∙ ap (outcome room) (handler_end scope named own (handlers_of (drop (i + 1) handlers)))
+
+  -- behind the next of some handlers
+  pub next_handler_on : (after : ℕ) (now : Scope) (more : List Exception) → outcome room (handler_standings scope named (handler_before own no_handler)) ≡ goes_on after
+      → now ≡ scope → more ≡ with_named named own.catches
+      → outcome after (handler_standings now more (handlers_of (drop (i + 1) handlers))) ≡ outcome room (handler_standings scope named (handlers_of (drop i handlers)))
+  next_handler_on after now more known same grown =
+      ap (λ s. outcome after (handler_standings s more (handlers_of (drop (i + 1) handlers)))) same
+      ∙ ap (λ (l : List Exception). outcome after (handler_standings scope l (handlers_of (drop (i + 1) handlers)))) grown
+      ∙ sym (front_handlers ∙ gone_on room after (handler_standings scope named (handler_before own no_handler))
+      (handler_standings scope (with_named named own.catches) (handlers_of (drop (i + 1) handlers))) known)
+
+  -- it is refused
+  pub next_handler_stopped : (at : Option ℕ) (kind : RefusalKind) → outcome room (handler_standings scope named (handler_before own no_handler)) ≡ refused at kind
+      → outcome room (handler_standings scope named (handlers_of (drop i handlers))) ≡ refused at kind
+  next_handler_stopped at kind bad =
+      front_handlers
+      ∙ stopped room at kind (handler_standings scope named (handler_before own no_handler))
+      (handler_standings scope (with_named named own.catches) (handlers_of (drop (i + 1) handlers))) bad

@@ -1,22 +1,26 @@
 -- Items resolved one after another.
-use Rattle.std.proofs.Common.{◌≡◌, ◌+◌, ◌<◌, ◌≤◌, ℕ, List, [], ◌∷◌, ◌++◌, length, drop, get_or, refl, sym, ap, ◌∙◌}
+use Rattle.std.proofs.Common.{◌≡◌, ◌+◌, ◌<◌, ◌≤◌, ℕ, List, [], ◌∷◌, ◌++◌, length, drop, get_or, Option, Some, None, refl, sym, ap, ◌∙◌}
 use Rattle.std.proofs.lemmas.List.{append_assoc, at_drop_all}
-use Rattle.ac_syntax.specs.Code.{Code, stop}
+use Rattle.ac_base.specs.declared.reason.Exception.{Exception}
+use Rattle.ac_syntax.specs.Code.{Code, stop, no_handler}
 use Rattle.ac_syntax.specs.Items.{declares}
-use Rattle.ac_syntax.specs.Statements.{before, code_of, task_before, tasks_of}
+use Rattle.ac_syntax.specs.Statements.{before, code_of, task_before, tasks_of, handler_before, handlers_of}
 use Rattle.ac_syntax.specs.declared.decl.Decl.{Decl}
 use Rattle.ac_syntax.specs.declared.stmt.Stmt.{Stmt}
-use Rattle.ac_syntax.specs.declared.stmt.Stmt.TheVariants.{Call, Set, Sum, Loop, View, Stable, Declare, Tasks}
+use Rattle.ac_syntax.specs.declared.stmt.Stmt.TheVariants.{Call, Set, Sum, Loop, View, Stable, Declare, Tasks, Handled}
 use Rattle.ac_syntax.specs.declared.stmt.TaskText.{TaskText}
+use Rattle.ac_syntax.specs.declared.stmt.Handler.{Handler}
 use Rattle.ac_rules.specs.declared.resolved.ResolvedDecl.{ResolvedDecl}
 use Rattle.ac_rules.specs.declared.resolved.ResolvedStmt.{ResolvedStmt}
 use Rattle.ac_rules.specs.declared.resolved.ResolvedStmt.TheVariants as made
-use Rattle.ac_rules.specs.Scopes.{Scope, entry, a_task, standing, with_entry, with_decls, decl_entry, standing_decls}
+use Rattle.ac_rules.specs.Scopes.{Scope, entry, a_task, with_named, standing, with_entry, with_decls, decl_entry, standing_decls}
 use Rattle.ac_rules.specs.Walks.{goes_on, outcome}
-use Rattle.ac_rules.specs.Resolved.{ResolvedCode, no_statement, a_command, a_block, resolve_decl, resolve_decls, resolve}
-use Rattle.ac_rules.specs.ResolvedStatements.{resolved_before, resolved_of, resolved_task_before, resolved_tasks_of}
+use Rattle.ac_rules.specs.Resolved.{ResolvedCode, no_statement, a_command, a_block, resolve_decl, resolve_decls, resolve, resolve_handlers}
+use Rattle.ac_rules.specs.ResolvedStatements.{resolved_before, resolved_of, resolved_task_before, resolved_tasks_of, resolved_handler_before, resolved_handlers_of}
 use Rattle.ac_rules.specs.declared.resolved.ResolvedTask.{ResolvedTask}
+use Rattle.ac_rules.specs.declared.resolved.ResolvedHandler.{ResolvedHandler}
 use Rattle.ac_rules.proofs.Outcomes.{gone_on, next_item}
+use Rattle.ac_check.specs.NamedHandlers.{named_before, named_by}
 
 -- behind the next of some declarations
 module _ (scope now : Scope) (decls : List Decl) (i : ℕ) (decl : Decl) (within : i < length decls) (is : decl ≡ get_or decls i decl)
@@ -58,6 +62,7 @@ resolve_before scope (View _ _ _ _ _ _) rest = refl
 resolve_before scope (Stable _ _ _) rest = refl
 resolve_before scope (Declare _ _ _) rest = refl
 resolve_before scope (Tasks _ _) rest = refl
+resolve_before scope (Handled _ _ _) rest = refl
 
 before_followed : (stmt : ResolvedStmt) (rest : ResolvedCode) → resolved_before stmt rest ≡ followed (resolved_before stmt no_statement) rest
 before_followed (made.Call _ _ _ _ _) rest = refl
@@ -68,6 +73,7 @@ before_followed (made.View _ _ _ _ _) rest = refl
 before_followed (made.Stable _ _ _) rest = refl
 before_followed (made.Declare _ _ _) rest = refl
 before_followed (made.Tasks _ _) rest = refl
+before_followed (made.Handled _ _) rest = refl
 
 -- statements in a list before others
 abbrev pub listed_before : List ResolvedStmt → ResolvedCode → ResolvedCode
@@ -142,3 +148,61 @@ tasks_done scope tasks i all end kept h =
     sym (tasks_all kept)
     ∙ sym (at_drop_all (λ (l : List TaskText). tasks_before kept (resolve scope (tasks_of l))) tasks i end)
     ∙ h
+
+-- ---- handlers
+
+-- in a list before others
+abbrev pub handlers_before : List ResolvedHandler → ResolvedCode → ResolvedCode
+handlers_before [] rest = rest
+handlers_before (first ∷ handlers) rest = resolved_handler_before first (handlers_before handlers rest)
+
+handlers_all : (handlers : List ResolvedHandler) → handlers_before handlers no_statement ≡ resolved_handlers_of handlers
+handlers_all [] = refl
+handlers_all (first ∷ handlers) = ap (resolved_handler_before first) (handlers_all handlers)
+
+handlers_push : (handlers : List ResolvedHandler) (own : ResolvedHandler) (rest : ResolvedCode) →
+    handlers_before (handlers ++ own ∷ []) rest ≡ handlers_before handlers (resolved_handler_before own rest)
+handlers_push [] own rest = refl
+handlers_push (first ∷ handlers) own rest = ap (resolved_handler_before first) (handlers_push handlers own rest)
+
+-- behind the next of some handlers
+pub handlers_resolved_on : (scope now : Scope) (handlers : List Handler) (i : ℕ) (own : Handler) (within : i < length handlers) (is : own ≡ get_or handlers i own) → now ≡ scope
+    → (kept more : List ResolvedHandler) (made : ResolvedHandler) → more ≡ kept ++ made ∷ []
+    → resolved_handler_before made no_statement ≡ resolve_handlers scope (handler_before own no_handler)
+    → handlers_before more (resolve_handlers now (handlers_of (drop (i + 1) handlers))) ≡ handlers_before kept (resolve_handlers scope (handlers_of (drop i handlers)))
+handlers_resolved_on scope now handlers i own within is same kept more made grown one =
+    let rest = handlers_of (drop (i + 1) handlers) in
+    ap (λ (s : Scope). handlers_before more (resolve_handlers s rest)) same
+    ∙ ap (λ (l : List ResolvedHandler). handlers_before l (resolve_handlers scope rest)) grown
+    ∙ handlers_push kept made (resolve_handlers scope rest)
+    ∙ ap (handlers_before kept) (
+    ap (λ c. followed c (resolve_handlers scope rest)) one
+    ∙ sym (ap (λ (l : List Handler). resolve_handlers scope (handlers_of l)) (next_item handlers i own within is)))
+
+-- behind all of them
+pub handlers_done : (scope : Scope) (handlers : List Handler) (i : ℕ) (all : ResolvedCode) → length handlers ≤ i → (kept : List ResolvedHandler)
+    → handlers_before kept (resolve_handlers scope (handlers_of (drop i handlers))) ≡ all → resolved_handlers_of kept ≡ all
+handlers_done scope handlers i all end kept h =
+    sym (handlers_all kept)
+    ∙ sym (at_drop_all (λ (l : List Handler). handlers_before kept (resolve_handlers scope (handlers_of l))) handlers i end)
+    ∙ h
+
+-- the exceptions that they name, with that of one more
+
+before_more : (first : Option Exception) (named : List Exception) (own : Option Exception) →
+    named_before first (with_named named own) ≡ with_named (named_before first named) own
+before_more None named own = refl
+before_more (Some exception) named None = refl
+before_more (Some exception) named (Some own) = refl
+
+one_named : (own : Option Exception) → named_before own [] ≡ with_named [] own
+one_named None = refl
+one_named (Some own) = refl
+
+named_push : (handlers : List ResolvedHandler) (made : ResolvedHandler) → named_by (handlers ++ made ∷ []) ≡ with_named (named_by handlers) made.catches
+named_push [] made = one_named made.catches
+named_push (first ∷ handlers) made = ap (named_before first.catches) (named_push handlers made) ∙ before_more first.catches (named_by handlers) made.catches
+
+pub named_on : (kept more : List ResolvedHandler) (made : ResolvedHandler) (own : Option Exception) → more ≡ kept ++ made ∷ [] → made.catches ≡ own →
+    named_by more ≡ with_named (named_by kept) own
+named_on kept more made own grown same = ap (λ (l : List ResolvedHandler). named_by l) grown ∙ named_push kept made ∙ ap (with_named (named_by kept)) same

@@ -4,7 +4,7 @@ use Rattle.std.specs.Prelude.{unwrap_or, if◌then◌else◌}
 use Rattle.ac_syntax.specs.declared.decl.Decl.{Decl}
 use Rattle.ac_syntax.specs.declared.decl.Decl.TheVariants.{TypeDecl, Object, CursorVar, IntVar, TextVar}
 use Rattle.ac_syntax.specs.declared.stmt.Stmt.{Stmt}
-use Rattle.ac_syntax.specs.declared.stmt.Stmt.TheVariants.{Call, Set, Sum, Loop, View, Stable, Declare, Tasks}
+use Rattle.ac_syntax.specs.declared.stmt.Stmt.TheVariants.{Call, Set, Sum, Loop, View, Stable, Declare, Tasks, Handled}
 use Rattle.ac_syntax.specs.declared.type_def.TypeDef.{TypeDef}
 use Rattle.ac_syntax.specs.declared.view_kind.ViewKind.{ViewKind}
 use Rattle.ac_rules.specs.Scopes.{Meaning, Entry, entry, a_type, an_object, a_task, Scope, Typed, type_of, object_of, is_task, first_task, standing, decl_entry, with_entry, with_name, with_decls, loop_on, loop_meaning, view_on, view_meaning}
@@ -21,6 +21,7 @@ judged_by scope (View _ _ _ _ _ _) = refl
 judged_by scope (Stable _ _ _) = refl
 judged_by scope (Declare _ _ _) = refl
 judged_by scope (Tasks _ _) = refl
+judged_by scope (Handled _ _ _) = refl
 
 pub suits_any : (o : Option ℕ) → suits o (λ _. true) ≡ true
 suits_any None = refl

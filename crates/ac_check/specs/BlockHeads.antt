@@ -1,7 +1,7 @@
 -- Commands and the heads of blocks, as contracts see them.
 use Rattle.std.specs.Prelude.{Bool, true, false}
 use Rattle.ac_syntax.specs.declared.stmt.Stmt.{Stmt}
-use Rattle.ac_syntax.specs.declared.stmt.Stmt.TheVariants.{Call, Set, Sum, Loop, View, Stable, Declare, Tasks}
+use Rattle.ac_syntax.specs.declared.stmt.Stmt.TheVariants.{Call, Set, Sum, Loop, View, Stable, Declare, Tasks, Handled}
 use Rattle.ac_rules.specs.Resolved.{ResolvedHead, loops_at, views_at, stables_at, declares_at}
 use Rattle.ac_check.specs.declared.resolve.BlockHead.{BlockHead}
 use Rattle.ac_check.specs.declared.resolve.BlockHead.TheVariants as head
@@ -22,3 +22,4 @@ is_command (View line kind object at name body) = false
 is_command (Stable line object body) = false
 is_command (Declare line decls body) = false
 is_command (Tasks line tasks) = false
+is_command (Handled line body handlers) = false

@@ -3,3 +3,4 @@ pub mod NameOrders
 pub mod Rows
 pub mod Views
 pub mod BlockHeads
+pub mod NamedHandlers

@@ -2,6 +2,7 @@
 ghost use Rattle.std.specs.Prelude.{◌≡◌, ◌⊎◌, [], ℕ, Ok, Err, IfOk, OnOk};
 ghost use Rattle.ac_syntax.specs.declared.refusal.RefusalKind.{RefusalKind};
 ghost use Rattle.ac_syntax.specs.declared.fault.ScriptFault.TheVariants.{Refused, NoMemory};
+ghost use Rattle.ac_syntax.specs.Canonical.{propagates_in};
 ghost use Rattle.ac_rules.specs.Faults.{IsChecked, IsFirstFault};
 ghost use Rattle.ac_rules.specs.HasTasks.{has_tasks};
 ghost use Rattle.ac_rules.specs.Resolved.{resolve_decls, resolve};
@@ -59,6 +60,13 @@ impl Checked {
         ensures { result.now ≡ resolve (with_decls [] self.now.decls) self.now.stmts }
     {
         &self.resolved.stmts
+    }
+
+    /// Whether its exceptions propagate.
+    pub fn propagates(&self) -> bool
+        ensures { result ≡ propagates_in self.now }
+    {
+        self.script.pragma.is_some()
     }
 
     /// Whether there is a block of tasks in it.

@@ -1,20 +1,22 @@
 //! What is faulty in an item: the first of the faults that it has.
-ghost use Rattle.std.specs.Prelude.{◌≡◌, ◌+◌, ℕ, [], not, nat_lt, Option, Some, None};
+ghost use Rattle.std.specs.Prelude.{◌≡◌, ◌+◌, ℕ, [], ◌∷◌, not, nat_lt, Option, Some, None};
 ghost use Rattle.std.specs.Option.{option_copied};
 ghost use Rattle.ac_syntax.specs.Items as items;
 ghost use Rattle.ac_syntax.specs.Items.{declares, opens, item_line};
 ghost use Rattle.ac_syntax.specs.Code.{task_at};
-ghost use Rattle.ac_rules.specs.Scopes.{first_task, standing};
+ghost use Rattle.ac_rules.specs.Scopes.{first_task, standing, standing_handler};
 ghost use Rattle.ac_rules.specs.Faults as faults;
 ghost use Rattle.ac_rules.specs.Faults.{used, capacity, declared};
 ghost use Rattle.ac_rules.specs.UsedNames.{arg_names, args_names, optional_name};
 ghost use Rattle.ac_rules.specs.Operations.{meant};
 ghost use Rattle.ac_rules.specs.Walks as walks;
 ghost use Rattle.ac_rules.specs.Walks.{has_unknown, fault_with, stmt_item};
+ghost use Rattle.ac_check.specs.NamedHandlers.{named_by};
 
 use crate::rules::{is_well_typed_decl, is_well_typed_stmt, suits_decl, suits_stmt};
 use crate::scope::Scope;
-use ac_rules::{MOST_NAMES, MOST_ROOM};
+use ac_base::Exception;
+use ac_rules::{MOST_NAMES, MOST_ROOM, ResolvedHandler};
 use ac_syntax::{Arg, Decl, Ident, Operation, RefusalKind, Stmt};
 
 fn is_in_scope(scope: &Scope, name: &Ident) -> bool
@@ -83,7 +85,7 @@ fn has_unknown_stmt(scope: &Scope, stmt: &Stmt) -> bool
             !is_in_scope(scope, object) || has_unknown_optional(scope, at)
         }
         Stmt::Loop { object, .. } | Stmt::Stable { object, .. } => !is_in_scope(scope, object),
-        Stmt::Declare { .. } | Stmt::Tasks { .. } => false,
+        Stmt::Declare { .. } | Stmt::Tasks { .. } | Stmt::Handled { .. } => false,
     }
 }
 
@@ -134,7 +136,8 @@ fn stmt_name(stmt: &Stmt) -> Option<&Ident>
         | Stmt::Sum { .. }
         | Stmt::Stable { .. }
         | Stmt::Declare { .. }
-        | Stmt::Tasks { .. } => None,
+        | Stmt::Tasks { .. }
+        | Stmt::Handled { .. } => None,
     }
 }
 
@@ -149,7 +152,8 @@ pub fn stmt_line(stmt: &Stmt) -> u64
         | Stmt::View { line, .. }
         | Stmt::Stable { line, .. }
         | Stmt::Declare { line, .. }
-        | Stmt::Tasks { line, .. } => *line,
+        | Stmt::Tasks { line, .. }
+        | Stmt::Handled { line, .. } => *line,
     }
 }
 
@@ -218,4 +222,42 @@ pub fn task_fault(scope: &Scope, room: u64, name: &Ident) -> Option<RefusalKind>
     ensures { (line : ℕ) → result ≡ fault_with room (standing (opens (task_at line name.now [])) scope.now) }
 {
     declared_fault(scope, room, Some(name), 0)
+}
+
+/// Whether a handler names the exception.
+fn names(handler: &ResolvedHandler, own: Option<Exception>) -> bool
+    ensures { result ≡ faults.is_named (named_by (handler.now ∷ [])) own }
+{
+    match (own, handler.catches) {
+        (Some(own), Some(before)) => own == before,
+        _ => false,
+    }
+}
+
+/// Whether one of these handlers names the exception.
+fn is_named(handlers: &[ResolvedHandler], own: Option<Exception>) -> bool
+    ensures { result ≡ faults.is_named (named_by handlers.now) own }
+{
+    for handler in handlers {
+        if names(handler, own) {
+            return true;
+        }
+    }
+    false
+}
+
+/// What is faulty in the head of a handler behind others of its block, and behind objects with so much room.
+pub fn handler_fault(
+    scope: &Scope,
+    room: u64,
+    before: &[ResolvedHandler],
+    own: Option<Exception>,
+) -> Option<RefusalKind>
+    ensures { (line : ℕ) → result ≡ fault_with room (standing_handler line own scope.now (named_by before.now)) }
+{
+    if is_named(before, own) {
+        Some(RefusalKind::Twice)
+    } else {
+        declared_fault(scope, room, None, 0)
+    }
 }

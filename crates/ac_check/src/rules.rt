@@ -86,7 +86,7 @@ pub fn is_well_typed_stmt(scope: &Scope, stmt: &Stmt, operation: Option<Operatio
             ..
         } => is_view(scope, *kind, object_of(scope, object.bytes()), at),
         Stmt::Stable { object, .. } => is_looped(false, object_of(scope, object.bytes())),
-        Stmt::Declare { .. } | Stmt::Tasks { .. } => true,
+        Stmt::Declare { .. } | Stmt::Tasks { .. } | Stmt::Handled { .. } => true,
     }
 }
 

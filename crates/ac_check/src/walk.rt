@@ -1,37 +1,40 @@
 //! A walk over the items of a script in the order of the text, up to the first faulty one.
 ghost use Rattle.std.specs.Prelude.{◌≡◌, ◌∷◌, ◌++◌, [], ℕ, List, take, length, unwrap_or, false, Some, None, Err, IfOk, OnOk};
 ghost use Rattle.std.specs.Option.{option_map};
-ghost use Rattle.ac_syntax.specs.Code.{stop, loop_at, view_at};
+ghost use Rattle.ac_syntax.specs.Code.{stop, loop_at, view_at, no_handler};
 ghost use Rattle.ac_syntax.specs.Items.{declares};
-ghost use Rattle.ac_syntax.specs.Statements.{before, task_before};
+ghost use Rattle.ac_syntax.specs.Statements.{before, task_before, handler_before};
 ghost use Rattle.ac_syntax.specs.declared.refusal.RefusalKind.{RefusalKind};
 ghost use Rattle.ac_syntax.specs.declared.fault.ScriptFault.TheVariants.{Refused};
 ghost use Rattle.ac_rules.specs.Scopes.{entry, a_task, first_task, with_entry, with_name, with_decls, decl_entry, loop_on, view_on};
-ghost use Rattle.ac_rules.specs.Scopes.{standing, standing_decls, standings_from, standings};
+ghost use Rattle.ac_rules.specs.Scopes.{standing, standing_decls, standings_from, handler_standings, standings};
 ghost use Rattle.ac_rules.specs.Faults.{is_in_scope, AreFaultless, IsFirstFault, IsChecked};
 ghost use Rattle.ac_check.specs.Meanings.{meaning_view};
 ghost use Rattle.ac_rules.specs.Operations.{meant};
 ghost use Rattle.ac_rules.specs.Resolved as resolved;
-ghost use Rattle.ac_rules.specs.Resolved.{no_statement, a_block, IsResolved};
-ghost use Rattle.ac_rules.specs.ResolvedStatements.{resolved_before, resolved_task_before};
+ghost use Rattle.ac_rules.specs.Resolved.{begins_at, tries_at, no_statement, a_block, IsResolved};
+ghost use Rattle.ac_rules.specs.ResolvedStatements.{resolved_before, resolved_task_before, resolved_handler_before};
 ghost use Rattle.ac_check.specs.BlockHeads.{head_view};
+ghost use Rattle.ac_check.specs.NamedHandlers.{named_by};
 ghost use Rattle.ac_rules.specs.Walks.{fault_with, outcome, goes_on, refused, stmt_item, StopsAs, StopsAt};
 
 use crate::call::meant;
 use crate::entry::{decl_meaning, loop_meaning, view_meaning};
 use crate::faults::{
-    decl_capacity, decl_fault, decl_line, decl_name, stmt_fault, stmt_line, task_fault,
+    decl_capacity, decl_fault, decl_line, decl_name, handler_fault, stmt_fault, stmt_line,
+    task_fault,
 };
 use crate::meaning::Meaning;
 use crate::resolve::{BlockHead, keep, place_of, resolve_command, resolve_decl, resolve_task};
 use crate::scope::Scope;
 use ac_base::NoMemory;
 use ac_rules::{
-    ResolvedDecl, ResolvedDecls, ResolvedStmt, ResolvedStmts, ResolvedTask, ResolvedTasks,
+    ResolvedDecl, ResolvedDecls, ResolvedHandler, ResolvedHandlers, ResolvedStmt, ResolvedStmts,
+    ResolvedTask, ResolvedTasks,
 };
 use ac_syntax::{
-    Decl, Ident, Operation, RefusalKind, Script, ScriptFault, Stmt, Stmts, TaskText, TaskTexts,
-    ViewKind,
+    Decl, Handler, Handlers, Ident, Operation, RefusalKind, Script, ScriptFault, Stmt, Stmts,
+    TaskText, TaskTexts, ViewKind,
 };
 use std::alloc::Global;
 
@@ -267,6 +270,7 @@ impl Walk {
                 let tasks = self.walk_tasks(task, tasks)?;
                 Ok(ResolvedStmt::Tasks { line: *line, tasks })
             }
+            Stmt::Handled { body, handlers, .. } => self.walk_handled(task, body, handlers),
         }
     }
 
@@ -312,6 +316,79 @@ impl Walk {
         }
         self.scope.leave(before);
         Ok(ResolvedTasks::from_vec(made))
+    }
+
+    /// Walks what a block tries, and its handlers.
+    #[cycle(statements)]
+    fn walk_handled(
+        &mut self,
+        task: Option<usize>,
+        body: &Stmts,
+        handlers: &Handlers,
+    ) -> Result<ResolvedStmt, ScriptFault>
+        requires { task ≡ first_task self.old.scope }
+        ensures ok { OnOk result
+            (outcome self.old.room (standings_from self.old.scope body.now ++ handler_standings self.old.scope [] handlers.now) ≡ goes_on self.new.room) }
+        ensures refused { StopsAs result
+            (outcome self.old.room (standings_from self.old.scope body.now ++ handler_standings self.old.scope [] handlers.now)) }
+        ensures scope { OnOk result (self.new.scope ≡ self.old.scope) }
+        ensures resolved { IfOk result (λ made. resolved_before made no_statement
+            ≡ a_block begins_at
+            (a_block tries_at (resolved.resolve self.old.scope body.now) (resolved.resolve_handlers self.old.scope handlers.now)) no_statement) }
+    {
+        let body = self.walk_statements(task, body)?;
+        let handlers = self.walk_handlers(task, handlers)?;
+        Ok(ResolvedStmt::Handled { body, handlers })
+    }
+
+    /// Walks a handler behind others of its block.
+    #[cycle(statements)]
+    fn walk_handler(
+        &mut self,
+        task: Option<usize>,
+        before: &[ResolvedHandler],
+        handler: &Handler,
+    ) -> Result<ResolvedHandler, ScriptFault>
+        requires { task ≡ first_task self.old.scope }
+        ensures ok { OnOk result
+            (outcome self.old.room (handler_standings self.old.scope (named_by before.now) (handler_before handler.now no_handler)) ≡ goes_on self.new.room) }
+        ensures refused { StopsAs result
+            (outcome self.old.room (handler_standings self.old.scope (named_by before.now) (handler_before handler.now no_handler))) }
+        ensures scope { OnOk result (self.new.scope ≡ self.old.scope) }
+        ensures catches { IfOk result (λ made. made.catches ≡ handler.now.catches) }
+        ensures resolved { IfOk result (λ made. resolved_handler_before made no_statement
+            ≡ resolved.resolve_handlers self.old.scope (handler_before handler.now no_handler)) }
+    {
+        refuse(
+            handler.line,
+            handler_fault(&self.scope, self.room, before, handler.catches),
+        )?;
+        let body = self.walk_statements(task, &handler.body)?;
+        Ok(ResolvedHandler {
+            catches: handler.catches,
+            body,
+        })
+    }
+
+    /// Walks the handlers of a block, of which each names an exception that none before it names.
+    #[cycle(statements)]
+    fn walk_handlers(
+        &mut self,
+        task: Option<usize>,
+        handlers: &Handlers,
+    ) -> Result<ResolvedHandlers, ScriptFault>
+        requires { task ≡ first_task self.old.scope }
+        ensures ok { OnOk result (outcome self.old.room (handler_standings self.old.scope [] handlers.now) ≡ goes_on self.new.room) }
+        ensures refused { StopsAs result (outcome self.old.room (handler_standings self.old.scope [] handlers.now)) }
+        ensures scope { OnOk result (self.new.scope ≡ self.old.scope) }
+        ensures resolved { IfOk result (λ made. made ≡ resolved.resolve_handlers self.old.scope handlers.now) }
+    {
+        let mut made = Vec::new(self.scope.alloc());
+        for handler in handlers.items() {
+            let resolved = self.walk_handler(task, &made, handler)?;
+            keep(&mut made, resolved)?;
+        }
+        Ok(ResolvedHandlers::from_vec(made))
     }
 
     #[cycle(statements)]

@@ -1,16 +1,19 @@
-use Rattle.std.proofs.Common.{◌≡◌, ap, sym, ◌∙◌, take, length, List, Some, get_or, arith}
+use Rattle.std.proofs.Common.{◌≡◌, ap, sym, ◌∙◌, [], take, length, List, Some, get_or, arith}
 use Rattle.std.proofs.lemmas.Result.{on_ok_weaker}
-use Rattle.ac_syntax.specs.Code.{code_size, stop}
-use Rattle.ac_syntax.specs.Statements.{before, task_before}
+use Rattle.ac_syntax.specs.Code.{code_size, handlers_size, stop, no_handler}
+use Rattle.ac_syntax.specs.Statements.{before, task_before, handler_before}
 use Rattle.ac_syntax.specs.declared.stmt.TaskText.{TaskText}
+use Rattle.ac_syntax.specs.declared.stmt.Handler.{Handler}
 use Rattle.ac_syntax.specs.declared.stmt.Stmt.{Stmt}
 use Rattle.ac_syntax.specs.declared.stmt.Stmt.TheVariants.{Declare}
-use Rattle.ac_syntax.proofs.StatementSizes.{size_among, task_among}
-use Rattle.ac_rules.specs.Scopes.{Scope, first_task, with_decls, Standing}
+use Rattle.ac_syntax.proofs.StatementSizes.{size_among, task_among, handler_among}
+use Rattle.ac_rules.specs.Scopes.{Scope, first_task, with_decls, Standing, standings_from, handler_standings}
 use Rattle.ac_rules.specs.Walks.{outcome}
-use Rattle.ac_rules.proofs.Outcomes.{passed_on}
-use Rattle.ac_check.proofs.Blocks.{begins_with, declare_on, declare_stopped, outside_decls, statement_on, statement_stopped, named, same_decls, same_scope, task_on, task_stopped, next_task_on, next_task_stopped, next_task_scope, tasks_left}
-use Rattle.ac_check.proofs.Resolving.{statements_on, statements_done, tasks_resolved_on, tasks_done}
+use Rattle.ac_rules.specs.declared.resolved.ResolvedHandler.{ResolvedHandler}
+use Rattle.ac_rules.proofs.Outcomes.{passed_on, gone_on, stopped}
+use Rattle.ac_check.specs.NamedHandlers.{named_by}
+use Rattle.ac_check.proofs.Blocks.{begins_with, declare_on, declare_stopped, outside_decls, statement_on, statement_stopped, named, same_decls, same_scope, task_on, task_stopped, next_task_on, next_task_stopped, next_task_scope, tasks_left, handler_whole, handler_refused, next_handler_on, next_handler_stopped}
+use Rattle.ac_check.proofs.Resolving.{statements_on, statements_done, tasks_resolved_on, tasks_done, handlers_resolved_on, handlers_done, named_on}
 use Rattle.ac_rules.proofs.Kept.{unnamed}
 use Rattle.ac_check.proofs.TaskScopes.{first_on, task_first, decls_first}
 use Rattle.ac_check.proofs.walk.Walk.+statements.Goals as goal
@@ -209,3 +212,107 @@ walk_tasks-returns-clause-scope t c =
     c.leave.ensures
     ∙ ap (λ n. take n c.loop-task.self.scope) c.len-before.ensures
     ∙ tasks_left c.args.self.now.scope c.loop-task.self.scope c.items-task-items.result.now c.loop-task.task-index c.args.tasks.now c.loop-task-test.false c.loop-task.invariant.scope_is
+
+pub walk_handled-returns-in_err-body-clause-refused :
+    goal.walk_handled-returns-in_err-body-clause-refused
+walk_handled-returns-in_err-body-clause-refused t c =
+    let at = c.args.self.now in
+    passed_on c.from_residual.result c.walk_statements.result c.in_err-body.field-0.0 _ c.from_residual.ensures.1 c.in_err-body.was
+    (λ line kind e. stopped at.room (Some line) kind (standings_from at.scope c.args.body.now) (handler_standings at.scope [] c.args.handlers.now)
+    (c.walk_statements.ensures.refused line kind e))
+
+pub walk_handled-returns-in_err-handlers-clause-refused :
+    goal.walk_handled-returns-in_err-handlers-clause-refused
+walk_handled-returns-in_err-handlers-clause-refused t c =
+    let at = c.args.self.now in
+    let behind = c.walk_statements.new.self in
+    let exit = c.from_residual-in_err-handlers in
+    passed_on exit.result c.walk_handlers.result c.in_err-handlers.field-0.0 _ exit.ensures.1 c.in_err-handlers.was
+    (λ line kind e.
+    gone_on at.room behind.room (standings_from at.scope c.args.body.now) (handler_standings at.scope [] c.args.handlers.now) c.in_ok-body.ensures.ok
+    ∙ ap (λ (s : Scope). outcome behind.room (handler_standings s [] c.args.handlers.now)) (sym c.in_ok-body.ensures.scope)
+    ∙ c.walk_handlers.ensures.refused line kind e)
+
+pub walk_handled-returns-clause-ok : goal.walk_handled-returns-clause-ok
+walk_handled-returns-clause-ok t c =
+    let at = c.args.self.now in
+    let behind = c.walk_statements.new.self in
+    gone_on at.room behind.room (standings_from at.scope c.args.body.now) (handler_standings at.scope [] c.args.handlers.now) c.in_ok-body.ensures.ok
+    ∙ ap (λ (s : Scope). outcome behind.room (handler_standings s [] c.args.handlers.now)) (sym c.in_ok-body.ensures.scope)
+    ∙ c.in_ok-handlers.ensures.ok
+
+pub walk_handler-returns-in_err-refuse-clause-refused :
+    goal.walk_handler-returns-in_err-refuse-clause-refused
+walk_handler-returns-in_err-refuse-clause-refused t c =
+    let at = c.args.self.now in
+    let own = c.args.handler.now in
+    passed_on c.from_residual.result c.refuse.result c.in_err-refuse.field-0.0 _ c.from_residual.ensures.1 c.in_err-refuse.was
+    (λ line kind e.
+    let r = c.refuse.ensures.refused line kind e in
+    handler_refused at.room at.scope (named_by c.args.before.now) own line kind r.0 (sym (c.handler_fault.ensures own.line) ∙ r.1))
+
+pub walk_handler-returns-in_err-body-clause-refused :
+    goal.walk_handler-returns-in_err-body-clause-refused
+walk_handler-returns-in_err-body-clause-refused t c =
+    let at = c.args.self.now in
+    let own = c.args.handler.now in
+    let exit = c.from_residual-in_err-body in
+    passed_on exit.result c.walk_statements.result c.in_err-body.field-0.0 _ exit.ensures.1 c.in_err-body.was
+    (λ line kind e.
+    handler_whole at.room at.scope (named_by c.args.before.now) own (sym (c.handler_fault.ensures own.line) ∙ c.in_ok-refuse.ensures.ok)
+    ∙ c.walk_statements.ensures.refused line kind e)
+
+pub walk_handler-returns-clause-ok : goal.walk_handler-returns-clause-ok
+walk_handler-returns-clause-ok t c =
+    let at = c.args.self.now in
+    let own = c.args.handler.now in
+    handler_whole at.room at.scope (named_by c.args.before.now) own (sym (c.handler_fault.ensures own.line) ∙ c.in_ok-refuse.ensures.ok)
+    ∙ c.in_ok-body.ensures.ok
+
+pub walk_handlers-walk_handler-requires : goal.walk_handlers-walk_handler-requires
+walk_handlers-walk_handler-requires t c =
+    let handlers = c.items-handler-items.result.now in
+    let own = c.handler-item.result in
+    let same : handlers_size (handler_before own no_handler) ≡ handlers_size (handler_before (get_or handlers c.loop-handler.handler-index own) no_handler) =
+    ap (λ (h : Handler). handlers_size (handler_before h no_handler)) c.handler-item.is in
+    (omega (arith, same, handler_among handlers c.loop-handler.handler-index own c.loop-handler-test.true, ap handlers_size c.items-handler-items.ensures), c.requires ∙ ap first_task (sym c.loop-handler.invariant.scope_is))
+
+pub walk_handlers-returns-in_err-resolved-clause-refused :
+    goal.walk_handlers-returns-in_err-resolved-clause-refused
+walk_handlers-returns-in_err-resolved-clause-refused t c =
+    let at = c.loop-handler.self in
+    let handlers = c.items-handler-items.result.now in
+    let own = c.handler-item.result in
+    passed_on c.from_residual.result c.walk_handler.result c.in_err-resolved.field-0.0 _ c.from_residual.ensures.1 c.in_err-resolved.was
+    (λ line kind e.
+    sym c.loop-handler.invariant.outcome_is
+    ∙ next_handler_stopped at.room at.scope (named_by c.loop-handler.made.items) handlers c.loop-handler.handler-index own c.loop-handler-test.true c.handler-item.is _ kind
+    (ap (λ (l : List ResolvedHandler). outcome at.room (handler_standings at.scope (named_by l) (handler_before own no_handler))) (sym c.deref.ensures.value)
+    ∙ c.walk_handler.ensures.refused line kind e))
+
+pub walk_handlers-loop-handler-preserved : goal.walk_handlers-loop-handler-preserved
+walk_handlers-loop-handler-preserved t c =
+    let at = c.loop-handler.self in
+    let handlers = c.items-handler-items.result.now in
+    let own = c.handler-item.result in
+    let i = c.loop-handler.handler-index in
+    let old = c.loop-handler.made.items in
+    let inv = c.loop-handler.invariant in
+    let behind = c.in_ok-resolved.ensures in
+    record {
+      outcome_is = next_handler_on at.room at.scope (named_by old) handlers i own c.loop-handler-test.true c.handler-item.is _ _ (named_by c.keep.new.items.items)
+          (ap (λ (l : List ResolvedHandler). outcome at.room (handler_standings at.scope (named_by l) (handler_before own no_handler))) (sym c.deref.ensures.value)
+          ∙ behind.ok)
+          behind.scope (named_on old c.keep.new.items.items c.in_ok-resolved.resolved own.catches c.in_ok-keep.ensures behind.catches)
+          ∙ inv.outcome_is;
+      scope_is = behind.scope ∙ inv.scope_is;
+      made_is = handlers_resolved_on at.scope _ handlers i own c.loop-handler-test.true c.handler-item.is behind.scope
+          old c.keep.new.items.items c.in_ok-resolved.resolved c.in_ok-keep.ensures behind.resolved
+          ∙ inv.made_is;
+    }
+
+pub walk_handlers-returns-clause-resolved : goal.walk_handlers-returns-clause-resolved
+walk_handlers-returns-clause-resolved t c =
+    c.from_vec.ensures
+    ∙ handlers_done c.loop-handler.self.scope c.items-handler-items.result.now c.loop-handler.handler-index _ c.loop-handler-test.false c.loop-handler.made.items
+    c.loop-handler.invariant.made_is
