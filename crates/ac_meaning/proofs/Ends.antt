@@ -1,6 +1,6 @@
 -- How statements end.
 use Rattle.std.proofs.Common.{false, None, refl}
-use Rattle.ac_syntax.specs.Code.{stop, one, block}
+use Rattle.ac_syntax.specs.Code.{stop, one, block, handled}
 use Rattle.ac_rules.specs.Scopes.{behind_block}
 use Rattle.ac_rules.specs.Resolved.{no_statement, a_command, a_block}
 use Rattle.ac_meaning.specs.Execution.{commanded, block_on, resolved_behind}
@@ -17,3 +17,4 @@ none_runs_behind propagates orders stop scope guards raised e = refl
 none_runs_behind propagates orders (one simple rest) scope guards raised e = none_runs_behind propagates orders rest scope guards raised e
 none_runs_behind propagates orders (block head body rest) scope guards raised e =
     none_runs_behind propagates orders rest (behind_block scope head) guards raised e
+none_runs_behind propagates orders (handled line body handlers rest) scope guards raised e = none_runs_behind propagates orders rest scope guards raised e

@@ -1,22 +1,24 @@
 -- Statements that keep the rules leave each name what it holds, by its type.
-use Rattle.std.proofs.Common.{◌≡◌, ◌++◌, ℕ, Bool, false, List, [], ◌∷◌, map, length, refl, ap, ◌∙◌, option_map, Option, Some, None}
+use Rattle.std.proofs.Common.{◌≡◌, ◌++◌, ℕ, Bool, true, false, List, [], ◌∷◌, map, length, refl, ap, ◌∙◌, option_map, Option, Some, None, if◌then◌else◌}
 use Rattle.ac_base.specs.declared.reason.Reason.{Reason}
 use Rattle.ac_base.specs.declared.value.Value.{Value}
+use Rattle.ac_base.specs.declared.reason.Exception.{Exception}
 use Rattle.ac_model.specs.Letters.{Mark, mark_at as mark_of_name}
-use Rattle.ac_syntax.specs.Code.{Head, loop_at, view_at, stable_at, declare_at, tasks_at, task_at, Code, stop, one, block}
-use Rattle.ac_syntax.specs.Nesting.{AreStatements}
+use Rattle.ac_syntax.specs.Code.{Head, loop_at, view_at, stable_at, declare_at, tasks_at, task_at, Code, stop, one, block, handled, HandlerCode, no_handler, handler}
+use Rattle.ac_syntax.specs.Canonical.{propagates_in}
+use Rattle.ac_syntax.specs.Nesting.{AreStatements, AreHandlers}
 use Rattle.ac_syntax.specs.declared.script.Script.{Script}
 use Rattle.ac_syntax.specs.declared.view_kind.ViewKind.{ViewKind}
 use Rattle.ac_syntax.specs.declared.view_kind.ViewKind.TheVariants.{Query, Update, Reference, UpdateKey}
 use Rattle.ac_rules.specs.Faults.{IsChecked}
-use Rattle.ac_rules.specs.Kept.{KeepsRules}
+use Rattle.ac_rules.specs.Kept.{KeepsRules, HandlersKept}
 use Rattle.ac_rules.specs.Resolved.{ResolvedSimple, loops_at, views_at, stables_at, place_of, resolve, resolve_simple, resolve_head, resolve_decls}
-use Rattle.ac_rules.specs.Scopes.{Scope, inside, behind_block, with_decls}
+use Rattle.ac_rules.specs.Scopes.{Scope, inside, behind_block, with_decls, with_named}
 use Rattle.ac_rules.proofs.Kept.{rules_kept}
 use Rattle.ac_calls.specs.Holdings.{Held, of_rows, of_holder, of_queue, Guards, names_of, number_of, element_value}
 use Rattle.ac_meaning.specs.Commands.{performed}
 use Rattle.ac_meaning.specs.Environment.{Bound, binds_type, binds_object, binds_cursor, binds_value, binds_element, State, first_state, under, at_rest, object_at, guarded_at, mark_at, value_at, value_or_zero, with_name, leaving, Declared, after_decls}
-use Rattle.ac_meaning.specs.Execution.{End, Outcome, Orders, passed_on, unless_raised, followed, scoped, commanded, guards_of_loop, guards_of_stable, guards_of_view, in_order, turn_bound, head_reason, key_end, turns_behind, key_body, viewed, view_on, on_object, after_declared, block_on, exec, exec_behind, run_with}
+use Rattle.ac_meaning.specs.Execution.{End, Outcome, Orders, passed_on, unless_raised, followed, scoped, commanded, guards_of_loop, guards_of_stable, guards_of_view, in_order, turn_bound, head_reason, key_end, turns_behind, key_body, viewed, view_on, on_object, after_declared, block_on, takes_any, exec, exec_behind, handle, run_with}
 use Rattle.ac_meaning.specs.HoldsTypes.{has_line, shape_of, HoldsTypes, GoesOnHolding}
 use Rattle.ac_meaning.specs.Stays.{HeldStays, BoundStays, EachStays}
 use Rattle.ac_meaning.proofs.CommandsStay.{command_stays}
@@ -142,63 +144,91 @@ sorts_then : (scope : Scope) (e : State) (r : Outcome) (next : End → State →
     ((end : End) (later : State) → HoldsTypes scope later → sorts (next end later).after ≡ sorts later) → sorts (followed r next).after ≡ sorts e
 sorts_then scope e r next holds first rest = rest r.end r.after (holds_on scope e r.after first holds) ∙ first
 
-pub exec_sorts : (propagates : Bool) (orders : Orders) (code : Code) (scope : Scope) (guards : Guards) (end : End) (e : State) → AreStatements code →
-    KeepsRules scope code → HoldsTypes scope e → sorts (exec_behind propagates orders code scope guards end e).after ≡ sorts e
-exec_sorts propagates orders stop scope guards end e are kept holds = refl
-exec_sorts propagates orders (one simple rest) scope guards (Some raised) e are kept holds =
-    ap (λ (r : Outcome). sorts r.after) (none_runs_behind propagates orders rest scope guards raised e)
-exec_sorts propagates orders (one simple rest) scope guards None e are kept holds =
-    sorts_then scope e (passed_on propagates (commanded guards e (resolve_simple scope simple))) (exec_behind propagates orders rest scope guards) holds
-    (commanded_sorts guards e (resolve_simple scope simple))
-    (λ end later h. exec_sorts propagates orders rest scope guards end later are kept.rest h)
-exec_sorts propagates orders (block head body rest) scope guards (Some raised) e are kept holds =
-    ap (λ (r : Outcome). sorts r.after) (none_runs_behind propagates orders rest (behind_block scope head) guards raised e)
-exec_sorts propagates orders (block (loop_at line name elements backward object) body rest) scope guards None e are kept holds =
-    let head = loop_at line name elements backward object in
-    let inner : Guards → State → Outcome = λ held. exec_behind propagates orders body (inside scope head) held None in
-    sorts_then scope e (blocked propagates orders head body scope guards e) (exec_behind propagates orders rest scope guards) holds
-    (loop_sorts inner scope (inside scope head) (λ held now h. exec_sorts propagates orders body (inside scope head) held None now are.0 kept.body h)
-    guards line elements backward (place_of scope object) (guarded_at (under guards e) (place_of scope object)) e holds
-    (λ now mark h. heads_hold.loops scope now line name elements backward object mark h kept.head))
-    (λ end later h. exec_sorts propagates orders rest scope guards end later are.1 kept.rest h)
-exec_sorts propagates orders (block (view_at line view object at name) body rest) scope guards None e are kept holds =
-    let head = view_at line view object at name in
-    let inner : Guards → State → Outcome = λ held. exec_behind propagates orders body (inside scope head) held None in
-    sorts_then scope e (blocked propagates orders head body scope guards e) (exec_behind propagates orders rest scope guards) holds
-    (placed_sorts inner scope (inside scope head) (λ held now h. exec_sorts propagates orders body (inside scope head) held None now are.0 kept.body h)
-    guards line view (place_of scope object) (option_map (place_of scope) at) e (guarded_at (under guards e) (place_of scope object))
-    (λ mark. heads_hold.views scope e line view object at name mark holds kept.head)
-    (λ v. heads_hold.copies scope e line view object at name v holds kept.head))
-    (λ end later h. exec_sorts propagates orders rest scope guards end later are.1 kept.rest h)
-exec_sorts propagates orders (block (stable_at line object) body rest) scope guards None e are kept holds =
-    let inner : Guards → State → Outcome = λ held. exec_behind propagates orders body scope held None in
-    sorts_then scope e (blocked propagates orders (stable_at line object) body scope guards e) (exec_behind propagates orders rest scope guards) holds
-    (stable_sorts inner scope scope (λ held now h. exec_sorts propagates orders body scope held None now are.0 kept.body h)
-    guards line (place_of scope object) (guarded_at (under guards e) (place_of scope object)) e holds)
-    (λ end later h. exec_sorts propagates orders rest scope guards end later are.1 kept.rest h)
-exec_sorts propagates orders (block (declare_at line decls) body rest) scope guards None e are kept holds =
-    let within = with_decls scope decls in
-    let inner : Guards → State → Outcome = λ held. exec_behind propagates orders body within held None in
-    sorts_then scope e (blocked propagates orders (declare_at line decls) body scope guards e) (exec_behind propagates orders rest scope guards) holds
-    (declared_sorts inner scope within (λ held now h. exec_sorts propagates orders body within held None now are.0 kept.body h)
-    guards e (after_decls (resolve_decls scope decls) e) _ refl (decls_extend (resolve_decls scope decls) e)
-    (declared_holds.decls scope decls e holds kept.decls))
-    (λ end later h. exec_sorts propagates orders rest scope guards end later are.1 kept.rest h)
-exec_sorts propagates orders (block (tasks_at line) body rest) scope guards None e are kept holds =
-    sorts_then scope e (blocked propagates orders (tasks_at line) body scope guards e) (exec_behind propagates orders rest scope guards) holds
-    (gathered_sorts (orders e.blocks) (resolve scope body) e)
-    (λ end later h. exec_sorts propagates orders rest scope guards end later are.2 kept.rest h)
-exec_sorts propagates orders (block (task_at line name locals) body rest) scope guards None e are kept holds = absurd are
+either_sorts : (b : Bool) (x y : Outcome) (e : State) → sorts x.after ≡ sorts e → sorts y.after ≡ sorts e → sorts (if b then x else y).after ≡ sorts e
+either_sorts true x y e h k = h
+either_sorts false x y e h k = k
 
-script_holds : (orders : Orders) (script : Script) → IsChecked script → AreStatements script.stmts →
+mutual
+  pub exec_sorts : (propagates : Bool) (orders : Orders) (code : Code) (scope : Scope) (guards : Guards) (end : End) (e : State) → AreStatements propagates code →
+      KeepsRules scope code → HoldsTypes scope e → sorts (exec_behind propagates orders code scope guards end e).after ≡ sorts e
+  exec_sorts propagates orders stop scope guards end e are kept holds = refl
+  exec_sorts propagates orders (one simple rest) scope guards (Some raised) e are kept holds =
+      ap (λ (r : Outcome). sorts r.after) (none_runs_behind propagates orders rest scope guards raised e)
+  exec_sorts propagates orders (one simple rest) scope guards None e are kept holds =
+      sorts_then scope e (passed_on propagates (commanded guards e (resolve_simple scope simple))) (exec_behind propagates orders rest scope guards) holds
+      (commanded_sorts guards e (resolve_simple scope simple))
+      (λ end later h. exec_sorts propagates orders rest scope guards end later are kept.rest h)
+  exec_sorts propagates orders (block head body rest) scope guards (Some raised) e are kept holds =
+      ap (λ (r : Outcome). sorts r.after) (none_runs_behind propagates orders rest (behind_block scope head) guards raised e)
+  exec_sorts propagates orders (block (loop_at line name elements backward object) body rest) scope guards None e are kept holds =
+      let head = loop_at line name elements backward object in
+      let inner : Guards → State → Outcome = λ held. exec_behind propagates orders body (inside scope head) held None in
+      sorts_then scope e (blocked propagates orders head body scope guards e) (exec_behind propagates orders rest scope guards) holds
+      (loop_sorts inner scope (inside scope head) (λ held now h. exec_sorts propagates orders body (inside scope head) held None now are.0 kept.body h)
+      guards line elements backward (place_of scope object) (guarded_at (under guards e) (place_of scope object)) e holds
+      (λ now mark h. heads_hold.loops scope now line name elements backward object mark h kept.head))
+      (λ end later h. exec_sorts propagates orders rest scope guards end later are.1 kept.rest h)
+  exec_sorts propagates orders (block (view_at line view object at name) body rest) scope guards None e are kept holds =
+      let head = view_at line view object at name in
+      let inner : Guards → State → Outcome = λ held. exec_behind propagates orders body (inside scope head) held None in
+      sorts_then scope e (blocked propagates orders head body scope guards e) (exec_behind propagates orders rest scope guards) holds
+      (placed_sorts inner scope (inside scope head) (λ held now h. exec_sorts propagates orders body (inside scope head) held None now are.0 kept.body h)
+      guards line view (place_of scope object) (option_map (place_of scope) at) e (guarded_at (under guards e) (place_of scope object))
+      (λ mark. heads_hold.views scope e line view object at name mark holds kept.head)
+      (λ v. heads_hold.copies scope e line view object at name v holds kept.head))
+      (λ end later h. exec_sorts propagates orders rest scope guards end later are.1 kept.rest h)
+  exec_sorts propagates orders (block (stable_at line object) body rest) scope guards None e are kept holds =
+      let inner : Guards → State → Outcome = λ held. exec_behind propagates orders body scope held None in
+      sorts_then scope e (blocked propagates orders (stable_at line object) body scope guards e) (exec_behind propagates orders rest scope guards) holds
+      (stable_sorts inner scope scope (λ held now h. exec_sorts propagates orders body scope held None now are.0 kept.body h)
+      guards line (place_of scope object) (guarded_at (under guards e) (place_of scope object)) e holds)
+      (λ end later h. exec_sorts propagates orders rest scope guards end later are.1 kept.rest h)
+  exec_sorts propagates orders (block (declare_at line decls) body rest) scope guards None e are kept holds =
+      let within = with_decls scope decls in
+      let inner : Guards → State → Outcome = λ held. exec_behind propagates orders body within held None in
+      sorts_then scope e (blocked propagates orders (declare_at line decls) body scope guards e) (exec_behind propagates orders rest scope guards) holds
+      (declared_sorts inner scope within (λ held now h. exec_sorts propagates orders body within held None now are.0 kept.body h)
+      guards e (after_decls (resolve_decls scope decls) e) _ refl (decls_extend (resolve_decls scope decls) e)
+      (declared_holds.decls scope decls e holds kept.decls))
+      (λ end later h. exec_sorts propagates orders rest scope guards end later are.1 kept.rest h)
+  exec_sorts propagates orders (block (tasks_at line) body rest) scope guards None e are kept holds =
+      sorts_then scope e (blocked propagates orders (tasks_at line) body scope guards e) (exec_behind propagates orders rest scope guards) holds
+      (gathered_sorts (orders e.blocks) (resolve scope body) e)
+      (λ end later h. exec_sorts propagates orders rest scope guards end later are.2 kept.rest h)
+  exec_sorts propagates orders (block (task_at line name locals) body rest) scope guards None e are kept holds = absurd are
+  exec_sorts propagates orders (handled line body handlers rest) scope guards (Some raised) e are kept holds =
+      ap (λ (r : Outcome). sorts r.after) (none_runs_behind propagates orders rest scope guards raised e)
+  exec_sorts propagates orders (handled line body handlers rest) scope guards None e are kept holds =
+      let tried = passed_on propagates (exec_behind propagates orders body scope guards None e) in
+      let first : sorts tried.after ≡ sorts e = exec_sorts propagates orders body scope guards None e are.1 kept.body holds in
+      let taken = followed tried (handle propagates orders handlers scope guards) in
+      let second : sorts taken.after ≡ sorts e =
+      handle_sorts propagates orders handlers [] scope guards tried.end tried.after are.3 kept.handlers (holds_on scope e tried.after first holds) ∙ first in
+      sorts_then scope e (passed_on propagates taken) (exec_behind propagates orders rest scope guards) holds second
+      (λ end later h. exec_sorts propagates orders rest scope guards end later are.4 kept.rest h)
+
+  -- and so do handlers
+  handle_sorts : (propagates : Bool) (orders : Orders) (handlers : HandlerCode) (named : List Exception) (scope : Scope) (guards : Guards) (end : End)
+      (e : State) → AreHandlers propagates handlers → HandlersKept scope named handlers → HoldsTypes scope e →
+      sorts (handle propagates orders handlers scope guards end e).after ≡ sorts e
+  handle_sorts propagates orders no_handler named scope guards end e are kept holds = refl
+  handle_sorts propagates orders (handler line own body more) named scope guards None e are kept holds = refl
+  handle_sorts propagates orders (handler line None body more) named scope guards (Some raised) e are kept holds =
+      exec_sorts propagates orders body scope guards None e are.0 kept.body holds
+  handle_sorts propagates orders (handler line (Some own) body more) named scope guards (Some raised) e are kept holds =
+      either_sorts (takes_any (Some own) raised) (exec_behind propagates orders body scope guards None e)
+      (handle propagates orders more scope guards (Some raised) e) e (exec_sorts propagates orders body scope guards None e are.0 kept.body holds)
+      (handle_sorts propagates orders more (with_named named (Some own)) scope guards (Some raised) e are.1 kept.more holds)
+
+script_holds : (orders : Orders) (script : Script) → IsChecked script → AreStatements (propagates_in script) script.stmts →
     (after_decls (resolve_decls [] script.decls) first_state).spent ≡ None → HoldsTypes (with_decls [] script.decls) (run_with orders script).after
 unfolding run_with
 script_holds orders script checked are none =
     let scope = with_decls [] script.decls in
     let e = (after_decls (resolve_decls [] script.decls) first_state).after in
     let holds : HoldsTypes scope e = declared_holds.script script checked none in
-    holds_on scope e (exec false orders script.stmts scope [] e).after
-    (exec_sorts false orders script.stmts scope [] None e are (rules_kept script checked).code holds) holds
+    holds_on scope e (exec (propagates_in script) orders script.stmts scope [] e).after
+    (exec_sorts (propagates_in script) orders script.stmts scope [] None e are (rules_kept script checked).code holds) holds
 
 pub goes_on_holding : GoesOnHolding
 goes_on_holding = record {

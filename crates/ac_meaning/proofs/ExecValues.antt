@@ -1,28 +1,30 @@
 -- Statements that keep the rules leave each variable a value of its type, and each element that a name stands for is there.
 use Rattle.std.proofs.Common.{◌≡◌, ◌++◌, ℕ, Bool, true, false, List, [], ◌∷◌, map, length, nat_lt, refl, sym, ap, subst, ◌∙◌, option_map, Option, Some, None, if◌then◌else◌}
 use Rattle.ac_base.specs.Limits.{numbers_end}
+use Rattle.ac_base.specs.declared.reason.Exception.{Exception}
 use Rattle.ac_base.specs.declared.reason.Reason.{Reason}
 use Rattle.ac_base.specs.declared.value.Value.{Value}
 use Rattle.ac_history.specs.Blocks.{present}
 use Rattle.ac_history.specs.Orders.{run_of}
 use Rattle.ac_model.specs.Letters.{Mark, no_mark, mark_at as mark_of_name}
 use Rattle.ac_model.specs.Queues.{TaskQueue}
-use Rattle.ac_syntax.specs.Code.{Simple, Head, loop_at, view_at, stable_at, declare_at, tasks_at, task_at, Code, stop, one, block}
-use Rattle.ac_syntax.specs.Nesting.{AreStatements}
+use Rattle.ac_syntax.specs.Code.{Simple, Head, loop_at, view_at, stable_at, declare_at, tasks_at, task_at, Code, stop, one, block, handled, HandlerCode, no_handler, handler}
+use Rattle.ac_syntax.specs.Canonical.{propagates_in}
+use Rattle.ac_syntax.specs.Nesting.{AreStatements, AreHandlers}
 use Rattle.ac_syntax.specs.declared.script.Script.{Script}
 use Rattle.ac_syntax.specs.declared.view_kind.ViewKind.{ViewKind}
 use Rattle.ac_syntax.specs.declared.view_kind.ViewKind.TheVariants.{Query, Update, Reference, UpdateKey}
 use Rattle.ac_rules.specs.Faults.{IsChecked}
-use Rattle.ac_rules.specs.Kept.{CommandKept, HeadKept, KeepsRules}
+use Rattle.ac_rules.specs.Kept.{CommandKept, HeadKept, KeepsRules, HandlersKept}
 use Rattle.ac_rules.specs.Resolved.{loops_at, views_at, stables_at, place_of, ResolvedCode, resolve, resolve_simple, resolve_decls}
 use Rattle.ac_rules.specs.declared.resolved.ResolvedDecl.{ResolvedDecl}
 use Rattle.ac_rules.specs.declared.resolved.ResolvedDecl.TheVariants as decl
-use Rattle.ac_rules.specs.Scopes.{Scope, behind_words, inside, behind_block, with_decls}
+use Rattle.ac_rules.specs.Scopes.{Scope, behind_words, inside, behind_block, with_decls, with_named}
 use Rattle.ac_rules.proofs.Kept.{rules_kept}
 use Rattle.ac_calls.specs.Holdings.{Held, of_rows, of_holder, of_queue, Guards, names_of, number_of, new_held, element_value, key_updated}
 use Rattle.ac_meaning.specs.Environment.{Bound, binds_type, binds_object, binds_cursor, binds_element, binds_value, State, first_state, under, bound_at, with_bound, object_at, guarded_at, mark_at, value_at, value_or_zero, with_name, leaving, Declared, unless_spent, after_decl, after_decls}
 use Rattle.ac_meaning.specs.Commands.{performed}
-use Rattle.ac_meaning.specs.Execution.{End, Outcome, outcome as come_to, Orders, passed_on, unless_raised, followed, run_by, gathered, scoped, commanded, guards_of_loop, guards_of_stable, guards_of_view, in_order, turn_bound, head_reason, key_end, key_end_on, turns_behind, key_body, viewed, view_on, on_object, after_declared, exec_behind, run_with, no_orders}
+use Rattle.ac_meaning.specs.Execution.{End, Outcome, outcome as come_to, Orders, passed_on, unless_raised, followed, run_by, gathered, scoped, commanded, guards_of_loop, guards_of_stable, guards_of_view, in_order, turn_bound, head_reason, key_end, key_end_on, turns_behind, key_body, viewed, view_on, on_object, after_declared, takes_any, exec_behind, handle, run_with, no_orders}
 use Rattle.ac_meaning.specs.GuardedNames.{kept}
 use Rattle.ac_meaning.specs.HoldsTypes.{HoldsTypes}
 use Rattle.ac_meaning.specs.TaskBlocks.{queue_places, block_of, block_fits, queue_left, queues_left}
@@ -283,97 +285,130 @@ copy_or scope guards e line view object at name h mark holds kept there none is 
     (copy_values scope guards e line object at name h mark holds (subst (λ v. HeadKept scope (view_at line v object at name)) is kept) there
     (subst (λ v. head_reason v h mark ≡ None) is none))
 
-pub exec_goes : (propagates : Bool) (orders : Orders) (code : Code) (scope : Scope) (guards : Guards) (end : End) (e : State) → AreStatements code →
-    KeepsRules scope code → HoldsValues scope guards e → Goes e (exec_behind propagates orders code scope guards end e).after
-exec_goes propagates orders stop scope guards end e are kept holds = goes_same e holds.sound
-exec_goes propagates orders (one simple rest) scope guards (Some raised) e are kept holds =
-    subst (λ (r : Outcome). Goes e r.after) (sym (none_runs_behind propagates orders rest scope guards raised e)) (goes_same e holds.sound)
-exec_goes propagates orders (one simple rest) scope guards None e are kept holds =
-    go_on scope guards e (passed_on propagates (commanded guards e (resolve_simple scope simple))) (exec_behind propagates orders rest scope guards) holds
-    (commanded_goes scope guards e simple holds kept.first)
-    (exec_sorts propagates orders (one simple stop) scope guards None e tt (record { first = kept.first; rest = tt }) holds.types)
-    (exec_keeps propagates orders (one simple stop) scope guards None e)
-    (λ end later h. exec_goes propagates orders rest scope guards end later are kept.rest h)
-exec_goes propagates orders (block head body rest) scope guards (Some raised) e are kept holds =
-    subst (λ (r : Outcome). Goes e r.after) (sym (none_runs_behind propagates orders rest (behind_block scope head) guards raised e)) (goes_same e holds.sound)
-exec_goes propagates orders (block (loop_at line name elements backward object) body rest) scope guards None e are kept holds =
-    let head = loop_at line name elements backward object in
-    let within = inside scope head in
-    let place = place_of scope object in
-    let inner : Guards → State → Outcome = λ held. exec_behind propagates orders body within held None in
-    go_on scope guards e (blocked propagates orders head body scope guards e) (exec_behind propagates orders rest scope guards) holds
-    (loop_goes inner scope within (λ held now. exec_keeps propagates orders body within held None now)
-    (λ held now h. exec_sorts propagates orders body within held None now are.0 kept.body h)
-    (λ held now h. exec_goes propagates orders body within held None now are.0 kept.body h)
-    guards line elements backward place (guarded_at (under guards e) place) e refl holds
-    (λ h there now n values same named. turn_values scope guards now line name elements backward object h n values kept.head
-    (sound_at (under guards e) place h (sound-under guards e holds.sound) there) named same))
-    (exec_sorts propagates orders (block head body stop) scope guards None e (are.0, tt) (block_kept scope head body rest kept) holds.types)
-    (exec_keeps propagates orders (block head body stop) scope guards None e)
-    (λ end later h. exec_goes propagates orders rest scope guards end later are.1 kept.rest h)
-exec_goes propagates orders (block (view_at line view object at name) body rest) scope guards None e are kept holds =
-    let head = view_at line view object at name in
-    let within = inside scope head in
-    let place = place_of scope object in
-    let inner : Guards → State → Outcome = λ held. exec_behind propagates orders body within held None in
-    go_on scope guards e (blocked propagates orders head body scope guards e) (exec_behind propagates orders rest scope guards) holds
-    (placed_goes inner scope within (λ held now. exec_keeps propagates orders body within held None now)
-    (λ held now h. exec_sorts propagates orders body within held None now are.0 kept.body h)
-    (λ held now h. exec_goes propagates orders body within held None now are.0 kept.body h)
-    guards line view place (option_map (place_of scope) at) e (guarded_at (under guards e) place) refl holds.sound
-    (λ h mark there none stands. view_values scope guards e line view object at name h mark holds kept.head there none stands)
-    (λ h mark there none is. copy_or scope guards e line view object at name h mark holds kept.head there none is))
-    (exec_sorts propagates orders (block head body stop) scope guards None e (are.0, tt) (block_kept scope head body rest kept) holds.types)
-    (exec_keeps propagates orders (block head body stop) scope guards None e)
-    (λ end later h. exec_goes propagates orders rest scope guards end later are.1 kept.rest h)
-exec_goes propagates orders (block (stable_at line object) body rest) scope guards None e are kept holds =
-    let head = stable_at line object in
-    let within = scope in
-    let place = place_of scope object in
-    let inner : Guards → State → Outcome = λ held. exec_behind propagates orders body within held None in
-    go_on scope guards e (blocked propagates orders head body scope guards e) (exec_behind propagates orders rest scope guards) holds
-    (stable_goes inner scope within (λ held now. exec_keeps propagates orders body within held None now)
-    (λ held now h. exec_sorts propagates orders body within held None now are.0 kept.body h)
-    (λ held now h. exec_goes propagates orders body within held None now are.0 kept.body h)
-    guards line place (guarded_at (under guards e) place) e holds.sound (λ h. more_values scope (guards_of_stable h) guards e holds))
-    (exec_sorts propagates orders (block head body stop) scope guards None e (are.0, tt) (block_kept scope head body rest kept) holds.types)
-    (exec_keeps propagates orders (block head body stop) scope guards None e)
-    (λ end later h. exec_goes propagates orders rest scope guards end later are.1 kept.rest h)
-exec_goes propagates orders (block (declare_at line decls) body rest) scope guards None e are kept holds =
-    let head = declare_at line decls in
-    let within = with_decls scope decls in
-    let resolved = resolve_decls scope decls in
-    let inner : Guards → State → Outcome = λ held. exec_behind propagates orders body within held None in
-    go_on scope guards e (blocked propagates orders head body scope guards e) (exec_behind propagates orders rest scope guards) holds
-    (declared_goes inner scope within (λ held now. exec_keeps propagates orders body within held None now)
-    (λ held now h. exec_sorts propagates orders body within held None now are.0 kept.body h)
-    (λ held now h. exec_goes propagates orders body within held None now are.0 kept.body h)
-    guards e (after_decls resolved e) (after_decls resolved e).spent refl (decls_extend resolved e) holds.sound (decls_sound resolved e holds.sound)
-    (values_declared.decls scope decls guards e holds kept.decls))
-    (exec_sorts propagates orders (block head body stop) scope guards None e (are.0, tt) (block_kept scope head body rest kept) holds.types)
-    (exec_keeps propagates orders (block head body stop) scope guards None e)
-    (λ end later h. exec_goes propagates orders rest scope guards end later are.1 kept.rest h)
-exec_goes propagates orders (block (tasks_at line) body rest) scope guards None e are kept holds =
-    let head = tasks_at line in
-    go_on scope guards e (blocked propagates orders head body scope guards e) (exec_behind propagates orders rest scope guards) holds
-    (gathered_goes (orders e.blocks) (resolve scope body) e holds.sound)
-    (exec_sorts propagates orders (block head body stop) scope guards None e (are.0, are.1, tt) (block_kept scope head body rest kept) holds.types)
-    (exec_keeps propagates orders (block head body stop) scope guards None e)
-    (λ end later h. exec_goes propagates orders rest scope guards end later are.2 kept.rest h)
-exec_goes propagates orders (block (task_at line name locals) body rest) scope guards None e are kept holds = absurd are
+either_goes : (b : Bool) (x y : Outcome) (e : State) → Goes e x.after → Goes e y.after → Goes e (if b then x else y).after
+either_goes true x y e h k = h
+either_goes false x y e h k = k
+
+mutual
+  pub exec_goes : (propagates : Bool) (orders : Orders) (code : Code) (scope : Scope) (guards : Guards) (end : End) (e : State) → AreStatements propagates code →
+      KeepsRules scope code → HoldsValues scope guards e → Goes e (exec_behind propagates orders code scope guards end e).after
+  exec_goes propagates orders stop scope guards end e are kept holds = goes_same e holds.sound
+  exec_goes propagates orders (one simple rest) scope guards (Some raised) e are kept holds =
+      subst (λ (r : Outcome). Goes e r.after) (sym (none_runs_behind propagates orders rest scope guards raised e)) (goes_same e holds.sound)
+  exec_goes propagates orders (one simple rest) scope guards None e are kept holds =
+      go_on scope guards e (passed_on propagates (commanded guards e (resolve_simple scope simple))) (exec_behind propagates orders rest scope guards) holds
+      (commanded_goes scope guards e simple holds kept.first)
+      (exec_sorts propagates orders (one simple stop) scope guards None e tt (record { first = kept.first; rest = tt }) holds.types)
+      (exec_keeps propagates orders (one simple stop) scope guards None e)
+      (λ end later h. exec_goes propagates orders rest scope guards end later are kept.rest h)
+  exec_goes propagates orders (block head body rest) scope guards (Some raised) e are kept holds =
+      subst (λ (r : Outcome). Goes e r.after) (sym (none_runs_behind propagates orders rest (behind_block scope head) guards raised e)) (goes_same e holds.sound)
+  exec_goes propagates orders (block (loop_at line name elements backward object) body rest) scope guards None e are kept holds =
+      let head = loop_at line name elements backward object in
+      let within = inside scope head in
+      let place = place_of scope object in
+      let inner : Guards → State → Outcome = λ held. exec_behind propagates orders body within held None in
+      go_on scope guards e (blocked propagates orders head body scope guards e) (exec_behind propagates orders rest scope guards) holds
+      (loop_goes inner scope within (λ held now. exec_keeps propagates orders body within held None now)
+      (λ held now h. exec_sorts propagates orders body within held None now are.0 kept.body h)
+      (λ held now h. exec_goes propagates orders body within held None now are.0 kept.body h)
+      guards line elements backward place (guarded_at (under guards e) place) e refl holds
+      (λ h there now n values same named. turn_values scope guards now line name elements backward object h n values kept.head
+      (sound_at (under guards e) place h (sound-under guards e holds.sound) there) named same))
+      (exec_sorts propagates orders (block head body stop) scope guards None e (are.0, tt) (block_kept scope head body rest kept) holds.types)
+      (exec_keeps propagates orders (block head body stop) scope guards None e)
+      (λ end later h. exec_goes propagates orders rest scope guards end later are.1 kept.rest h)
+  exec_goes propagates orders (block (view_at line view object at name) body rest) scope guards None e are kept holds =
+      let head = view_at line view object at name in
+      let within = inside scope head in
+      let place = place_of scope object in
+      let inner : Guards → State → Outcome = λ held. exec_behind propagates orders body within held None in
+      go_on scope guards e (blocked propagates orders head body scope guards e) (exec_behind propagates orders rest scope guards) holds
+      (placed_goes inner scope within (λ held now. exec_keeps propagates orders body within held None now)
+      (λ held now h. exec_sorts propagates orders body within held None now are.0 kept.body h)
+      (λ held now h. exec_goes propagates orders body within held None now are.0 kept.body h)
+      guards line view place (option_map (place_of scope) at) e (guarded_at (under guards e) place) refl holds.sound
+      (λ h mark there none stands. view_values scope guards e line view object at name h mark holds kept.head there none stands)
+      (λ h mark there none is. copy_or scope guards e line view object at name h mark holds kept.head there none is))
+      (exec_sorts propagates orders (block head body stop) scope guards None e (are.0, tt) (block_kept scope head body rest kept) holds.types)
+      (exec_keeps propagates orders (block head body stop) scope guards None e)
+      (λ end later h. exec_goes propagates orders rest scope guards end later are.1 kept.rest h)
+  exec_goes propagates orders (block (stable_at line object) body rest) scope guards None e are kept holds =
+      let head = stable_at line object in
+      let within = scope in
+      let place = place_of scope object in
+      let inner : Guards → State → Outcome = λ held. exec_behind propagates orders body within held None in
+      go_on scope guards e (blocked propagates orders head body scope guards e) (exec_behind propagates orders rest scope guards) holds
+      (stable_goes inner scope within (λ held now. exec_keeps propagates orders body within held None now)
+      (λ held now h. exec_sorts propagates orders body within held None now are.0 kept.body h)
+      (λ held now h. exec_goes propagates orders body within held None now are.0 kept.body h)
+      guards line place (guarded_at (under guards e) place) e holds.sound (λ h. more_values scope (guards_of_stable h) guards e holds))
+      (exec_sorts propagates orders (block head body stop) scope guards None e (are.0, tt) (block_kept scope head body rest kept) holds.types)
+      (exec_keeps propagates orders (block head body stop) scope guards None e)
+      (λ end later h. exec_goes propagates orders rest scope guards end later are.1 kept.rest h)
+  exec_goes propagates orders (block (declare_at line decls) body rest) scope guards None e are kept holds =
+      let head = declare_at line decls in
+      let within = with_decls scope decls in
+      let resolved = resolve_decls scope decls in
+      let inner : Guards → State → Outcome = λ held. exec_behind propagates orders body within held None in
+      go_on scope guards e (blocked propagates orders head body scope guards e) (exec_behind propagates orders rest scope guards) holds
+      (declared_goes inner scope within (λ held now. exec_keeps propagates orders body within held None now)
+      (λ held now h. exec_sorts propagates orders body within held None now are.0 kept.body h)
+      (λ held now h. exec_goes propagates orders body within held None now are.0 kept.body h)
+      guards e (after_decls resolved e) (after_decls resolved e).spent refl (decls_extend resolved e) holds.sound (decls_sound resolved e holds.sound)
+      (values_declared.decls scope decls guards e holds kept.decls))
+      (exec_sorts propagates orders (block head body stop) scope guards None e (are.0, tt) (block_kept scope head body rest kept) holds.types)
+      (exec_keeps propagates orders (block head body stop) scope guards None e)
+      (λ end later h. exec_goes propagates orders rest scope guards end later are.1 kept.rest h)
+  exec_goes propagates orders (block (tasks_at line) body rest) scope guards None e are kept holds =
+      let head = tasks_at line in
+      go_on scope guards e (blocked propagates orders head body scope guards e) (exec_behind propagates orders rest scope guards) holds
+      (gathered_goes (orders e.blocks) (resolve scope body) e holds.sound)
+      (exec_sorts propagates orders (block head body stop) scope guards None e (are.0, are.1, tt) (block_kept scope head body rest kept) holds.types)
+      (exec_keeps propagates orders (block head body stop) scope guards None e)
+      (λ end later h. exec_goes propagates orders rest scope guards end later are.2 kept.rest h)
+  exec_goes propagates orders (block (task_at line name locals) body rest) scope guards None e are kept holds = absurd are
+  exec_goes propagates orders (handled line body handlers rest) scope guards (Some raised) e are kept holds =
+      subst (λ (r : Outcome). Goes e r.after) (sym (none_runs_behind propagates orders rest scope guards raised e)) (goes_same e holds.sound)
+  exec_goes propagates orders (handled line body handlers rest) scope guards None e are kept holds =
+      let tried = passed_on propagates (exec_behind propagates orders body scope guards None e) in
+      let taken = followed tried (handle propagates orders handlers scope guards) in
+      go_on scope guards e (passed_on propagates taken) (exec_behind propagates orders rest scope guards) holds
+      (go_on scope guards e tried (handle propagates orders handlers scope guards) holds
+      (exec_goes propagates orders body scope guards None e are.1 kept.body holds)
+      (exec_sorts propagates orders body scope guards None e are.1 kept.body holds.types)
+      (exec_keeps propagates orders body scope guards None e)
+      (λ end later h. handle_goes propagates orders handlers [] scope guards end later are.3 kept.handlers h))
+      (exec_sorts propagates orders (handled line body handlers stop) scope guards None e (are.0, are.1, are.2, are.3, tt)
+      (record { body = kept.body; handlers = kept.handlers; rest = tt }) holds.types)
+      (exec_keeps propagates orders (handled line body handlers stop) scope guards None e)
+      (λ end later h. exec_goes propagates orders rest scope guards end later are.4 kept.rest h)
+
+  -- and so do handlers
+  handle_goes : (propagates : Bool) (orders : Orders) (handlers : HandlerCode) (named : List Exception) (scope : Scope) (guards : Guards) (end : End)
+      (e : State) → AreHandlers propagates handlers → HandlersKept scope named handlers → HoldsValues scope guards e →
+      Goes e (handle propagates orders handlers scope guards end e).after
+  handle_goes propagates orders no_handler named scope guards end e are kept holds = goes_same e holds.sound
+  handle_goes propagates orders (handler line own body more) named scope guards None e are kept holds = goes_same e holds.sound
+  handle_goes propagates orders (handler line None body more) named scope guards (Some raised) e are kept holds =
+      exec_goes propagates orders body scope guards None e are.0 kept.body holds
+  handle_goes propagates orders (handler line (Some own) body more) named scope guards (Some raised) e are kept holds =
+      either_goes (takes_any (Some own) raised) (exec_behind propagates orders body scope guards None e)
+      (handle propagates orders more scope guards (Some raised) e) e (exec_goes propagates orders body scope guards None e are.0 kept.body holds)
+      (handle_goes propagates orders more (with_named named (Some own)) scope guards (Some raised) e are.1 kept.more holds)
 
 pub statements_keep_values : (propagates : Bool) (orders : Orders) (code : Code) (scope : Scope) (guards : Guards) (end : End) (e : State) →
-    AreStatements code → KeepsRules scope code → HoldsValues scope guards e → HoldsValues scope guards (exec_behind propagates orders code scope guards end e).after
+    AreStatements propagates code → KeepsRules scope code → HoldsValues scope guards e → HoldsValues scope guards (exec_behind propagates orders code scope guards end e).after
 statements_keep_values propagates orders code scope guards end e are kept holds =
     values_on scope guards e (exec_behind propagates orders code scope guards end e).after holds
     (exec_goes propagates orders code scope guards end e are kept holds)
     (exec_sorts propagates orders code scope guards end e are kept holds.types) (exec_keeps propagates orders code scope guards end e)
 
-script_values : (orders : Orders) (script : Script) → IsChecked script → AreStatements script.stmts →
+script_values : (orders : Orders) (script : Script) → IsChecked script → AreStatements (propagates_in script) script.stmts →
     (after_decls (resolve_decls [] script.decls) first_state).spent ≡ None → HoldsValues (with_decls [] script.decls) [] (run_with orders script).after
 unfolding run_with
 script_values orders script checked are none =
-    statements_keep_values false orders script.stmts (with_decls [] script.decls) [] None (after_decls (resolve_decls [] script.decls) first_state).after are
+    statements_keep_values (propagates_in script) orders script.stmts (with_decls [] script.decls) [] None (after_decls (resolve_decls [] script.decls) first_state).after are
     (rules_kept script checked).code (values_declared.script script checked none)
 
 pub values_go_on : ValuesGoOn

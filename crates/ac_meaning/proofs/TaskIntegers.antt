@@ -3,7 +3,7 @@ use Rattle.std.proofs.Common.{◌≡◌, ◌≤◌, ◌++◌, ℕ, Bool, true, L
 use Rattle.std.specs.Prelude.{IsTrue}
 use Rattle.std.proofs.lemmas.List.{append-nil}
 use Rattle.ac_base.specs.declared.value.Value.{Value}
-use Rattle.ac_syntax.specs.Code.{Simple, call_at, set_at, sum_at, loop_at, view_at, stable_at, declare_at, tasks_at, task_at, Code, stop, one, block}
+use Rattle.ac_syntax.specs.Code.{Simple, call_at, set_at, sum_at, loop_at, view_at, stable_at, declare_at, tasks_at, task_at, Code, stop, one, block, handled}
 use Rattle.ac_syntax.specs.Kinds.{is_queue}
 use Rattle.ac_syntax.specs.Nesting.{AreStatements, AreIntegers as AreIntegerLocals, AreCommands, AreTasks}
 use Rattle.ac_syntax.specs.declared.arg.Arg.{Arg}
@@ -120,6 +120,7 @@ module _ (e : State) (before names : Scope) (locals : List Decl) (ints : AreInte
   steps_integers stop commands kept = tt
   steps_integers (one simple rest) commands kept = (simple_integers simple kept.first, steps_integers rest commands kept.rest)
   steps_integers (block head body rest) commands kept = absurd commands
+  steps_integers (handled line body handlers rest) commands kept = absurd commands
 
 -- Tasks
 
@@ -137,6 +138,7 @@ module _ (e : State) (before : Scope) (none : first_task before ≡ None) (holds
   tasks_integers : (tasks : Code) (olds : Scope) → AreTasks tasks → AllTasks olds → KeepsRules (before ++ olds) tasks → AllTakeIntegers tasks
   tasks_integers stop olds are names kept = tt
   tasks_integers (one simple rest) olds are names kept = absurd are
+  tasks_integers (handled line body handlers rest) olds are names kept = absurd are
   tasks_integers (block (loop_at _ _ _ _ _) steps rest) olds are names kept = absurd are
   tasks_integers (block (view_at _ _ _ _ _) steps rest) olds are names kept = absurd are
   tasks_integers (block (stable_at _ _) steps rest) olds are names kept = absurd are
@@ -149,8 +151,8 @@ module _ (e : State) (before : Scope) (none : first_task before ≡ None) (holds
         tasks_integers rest (olds ++ added) are.2 (one_more olds name names) (subst (λ s. KeepsRules s rest) same kept.rest),
       )
 
-pub tasks_take_integers : (scope : Scope) (e : State) (line : ℕ) (tasks rest : Code) → HoldsTypes scope e →
-    AreStatements (block (tasks_at line) tasks rest) → KeepsRules scope (block (tasks_at line) tasks rest) → AllTakeIntegers tasks
-tasks_take_integers scope e line tasks rest holds statements kept =
+pub tasks_take_integers : (propagating : Bool) (scope : Scope) (e : State) (line : ℕ) (tasks rest : Code) → HoldsTypes scope e →
+    AreStatements propagating (block (tasks_at line) tasks rest) → KeepsRules scope (block (tasks_at line) tasks rest) → AllTakeIntegers tasks
+tasks_take_integers propagating scope e line tasks rest holds statements kept =
     let none = suits_none (first_task scope) kept.head.suited in
     tasks_integers e scope none holds tasks [] statements.1 no_tasks (subst (λ s. KeepsRules s tasks) (sym (append-nil scope)) kept.body)

@@ -6,7 +6,7 @@ use Rattle.std.proofs.lemmas.List.{append-nil}
 use Rattle.ac_model.specs.Queues.{Discipline, by_arrival, by_priority}
 use Rattle.ac_history.specs.declared.code.TaskArg.{TaskArg}
 use Rattle.ac_history.specs.declared.code.TaskCode.{TaskCode}
-use Rattle.ac_syntax.specs.Code.{Simple, call_at, set_at, sum_at, loop_at, view_at, stable_at, declare_at, tasks_at, task_at, Code, stop, one, block}
+use Rattle.ac_syntax.specs.Code.{Simple, call_at, set_at, sum_at, loop_at, view_at, stable_at, declare_at, tasks_at, task_at, Code, stop, one, block, handled}
 use Rattle.ac_syntax.specs.Nesting.{AreIntegers, AreCommands, AreTasks}
 use Rattle.ac_syntax.specs.declared.arg.Arg.{Arg}
 use Rattle.ac_syntax.specs.declared.arg.Arg.TheVariants.{Lit, NoElement, Var}
@@ -228,6 +228,7 @@ module _ (e : State) (before names : Scope) (locals : List Decl) (places : List 
   steps_fit (one simple rest) commands kept called =
       and_both _ _ (simple_fits simple kept.first called.0) (steps_fit rest commands kept.rest called.1)
   steps_fit (block head body rest) commands kept called = absurd commands
+  steps_fit (handled line body handlers rest) commands kept called = absurd commands
 
 -- Tasks
 
@@ -259,6 +260,7 @@ module _ (e : State) (before : Scope) (places : List ℕ) (none : first_task bef
       AllFit (map (λ (t : Task). t.code) (tasks_from (resolve (before ++ olds) tasks) places at))
   tasks_fit stop olds at are names kept shared is = refl
   tasks_fit (one simple rest) olds at are names kept shared is = absurd are
+  tasks_fit (handled line body handlers rest) olds at are names kept shared is = absurd are
   tasks_fit (block (loop_at _ _ _ _ _) steps rest) olds at are names kept shared is = absurd are
   tasks_fit (block (view_at _ _ _ _ _) steps rest) olds at are names kept shared is = absurd are
   tasks_fit (block (stable_at _ _) steps rest) olds at are names kept shared is = absurd are
@@ -274,7 +276,7 @@ module _ (e : State) (before : Scope) (places : List ℕ) (none : first_task bef
       (omega (arith, is, length_both before olds, length_both before (olds ++ added), length_both olds added))))
 
 pub tasks_all_fit : TasksFit
-tasks_all_fit scope e line tasks rest holds statements kept =
+tasks_all_fit propagating scope e line tasks rest holds statements kept =
     let none = suits_none (first_task scope) kept.head.suited in
     let places = queue_places (resolve scope tasks) in
     let same : scope ++ [] ≡ scope = append-nil scope in
@@ -286,5 +288,5 @@ tasks_all_fit scope e line tasks rest holds statements kept =
     (omega (arith, as_long [] scope e.bounds holds, ap (λ (s : Scope). length s) same))))
 
 pub tasks_run : TasksRun
-tasks_run scope e order line tasks rest holds statements kept =
-    ap (λ b. if b then run_by order (resolve scope tasks) e else outcome [] e) (tasks_all_fit scope e line tasks rest holds statements kept)
+tasks_run propagating scope e order line tasks rest holds statements kept =
+    ap (λ b. if b then run_by order (resolve scope tasks) e else outcome [] e) (tasks_all_fit propagating scope e line tasks rest holds statements kept)

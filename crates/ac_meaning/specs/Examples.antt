@@ -57,7 +57,7 @@ abbrev pub vector_cursor : ℕ → List ℕ → Decl
 vector_cursor line name = decl.CursorVar line name (codes "t")
 
 abbrev pub script : List Decl → Code → Script
-script decls stmts = record { decls = decls; stmts = stmts }
+script decls stmts = record { pragma = None; decls = decls; stmts = stmts }
 
 -- adding under a loop is refused in each turn, and goes again behind the loop
 abbrev pub LoopForbidsAppend : Type 0

@@ -10,7 +10,8 @@ use Rattle.ac_base.specs.declared.reason.Reason.TheVariants.{NamesSpent}
 use Rattle.ac_base.specs.declared.guard.GuardKind.TheVariants as guard
 use Rattle.ac_model.specs.Letters.{Mark, mark_at as mark_of_name}
 use Rattle.ac_history.specs.Orders.{run_of}
-use Rattle.ac_syntax.specs.Code.{Code, stop, one, block}
+use Rattle.ac_syntax.specs.Canonical.{propagates_in}
+use Rattle.ac_syntax.specs.Code.{Code, stop, one, block, handled, HandlerCode, no_handler, handler}
 use Rattle.ac_syntax.specs.declared.script.Script.{Script}
 use Rattle.ac_syntax.specs.declared.view_kind.ViewKind.{ViewKind}
 use Rattle.ac_syntax.specs.declared.view_kind.ViewKind.TheVariants.{Query, Update, Reference, UpdateKey}
@@ -221,28 +222,45 @@ takes begins_at raised = false
 takes tries_at raised = false
 takes (handles_at catches) raised = takes_any catches raised
 
--- statements in order, in the scope where they stand, behind what ended so: behind an exception none runs
-abbrev pub exec_behind : (propagates : Bool) → Orders → Code → Scope → Guards → End → State → Outcome
-exec_behind propagates orders stop scope guards end e = ending end [] e
-exec_behind propagates orders (one simple rest) scope guards None e =
-    followed (passed_on propagates (commanded guards e (resolve_simple scope simple))) (exec_behind propagates orders rest scope guards)
-exec_behind propagates orders (one simple rest) scope guards (Some raised) e = exec_behind propagates orders rest scope guards (Some raised) e
-exec_behind propagates orders (block head body rest) scope guards None e =
-    followed
-    (passed_on propagates
-    (block_on (λ held. exec_behind propagates orders body (inside scope head) held None) guards orders
-    (resolve (inside scope head) body) e (resolve_head scope head)))
-    (exec_behind propagates orders rest (behind_block scope head) guards)
-exec_behind propagates orders (block head body rest) scope guards (Some raised) e =
-    exec_behind propagates orders rest (behind_block scope head) guards (Some raised) e
+abbrev mutual
+  -- statements in order, in the scope where they stand, behind what ended so: behind an exception none runs
+  pub exec_behind : (propagates : Bool) → Orders → Code → Scope → Guards → End → State → Outcome
+  exec_behind propagates orders stop scope guards end e = ending end [] e
+  exec_behind propagates orders (one simple rest) scope guards None e =
+      followed (passed_on propagates (commanded guards e (resolve_simple scope simple))) (exec_behind propagates orders rest scope guards)
+  exec_behind propagates orders (one simple rest) scope guards (Some raised) e = exec_behind propagates orders rest scope guards (Some raised) e
+  exec_behind propagates orders (block head body rest) scope guards None e =
+      followed
+      (passed_on propagates
+      (block_on (λ held. exec_behind propagates orders body (inside scope head) held None) guards orders
+      (resolve (inside scope head) body) e (resolve_head scope head)))
+      (exec_behind propagates orders rest (behind_block scope head) guards)
+  exec_behind propagates orders (block head body rest) scope guards (Some raised) e =
+      exec_behind propagates orders rest (behind_block scope head) guards (Some raised) e
+  -- a block with handlers: what it tries, and behind an exception that leaves it a handler
+  exec_behind propagates orders (handled line body handlers rest) scope guards None e =
+      followed
+      (passed_on propagates
+      (followed (passed_on propagates (exec_behind propagates orders body scope guards None e)) (handle propagates orders handlers scope guards)))
+      (exec_behind propagates orders rest scope guards)
+  exec_behind propagates orders (handled line body handlers rest) scope guards (Some raised) e =
+      exec_behind propagates orders rest scope guards (Some raised) e
+
+  -- the first handler that takes the exception, where one came and one does
+  pub handle : (propagates : Bool) → Orders → HandlerCode → Scope → Guards → End → State → Outcome
+  handle propagates orders no_handler scope guards end e = ending end [] e
+  handle propagates orders (handler line own body more) scope guards None e = outcome [] e
+  handle propagates orders (handler line own body more) scope guards (Some raised) e =
+      if takes_any own raised then exec_behind propagates orders body scope guards None e
+      else handle propagates orders more scope guards (Some raised) e
 
 abbrev pub exec : (propagates : Bool) → Orders → Code → Scope → Guards → State → Outcome
 exec propagates orders code scope guards e = exec_behind propagates orders code scope guards None e
 
--- a script: its outermost declarations, and its statements with no guards. Its exceptions don't propagate: each statement runs whatever the one before it raised
+-- a script: its outermost declarations, and its statements with no guards. Without the pragma its exceptions don't propagate: each statement runs, whatever the one before it raised
 unfoldable pub run_with : Orders → Script → Outcome
 run_with orders script =
-    exec false orders script.stmts (with_decls [] script.decls) [] (after_decls (resolve_decls [] script.decls) first_state).after
+    exec (propagates_in script) orders script.stmts (with_decls [] script.decls) [] (after_decls (resolve_decls [] script.decls) first_state).after
 
 unfoldable pub text_with : Orders → Script → List ℕ
 text_with orders script = lines_text (run_with orders script).lines

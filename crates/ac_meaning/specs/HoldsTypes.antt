@@ -4,6 +4,7 @@ use Rattle.ac_base.specs.declared.value.Value.{Value}
 use Rattle.ac_model.specs.Letters.{Mark}
 use Rattle.ac_model.specs.Queues.{Discipline, by_arrival, by_priority}
 use Rattle.ac_syntax.specs.Code.{loop_at, view_at, Code}
+use Rattle.ac_syntax.specs.Canonical.{propagates_in}
 use Rattle.ac_syntax.specs.Kinds.{has_cursors}
 use Rattle.ac_syntax.specs.Nesting.{AreStatements}
 use Rattle.ac_syntax.specs.declared.decl.Decl.{Decl}
@@ -139,9 +140,9 @@ pub record HeadsHold : Type 0 where
 -- commands keep it, whatever they are, and so do statements that keep the rules, as a script that can run does to its end, guards and names that go
 pub record GoesOnHolding : Type 0 where
   pub commands : (scope : Scope) (e : State) (simple : ResolvedSimple) → HoldsTypes scope e → HoldsTypes scope (performed e simple).after
-  pub statements : (propagates : Bool) (orders : Orders) (code : Code) (scope : Scope) (guards : Guards) (end : End) (e : State) → AreStatements code →
+  pub statements : (propagates : Bool) (orders : Orders) (code : Code) (scope : Scope) (guards : Guards) (end : End) (e : State) → AreStatements propagates code →
       KeepsRules scope code → HoldsTypes scope e → HoldsTypes scope (exec_behind propagates orders code scope guards end e).after
-  pub script : (orders : Orders) (script : Script) → IsChecked script → AreStatements script.stmts →
+  pub script : (orders : Orders) (script : Script) → IsChecked script → AreStatements (propagates_in script) script.stmts →
       (after_decls (resolve_decls [] script.decls) first_state).spent ≡ None → HoldsTypes (with_decls [] script.decls) (run_with orders script).after
   pub guarded : (scope : Scope) (guards : Guards) (e : State) → HoldsTypes scope e → HoldsTypes scope (under guards e)
   pub rested : (scope : Scope) (e : State) → HoldsTypes scope e → HoldsTypes scope (at_rest e)

@@ -22,11 +22,11 @@ RunsResolved = (propagates : Bool) (orders : Orders) (code : Code) (scope : Scop
     resolved_behind propagates orders (resolve scope code) guards end e ≡ exec_behind propagates orders code scope guards end e
 
 -- a script, by what it is resolved to
-abbrev pub run_resolved : (propagates : Bool) → Orders → ResolvedScript → Outcome
-run_resolved propagates orders script = exec_resolved propagates orders script.stmts [] (after_decls script.decls first_state).after
+abbrev pub run_resolved : Orders → ResolvedScript → Outcome
+run_resolved orders script = exec_resolved script.propagates orders script.stmts [] (after_decls script.decls first_state).after
 
 abbrev pub ScriptRunsResolved : Type 0
-ScriptRunsResolved = (orders : Orders) (script : Script) → run_resolved false orders (resolve_script script) ≡ run_with orders script
+ScriptRunsResolved = (orders : Orders) (script : Script) → run_resolved orders (resolve_script script) ≡ run_with orders script
 
 -- orders that are the same for the blocks from one count up to another
 abbrev pub Agree : (orders others : Orders) → (from to : ℕ) → Type 0

@@ -171,12 +171,12 @@ pub record BlocksSuit : Type 0 where
 -- the numbers of a block of tasks are those of its queues and locals, and a queue that is asked for priorities is one by priority
 abbrev pub TasksFit : Type 0
 TasksFit =
-    (scope : Scope) (e : State) (line : ℕ) (tasks rest : Code) → HoldsTypes scope e → AreStatements (block (tasks_at line) tasks rest) →
-    KeepsRules scope (block (tasks_at line) tasks rest) → block_fits (block_of e (resolve scope tasks)) ≡ true
+    (propagating : Bool) (scope : Scope) (e : State) (line : ℕ) (tasks rest : Code) → HoldsTypes scope e →
+    AreStatements propagating (block (tasks_at line) tasks rest) → KeepsRules scope (block (tasks_at line) tasks rest) → block_fits (block_of e (resolve scope tasks)) ≡ true
 
 -- so each runs by its order
 abbrev pub TasksRun : Type 0
 TasksRun =
-    (scope : Scope) (e : State) (order : List ℕ) (line : ℕ) (tasks rest : Code) → HoldsTypes scope e →
-    AreStatements (block (tasks_at line) tasks rest) → KeepsRules scope (block (tasks_at line) tasks rest) →
+    (propagating : Bool) (scope : Scope) (e : State) (order : List ℕ) (line : ℕ) (tasks rest : Code) → HoldsTypes scope e →
+    AreStatements propagating (block (tasks_at line) tasks rest) → KeepsRules scope (block (tasks_at line) tasks rest) →
     gathered order (resolve scope tasks) e ≡ run_by order (resolve scope tasks) e

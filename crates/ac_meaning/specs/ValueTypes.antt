@@ -4,7 +4,8 @@ use Rattle.std.specs.List.{list_any}
 use Rattle.ac_base.specs.declared.value.Value.{Value}
 use Rattle.ac_model.specs.Letters.{Mark, mark_at}
 use Rattle.ac_model.specs.Outline.{IsValidTree}
-use Rattle.ac_syntax.specs.Code.{Simple, call_at, set_at, sum_at, loop_at, view_at, tasks_at, Code, stop, one, block}
+use Rattle.ac_syntax.specs.Canonical.{propagates_in}
+use Rattle.ac_syntax.specs.Code.{Simple, call_at, set_at, sum_at, loop_at, view_at, tasks_at, Code, stop, one, block, handled}
 use Rattle.ac_syntax.specs.Nesting.{AreStatements}
 use Rattle.ac_syntax.specs.declared.arg.Arg.{Arg}
 use Rattle.ac_syntax.specs.declared.arg.Arg.TheVariants as arg
@@ -154,9 +155,9 @@ pub record ValuesInBlocks : Type 0 where
 pub record ValuesGoOn : Type 0 where
   pub commands : (scope : Scope) (guards : Guards) (e : State) (simple : Simple) → HoldsValues scope guards e → CommandKept scope simple →
       HoldsValues scope guards (commanded guards e (resolve_simple scope simple)).after
-  pub statements : (propagates : Bool) (orders : Orders) (code : Code) (scope : Scope) (guards : Guards) (end : End) (e : State) → AreStatements code →
+  pub statements : (propagates : Bool) (orders : Orders) (code : Code) (scope : Scope) (guards : Guards) (end : End) (e : State) → AreStatements propagates code →
       KeepsRules scope code → HoldsValues scope guards e → HoldsValues scope guards (exec_behind propagates orders code scope guards end e).after
-  pub script : (orders : Orders) (script : Script) → IsChecked script → AreStatements script.stmts →
+  pub script : (orders : Orders) (script : Script) → IsChecked script → AreStatements (propagates_in script) script.stmts →
       (after_decls (resolve_decls [] script.decls) first_state).spent ≡ None →
       HoldsValues (with_decls [] script.decls) [] (run_with orders script).after
 
@@ -213,6 +214,8 @@ abbrev pub AllTakeIntegers : Code → Type 0
 AllTakeIntegers stop = ⊤
 AllTakeIntegers (one simple rest) = TakesIntegers simple × AllTakeIntegers rest
 AllTakeIntegers (block head body rest) = AllTakeIntegers body × AllTakeIntegers rest
+-- no task tries anything
+AllTakeIntegers (handled line body handlers rest) = ⊥
 
 -- what is read as an integer is one, and what is assigned to a name of a value, an element too, is of the name's type
 pub record ValuesTaken : Type 0 where
@@ -223,5 +226,6 @@ pub record ValuesTaken : Type 0 where
   pub sets : (scope : Scope) (guards : Guards) (e : State) (line : ℕ) (target : List ℕ) (from : Arg) (v : Value) (element : ElemKind) (is_written : Bool) →
       HoldsValues scope guards e → CommandKept scope (set_at line target from) → answer_from e (resolve_arg scope from) ≡ answers_value v →
       meaning_in scope target ≡ Some (a_value element is_written) → IsOf element v
-  pub tasks : (scope : Scope) (e : State) (line : ℕ) (tasks rest : Code) → HoldsTypes scope e → AreStatements (block (tasks_at line) tasks rest) →
+  pub tasks : (propagating : Bool) (scope : Scope) (e : State) (line : ℕ) (tasks rest : Code) → HoldsTypes scope e →
+      AreStatements propagating (block (tasks_at line) tasks rest) →
       KeepsRules scope (block (tasks_at line) tasks rest) → AllTakeIntegers tasks
