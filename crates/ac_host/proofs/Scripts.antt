@@ -1,9 +1,10 @@
 -- A whole script: where it begins, and what it comes to.
-use Rattle.std.proofs.Common.{◌≡◌, ◌+◌, ℕ, Bool, false, List, [], ◌∷◌, map, refl, sym, ap, subst, ◌∙◌, Option, Result, Ok, Err, IsErrAnd, IfOk}
+use Rattle.std.proofs.Common.{◌≡◌, ◌+◌, ℕ, Bool, List, [], ◌∷◌, map, refl, sym, ap, subst, ◌∙◌, Option, Result, Ok, Err, IsErrAnd, IfOk}
 use Rattle.std.specs.List.{fold}
 use Rattle.std.proofs.lemmas.List.Elements.{All-nil}
 use Rattle.std.proofs.lemmas.Option.{none-some}
 use Rattle.std.proofs.lemmas.Result.{err_from_is_err_and}
+use Rattle.ac_syntax.specs.Canonical.{propagates_in}
 use Rattle.ac_syntax.specs.declared.script.Script.{Script}
 use Rattle.ac_rules.specs.Scopes.{with_decls}
 use Rattle.ac_rules.specs.Resolved.{ResolvedCode, resolve, resolve_decls}
@@ -59,12 +60,12 @@ pub if_ok_exit : {T E : Type 0} (P : T → Type 0) (Q : E → Type 0) (r : Resul
 if_ok_exit P Q (Ok x) exit = absurd exit
 if_ok_exit P Q (Err e) exit = tt
 
-abbrev pub comes_to : Orders → ResolvedCode → List ResolvedDecl → Outcome
-comes_to orders code ds = exec_resolved false orders code [] (after_decls ds first_state).after
+abbrev pub comes_to : (propagates : Bool) → Orders → ResolvedCode → List ResolvedDecl → Outcome
+comes_to propagates orders code ds = exec_resolved propagates orders code [] (after_decls ds first_state).after
 
-pub script_comes : (orders : Orders) (script : Script) (code : ResolvedCode) (ds : List ResolvedDecl) →
-    code ≡ resolve (with_decls [] script.decls) script.stmts → ds ≡ resolve_decls [] script.decls → comes_to orders code ds ≡ run_with orders script
-script_comes orders script code ds c d = (λ i. comes_to orders (c i) (d i)) ∙ script_runs_resolved orders script
+pub script_comes : (propagates : Bool) (orders : Orders) (script : Script) (code : ResolvedCode) (ds : List ResolvedDecl) → propagates ≡ propagates_in script →
+    code ≡ resolve (with_decls [] script.decls) script.stmts → ds ≡ resolve_decls [] script.decls → comes_to propagates orders code ds ≡ run_with orders script
+script_comes propagates orders script code ds p c d = (λ i. comes_to (p i) orders (c i) (d i)) ∙ script_runs_resolved orders script
 
 pub script_text : (orders : Orders) (script : Script) (r : Outcome) → r ≡ run_with orders script → lines_text r.lines ≡ text_with orders script
 unfolding text_with

@@ -57,7 +57,7 @@ impl Host {
     {
         let mut host = Host::new(alloc)?;
         host.declare(script.decls())?;
-        host.run_statements(script.statements(), false, sink, runner)?;
+        host.run_statements(script.statements(), script.propagates(), sink, runner)?;
         Ok(host.objects.live_nodes()?)
     }
 

@@ -59,7 +59,7 @@ module _ (orders others : Orders) where
   run_same script none =
       let r = resolve_script script in
       sym (script_runs_resolved orders script)
-      ∙ (exec_same false r.stmts none [] None (after_decls r.decls first_state).after ∙ script_runs_resolved others script)
+      ∙ (exec_same r.propagates r.stmts none [] None (after_decls r.decls first_state).after ∙ script_runs_resolved others script)
 
 -- so what it means is what it means by no orders
 

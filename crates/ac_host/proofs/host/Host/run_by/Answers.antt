@@ -45,17 +45,18 @@ returns-in_err-run_statements g c =
     let ds = c.decls.result.now in
     let code = c.statements.result.now in
     let script = c.args.script.now in
+    let propagates = c.propagates.result in
     let stands = script_begins c.in_ok-host.host.objects c.declare.new.self.objects ds c.in_ok-host.ensures c.in_ok-declare.ensures in
     let exit = c.from_residual-in_err-run_statements.ensures.1 in
     let end = c.in_err-run_statements.field-0.0 in
     script_tells c.in_ok-host.host.objects c.declare.new.self.objects ds c.in_ok-host.ensures c.in_ok-declare.ensures c.in_err-run_statements.ensures.runs
     (λ orders runs.
     let ran = runs [] (after_decls ds first_state).after stands in
-    let is = script_comes orders script code ds c.statements.ensures c.decls.ensures in (
+    let is = script_comes propagates orders script code ds c.propagates.ensures c.statements.ensures c.decls.ensures in (
       writes_broke sink.held sink.faults sink.room sink.counts_failures c.args.sink.now c.run_statements.new.sink (text_with orders script)
           end c.from_residual-in_err-run_statements.result exit
           (subst (λ t. Broke sink.held sink.faults sink.room sink.counts_failures c.args.sink.now c.run_statements.new.sink t end)
-          (script_text orders script (comes_to orders code ds) is) ran.writes),
+          (script_text orders script (comes_to propagates orders code ds) is) ran.writes),
       if_ok_exit _ _ c.from_residual-in_err-run_statements.result exit,
     ))
 
@@ -65,17 +66,18 @@ returns-in_err-live_nodes g c =
     let ds = c.decls.result.now in
     let code = c.statements.result.now in
     let script = c.args.script.now in
+    let propagates = c.propagates.result in
     let stands = script_begins c.in_ok-host.host.objects c.declare.new.self.objects ds c.in_ok-host.ensures c.in_ok-declare.ensures in
     let exit = c.from_residual-in_err-live_nodes.ensures.1 in
     script_tells c.in_ok-host.host.objects c.declare.new.self.objects ds c.in_ok-host.ensures c.in_ok-declare.ensures c.in_ok-run_statements.ensures.runs
     (λ orders runs.
     let ran = runs [] (after_decls ds first_state).after stands in
-    let is = script_comes orders script code ds c.statements.ensures c.decls.ensures in (
+    let is = script_comes propagates orders script code ds c.propagates.ensures c.statements.ensures c.decls.ensures in (
       writes_broke sink.held sink.faults sink.room sink.counts_failures c.args.sink.now c.run_statements.new.sink (text_with orders script) NoMemory
           c.from_residual-in_err-live_nodes.result exit
           (broke_behind_all sink.held sink.faults sink.room sink.counts_failures c.args.sink.now c.run_statements.new.sink (text_with orders script)
           (subst (Wrote sink.held sink.faults sink.room sink.counts_failures c.args.sink.now c.run_statements.new.sink)
-          (script_text orders script (comes_to orders code ds) is) ran.writes)),
+          (script_text orders script (comes_to propagates orders code ds) is) ran.writes)),
       if_ok_exit _ _ c.from_residual-in_err-live_nodes.result exit,
     ))
 
@@ -85,14 +87,15 @@ returns g c =
     let ds = c.decls.result.now in
     let code = c.statements.result.now in
     let script = c.args.script.now in
+    let propagates = c.propagates.result in
     let stands = script_begins c.in_ok-host.host.objects c.declare.new.self.objects ds c.in_ok-host.ensures c.in_ok-declare.ensures in
     script_tells c.in_ok-host.host.objects c.declare.new.self.objects ds c.in_ok-host.ensures c.in_ok-declare.ensures c.in_ok-run_statements.ensures.runs
     (λ orders runs.
     let ran = runs [] (after_decls ds first_state).after stands in
-    let is = script_comes orders script code ds c.statements.ensures c.decls.ensures in (
+    let is = script_comes propagates orders script code ds c.propagates.ensures c.statements.ensures c.decls.ensures in (
       subst (Wrote sink.held sink.faults sink.room sink.counts_failures c.args.sink.now c.run_statements.new.sink)
-          (script_text orders script (comes_to orders code ds) is) ran.writes,
+          (script_text orders script (comes_to propagates orders code ds) is) ran.writes,
       c.in_ok-live_nodes.ensures
           ∙ (ap nodes ran.after
-          ∙ (nodes_under [] (comes_to orders code ds).after ∙ ap (λ (r : Outcome). nodes r.after) is)),
+          ∙ (nodes_under [] (comes_to propagates orders code ds).after ∙ ap (λ (r : Outcome). nodes r.after) is)),
     ))
