@@ -5,6 +5,8 @@
 #[cfg(test)]
 mod devices;
 #[cfg(test)]
+mod handlers;
+#[cfg(test)]
 mod holders;
 #[cfg(test)]
 mod key_updates;
