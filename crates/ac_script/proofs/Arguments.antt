@@ -12,7 +12,7 @@ use Rattle.ac_syntax.specs.declared.token.Token.TheVariants as token
 use Rattle.ac_syntax.specs.declared.token.Placed.{Placed}
 use Rattle.ac_syntax.specs.declared.token.Mark.TheVariants.{Semicolon, Comma, Open, Close, Minus}
 use Rattle.ac_syntax.specs.Tokens.{tokens}
-use Rattle.ac_syntax.specs.Parts.{Part, says, marks, names, counts, writes, lacks, arg_part, more_args, args_parts}
+use Rattle.ac_syntax.specs.Parts.{Part, says, keywords, marks, names, counts, writes, lacks, arg_part, more_args, args_parts}
 use Rattle.ac_syntax.specs.Grammar.{reserved, is_reserved, IsPart, AreParts, IsInteger}
 use Rattle.ac_script.specs.Outcomes.{Outcome, got, stopped, Reader, ◌>>=◌, onward, either, fork, gives}
 use Rattle.ac_script.specs.Readers.{as_mark, mark}
@@ -44,6 +44,7 @@ constant_found (Word v) x e =
     if_cases ((i : Constant) × (x ≡ constant_arg i) × IsPart (constant_part i) (Word v ∷ [])) (bytes_eq v (codes "no_element")) _ _ _ e
     (λ h f. (no_element, sym (same_Some NoElement x f), ap (λ (v : List ℕ). Word v ∷ []) (same_bytes v (codes "no_element") h)))
     (λ h f. absurd (none-some x f))
+constant_found (token.Keyword _) x e = absurd (none-some x e)
 constant_found (Number n) x e = (a_number n, sym (same_Some _ x e), refl)
 constant_found (Text bytes) x e = (a_string bytes, sym (same_Some _ x e), refl)
 constant_found (token.Mark _) x e = absurd (none-some x e)
@@ -155,6 +156,7 @@ argument_exact =
 -- each part has a token
 part_some : (part : Part) (spelled : List Token) → IsPart part spelled → 1 ≤ length spelled
 part_some (says _) spelled h = omega (arith, ap length h)
+part_some (keywords _) spelled h = omega (arith, ap length h)
 part_some (marks _) spelled h = omega (arith, ap length h)
 part_some (names _) spelled h = omega (arith, ap length h.1)
 part_some (counts _) spelled h = omega (arith, ap length h)

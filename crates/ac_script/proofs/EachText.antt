@@ -8,7 +8,8 @@ use Rattle.ac_syntax.specs.declared.script.Script.{Script}
 use Rattle.ac_syntax.specs.declared.refusal.RefusalKind.{RefusalKind}
 use Rattle.ac_syntax.specs.declared.refusal.RefusalKind.TheVariants.{Syntax, Limit}
 use Rattle.ac_syntax.specs.Items.{Item}
-use Rattle.ac_syntax.specs.Tokens.{tokens, cut_of}
+use Rattle.ac_syntax.specs.Tokens.{tokens}
+use Rattle.ac_syntax.specs.Keywords.{script_cut}
 use Rattle.ac_syntax.specs.Limits.{seen_of, is_past_limit, AreWithinLimits}
 use Rattle.ac_syntax.specs.Order.{Context, at_front, is_heading}
 use Rattle.ac_syntax.specs.Refusals.{Spells, IsFirstRefusal}
@@ -18,7 +19,7 @@ use Rattle.ac_script.specs.ItemReader.{item, innermost_of}
 use Rattle.ac_script.specs.Readings.{AreWhole, EndEarly, HasBad, AreRead}
 use Rattle.ac_script.specs.Answers.{IsCut, EndPast}
 use Rattle.ac_script.proofs.ReadsItems.{items_read, item_leaves}
-use Rattle.ac_script.proofs.Readings.{none_read, item_read, has_bad, ends_inside, ends_open, is_whole}
+use Rattle.ac_script.proofs.Readings.{read_catch, none_read, item_read, has_bad, ends_inside, ends_open, is_whole}
 use Rattle.ac_script.proofs.Within.{none_within, one_more}
 use Rattle.ac_script.proofs.Refusals.{whole_begins, bad_before_past, past_first, bad_within, malformed_first, early_somewhere, is_spelled}
 
@@ -36,10 +37,10 @@ at_end items context placed read (b ∷ blocks) heads is at =
 
 on_item : (items : List Item) (context : Context) (placed : List Placed) (p : Placed) (others : List Placed)
     → ((more : List Item) (next : Context) (left : List Placed) → length left ≤ length others → AreRead more next placed left → Read placed)
-    → AreRead items context placed (p ∷ others) → (o : Outcome Item) → item context.stage (innermost_of context.blocks) (p ∷ others) ≡ o → Read placed
+    → AreRead items context placed (p ∷ others) → (o : Outcome Item) → item context.propagating context.stage (innermost_of context.blocks) (p ∷ others) ≡ o → Read placed
 on_item items context placed p others further read (got it left) e =
-    let front = (items_read context.blocks context.stage).found (p ∷ others) it left e in
-    let shorter = item_leaves context.blocks context.stage (p ∷ others) it left e in
+    let front = (items_read context.propagating context.blocks context.stage (read_catch items context placed (p ∷ others) read)).found (p ∷ others) it left e in
+    let shorter = item_leaves context.propagating context.blocks context.stage (read_catch items context placed (p ∷ others) read) (p ∷ others) it left e in
     further (items ++ it ∷ []) front.may.next left (omega (arith, shorter)) (item_read items context front.may.next placed (p ∷ others) left it read e front.may.leads)
 on_item items context placed p others further read (stopped []) e = inr (inl (ends_inside items context placed (p ∷ others) read (omega arith) e))
 on_item items context placed p others further read (stopped (b ∷ after)) e = inr (inr (b.line, has_bad items context placed (p ∷ others) b after read e))
@@ -49,7 +50,7 @@ read_on fuel items context placed [] enough read = at_end items context placed r
 read_on zero items context placed (p ∷ others) enough read = absurd (omega (arith, enough))
 read_on (suc fuel) items context placed (p ∷ others) enough read =
     on_item items context placed p others (λ more next left shorter. read_on fuel more next placed left (omega (arith, enough, shorter)))
-    read (item context.stage (innermost_of context.blocks) (p ∷ others)) refl
+    read (item context.propagating context.stage (innermost_of context.blocks) (p ∷ others)) refl
 
 read : (placed : List Placed) → Read placed
 read placed = read_on (length placed) [] at_front placed placed (omega arith) (none_read placed)
@@ -104,9 +105,9 @@ within_answered text placed None cut within (inr (inl early)) =
 within_answered text placed (Some line) cut within (inr (inl early)) = inr (line, Syntax, malformed_first text placed line cut within early.begins)
 within_answered text placed malformed cut within (inr (inr bad)) = inr (bad.0, Syntax, bad_within text placed malformed bad.0 cut within bad.1)
 
-answered : (text : List ℕ) → Limited (cut_of text).placed → IsSpelled text ⊎ IsRefused text
+answered : (text : List ℕ) → Limited (script_cut text).placed → IsSpelled text ⊎ IsRefused text
 answered text (inl within) =
-    within_answered text (cut_of text).placed (cut_of text).malformed (record { placed_is = refl; malformed_is = refl }) within (read (cut_of text).placed)
+    within_answered text (script_cut text).placed (script_cut text).malformed (record { placed_is = refl; malformed_is = refl }) within (read (script_cut text).placed)
 answered text (inr found) =
     let front = found.before ++ found.past ∷ [] in
     let past : EndPast text front found.past.line = record {
@@ -122,4 +123,4 @@ answered text (inr found) =
     inr (past_refused text front found.past.line past (read front))
 
 pub each_text : (text : List ℕ) → IsSpelled text ⊎ IsRefused text
-each_text text = answered text (limited [] (cut_of text).placed none_within)
+each_text text = answered text (limited [] (script_cut text).placed none_within)

@@ -14,12 +14,12 @@ use Rattle.ac_base.specs.declared.value.Value.TheVariants as value
 use Rattle.ac_syntax.specs.declared.token.Token.{Token}
 use Rattle.ac_syntax.specs.declared.token.Token.TheVariants as token
 use Rattle.ac_syntax.specs.declared.token.Mark.{Mark}
-use Rattle.ac_syntax.specs.declared.token.Mark.TheVariants.{Colon, Semicolon, Comma, Open, Close, Dot, Assign, Plus, Minus}
+use Rattle.ac_syntax.specs.declared.token.Mark.TheVariants.{Colon, Semicolon, Comma, Open, Close, Dot, Assign, Plus, Minus, Arrow}
 use Rattle.ac_syntax.specs.declared.token.Placed.{Placed}
 use Rattle.ac_syntax.specs.Tokens.{tokens}
 use Rattle.ac_syntax.specs.Code.{Simple, call_at, set_at, sum_at}
-use Rattle.ac_syntax.specs.Items.{Item, declares, commands, opens, begins, closes}
-use Rattle.ac_syntax.specs.Parts.{Part, says, marks, names, counts, writes, lacks, arg_part, more_args, args_parts, target_parts, simple_parts, item_parts}
+use Rattle.ac_syntax.specs.Items.{Item, declares, commands, opens, begins, closes, propagates, tries, catches}
+use Rattle.ac_syntax.specs.Parts.{Part, says, keywords, marks, names, counts, writes, lacks, arg_part, more_args, args_parts, target_parts, simple_parts, item_parts}
 use Rattle.ac_syntax.specs.Grammar.{IsPart, AreParts, AreItems}
 use Rattle.ac_syntax.specs.Limits.{is_before_literal, Seen, none_seen, seen_after, seen_of, most, is_past_limit, AreWithinLimits}
 use Rattle.ac_syntax.specs.Canonical.{is_written}
@@ -35,6 +35,7 @@ IsNotBoth seen = seen.opened ≡ true → seen.minus ≡ false
 
 one_last : (seen : Seen) (t : Token) → IsNotBoth (seen_after seen t)
 one_last seen (token.Word w) e = refl
+one_last seen (token.Keyword _) e = refl
 one_last seen (token.Number n) e = refl
 one_last seen (token.Text t) e = refl
 one_last seen (token.Mark Colon) e = refl
@@ -45,6 +46,7 @@ one_last seen (token.Mark Close) e = refl
 one_last seen (token.Mark Dot) e = refl
 one_last seen (token.Mark Assign) e = refl
 one_last seen (token.Mark Plus) e = refl
+one_last seen (token.Mark Arrow) e = refl
 one_last seen (token.Mark Minus) e = absurd (cc e)
 
 not_both : (seen : Seen) (before : List Token) → IsNotBoth seen → IsNotBoth (fold seen_after seen before)
@@ -84,16 +86,16 @@ printable [] h = All-nil IsPrintable
 printable (b ∷ bytes) h = let both = and_parts _ _ h in All-cons IsPrintable b bytes (in_range b both.0) (printable bytes both.1)
 
 -- a literal's value behind these tokens, where the token before it is a mark that opens one
-literal_fits : (v : Value) (before front after : List Token) → (seen_of before).opened ≡ true → AreWithinLimits (before ++ (front ++ after)) → list_all is_written front ≡ true → IsPart (writes v) front → FitsArg (Lit v)
-literal_fits (value.Int z) before front after opened within written (inl h) =
+literal_fits : (propagating : Bool) (v : Value) (before front after : List Token) → (seen_of before).opened ≡ true → AreWithinLimits (before ++ (front ++ after)) → list_all (is_written propagating) front ≡ true → IsPart (writes v) front → FitsArg (Lit v)
+literal_fits propagating (value.Int z) before front after opened within written (inl h) =
     let past = within before after (token.Number h.0) (ap (λ ts. before ++ (ts ++ after)) h.2) in
     subst IsInteger (sym h.1) (positive h.0 (less before h.0 opened past))
-literal_fits (value.Int z) before front after opened within written (inr h) =
+literal_fits propagating (value.Int z) before front after opened within written (inr h) =
     let past = within (before ++ token.Mark Minus ∷ []) after (token.Number h.0) (ap (λ ts. before ++ (ts ++ after)) h.2 ∙ sym (append_assoc before (token.Mark Minus ∷ []) (token.Number h.0 ∷ after))) in
     subst IsInteger (sym h.1) (negative h.0 (at_most (before ++ token.Mark Minus ∷ []) h.0 past))
-literal_fits (value.Text bytes) before front after opened within written h =
+literal_fits propagating (value.Text bytes) before front after opened within written h =
     let past = within before after (token.Text bytes) (ap (λ ts. before ++ (ts ++ after)) h) in
-    let all : list_all is_written (token.Text bytes ∷ []) ≡ true = subst (λ ts. list_all is_written ts ≡ true) h written in
+    let all : list_all (is_written propagating) (token.Text bytes ∷ []) ≡ true = subst (λ ts. list_all (is_written propagating) ts ≡ true) h written in
     record { within = not_less 1000 (length bytes) past; printable = printable bytes (and_parts _ _ all).0 }
 
 -- each literal among the parts stands right behind a mark that opens one
@@ -103,6 +105,7 @@ opens_literal m = is_before_literal (token.Mark m)
 abbrev Opened : Bool → List Part → Type 0
 Opened opened [] = Unit {0}
 Opened opened (says word ∷ parts) = Opened false parts
+Opened opened (keywords own ∷ parts) = Opened false parts
 Opened opened (marks mark ∷ parts) = Opened (opens_literal mark) parts
 Opened opened (names word ∷ parts) = Opened false parts
 Opened opened (counts n ∷ parts) = Opened false parts
@@ -111,6 +114,7 @@ Opened opened (lacks ∷ parts) = Unit {0}
 
 abbrev FitPart : Part → Type 0
 FitPart (says word) = Unit {0}
+FitPart (keywords own) = Unit {0}
 FitPart (marks mark) = Unit {0}
 FitPart (names word) = Unit {0}
 FitPart (counts n) = Unit {0}
@@ -131,33 +135,35 @@ kept_front before spelled after front rest e h =
 kept_rest : (before spelled after front rest : List Token) → spelled ≡ front ++ rest → AreWithinLimits (before ++ (spelled ++ after)) → AreWithinLimits ((before ++ front) ++ (rest ++ after))
 kept_rest before spelled after front rest e h = subst AreWithinLimits (sym (append_assoc before front (rest ++ after))) (kept_front before spelled after front rest e h)
 
-both_written : (spelled front rest : List Token) → spelled ≡ front ++ rest → list_all is_written spelled ≡ true → (list_all is_written front ≡ true) × (list_all is_written rest ≡ true)
-both_written spelled front rest e h = and_parts _ _ (sym (list_all-append is_written front rest) ∙ ap (list_all is_written) (sym e) ∙ h)
+both_written : (propagating : Bool) (spelled front rest : List Token) → spelled ≡ front ++ rest → list_all (is_written propagating) spelled ≡ true → (list_all (is_written propagating) front ≡ true) × (list_all (is_written propagating) rest ≡ true)
+both_written propagating spelled front rest e h = and_parts _ _ (sym (list_all-append (is_written propagating) front rest) ∙ ap (list_all (is_written propagating)) (sym e) ∙ h)
 
 not_opened : {A : Type 0} → false ≡ true → A
 not_opened e = absurd (true≢false (sym e))
 
 -- tokens that keep the limits spell parts whose literals fit
-parts_fit : (parts : List Part) (opened : Bool) (before spelled after : List Token) → (opened ≡ true → (seen_of before).opened ≡ true) → AreWithinLimits (before ++ (spelled ++ after)) → list_all is_written spelled ≡ true
+parts_fit : (propagating : Bool) (parts : List Part) (opened : Bool) (before spelled after : List Token) → (opened ≡ true → (seen_of before).opened ≡ true) → AreWithinLimits (before ++ (spelled ++ after)) → list_all (is_written propagating) spelled ≡ true
     → Opened opened parts → AreParts parts spelled → FitParts parts
-parts_fit [] opened before spelled after last within written o p = tt
-parts_fit (says word ∷ parts) opened before spelled after last within written o p =
-    (tt, parts_fit parts false (before ++ p.0) p.1 after not_opened (kept_rest before spelled after p.0 p.1 p.2 within) (both_written spelled p.0 p.1 p.2 written).1 o p.4)
-parts_fit (marks mark ∷ parts) opened before spelled after last within written o p = (
+parts_fit propagating [] opened before spelled after last within written o p = tt
+parts_fit propagating (says word ∷ parts) opened before spelled after last within written o p =
+    (tt, parts_fit propagating parts false (before ++ p.0) p.1 after not_opened (kept_rest before spelled after p.0 p.1 p.2 within) (both_written propagating spelled p.0 p.1 p.2 written).1 o p.4)
+parts_fit propagating (keywords own ∷ parts) opened before spelled after last within written o p =
+    (tt, parts_fit propagating parts false (before ++ p.0) p.1 after not_opened (kept_rest before spelled after p.0 p.1 p.2 within) (both_written propagating spelled p.0 p.1 p.2 written).1 o p.4)
+parts_fit propagating (marks mark ∷ parts) opened before spelled after last within written o p = (
   tt,
-  parts_fit parts (opens_literal mark) (before ++ p.0) p.1 after
+  parts_fit propagating parts (opens_literal mark) (before ++ p.0) p.1 after
       (λ e. ap (λ ts. (seen_of (before ++ ts)).opened) p.3 ∙ last_opens before (token.Mark mark) ∙ e)
-      (kept_rest before spelled after p.0 p.1 p.2 within) (both_written spelled p.0 p.1 p.2 written).1 o p.4,
+      (kept_rest before spelled after p.0 p.1 p.2 within) (both_written propagating spelled p.0 p.1 p.2 written).1 o p.4,
 )
-parts_fit (names word ∷ parts) opened before spelled after last within written o p =
-    (tt, parts_fit parts false (before ++ p.0) p.1 after not_opened (kept_rest before spelled after p.0 p.1 p.2 within) (both_written spelled p.0 p.1 p.2 written).1 o p.4)
-parts_fit (counts n ∷ parts) opened before spelled after last within written o p =
-    (tt, parts_fit parts false (before ++ p.0) p.1 after not_opened (kept_rest before spelled after p.0 p.1 p.2 within) (both_written spelled p.0 p.1 p.2 written).1 o p.4)
-parts_fit (writes v ∷ parts) opened before spelled after last within written o p = (
-  literal_fits v before p.0 (p.1 ++ after) (last o.0) (kept_front before spelled after p.0 p.1 p.2 within) (both_written spelled p.0 p.1 p.2 written).0 p.3,
-  parts_fit parts false (before ++ p.0) p.1 after not_opened (kept_rest before spelled after p.0 p.1 p.2 within) (both_written spelled p.0 p.1 p.2 written).1 o.1 p.4,
+parts_fit propagating (names word ∷ parts) opened before spelled after last within written o p =
+    (tt, parts_fit propagating parts false (before ++ p.0) p.1 after not_opened (kept_rest before spelled after p.0 p.1 p.2 within) (both_written propagating spelled p.0 p.1 p.2 written).1 o p.4)
+parts_fit propagating (counts n ∷ parts) opened before spelled after last within written o p =
+    (tt, parts_fit propagating parts false (before ++ p.0) p.1 after not_opened (kept_rest before spelled after p.0 p.1 p.2 within) (both_written propagating spelled p.0 p.1 p.2 written).1 o p.4)
+parts_fit propagating (writes v ∷ parts) opened before spelled after last within written o p = (
+  literal_fits propagating v before p.0 (p.1 ++ after) (last o.0) (kept_front before spelled after p.0 p.1 p.2 within) (both_written propagating spelled p.0 p.1 p.2 written).0 p.3,
+  parts_fit propagating parts false (before ++ p.0) p.1 after not_opened (kept_rest before spelled after p.0 p.1 p.2 within) (both_written propagating spelled p.0 p.1 p.2 written).1 o.1 p.4,
 )
-parts_fit (lacks ∷ parts) opened before spelled after last within written o p = absurd p.3
+parts_fit propagating (lacks ∷ parts) opened before spelled after last within written o p = absurd p.3
 
 -- a part that is an argument, and then parts that don't begin with a literal
 arg_opened : (a : Arg) (parts : List Part) → Opened false parts → Opened true (arg_part a ∷ parts)
@@ -212,23 +218,26 @@ simple_fits (set_at line target from) h = first_fits from (marks Semicolon ∷ [
 simple_fits (sum_at line target from minus number) h = tt
 
 -- an item behind these tokens
-item_fits : (item : Item) (before : List Token) (front : List Token) (after : List Token) → AreWithinLimits (before ++ (front ++ after)) → list_all is_written front ≡ true → AreParts (item_parts item) front → Fits item
+item_fits : (propagating : Bool) (item : Item) (before : List Token) (front : List Token) (after : List Token) → AreWithinLimits (before ++ (front ++ after)) → list_all (is_written propagating) front ≡ true → AreParts (item_parts item) front → Fits item
 unfolding item_parts
-item_fits (declares decl) before front after within written p = tt
-item_fits (commands simple) before front after within written p = simple_fits simple (parts_fit (simple_parts simple) false before front after not_opened within written (simple_opened simple) p)
-item_fits (opens head) before front after within written p = tt
-item_fits begins before front after within written p = tt
-item_fits (closes closing) before front after within written p = tt
+item_fits propagating (declares decl) before front after within written p = tt
+item_fits propagating (commands simple) before front after within written p = simple_fits simple (parts_fit propagating (simple_parts simple) false before front after not_opened within written (simple_opened simple) p)
+item_fits propagating (opens head) before front after within written p = tt
+item_fits propagating begins before front after within written p = tt
+item_fits propagating (closes closing) before front after within written p = tt
+item_fits propagating (propagates line) before front after within written p = tt
+item_fits propagating (tries line) before front after within written p = tt
+item_fits propagating (catches line exception) before front after within written p = tt
 
-items_fit : (items : List Item) (before : List Token) (placed : List Placed) → AreItems items placed → AreWithinLimits (before ++ tokens placed) → list_all is_written (tokens placed) ≡ true → All Fits items
-items_fit [] before placed are within written = All-nil Fits
-items_fit (item ∷ items) before placed are within written =
+items_fit : (propagating : Bool) (items : List Item) (before : List Token) (placed : List Placed) → AreItems items placed → AreWithinLimits (before ++ tokens placed) → list_all (is_written propagating) (tokens placed) ≡ true → All Fits items
+items_fit propagating [] before placed are within written = All-nil Fits
+items_fit propagating (item ∷ items) before placed are within written =
     let split : tokens placed ≡ tokens are.0 ++ tokens are.1 = ap tokens are.2 ∙ map-append (λ (p : Placed). p.token) are.0 are.1 in
-    let both = both_written (tokens placed) (tokens are.0) (tokens are.1) split written in
+    let both = both_written propagating (tokens placed) (tokens are.0) (tokens are.1) split written in
     let kept : AreWithinLimits (before ++ (tokens are.0 ++ tokens are.1)) = subst (λ ts. AreWithinLimits (before ++ ts)) split within in
-    All-cons Fits item items (item_fits item before (tokens are.0) (tokens are.1) kept both.0 are.3.spelled)
-    (items_fit items (before ++ tokens are.0) are.1 are.4 (subst AreWithinLimits (sym (append_assoc before (tokens are.0) (tokens are.1))) kept) both.1)
+    All-cons Fits item items (item_fits propagating item before (tokens are.0) (tokens are.1) kept both.0 are.3.spelled)
+    (items_fit propagating items (before ++ tokens are.0) are.1 are.4 (subst AreWithinLimits (sym (append_assoc before (tokens are.0) (tokens are.1))) kept) both.1)
 
 -- the literals of items are values, where the items' tokens keep the limits and can be written
-pub fits : (items : List Item) (placed : List Placed) → AreItems items placed → AreWithinLimits (tokens placed) → IsTrue (list_all is_written (tokens placed)) → All Fits items
-fits items placed are within written = items_fit items [] placed are within written
+pub fits : (propagating : Bool) (items : List Item) (placed : List Placed) → AreItems items placed → AreWithinLimits (tokens placed) → IsTrue (list_all (is_written propagating) (tokens placed)) → All Fits items
+fits propagating items placed are within written = items_fit propagating items [] placed are within written

@@ -5,16 +5,18 @@ use Rattle.std.proofs.lemmas.Bool.{false_from_ne_true}
 use Rattle.std.proofs.lemmas.Option.{none-some, same_Some}
 use Rattle.std.proofs.lemmas.Slice.Eq.{bytes_eq-Decides}
 use denote.Enum.Bare.{same_true, true_same, sameb}
+use Rattle.ac_syntax.specs.contracts.token.Keyword as keyword_type
 use Rattle.ac_syntax.specs.contracts.token.Mark.{the_type}
 use Rattle.ac_syntax.specs.declared.token.Token.{Token}
 use Rattle.ac_syntax.specs.declared.token.Token.TheVariants.{Word, Number, Text}
 use Rattle.ac_syntax.specs.declared.token.Token.TheVariants as token
+use Rattle.ac_syntax.specs.declared.token.Keyword.{Keyword}
 use Rattle.ac_syntax.specs.declared.token.Mark.{Mark}
 use Rattle.ac_syntax.specs.declared.token.Placed.{Placed}
 use Rattle.ac_syntax.specs.Tokens.{tokens}
-use Rattle.ac_syntax.specs.Parts.{Part, says, marks, names, counts}
+use Rattle.ac_syntax.specs.Parts.{Part, says, keywords, marks, names, counts}
 use Rattle.ac_syntax.specs.Grammar.{reserved, is_reserved, IsPart}
-use Rattle.ac_script.specs.Readers.{as_word, as_word_of, as_mark, as_name, as_number}
+use Rattle.ac_script.specs.Readers.{as_word, as_word_of, as_keyword, as_keyword_of, as_mark, as_name, as_number}
 use Rattle.ac_script.proofs.Spelled.{Spelled}
 use Rattle.ac_script.proofs.Forks.{Looks, Starts}
 
@@ -33,6 +35,7 @@ word_found w (Word v) x e =
     if_cases ((i : Unit {0}) × (x ≡ i) × (Word v ∷ [] ≡ Word w ∷ [])) (bytes_eq v w) _ _ _ e
     (λ h f. (x, refl, ap (λ (v : List ℕ). Word v ∷ []) (same_bytes v w h)))
     (λ h f. absurd (none-some x f))
+word_found w (token.Keyword _) x e = absurd (none-some x e)
 word_found w (Number _) x e = absurd (none-some x e)
 word_found w (Text _) x e = absurd (none-some x e)
 word_found w (token.Mark _) x e = absurd (none-some x e)
@@ -44,8 +47,26 @@ word_looks w = record {
   sample = (Word w, tt, rw bytes_same refl);
 }
 
+keyword_found : (k : Keyword) (t : Token) (x : Unit {0}) → as_keyword k t ≡ Some x → (i : Unit {0}) × (x ≡ i) × (t ∷ [] ≡ token.Keyword k ∷ [])
+keyword_found k (Word _) x e = absurd (none-some x e)
+keyword_found k (token.Keyword n) x e =
+    if_cases ((i : Unit {0}) × (x ≡ i) × (token.Keyword n ∷ [] ≡ token.Keyword k ∷ [])) (sameb keyword_type.the_type n k) _ _ _ e
+    (λ h f. (x, refl, ap (λ (n : Keyword). token.Keyword n ∷ []) (same_true keyword_type.the_type (search rules) n k h)))
+    (λ h f. absurd (none-some x f))
+keyword_found k (Number _) x e = absurd (none-some x e)
+keyword_found k (Text _) x e = absurd (none-some x e)
+keyword_found k (token.Mark _) x e = absurd (none-some x e)
+
+pub keyword_looks : (k : Keyword) → Looks (λ (i : Unit {0}). i) (λ _. keywords k) (as_keyword k)
+keyword_looks k = record {
+  found = keyword_found k;
+  only = λ i spelled h. record { token = token.Keyword k; alone = h; looked = rw (true_same keyword_type.the_type k k refl) refl };
+  sample = (token.Keyword k, tt, rw (true_same keyword_type.the_type k k refl) refl);
+}
+
 mark_found : (m : Mark) (t : Token) (x : Unit {0}) → as_mark m t ≡ Some x → (i : Unit {0}) × (x ≡ i) × (t ∷ [] ≡ token.Mark m ∷ [])
 mark_found m (Word _) x e = absurd (none-some x e)
+mark_found m (token.Keyword _) x e = absurd (none-some x e)
 mark_found m (Number _) x e = absurd (none-some x e)
 mark_found m (Text _) x e = absurd (none-some x e)
 mark_found m (token.Mark n) x e =
@@ -65,6 +86,7 @@ name_found (Word v) x e =
     if_cases ((i : List ℕ) × (x ≡ i) × IsPart (names i) (Word v ∷ [])) (is_reserved v) _ _ _ e
     (λ h f. absurd (none-some x f))
     (λ h f. (v, sym (same_Some v x f), (h, refl)))
+name_found (token.Keyword _) x e = absurd (none-some x e)
 name_found (Number _) x e = absurd (none-some x e)
 name_found (Text _) x e = absurd (none-some x e)
 name_found (token.Mark _) x e = absurd (none-some x e)
@@ -82,6 +104,7 @@ name_looks = record {
 
 number_found : (t : Token) (x : ℕ) → as_number t ≡ Some x → (i : ℕ) × (x ≡ i) × (t ∷ [] ≡ Number i ∷ [])
 number_found (Word _) x e = absurd (none-some x e)
+number_found (token.Keyword _) x e = absurd (none-some x e)
 number_found (Number n) x e = (n, sym (same_Some n x e), refl)
 number_found (Text _) x e = absurd (none-some x e)
 number_found (token.Mark _) x e = absurd (none-some x e)
@@ -103,6 +126,7 @@ pick_step P v w x y o e f g =
 module _ {A : Type 0} {pick : List ℕ → Option A} {spell : A → List ℕ} (picked : (w : List ℕ) (a : A) → pick w ≡ Some a → w ≡ spell a) (again : (a : A) → pick (spell a) ≡ Some a) (a : A) where
   pick_found : (t : Token) (x : A) → as_word_of pick t ≡ Some x → (i : A) × (x ≡ i) × (t ∷ [] ≡ Word (spell i) ∷ [])
   pick_found (Word v) x e = (x, refl, ap (λ (v : List ℕ). Word v ∷ []) (picked v x e))
+  pick_found (token.Keyword _) x e = absurd (none-some x e)
   pick_found (Number _) x e = absurd (none-some x e)
   pick_found (Text _) x e = absurd (none-some x e)
   pick_found (token.Mark _) x e = absurd (none-some x e)
@@ -112,6 +136,21 @@ module _ {A : Type 0} {pick : List ℕ → Option A} {spell : A → List ℕ} (p
     found = pick_found;
     only = λ i spelled h. record { token = Word (spell i); alone = h; looked = again i };
     sample = (Word (spell a), a, again a);
+  }
+
+module _ {A : Type 0} {pick : Keyword → Option A} {spell : A → Keyword} (picked : (k : Keyword) (a : A) → pick k ≡ Some a → k ≡ spell a) (again : (a : A) → pick (spell a) ≡ Some a) (a : A) where
+  keyword_pick_found : (t : Token) (x : A) → as_keyword_of pick t ≡ Some x → (i : A) × (x ≡ i) × (t ∷ [] ≡ token.Keyword (spell i) ∷ [])
+  keyword_pick_found (Word _) x e = absurd (none-some x e)
+  keyword_pick_found (token.Keyword k) x e = (x, refl, ap (λ (k : Keyword). token.Keyword k ∷ []) (picked k x e))
+  keyword_pick_found (Number _) x e = absurd (none-some x e)
+  keyword_pick_found (Text _) x e = absurd (none-some x e)
+  keyword_pick_found (token.Mark _) x e = absurd (none-some x e)
+
+  pub keyword_pick_looks : Looks (λ (i : A). i) (λ i. keywords (spell i)) (as_keyword_of pick)
+  keyword_pick_looks = record {
+    found = keyword_pick_found;
+    only = λ i spelled h. record { token = token.Keyword (spell i); alone = h; looked = again i };
+    sample = (token.Keyword (spell a), a, again a);
   }
 
 -- tokens whose first part isn't seen by a look
@@ -127,6 +166,9 @@ apart_by look part ps (p ∷ placed) t none h is =
 
 pub word_apart : {X : Type 0} (look : Token → Option X) (w : List ℕ) (ps : List Part) → look (Word w) ≡ None → (placed : List Placed) → Spelled (says w ∷ ps) placed → Starts look None placed
 word_apart look w ps none placed h = apart_by look (says w) ps placed (Word w) none h h.spelled.3
+
+pub keyword_apart : {X : Type 0} (look : Token → Option X) (k : Keyword) (ps : List Part) → look (token.Keyword k) ≡ None → (placed : List Placed) → Spelled (keywords k ∷ ps) placed → Starts look None placed
+keyword_apart look k ps none placed h = apart_by look (keywords k) ps placed (token.Keyword k) none h h.spelled.3
 
 pub mark_apart : {X : Type 0} (look : Token → Option X) (m : Mark) (ps : List Part) → look (token.Mark m) ≡ None → (placed : List Placed) → Spelled (marks m ∷ ps) placed → Starts look None placed
 mark_apart look m ps none placed h = apart_by look (marks m) ps placed (token.Mark m) none h h.spelled.3

@@ -1,7 +1,7 @@
 -- What stands on a page after items were put on it.
 use Rattle.std.proofs.Common.{◌≡◌, ◌||◌, ℕ, Bool, true, false, cond, List, [], ◌∷◌, ◌++◌, map, refl, sym, ap, ap₂, ◌∙◌, append_assoc, append-nil}
 use Rattle.ac_syntax.specs.declared.script.Script.{Script}
-use Rattle.ac_syntax.specs.Items.{Item, declares, item_line, items, script_items}
+use Rattle.ac_syntax.specs.Items.{Item, declares, item_line, items, pragma_items, script_items}
 use Rattle.ac_syntax.specs.Parts.{Part, item_parts}
 use Rattle.ac_syntax.specs.Canonical.{part_text, follows_closely, leads_closely, space_between, parts_text, gap, line_reached, items_text, with_last_line_feed, canonical_text}
 use Rattle.ac_script.specs.Page.{Page, blank_page, put_space, put_bytes, put_part, put_parts, begin_item, put_item, put_items}
@@ -65,8 +65,13 @@ items_put page (item ∷ items) =
     ∙ append_assoc page.text (before ++ own) others
     ∙ ap (λ text. page.text ++ text) (append_assoc before own others)
 
-pub script_put : (script : Script) → with_last_line_feed (put_items (put_items blank_page (map declares script.decls)) (items script.stmts)).text ≡ canonical_text script
+pub script_put : (script : Script)
+    → with_last_line_feed (put_items (put_items (put_items blank_page (pragma_items script.pragma)) (map declares script.decls)) (items script.stmts)).text ≡ canonical_text script
 unfolding canonical_text
 script_put script =
-    ap (λ (page : Page). with_last_line_feed page.text) (sym (put_more_items blank_page (map declares script.decls) (items script.stmts)))
+    let pragma = pragma_items script.pragma in
+    let decls = map declares script.decls in
+    let stmts = items script.stmts in
+    ap (λ (page : Page). with_last_line_feed page.text)
+    (sym (put_more_items (put_items blank_page pragma) decls stmts) ∙ sym (put_more_items blank_page pragma (decls ++ stmts)))
     ∙ ap with_last_line_feed (items_put blank_page (script_items script))

@@ -9,7 +9,8 @@ use Rattle.ac_syntax.specs.declared.script.Script.{Script}
 use Rattle.ac_syntax.specs.declared.refusal.RefusalKind.{RefusalKind}
 use Rattle.ac_syntax.specs.declared.refusal.RefusalKind.TheVariants.{Syntax, Limit}
 use Rattle.ac_syntax.specs.Items.{Item, script_items}
-use Rattle.ac_syntax.specs.Tokens.{tokens, cut_of}
+use Rattle.ac_syntax.specs.Tokens.{tokens}
+use Rattle.ac_syntax.specs.Keywords.{script_cut}
 use Rattle.ac_syntax.specs.Grammar.{Derives, BeginsScript}
 use Rattle.ac_syntax.specs.Limits.{AreWithinLimits}
 use Rattle.ac_syntax.specs.Refusals.{Spells, begins_none, past_limit, HasNoBadToken, bad_token, malformed_piece, IsFirstRefusal, first_bad, ends_early}
@@ -44,10 +45,10 @@ whole_begins items placed whole =
 
 -- ---- the first bad token
 
-first_syntax : (text : List ℕ) (front after : List Placed) (line : ℕ) → (cut_of text).placed ≡ front ++ after → (bad : HasBad front line) → AreWithinLimits (tokens bad.before)
+first_syntax : (text : List ℕ) (front after : List Placed) (line : ℕ) → (script_cut text).placed ≡ front ++ after → (bad : HasBad front line) → AreWithinLimits (tokens bad.before)
     → IsFirstRefusal text line Syntax
 first_syntax text front after line cut bad within =
-    let split : (cut_of text).placed ≡ bad.before ++ bad.bad ∷ (bad.after ++ after) = cut ∙ ap (λ list. list ++ after) bad.whole ∙ append_assoc bad.before (bad.bad ∷ bad.after) after in
+    let split : (script_cut text).placed ≡ bad.before ++ bad.bad ∷ (bad.after ++ after) = cut ∙ ap (λ list. list ++ after) bad.whole ∙ append_assoc bad.before (bad.bad ∷ bad.after) after in
     subst (λ line. IsFirstRefusal text line Syntax) bad.on
     (first_bad bad.bad.line Syntax (bad_token bad.before (bad.after ++ after) bad.bad Syntax split (no_bad bad.before bad.begins within) (begins_none bad.none)))
 
@@ -60,7 +61,7 @@ before_past done before after past bad e within = elim (cut_at done before after
 
 pub bad_before_past : (text : List ℕ) (front : List Placed) (line earlier : ℕ) → EndPast text front line → HasBad front earlier → IsFirstRefusal text earlier Syntax
 bad_before_past text front line earlier past bad =
-    let cut : (cut_of text).placed ≡ front ++ past.after
+    let cut : (script_cut text).placed ≡ front ++ past.after
     = past.cut ∙ sym (append_assoc past.before (past.past ∷ []) past.after) ∙ ap (λ list. list ++ past.after) (sym past.front_is) in
     first_syntax text front past.after earlier cut bad (before_past past.before bad.before bad.after past.past bad.bad (sym past.front_is ∙ bad.whole) past.within)
 
@@ -71,7 +72,7 @@ past_first text front line past begins =
     (first_bad past.past.line Limit (bad_token past.before past.after past.past Limit past.cut
     (no_bad past.before (front_begins past.before (past.past ∷ []) here) past.within) (past_limit here past.is_past)))
 
-pub ends_past : (text : List ℕ) (placed : List Placed) (n : ℕ) (past : Placed) → (cut_of text).placed ≡ placed → n < length placed → past ≡ get_or placed n past → StandWithin n placed
+pub ends_past : (text : List ℕ) (placed : List Placed) (n : ℕ) (past : Placed) → (script_cut text).placed ≡ placed → n < length placed → past ≡ get_or placed n past → StandWithin n placed
     → EndPast text (take (n + 1) placed) past.line
 ends_past text placed n past cut inside is stand =
     let behind : drop n placed ≡ past ∷ drop (suc n) placed = drop-cons placed n past inside ∙ ap (λ p. p ∷ drop (suc n) placed) (sym is) in
@@ -113,7 +114,7 @@ last_of p (q ∷ placed) =
 
 -- a script without items
 abbrev nothing : Script
-nothing = record { decls = []; stmts = stop }
+nothing = record { pragma = None; decls = []; stmts = stop }
 
 some_last : (placed : List Placed) → EndEarly placed → Last placed
 some_last [] early = absurd (early.none nothing (record { are = refl; ordered = script_ordered nothing tt }))
@@ -149,7 +150,7 @@ is_spelled text placed items script cut within whole same = record {
 -- ---- what an answer says
 
 pub spelled_once : (text : List ℕ) (script other : Script) → Spells script text → Spells other text → other ≡ script
-spelled_once text script other spells spells_2 = derived_once (cut_of text).placed other script spells_2.derives spells.derives
+spelled_once text script other spells spells_2 = derived_once (script_cut text).placed other script spells_2.derives spells.derives
 
 pub answers_found : (result : Result Script ScriptFault) (text : List ℕ) → IsAnswer text result → IfOk result (λ script. Spells script text)
 answers_found (Ok script) text is = is

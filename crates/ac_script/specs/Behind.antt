@@ -19,6 +19,7 @@ seen_view behind = record {
   opened = behind.opened;
   minus = behind.minus;
   ended = behind.ended;
+  awaited = behind.awaited;
   tasks = behind.tasks;
   progress = progress_view behind.progress;
   commands = behind.commands;

@@ -8,12 +8,13 @@ use Rattle.ac_syntax.specs.declared.arg.Arg.TheVariants.{Lit, NoElement, Var}
 use Rattle.ac_syntax.specs.declared.token.Token.{Token}
 use Rattle.ac_syntax.specs.declared.token.Token.TheVariants as token
 use Rattle.ac_syntax.specs.declared.token.Mark.{Mark}
-use Rattle.ac_syntax.specs.declared.token.Mark.TheVariants.{Colon, Semicolon, Comma, Open, Close, Dot, Assign, Plus, Minus}
+use Rattle.ac_syntax.specs.declared.token.Mark.TheVariants.{Colon, Semicolon, Comma, Open, Close, Dot, Assign, Plus, Minus, Arrow}
 use Rattle.ac_script.specs.Outcomes.{Reader, ◌>>=◌, gives, fork, one}
 use Rattle.ac_script.specs.Readers.{mark, name, number}
 
 abbrev pub as_constant : Token → Option Arg
 as_constant (token.Word found) = if bytes_eq found (codes "no_element") then Some NoElement else None
+as_constant (token.Keyword _) = None
 as_constant (token.Number n) = Some (Lit (value.Int (pos n)))
 as_constant (token.Text bytes) = Some (Lit (value.Text bytes))
 as_constant (token.Mark _) = None
@@ -74,6 +75,7 @@ set_end line target from = mark Semicolon >>= λ _. gives (set_at line target fr
 
 abbrev pub as_sign : Token → Option Bool
 as_sign (token.Word _) = None
+as_sign (token.Keyword _) = None
 as_sign (token.Number _) = None
 as_sign (token.Text _) = None
 as_sign (token.Mark mark) = sign_of mark where
@@ -87,6 +89,7 @@ as_sign (token.Mark mark) = sign_of mark where
   sign_of Assign = None
   sign_of Plus = Some false
   sign_of Minus = Some true
+  sign_of Arrow = None
 
 -- whether the number is taken away
 abbrev pub sign : Reader Bool

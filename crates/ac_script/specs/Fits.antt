@@ -3,7 +3,7 @@ use Rattle.std.specs.Prelude.{◌≤ℤ◌, ◌<ℤ◌, ℤ, pos, neg_ℤ, ◌^�
 use Rattle.ac_base.specs.Text.{IsText}
 use Rattle.ac_base.specs.declared.value.Value.TheVariants as value
 use Rattle.ac_syntax.specs.Code.{Simple, call_at, set_at, sum_at}
-use Rattle.ac_syntax.specs.Items.{Item, declares, commands, opens, begins, closes}
+use Rattle.ac_syntax.specs.Items.{Item, declares, commands, opens, begins, closes, propagates, tries, catches}
 use Rattle.ac_syntax.specs.declared.arg.Arg.{Arg}
 use Rattle.ac_syntax.specs.declared.arg.Arg.TheVariants.{Lit, NoElement, Var}
 
@@ -32,3 +32,6 @@ Fits (commands simple) = FitsSimple simple
 Fits (opens head) = Unit {0}
 Fits begins = Unit {0}
 Fits (closes closing) = Unit {0}
+Fits (propagates line) = Unit {0}
+Fits (tries line) = Unit {0}
+Fits (catches line exception) = Unit {0}

@@ -42,6 +42,30 @@ RefusesBareEndOfTasks = IsFirstRefusal (in_task_text (codes "A.Print; end;" ∷ 
 abbrev pub RefusesTextInTask : Type 0
 RefusesTextInTask = IsFirstRefusal (lines (codes "tasks" ∷ codes "task T is" ∷ codes "X : " ∷ codes "string;" ∷ [])) 4 Syntax
 
+-- without the pragma no block begins with `begin`
+abbrev pub RefusesBareBegin : Type 0
+RefusesBareBegin = IsFirstRefusal (lines ([] ∷ codes "begin" ∷ [])) 2 Syntax
+
+-- a block with handlers, with this on its first line and this on its second
+abbrev pub trying_text : List ℕ → List ℕ → List ℕ
+trying_text first second = lines (codes "pragma Propagate;" ∷ first ∷ second ∷ [])
+
+-- what is tried ends with `exception`
+abbrev pub RefusesEndOfTried : Type 0
+RefusesEndOfTried = IsFirstRefusal (trying_text (codes "begin") (codes "end")) 3 Syntax
+
+-- behind which a handler comes
+abbrev pub RefusesNoHandler : Type 0
+RefusesNoHandler = IsFirstRefusal (trying_text (codes "begin exception") (codes "end")) 3 Syntax
+
+-- and none comes behind that of all others
+abbrev pub RefusesBehindOthers : Type 0
+RefusesBehindOthers = IsFirstRefusal (trying_text (codes "begin exception when others =>") (codes "when")) 3 Syntax
+
+-- a handler stands in a block with handlers alone
+abbrev pub RefusesBareHandler : Type 0
+RefusesBareHandler = IsFirstRefusal (lines (codes "pragma Propagate;" ∷ codes "when" ∷ [])) 2 Syntax
+
 -- a block that doesn't end, with these commands
 
 abbrev pub looping : Code → Script

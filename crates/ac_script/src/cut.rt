@@ -1,10 +1,13 @@
-ghost use Rattle.std.specs.Prelude.{◌≡◌, ◌++◌, ◌<◌, ◌-◌, ◌^◌, OnOk, IfOk};
+ghost use Rattle.std.specs.Prelude.{◌≡◌, ◌++◌, ◌<◌, ◌-◌, ◌^◌, map, OnOk, IfOk};
+ghost use Rattle.ac_syntax.specs.Keywords as keywords;
+ghost use Rattle.ac_syntax.specs.Keywords.{reserved_where};
 ghost use Rattle.ac_syntax.specs.Tokens as tokens;
 ghost use Rattle.ac_syntax.specs.Tokens.{cut_of, placed_at};
 
+use crate::keyword::{is_keyword_text, reserved_token};
 use crate::piece::piece_at;
 use ac_base::NoMemory;
-use ac_syntax::{Piece, Placed, Token};
+use ac_syntax::{Keyword, Piece, Placed, Token};
 use std::alloc::{AllocError, Global};
 
 /// A text cut into tokens, up to the first malformed piece.
@@ -33,7 +36,7 @@ fn line_after(line: u64, first: u8) -> u64
 }
 
 /// Cuts a text into its tokens, each with its line.
-pub fn cut(alloc: Global, text: &[u8]) -> Result<CutText, NoMemory>
+fn cut(alloc: Global, text: &[u8]) -> Result<CutText, NoMemory>
     ensures placed { IfOk result (λ made. made.placed.items ≡ (cut_of text.now).placed) }
     ensures malformed { IfOk result (λ made. made.malformed ≡ (cut_of text.now).malformed) }
 {
@@ -55,4 +58,59 @@ pub fn cut(alloc: Global, text: &[u8]) -> Result<CutText, NoMemory>
         placed,
         malformed: None,
     })
+}
+
+/// The first two tokens are the words `pragma` and `propagate`.
+fn begins_propagating(placed: &[Placed]) -> bool
+    ensures { result ≡ keywords.begins_propagating placed.now }
+{
+    match placed {
+        [first, second, ..] => {
+            is_keyword_text(Keyword::Pragma, &first.token)
+                && is_keyword_text(Keyword::Propagate, &second.token)
+        }
+        _ => false,
+    }
+}
+
+fn reserved_placed(placed: Placed) -> Placed
+    ensures { result ≡ keywords.reserved_placed placed }
+{
+    let Placed { token, line } = placed;
+    Placed {
+        token: reserved_token(token),
+        line,
+    }
+}
+
+/// The same tokens where the keywords are reserved.
+fn reserved(alloc: Global, placed: Vec<Placed>) -> Result<Vec<Placed>, NoMemory>
+    ensures { IfOk result (λ made. made.items ≡ map keywords.reserved_placed placed.items) }
+{
+    let mut made = Vec::new(alloc);
+    for one in placed {
+        made.push(reserved_placed(one))?;
+    }
+    Ok(made)
+}
+
+/// The tokens of a script, whose keywords are reserved where it begins with the pragma.
+fn with_keywords(alloc: Global, placed: Vec<Placed>) -> Result<Vec<Placed>, NoMemory>
+    ensures { IfOk result (λ made. made.items ≡ reserved_where (keywords.begins_propagating placed.items) placed.items) }
+{
+    if begins_propagating(&placed) {
+        reserved(alloc, placed)
+    } else {
+        Ok(placed)
+    }
+}
+
+/// Cuts a script's text into its tokens, each with its line.
+pub fn script_cut(alloc: Global, text: &[u8]) -> Result<CutText, NoMemory>
+    ensures placed { IfOk result (λ made. made.placed.items ≡ (keywords.script_cut text.now).placed) }
+    ensures malformed { IfOk result (λ made. made.malformed ≡ (keywords.script_cut text.now).malformed) }
+{
+    let CutText { placed, malformed } = cut(alloc, text)?;
+    let placed = with_keywords(alloc, placed)?;
+    Ok(CutText { placed, malformed })
 }

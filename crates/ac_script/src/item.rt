@@ -1,6 +1,7 @@
 //! Items as they are read, their numbers of any size.
 
 use crate::argument::{Argument, Arguments};
+use ac_base::Exception;
 use ac_syntax::{Closing, Decl, Ident, ViewKind};
 
 /// A command, with the line of its first token.
@@ -71,6 +72,19 @@ pub enum Item {
     Opens(Head),
     /// The word `begin` after the declarations of a block.
     Begins,
-    /// The words that end a block.
+    /// The words that end a block, or what is tried in one.
     Closes(Closing),
+    /// The pragma.
+    Propagates {
+        line: u64,
+    },
+    /// The word `begin` of a block with handlers.
+    Tries {
+        line: u64,
+    },
+    /// A handler's head: the exception that it takes, or None where it takes all others.
+    Catches {
+        line: u64,
+        exception: Option<Exception>,
+    },
 }

@@ -1,19 +1,42 @@
 //! The reader of one item, where it may come.
-ghost use Rattle.ac_script.specs.Outcomes.{Reads};
+ghost use Rattle.std.specs.Prelude.{◌≡◌};
+ghost use Rattle.ac_script.specs.Outcomes.{Reads, Sees, Finds};
 ghost use Rattle.ac_script.specs.Views.{item_view, stage_view};
 ghost use Rattle.ac_script.specs.ItemReader as readers;
 
 use crate::command::command;
 use crate::declaration::{declared, integer_end, type_declaration};
+use crate::handler::{handler_item, in_catching, pragma_item};
 use crate::head::{Lead, find_lead, head, task_head};
 use crate::item::Item;
-use crate::reader::{find_mark, find_word, mark, name, word};
+use crate::reader::{find_keyword, find_mark, find_word, mark, name, word};
 use crate::stage::Stage;
 use crate::stop::Stop;
-use ac_syntax::{Closing, Ident, Mark, Placed};
+use ac_syntax::{Closing, Ident, Keyword, Mark, Placed};
 use std::alloc::Global;
 
-/// What follows `end`.
+/// The first word of what ends a block.
+fn find_end(words: Closing, tokens: &[Placed]) -> Option<&[Placed]>
+    ensures { Finds (λ rest. (tt, rest.now)) result tokens.now (readers.end words tokens.now) }
+{
+    match words {
+        Closing::EndTried => find_keyword(tokens, Keyword::Exception),
+        Closing::EndLoop
+        | Closing::End
+        | Closing::EndTasks
+        | Closing::EndTask
+        | Closing::EndHandlers
+        | Closing::EndOthers => find_word(tokens, b"end"),
+    }
+}
+
+fn end(words: Closing, tokens: &[Placed]) -> Result<&[Placed], Stop<'_>>
+    ensures { Sees (λ rest. (tt, rest.now)) result (readers.end words tokens.now) }
+{
+    find_end(words, tokens).ok_or(Stop::At(tokens))
+}
+
+/// What follows that word.
 #[tactic(auto, unfolding(crate::specs::ItemReader::closing))]
 fn closing(words: Closing, tokens: &[Placed]) -> Result<(Item, &[Placed]), Stop<'_>>
     ensures { Reads item_view result (readers.closing words tokens.now) }
@@ -36,6 +59,15 @@ fn closing(words: Closing, tokens: &[Placed]) -> Result<(Item, &[Placed]), Stop<
         Closing::EndTask => {
             let rest = mark(tokens, Mark::Semicolon)?;
             Ok((Item::Closes(Closing::EndTask), rest))
+        }
+        Closing::EndTried => Ok((Item::Closes(Closing::EndTried), tokens)),
+        Closing::EndHandlers => {
+            let rest = mark(tokens, Mark::Semicolon)?;
+            Ok((Item::Closes(Closing::EndHandlers), rest))
+        }
+        Closing::EndOthers => {
+            let rest = mark(tokens, Mark::Semicolon)?;
+            Ok((Item::Closes(Closing::EndOthers), rest))
         }
     }
 }
@@ -135,7 +167,7 @@ fn ended(
     ensures { Reads item_view result (readers.ended (stage_view stage) innermost line tokens.now) }
 {
     match innermost {
-        Some(words) => match find_word(tokens, b"end") {
+        Some(words) => match find_end(words, tokens) {
             Some(rest) => closing(words, rest),
             None => named(alloc, stage, line, tokens),
         },
@@ -159,19 +191,98 @@ fn statement(
     }
 }
 
-#[tactic(auto, unfolding(crate::specs::ItemReader::in_listing))]
-fn in_listing(
+/// A statement, or `begin` of a block with handlers where exceptions propagate.
+#[tactic(auto, unfolding(crate::specs::ItemReader::tried))]
+fn tried(
     alloc: Global,
+    propagating: bool,
+    stage: Stage,
     innermost: Option<Closing>,
     line: u64,
     tokens: &[Placed],
 ) -> Result<(Item, &[Placed]), Stop<'_>>
-    ensures { Reads item_view result (readers.in_listing innermost line tokens.now) }
+    ensures { Reads item_view result (readers.tried propagating (stage_view stage) innermost line tokens.now) }
+{
+    if !propagating {
+        return statement(alloc, stage, innermost, line, tokens);
+    }
+    match find_word(tokens, b"begin") {
+        Some(rest) => Ok((Item::Tries { line }, rest)),
+        None => statement(alloc, stage, innermost, line, tokens),
+    }
+}
+
+#[tactic(auto, unfolding(crate::specs::ItemReader::in_listing))]
+fn in_listing(
+    alloc: Global,
+    propagating: bool,
+    innermost: Option<Closing>,
+    line: u64,
+    tokens: &[Placed],
+) -> Result<(Item, &[Placed]), Stop<'_>>
+    ensures { Reads item_view result (readers.in_listing propagating innermost line tokens.now) }
 {
     match find_word(tokens, b"type") {
         Some(rest) => type_item(alloc, line, rest),
-        None => statement(alloc, Stage::Listing, innermost, line, tokens),
+        None => tried(alloc, propagating, Stage::Listing, innermost, line, tokens),
     }
+}
+
+#[tactic(auto, unfolding(crate::specs::ItemReader::in_fronting))]
+fn in_fronting(
+    alloc: Global,
+    propagating: bool,
+    innermost: Option<Closing>,
+    line: u64,
+    tokens: &[Placed],
+) -> Result<(Item, &[Placed]), Stop<'_>>
+    ensures { Reads item_view result (readers.in_fronting propagating innermost line tokens.now) }
+{
+    match find_keyword(tokens, Keyword::Pragma) {
+        Some(rest) => pragma_item(line, rest),
+        None => in_listing(alloc, propagating, innermost, line, tokens),
+    }
+}
+
+/// A handler may stand in the innermost block.
+fn may_catch(innermost: Option<Closing>) -> bool
+    ensures { result ≡ readers.may_catch innermost }
+{
+    matches!(innermost, Some(Closing::EndHandlers))
+}
+
+/// A statement, or another handler where one may come.
+#[tactic(auto, unfolding(crate::specs::ItemReader::handled))]
+fn handled(
+    alloc: Global,
+    another: bool,
+    propagating: bool,
+    innermost: Option<Closing>,
+    line: u64,
+    tokens: &[Placed],
+) -> Result<(Item, &[Placed]), Stop<'_>>
+    ensures { Reads item_view result (readers.handled another propagating innermost line tokens.now) }
+{
+    if !another {
+        return tried(alloc, propagating, Stage::Running, innermost, line, tokens);
+    }
+    match find_keyword(tokens, Keyword::When) {
+        Some(rest) => handler_item(line, rest),
+        None => tried(alloc, propagating, Stage::Running, innermost, line, tokens),
+    }
+}
+
+fn in_running(
+    alloc: Global,
+    propagating: bool,
+    innermost: Option<Closing>,
+    line: u64,
+    tokens: &[Placed],
+) -> Result<(Item, &[Placed]), Stop<'_>>
+    ensures { Reads item_view result (readers.in_running propagating innermost line tokens.now) }
+{
+    let another = may_catch(innermost);
+    handled(alloc, another, propagating, innermost, line, tokens)
 }
 
 #[tactic(auto, unfolding(crate::specs::ItemReader::type_or_named))]
@@ -214,7 +325,7 @@ fn in_tasking(alloc: Global, line: u64, tokens: &[Placed]) -> Result<(Item, &[Pl
 fn end_of(words: Closing, tokens: &[Placed]) -> Result<(Item, &[Placed]), Stop<'_>>
     ensures { Reads item_view result (readers.end_of words tokens.now) }
 {
-    let rest = word(tokens, b"end")?;
+    let rest = end(words, tokens)?;
     closing(words, rest)
 }
 
@@ -272,21 +383,24 @@ fn in_preparing(alloc: Global, line: u64, tokens: &[Placed]) -> Result<(Item, &[
 
 fn item_on(
     alloc: Global,
+    propagating: bool,
     stage: Stage,
     innermost: Option<Closing>,
     line: u64,
     tokens: &[Placed],
 ) -> Result<(Item, &[Placed]), Stop<'_>>
-    ensures { Reads item_view result (readers.item_on (stage_view stage) innermost line tokens.now) }
+    ensures { Reads item_view result (readers.item_on propagating (stage_view stage) innermost line tokens.now) }
 {
     match stage {
-        Stage::Listing => in_listing(alloc, innermost, line, tokens),
+        Stage::Fronting => in_fronting(alloc, propagating, innermost, line, tokens),
+        Stage::Listing => in_listing(alloc, propagating, innermost, line, tokens),
         Stage::Heading => in_heading(alloc, line, tokens),
-        Stage::Running => statement(alloc, stage, innermost, line, tokens),
+        Stage::Running => in_running(alloc, propagating, innermost, line, tokens),
         Stage::Tasking => in_tasking(alloc, line, tokens),
         Stage::Tasked => in_tasked(alloc, innermost, line, tokens),
         Stage::Preparing => in_preparing(alloc, line, tokens),
         Stage::Stepping => ended(alloc, Stage::Running, innermost, line, tokens),
+        Stage::Catching => in_catching(line, tokens),
     }
 }
 
@@ -294,14 +408,15 @@ fn item_on(
 /// open block, where one is open.
 pub fn read_item(
     alloc: Global,
+    propagating: bool,
     stage: Stage,
     innermost: Option<Closing>,
     tokens: &[Placed],
 ) -> Result<(Item, &[Placed]), Stop<'_>>
-    ensures { Reads item_view result (readers.item (stage_view stage) innermost tokens.now) }
+    ensures { Reads item_view result (readers.item propagating (stage_view stage) innermost tokens.now) }
 {
     match tokens {
-        [first, ..] => item_on(alloc, stage, innermost, first.line, tokens),
+        [first, ..] => item_on(alloc, propagating, stage, innermost, first.line, tokens),
         [] => Err(Stop::At(tokens)),
     }
 }

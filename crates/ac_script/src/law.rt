@@ -1,5 +1,5 @@
 //! What holds of the readers of this crate.
-ghost use Rattle.std.specs.Prelude.{◌≡◌, ◌⊎◌, ℕ, List};
+ghost use Rattle.std.specs.Prelude.{◌≡◌, ◌⊎◌, ℕ, Bool, List};
 ghost use Rattle.ac_syntax.specs.declared.closing.Closing.{Closing};
 ghost use Rattle.ac_syntax.specs.declared.refusal.RefusalKind.{RefusalKind};
 ghost use Rattle.ac_syntax.specs.declared.script.Script.{Script};
@@ -8,13 +8,16 @@ ghost use Rattle.ac_syntax.specs.Grammar.{Derives};
 ghost use Rattle.ac_syntax.specs.Order.{Stage};
 ghost use Rattle.ac_syntax.specs.Refusals.{Spells, IsFirstRefusal};
 ghost use Rattle.ac_script.specs.ItemReader.{item, innermost_of};
-ghost use Rattle.ac_script.specs.ExactItems.{ReadsItems};
+ghost use Rattle.ac_script.specs.ExactItems.{MayCatch, ReadsItems};
 ghost use Rattle.ac_script.specs.RefusalExamples.{RefusesNoTask, RefusesBareTask, RefusesBlockInTask, RefusesTaskInTask, RefusesCommandBehindTask, RefusesBareEndOfTasks, RefusesTextInTask};
+ghost use Rattle.ac_script.specs.RefusalExamples.{RefusesBareBegin, RefusesEndOfTried, RefusesNoHandler, RefusesBehindOthers, RefusesBareHandler};
 ghost use Rattle.ac_script.specs.RefusalExamples.{RefusesMarkFirst, RefusesOpenHead, RefusesOpenBlock, RefusesBareEnd, RefusesLateDeclaration};
 
-/// In each context the items that may come are read, and reading stops at the first token with which none begins.
+/// In each context the items that may come are read, and reading stops at the first token with which none begins. Where a handler has
+/// to come, the innermost block is to be one that may have it.
 pub fn items_read()
-    ensures { (blocks : List Closing) (stage : Stage) → ReadsItems blocks stage (item stage (innermost_of blocks)) }
+    ensures { (propagating : Bool) (blocks : List Closing) (stage : Stage) → MayCatch blocks stage →
+        ReadsItems propagating blocks stage (item propagating stage (innermost_of blocks)) }
 {}
 
 /// No tokens derive two scripts.
@@ -46,4 +49,13 @@ pub fn refused_tasks()
     ensures command_behind { RefusesCommandBehindTask }
     ensures bare_end { RefusesBareEndOfTasks }
     ensures text_inside { RefusesTextInTask }
+{}
+
+/// Texts with handlers that no script begins with, worked out by hand.
+pub fn refused_handlers()
+    ensures bare_begin { RefusesBareBegin }
+    ensures end_of_tried { RefusesEndOfTried }
+    ensures no_handler { RefusesNoHandler }
+    ensures behind_others { RefusesBehindOthers }
+    ensures bare_handler { RefusesBareHandler }
 {}

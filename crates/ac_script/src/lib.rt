@@ -6,9 +6,11 @@ mod build;
 mod command;
 mod cut;
 mod declaration;
+mod handler;
 mod head;
 mod item;
 mod item_reader;
+mod keyword;
 mod law;
 mod limits;
 mod names;
@@ -22,9 +24,9 @@ mod stage;
 mod stop;
 
 pub use ac_syntax::{
-    Arg, Args, Decl, Decls, ElemKind, Ident, Idents, Kind, RefusalKind, Script, ScriptFault, Stmt,
-    Stmts, TaskText, TaskTexts, TypeDef, ViewKind,
+    Arg, Args, Decl, Decls, ElemKind, Handler, Handlers, Ident, Idents, Kind, RefusalKind, Script,
+    ScriptFault, Stmt, Stmts, TaskText, TaskTexts, TypeDef, ViewKind,
 };
-pub use law::{each_text, items_read, one_script, refused_tasks, refused_texts};
+pub use law::{each_text, items_read, one_script, refused_handlers, refused_tasks, refused_texts};
 pub use parser::parse;
 pub use printer::{append_literal, print};

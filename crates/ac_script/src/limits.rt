@@ -44,6 +44,8 @@ const TASK_WORDS: [&[u8]; 1] = [b"task"];
 
 const BEGIN_WORDS: [&[u8]; 1] = [b"begin"];
 
+const DECLARE_WORDS: [&[u8]; 1] = [b"declare"];
+
 /// How far a task has come.
 #[derive(Clone, Copy, PartialEq, Eq)]
 enum Progress {
@@ -67,6 +69,8 @@ struct Behind {
     minus: bool,
     /// The last token is `end`.
     ended: bool,
+    /// The declarations of a block await its `begin`.
+    awaited: bool,
     /// How many tasks the open block of tasks has so far.
     tasks: u64,
     progress: Progress,
@@ -119,6 +123,15 @@ fn is_begin_word(token: &Token) -> bool
     }
 }
 
+fn is_declare_word(token: &Token) -> bool
+    ensures { result ≡ is_word_of limits.declare_words token.now }
+{
+    match token {
+        Token::Word(word) => is_among(word.bytes(), &DECLARE_WORDS),
+        _ => false,
+    }
+}
+
 fn is_mark(token: &Token, wanted: Mark) -> bool
     ensures { result ≡ limits.is_mark wanted token.now }
 {
@@ -139,6 +152,12 @@ impl Progress {
         ensures { result ≡ limits.is_open (progress_view self) }
     {
         !matches!(self, Progress::NoTask)
+    }
+
+    fn is_at_front(self) -> bool
+        ensures { result ≡ limits.is_at_front (progress_view self) }
+    {
+        matches!(self, Progress::Opened)
     }
 
     fn is_due(self) -> bool
@@ -176,11 +195,18 @@ impl Progress {
 }
 
 impl Behind {
+    /// A block with handlers begins with this token.
+    fn begins_handled(&self, token: &Token) -> bool
+        ensures { result ≡ limits.begins_handled (seen_view self.now) token.now }
+    {
+        is_begin_word(token) && !self.awaited && !self.progress.is_at_front()
+    }
+
     /// A block begins with this token.
     fn begins_block(&self, token: &Token) -> bool
         ensures { result ≡ limits.begins_block (seen_view self.now) token.now }
     {
-        is_block_word(token) && !self.ended
+        is_block_word(token) && !self.ended || self.begins_handled(token)
     }
 
     /// A command of a task begins with this token.
@@ -207,7 +233,7 @@ impl Behind {
             Token::Word(word) => word.bytes().len() > LONGEST_NAME || self.is_one_too_many(token),
             Token::Number(number) => *number > self.most(),
             Token::Text(string) => string.bytes().len() > LONGEST_STRING,
-            Token::Mark(_) => false,
+            Token::Keyword(_) | Token::Mark(_) => false,
         }
     }
 
@@ -230,6 +256,13 @@ impl Behind {
         } else {
             self.depth
         }
+    }
+
+    /// Whether the declarations of a block await its `begin` behind one token more.
+    fn awaited_after(&self, token: &Token) -> bool
+        ensures { result ≡ limits.awaited_after (seen_view self.now) token.now }
+    {
+        is_declare_word(token) || self.awaited && !is_begin_word(token)
     }
 
     /// How many tasks the block has behind one token more.
@@ -272,6 +305,7 @@ impl Behind {
             opened: is_before_literal(token),
             minus: is_mark(token, Mark::Minus) && self.opened,
             ended: is_end_word(token),
+            awaited: self.awaited_after(token),
             tasks: self.tasks_after(token),
             progress: self.progress.after(token),
             commands: self.commands_after(token),
@@ -288,6 +322,7 @@ pub fn within(placed: &[Placed]) -> usize
         opened: false,
         minus: false,
         ended: false,
+        awaited: false,
         tasks: 0,
         progress: Progress::NoTask,
         commands: 0,

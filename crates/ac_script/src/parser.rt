@@ -1,5 +1,5 @@
 //! Scripts from their texts.
-ghost use Rattle.std.specs.Prelude.{◌≡◌, ℕ, List, [], ◌∷◌, ◌++◌, Ok, Err, IfOk, IsTrue};
+ghost use Rattle.std.specs.Prelude.{◌≡◌, ℕ, Bool, List, [], ◌∷◌, ◌++◌, Ok, Err, IfOk, IsTrue};
 ghost use Rattle.std.specs.List.{list_all};
 ghost use Rattle.ac_syntax.specs.declared.refusal.RefusalKind.{RefusalKind as Kind};
 ghost use Rattle.ac_syntax.specs.declared.script.Script.{Script as Made};
@@ -12,7 +12,7 @@ ghost use Rattle.ac_syntax.specs.declared.fault.ScriptFault.TheVariants.{Refused
 ghost use Rattle.ac_script.specs.Answers.{IsAnswer, IsOrNoMemory, IsCut, EndPast};
 
 use crate::build::build;
-use crate::cut::{CutText, cut};
+use crate::cut::{CutText, script_cut};
 use crate::limits::within;
 use crate::reading::{Reading, read};
 use ac_base::NoMemory;
@@ -54,7 +54,7 @@ fn script_within(
     malformed: Option<u64>,
 ) -> Result<Script, ScriptFault>
     requires within { AreWithinLimits (tokens placed.now) }
-    requires written { IsTrue (list_all is_written (tokens placed.now)) }
+    requires written { (propagating : Bool) × IsTrue (list_all (is_written propagating) (tokens placed.now)) }
     ensures { (text : List ℕ) → IsCut text placed.now malformed → IsAnswer text result }
 {
     match read(alloc, placed)? {
@@ -73,7 +73,7 @@ fn script_within(
 fn answer(alloc: Global, bytes: &[u8]) -> Result<Script, ScriptFault>
     ensures { IsAnswer bytes.now result }
 {
-    let CutText { placed, malformed } = cut(alloc, bytes)?;
+    let CutText { placed, malformed } = script_cut(alloc, bytes)?;
     let count = within(&placed);
     match placed.get(count) {
         Some(past) => Err(fault_at_limit(alloc, &placed[..=count], past.line)),

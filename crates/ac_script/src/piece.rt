@@ -183,6 +183,16 @@ fn minus_piece(after: &[u8]) -> Option<Piece>
     }
 }
 
+/// What begins with `=`, which is no mark alone.
+fn arrow_piece(after: &[u8]) -> Option<Piece>
+    ensures { result ≡ tokens.arrow_piece after.now }
+{
+    match after {
+        [b'>', ..] => mark(2, Mark::Arrow),
+        _ => None,
+    }
+}
+
 fn mark_piece(first: u8) -> Option<Piece>
     ensures { result ≡ tokens.mark_piece first }
 {
@@ -207,6 +217,7 @@ fn any_piece(alloc: Global, text: &[u8]) -> Result<Option<Piece>, NoMemory>
         [b'"', after @ ..] => return string_piece(alloc, after),
         [b':', after @ ..] => colon_piece(after),
         [b'-', after @ ..] => minus_piece(after),
+        [b'=', after @ ..] => arrow_piece(after),
         [first, ..] => mark_piece(*first),
         [] => None,
     })

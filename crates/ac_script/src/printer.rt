@@ -1,7 +1,7 @@
 ghost use Rattle.std.specs.Prelude.{◌≡◌, IfOk, OnOk};
-ghost use Rattle.ac_syntax.specs.Code.{stop};
-ghost use Rattle.ac_syntax.specs.Items.{items, closes};
-ghost use Rattle.ac_syntax.specs.Statements.{before, task_before};
+ghost use Rattle.ac_syntax.specs.Code.{stop, no_handler};
+ghost use Rattle.ac_syntax.specs.Items.{items, handler_items, closes};
+ghost use Rattle.ac_syntax.specs.Statements.{before, task_before, handler_before};
 ghost use Rattle.ac_syntax.specs.Canonical.{canonical_text};
 ghost use Rattle.ac_script.specs.Page.{put_item, put_items};
 
@@ -14,8 +14,11 @@ mod page;
 mod words;
 
 use ac_base::NoMemory;
-use ac_syntax::{Closing, Script, Stmt, Stmts, TaskText, TaskTexts};
-use block::{put_declare, put_end, put_loop, put_stable, put_task_head, put_tasks_word, put_view};
+use ac_syntax::{Closing, Handler, Handlers, Script, Stmt, Stmts, TaskText, TaskTexts};
+use block::{
+    put_declare, put_end, put_handler_head, put_handlers_end, put_loop, put_pragma, put_stable,
+    put_task_head, put_tasks_word, put_try, put_view,
+};
 use command::{put_call, put_set, put_sum};
 use declaration::put_declarations;
 pub use literal::append_literal;
@@ -86,6 +89,16 @@ fn put_statement(page: &mut Page, stmt: &Stmt) -> Result<(), NoMemory>
             put_tasks(page, tasks)?;
             put_end(page, Closing::EndTasks)
         }
+        Stmt::Handled {
+            line,
+            body,
+            handlers,
+        } => {
+            put_try(page, *line)?;
+            put_body(page, body, Closing::EndTried)?;
+            put_handlers(page, handlers)?;
+            put_handlers_end(page)
+        }
     }
 }
 
@@ -108,6 +121,24 @@ fn put_tasks(page: &mut Page, tasks: &TaskTexts) -> Result<(), NoMemory>
 }
 
 #[cycle(statements)]
+fn put_handler(page: &mut Page, handler: &Handler) -> Result<(), NoMemory>
+    ensures { OnOk result (page.new ≡ put_items page.old (handler_items (handler_before handler.now no_handler))) }
+{
+    put_handler_head(page, handler.line, handler.catches)?;
+    put_statements(page, &handler.body)
+}
+
+#[cycle(statements)]
+fn put_handlers(page: &mut Page, handlers: &Handlers) -> Result<(), NoMemory>
+    ensures { OnOk result (page.new ≡ put_items page.old (handler_items handlers.now)) }
+{
+    for handler in handlers.items() {
+        put_handler(page, handler)?;
+    }
+    Ok(())
+}
+
+#[cycle(statements)]
 fn put_statements(page: &mut Page, stmts: &Stmts) -> Result<(), NoMemory>
     ensures { OnOk result (page.new ≡ put_items page.old (items stmts.now)) }
 {
@@ -122,6 +153,7 @@ pub fn print(alloc: Global, script: &Script) -> Result<Vec<u8>, NoMemory>
     ensures { IfOk result (λ text. text.items ≡ canonical_text script.now) }
 {
     let mut page = Page::new(alloc);
+    put_pragma(&mut page, script.pragma)?;
     put_declarations(&mut page, &script.decls)?;
     put_statements(&mut page, &script.stmts)?;
     page.finish()

@@ -6,7 +6,7 @@ ghost use Rattle.ac_script.specs.Readers as readers;
 
 use crate::reserved::is_reserved;
 use crate::stop::Stop;
-use ac_syntax::{Ident, Mark, Placed, Token};
+use ac_syntax::{Ident, Keyword, Mark, Placed, Token};
 
 /// Whether a word is the wanted one.
 pub fn is(word: &[u8], wanted: &[u8]) -> bool
@@ -45,6 +45,21 @@ pub fn find_mark(tokens: &[Placed], wanted: Mark) -> Option<&[Placed]>
     }
 }
 
+pub fn find_keyword(tokens: &[Placed], wanted: Keyword) -> Option<&[Placed]>
+    ensures { Finds (λ rest. (tt, rest.now)) result tokens.now (readers.keyword wanted tokens.now) }
+{
+    match tokens {
+        [
+            Placed {
+                token: Token::Keyword(found),
+                ..
+            },
+            rest @ ..,
+        ] if *found == wanted => Some(rest),
+        _ => None,
+    }
+}
+
 pub fn find_number(tokens: &[Placed]) -> Option<(u64, &[Placed])>
     ensures { Finds (λ read. (read.0, read.1.now)) result tokens.now (readers.number tokens.now) }
 {
@@ -64,6 +79,12 @@ pub fn word<'a>(tokens: &'a [Placed], wanted: &[u8]) -> Result<&'a [Placed], Sto
     ensures { Sees (λ rest. (tt, rest.now)) result (readers.word wanted.now tokens.now) }
 {
     find_word(tokens, wanted).ok_or(Stop::At(tokens))
+}
+
+pub fn keyword(tokens: &[Placed], wanted: Keyword) -> Result<&[Placed], Stop<'_>>
+    ensures { Sees (λ rest. (tt, rest.now)) result (readers.keyword wanted tokens.now) }
+{
+    find_keyword(tokens, wanted).ok_or(Stop::At(tokens))
 }
 
 pub fn mark(tokens: &[Placed], wanted: Mark) -> Result<&[Placed], Stop<'_>>

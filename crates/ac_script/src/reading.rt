@@ -1,17 +1,17 @@
 //! The items of a script, read one after another.
-ghost use Rattle.std.specs.Prelude.{◌≡◌, true, reverse, IfOk};
+ghost use Rattle.std.specs.Prelude.{◌≡◌, Bool, true, reverse, IfOk};
 ghost use Rattle.ac_syntax.specs.Items as items;
-ghost use Rattle.ac_syntax.specs.Order.{IsEnd, entered, task_entered, stage_behind};
+ghost use Rattle.ac_syntax.specs.Order.{IsEnd, entered, task_entered, tried, caught, stage_behind};
 ghost use Rattle.ac_script.specs.ItemReader.{innermost_of};
 ghost use Rattle.ac_script.specs.Views.{item_view, head_view, stage_view};
 ghost use Rattle.ac_script.specs.Readings as readings;
-ghost use Rattle.ac_script.specs.Readings.{IsReading, Enters, Leaves, GoesOn, context_of, reading_at};
+ghost use Rattle.ac_script.specs.Readings.{IsReading, Enters, Leads, Leaves, GoesOn, context_of, reading_at};
 
 use crate::item::{Head, Item};
 use crate::item_reader::read_item;
 use crate::stage::Stage;
 use crate::stop::Stop;
-use ac_base::NoMemory;
+use ac_base::{Exception, NoMemory};
 use ac_syntax::{Closing, Placed};
 use std::alloc::Global;
 
@@ -62,7 +62,38 @@ fn enter(open_blocks: &mut Vec<Closing>, head: &Head) -> Result<Stage, NoMemory>
     })
 }
 
-/// Closes the innermost block.
+/// Opens a block with handlers, and what is tried in it.
+fn enter_tried(open_blocks: &mut Vec<Closing>) -> Result<Stage, NoMemory>
+    ensures { IfOk result (Leads (λ propagating blocks. tried propagating blocks) open_blocks.old.items open_blocks.new.items) }
+{
+    open_blocks.push(Closing::EndHandlers)?;
+    open_blocks.push(Closing::EndTried)?;
+    Ok(Stage::Running)
+}
+
+/// The words that end a block whose last handler takes this.
+fn handler_end(exception: Option<Exception>) -> Closing
+    ensures { result ≡ items.handler_end exception }
+{
+    match exception {
+        None => Closing::EndOthers,
+        Some(_) => Closing::EndHandlers,
+    }
+}
+
+/// Begins a handler in the innermost block.
+fn enter_handler(
+    open_blocks: &mut Vec<Closing>,
+    exception: Option<Exception>,
+) -> Result<Stage, NoMemory>
+    ensures { IfOk result (Leads (λ propagating blocks. caught propagating exception blocks) open_blocks.old.items open_blocks.new.items) }
+{
+    open_blocks.pop();
+    open_blocks.push(handler_end(exception))?;
+    Ok(Stage::Running)
+}
+
+/// Closes the innermost block, or what is tried in it.
 fn leave(open_blocks: &mut Vec<Closing>) -> Stage
     ensures { Leaves open_blocks.old.items open_blocks.new.items result }
 {
@@ -77,8 +108,23 @@ fn behind(closing: Closing) -> Stage
     ensures { stage_view result ≡ stage_behind closing }
 {
     match closing {
-        Closing::EndLoop | Closing::End | Closing::EndTasks => Stage::Running,
+        Closing::EndLoop
+        | Closing::End
+        | Closing::EndTasks
+        | Closing::EndHandlers
+        | Closing::EndOthers => Stage::Running,
         Closing::EndTask => Stage::Tasked,
+        Closing::EndTried => Stage::Catching,
+    }
+}
+
+/// How far the script has come behind a declaration.
+fn declared(stage: Stage) -> Stage
+    ensures { result ≡ readings.declared stage }
+{
+    match stage {
+        Stage::Fronting => Stage::Listing,
+        _ => stage,
     }
 }
 
@@ -102,16 +148,26 @@ fn begun(stage: Stage) -> Stage
     }
 }
 
+/// Whether exceptions propagate behind an item.
+fn propagates_after(propagating: bool, item: &Item) -> bool
+    ensures { result ≡ readings.propagates_after propagating (item_view item.now) }
+{
+    propagating || matches!(item, Item::Propagates { .. })
+}
+
 /// How far the script has come behind an item that may come.
 fn after(open_blocks: &mut Vec<Closing>, stage: Stage, item: &Item) -> Result<Stage, NoMemory>
     ensures { IfOk result (GoesOn open_blocks.old.items open_blocks.new.items stage (item_view item.now)) }
 {
     match item {
-        Item::Declares(_) => Ok(stage),
+        Item::Declares(_) => Ok(declared(stage)),
         Item::Commands(_) => Ok(ran(stage)),
         Item::Begins => Ok(begun(stage)),
         Item::Opens(head) => enter(open_blocks, head),
         Item::Closes(_) => Ok(leave(open_blocks)),
+        Item::Propagates { .. } => Ok(Stage::Listing),
+        Item::Tries { .. } => enter_tried(open_blocks),
+        Item::Catches { exception, .. } => enter_handler(open_blocks, *exception),
     }
 }
 
@@ -127,10 +183,10 @@ fn stopped(at: &[Placed]) -> Reading
 
 /// A script may end where these blocks are open.
 fn may_end(open_blocks: &[Closing], stage: Stage) -> bool
-    ensures ends { result ≡ true → IsEnd (context_of open_blocks.now stage) }
-    ensures only { IsEnd (context_of open_blocks.now stage) → result ≡ true }
+    ensures ends { (propagating : Bool) → result ≡ true → IsEnd (context_of propagating open_blocks.now stage) }
+    ensures only { (propagating : Bool) → IsEnd (context_of propagating open_blocks.now stage) → result ≡ true }
 {
-    open_blocks.is_empty() && !matches!(stage, Stage::Heading | Stage::Preparing)
+    open_blocks.is_empty() && !matches!(stage, Stage::Heading | Stage::Preparing | Stage::Catching)
 }
 
 /// Reads the items that the tokens are, up to the first bad token.
@@ -139,11 +195,13 @@ pub fn read(alloc: Global, tokens: &[Placed]) -> Result<Reading, NoMemory>
 {
     let mut items = Vec::new(alloc);
     let mut open_blocks = Vec::new(alloc);
-    let mut stage = Stage::Listing;
+    let mut propagating = false;
+    let mut stage = Stage::Fronting;
     let mut rest = tokens;
     while !rest.is_empty() {
-        match read_item(alloc, stage, innermost(&open_blocks), rest) {
+        match read_item(alloc, propagating, stage, innermost(&open_blocks), rest) {
             Ok((item, behind)) => {
+                propagating = propagates_after(propagating, &item);
                 stage = after(&mut open_blocks, stage, &item)?;
                 items.push(item)?;
                 rest = behind;

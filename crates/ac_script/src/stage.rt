@@ -1,7 +1,9 @@
 /// How far a script has come.
 #[derive(Clone, Copy)]
 pub enum Stage {
-    /// At the front of a script: declarations or statements.
+    /// At the front of a script: the pragma, declarations or statements.
+    Fronting,
+    /// In a script's declarations: more of them, or statements.
     Listing,
     /// At the front of a block with declarations: these or `begin`.
     Heading,
@@ -14,4 +16,6 @@ pub enum Stage {
     Preparing,
     /// In a task: its commands, or its end.
     Stepping,
+    /// Behind `exception`: the first handler.
+    Catching,
 }

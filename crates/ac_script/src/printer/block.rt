@@ -1,14 +1,16 @@
-ghost use Rattle.std.specs.Prelude.{◌≡◌, ◌∷◌, [], OnOk};
-ghost use Rattle.ac_syntax.specs.Code.{loop_at, view_at, stable_at, declare_at, tasks_at, task_at};
-ghost use Rattle.ac_syntax.specs.Items.{opens, begins, closes, declared};
-ghost use Rattle.ac_syntax.specs.Parts.{says, names, place_parts, needed_place, query_parts, keyed_parts, view_parts};
+ghost use Rattle.std.specs.Prelude.{◌≡◌, ◌∷◌, [], codes, OnOk};
+ghost use Rattle.ac_syntax.specs.Code.{HandlerCode, loop_at, view_at, stable_at, declare_at, tasks_at, task_at};
+ghost use Rattle.ac_syntax.specs.Items.{opens, begins, closes, tries, catches, declared, handlers_end, pragma_items};
+ghost use Rattle.ac_syntax.specs.Keywords as keywords;
+ghost use Rattle.ac_syntax.specs.Parts.{says, marks, names, place_parts, needed_place, query_parts, keyed_parts, view_parts, closing_parts};
+ghost use Rattle.ac_syntax.specs.declared.token.Mark.TheVariants.{Semicolon};
 ghost use Rattle.ac_syntax.specs.declared.view_kind.ViewKind.TheVariants.{Reference};
 ghost use Rattle.ac_script.specs.Page.{put_parts, put_item, put_items};
 
 use crate::printer::declaration::{put_declarations, put_word_if};
 use crate::printer::page::Page;
-use ac_base::NoMemory;
-use ac_syntax::{Closing, Decls, Ident, Mark, ViewKind};
+use ac_base::{Exception, NoMemory};
+use ac_syntax::{Closing, Decls, Ident, Keyword, Mark, ViewKind};
 
 #[tactic(auto, using(crate::proofs::Pages::put_more), unfolding(ac_syntax::specs::Parts::item_parts))]
 pub fn put_loop(
@@ -201,17 +203,98 @@ pub fn put_task_head(
     put_begin_word(page)
 }
 
-/// Writes what ends a block.
+/// Writes the pragma, where there is one.
+#[tactic(auto, unfolding(ac_syntax::specs::Parts::item_parts))]
+pub fn put_pragma(page: &mut Page, pragma: Option<u64>) -> Result<(), NoMemory>
+    ensures { OnOk result (page.new ≡ put_items page.old (pragma_items pragma)) }
+{
+    let Some(line) = pragma else {
+        return Ok(());
+    };
+    page.begin_on(line)?;
+    page.keyword(Keyword::Pragma)?;
+    page.keyword(Keyword::Propagate)?;
+    page.mark(Mark::Semicolon)
+}
+
+/// Writes the word `begin` of a block with handlers.
+#[tactic(auto, unfolding(ac_syntax::specs::Parts::item_parts))]
+pub fn put_try(page: &mut Page, line: u64) -> Result<(), NoMemory>
+    ensures { OnOk result (page.new ≡ put_item page.old (tries line)) }
+{
+    page.begin_on(line)?;
+    page.word("begin")
+}
+
+fn caught_keyword(catches: Option<Exception>) -> Keyword
+    ensures { result ≡ keywords.caught_keyword catches }
+{
+    match catches {
+        None => Keyword::Others,
+        Some(Exception::ProgramError) => Keyword::ProgramError,
+        Some(Exception::ConstraintError) => Keyword::ConstraintError,
+        Some(Exception::CapacityError) => Keyword::CapacityError,
+    }
+}
+
+/// Writes a handler's head.
+#[tactic(auto, unfolding(ac_syntax::specs::Parts::item_parts))]
+pub fn put_handler_head(
+    page: &mut Page,
+    line: u64,
+    exception: Option<Exception>,
+) -> Result<(), NoMemory>
+    ensures { OnOk result (page.new ≡ put_item page.old (catches line exception)) }
+{
+    page.begin_on(line)?;
+    page.keyword(Keyword::When)?;
+    page.keyword(caught_keyword(exception))?;
+    page.mark(Mark::Arrow)
+}
+
+/// Writes `end`, a word behind it, and the last mark.
+fn put_named_end(page: &mut Page, word: &str) -> Result<(), NoMemory>
+    ensures { OnOk result (page.new ≡ put_parts page.old (says (codes "end") ∷ says word.now ∷ marks Semicolon ∷ [])) }
+{
+    page.word("end")?;
+    page.word(word)?;
+    page.mark(Mark::Semicolon)
+}
+
+fn put_bare_end(page: &mut Page) -> Result<(), NoMemory>
+    ensures { OnOk result (page.new ≡ put_parts page.old (says (codes "end") ∷ marks Semicolon ∷ [])) }
+{
+    page.word("end")?;
+    page.mark(Mark::Semicolon)
+}
+
+fn put_end_words(page: &mut Page, closing: Closing) -> Result<(), NoMemory>
+    ensures { OnOk result (page.new ≡ put_parts page.old (closing_parts closing)) }
+{
+    match closing {
+        Closing::EndLoop => put_named_end(page, "loop"),
+        Closing::EndTasks => put_named_end(page, "tasks"),
+        Closing::EndTried => page.keyword(Keyword::Exception),
+        Closing::End => put_bare_end(page),
+        Closing::EndTask => put_bare_end(page),
+        Closing::EndHandlers => put_bare_end(page),
+        Closing::EndOthers => put_bare_end(page),
+    }
+}
+
+/// Writes what ends a block, or what is tried in one.
 #[tactic(auto, unfolding(ac_syntax::specs::Parts::item_parts))]
 pub fn put_end(page: &mut Page, closing: Closing) -> Result<(), NoMemory>
     ensures { OnOk result (page.new ≡ put_item page.old (closes closing)) }
 {
     page.begin_here()?;
-    page.word("end")?;
-    match closing {
-        Closing::EndLoop => page.word("loop")?,
-        Closing::EndTasks => page.word("tasks")?,
-        Closing::End | Closing::EndTask => (),
-    }
-    page.mark(Mark::Semicolon)
+    put_end_words(page, closing)
+}
+
+/// Writes what ends a block with handlers, whatever the last one takes.
+pub fn put_handlers_end(page: &mut Page) -> Result<(), NoMemory>
+    ensures { (handlers : HandlerCode) → OnOk result (page.new ≡ put_item page.old (closes (handlers_end handlers))) }
+{
+    put_end(page, Closing::EndHandlers)?;
+    Ok(())
 }

@@ -17,6 +17,7 @@ pub fn mark_text(mark: Mark) -> &'static str
         Mark::Assign => ":=",
         Mark::Plus => "+",
         Mark::Minus => "-",
+        Mark::Arrow => "=>",
     }
 }
 

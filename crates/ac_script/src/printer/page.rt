@@ -1,12 +1,13 @@
 ghost use Rattle.std.specs.Prelude.{◌≡◌, ◌<◌, ◌++◌, replicate, IfOk, OnOk, Some, None};
-ghost use Rattle.ac_syntax.specs.Parts.{says, marks, names, counts, writes, lacks};
+ghost use Rattle.ac_syntax.specs.Parts.{says, keywords, marks, names, counts, writes, lacks};
 ghost use Rattle.ac_syntax.specs.Canonical.{with_last_line_feed};
 ghost use Rattle.ac_script.specs.Page.{blank_page, put_space, put_bytes, put_part, begin_item};
 
+use crate::keyword::keyword_text;
 use crate::printer::literal::append_literal;
 use crate::printer::mark::{follows_closely, leads_closely, mark_text};
 use ac_base::{NoMemory, Value};
-use ac_syntax::{Ident, Mark};
+use ac_syntax::{Ident, Keyword, Mark};
 use itoa::Buffer;
 use std::alloc::{AllocError, Global};
 use std::marker::Model;
@@ -79,6 +80,14 @@ impl Page {
     {
         self.space(false, false)?;
         self.bytes(word.as_bytes())
+    }
+
+    #[tactic(auto, unfolding(crate::specs::Page::put_part))]
+    pub fn keyword(&mut self, own: Keyword) -> Result<(), NoMemory>
+        ensures { OnOk result (self.new ≡ put_part self.old (keywords own)) }
+    {
+        self.space(false, false)?;
+        self.bytes(keyword_text(own).as_bytes())
     }
 
     #[tactic(auto, unfolding(crate::specs::Page::put_part))]

@@ -1,4 +1,6 @@
 use Rattle.std.proofs.Common.{refl}
+use Rattle.ac_syntax.specs.Tokens.{cut_of}
+use Rattle.ac_syntax.specs.Keywords.{begins_propagating}
 use Rattle.ac_script.specs.Behind.{StandWithin}
 use Rattle.ac_script.proofs.Refusals.{ends_past}
 use Rattle.ac_script.proofs.Written.{cut_written}
@@ -13,4 +15,4 @@ returns-in-Some c =
     (rw (c.deref-in-Some.ensures.value, ← c.deref-2.ensures.value) c.in-Some.ensures.lookup.1) stand)
 
 pub script_within-requires-clause-written : goal.script_within-requires-clause-written
-script_within-requires-clause-written c = rw (c.deref-in-None.ensures.value, c.in_ok-placed.ensures.placed) (cut_written c.args.bytes.now)
+script_within-requires-clause-written c = (begins_propagating (cut_of c.args.bytes.now).placed, rw (c.deref-in-None.ensures.value, c.in_ok-placed.ensures.placed) (cut_written c.args.bytes.now))

@@ -5,7 +5,7 @@ use Rattle.ac_script.proofs.parser.script_within.Goals as goal
 pub build-requires-clause-fits : goal.build-requires-clause-fits
 build-requires-clause-fits c =
     let whole = rw c.in-Whole.is at c.in_ok-line.ensures in
-    fits _ _ whole.are c.requires.within c.requires.written
+    fits c.requires.written.0 _ _ whole.are c.requires.within c.requires.written.1
 
 pub returns-in-Bad : goal.returns-in-Bad
 returns-in-Bad c text cut =

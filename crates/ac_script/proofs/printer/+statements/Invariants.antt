@@ -1,7 +1,7 @@
 use Rattle.std.proofs.Common.{◌≡◌, ◌+◌, ◌*◌, drop}
-use Rattle.ac_syntax.specs.Code.{code_size, stop}
-use Rattle.ac_syntax.specs.Items.{items}
-use Rattle.ac_syntax.specs.Statements.{before, code_of, task_before, tasks_of}
+use Rattle.ac_syntax.specs.Code.{code_size, handlers_size, stop, no_handler}
+use Rattle.ac_syntax.specs.Items.{items, handler_items}
+use Rattle.ac_syntax.specs.Statements.{before, code_of, task_before, tasks_of, handler_before, handlers_of}
 use Rattle.ac_script.specs.Page.{put_items}
 use Rattle.ac_script.proofs.printer.+statements.Given as goal
 
@@ -19,6 +19,15 @@ decreases-put_task l = 3 * code_size (task_before l.task.now stop)
 
 abbrev pub decreases-put_tasks : goal.decreases-put_tasks
 decreases-put_tasks l = 3 * code_size l.tasks.now + 1
+
+abbrev pub decreases-put_handler : goal.decreases-put_handler
+decreases-put_handler l = 3 * handlers_size (handler_before l.handler.now no_handler)
+
+abbrev pub decreases-put_handlers : goal.decreases-put_handlers
+decreases-put_handlers l = 3 * handlers_size l.handlers.now + 1
+
+abbrev pub invariant-put_handlers-loop-handler : goal.invariant-put_handlers-loop-handler
+invariant-put_handlers-loop-handler l = put_items l.page (handler_items (handlers_of (drop l.handler-index l.handler-items))) ≡ put_items l.initial.page (handler_items l.handlers)
 
 abbrev pub invariant-put_tasks-loop-task : goal.invariant-put_tasks-loop-task
 invariant-put_tasks-loop-task l = put_items l.page (items (tasks_of (drop l.task-index l.task-items))) ≡ put_items l.initial.page (items l.tasks)
