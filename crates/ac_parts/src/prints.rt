@@ -56,6 +56,7 @@ fn a_command(alloc: Global) -> Result<Script, AllocError> {
     let mut stmts = Vec::new(alloc);
     stmts.push(append(alloc, 2, -7)?)?;
     Ok(Script {
+        pragma: None,
         decls: a_list(alloc)?,
         stmts: Stmts::from_vec(stmts),
     })
@@ -77,6 +78,7 @@ fn a_block(alloc: Global) -> Result<Script, AllocError> {
     let mut stmts = Vec::new(alloc);
     stmts.push(stable(alloc)?)?;
     Ok(Script {
+        pragma: None,
         decls: a_list(alloc)?,
         stmts: Stmts::from_vec(stmts),
     })
