@@ -4,7 +4,7 @@ ghost use Rattle.ac_syntax.specs.Canonical.{literal_text};
 ghost use Rattle.ac_calls.specs.Answers.{answers_raised, raised_text, line, line_text};
 
 use ac_base::{NoMemory, Reason, Value};
-use ac_script::append_literal;
+use ac_printer::append_literal;
 use itoa::Buffer;
 
 #[inline(always)]

@@ -1,17 +1,17 @@
 -- A script that is built from its items: what each item adds.
 use Rattle.std.proofs.Common.{◌≡◌, ℕ, Bool, true, false, List, [], ◌∷◌, ◌++◌, map, reverse, Option, Some, None, refl, sym, ap, ◌∙◌, subst, append_assoc, Vec, Global}
-use Rattle.std.specs.Prelude.{flat_map, option_and_then, if◌then◌else◌}
+use Rattle.std.specs.Prelude.{flat_map, option_and_then}
 use Rattle.std.proofs.lemmas.List.{append-nil, map-append}
 use Rattle.std.proofs.lemmas.List.{reverse-append, reverse-reverse}
 use Rattle.std.proofs.lemmas.Grind.{flat_map-append}
 use Rattle.std.proofs.lemmas.Option.{none-some}
 use Rattle.std.proofs.Math.Bool.{true≢false}
-use Rattle.ac_syntax.specs.Code.{Code, Simple, Head as SpecHead, loop_at, view_at, stable_at, declare_at, tasks_at, task_at, stop, one, block, handled, HandlerCode, no_handler, handler}
+use Rattle.ac_syntax.specs.Code.{Code, Simple, Head as SpecHead, loop_at, view_at, stable_at, declare_at, tasks_at, task_at, stop, one, block, handled, HandlerCode}
 use Rattle.ac_syntax.specs.Items.{Item, declares, commands, opens, begins, closes, propagates, tries, catches, items, handler_items, pragma_items, handlers_end, end_behind, handler_end, ending, bare, declared}
-use Rattle.ac_syntax.specs.Statements.{before, code_of, task_before, tasks_of, handler_before, handlers_of}
+use Rattle.ac_syntax.specs.Statements.{before, code_of, task_before, tasks_of, handlers_of}
 use Rattle.ac_syntax.specs.Order.{Stage, fronting, listing, heading, running, tasking, tasked, preparing, stepping, catching, Context, next_after, context_after, is_heading, IsEnd, reach, entered, task_entered, tried, caught, stage_behind, left_behind, prepared}
 use Rattle.ac_syntax.specs.declared.closing.Closing.{Closing}
-use Rattle.ac_syntax.specs.declared.closing.Closing.TheVariants.{EndLoop, End, EndTasks, EndTask, EndTried, EndHandlers, EndOthers}
+use Rattle.ac_syntax.specs.declared.closing.Closing.TheVariants.{EndLoop, End, EndTasks, EndTask, EndTried, EndHandlers}
 use Rattle.ac_syntax.specs.declared.decl.Decl.{Decl}
 use Rattle.ac_syntax.specs.declared.decl.Decl.TheVariants.{TypeDecl, Object, CursorVar, IntVar, TextVar}
 use Rattle.ac_syntax.specs.declared.stmt.Stmt.{Stmt}

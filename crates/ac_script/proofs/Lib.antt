@@ -1,9 +1,6 @@
 mod Cutting
 mod Strings
 mod Within
-pub mod LineFeeds
-pub mod Pages
-pub mod PageTexts
 mod Spelled
 mod Cases
 mod Exact

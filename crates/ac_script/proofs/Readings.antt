@@ -1,7 +1,7 @@
 -- What items that were read one after another say of every script of the same tokens.
-use Rattle.std.proofs.Common.{◌≡◌, ℕ, ◌<◌, Bool, true, true≢false, List, [], ◌∷◌, ◌++◌, length, refl, sym, ap, subst, ◌∙◌, append_assoc, arith}
+use Rattle.std.proofs.Common.{◌≡◌, ◌<◌, Bool, true, true≢false, List, [], ◌∷◌, ◌++◌, length, refl, sym, ap, subst, ◌∙◌, append_assoc, arith}
 use Rattle.std.proofs.lemmas.List.{append-nil, map-append, reverse-append}
-use Rattle.std.specs.Prelude.{Some, None, Result, Ok, Err, IfOk, map, reverse, option_and_then}
+use Rattle.std.specs.Prelude.{Some, Result, Ok, Err, IfOk, map, reverse, option_and_then}
 use Rattle.std.proofs.lemmas.Option.{none-some}
 use Rattle.ac_base.specs.declared.fault.NoMemory.{NoMemory}
 use Rattle.ac_syntax.specs.Code.{Head}

@@ -1,5 +1,5 @@
 -- The reader of one item, where it may come.
-use Rattle.std.specs.Prelude.{ℕ, codes, Bool, true, false, List, [], ◌∷◌, Option, Some, None, if◌then◌else◌}
+use Rattle.std.specs.Prelude.{ℕ, codes, Bool, true, false, List, [], ◌∷◌, Option, Some, None}
 use Rattle.ac_base.specs.declared.reason.Exception.{Exception}
 use Rattle.ac_base.specs.declared.reason.Exception.TheVariants as exception
 use Rattle.ac_syntax.specs.Items.{Item, declares, commands, opens, begins, closes, propagates, tries, catches}

@@ -7,21 +7,6 @@ ghost use Rattle.ac_syntax.specs.declared.token.Keyword.TheVariants.{ProgramErro
 use crate::reader::is;
 use ac_syntax::{Keyword, Token};
 
-pub fn keyword_text(own: Keyword) -> &'static str
-    ensures { result.now ≡ keywords.keyword_text own }
-{
-    match own {
-        Keyword::Pragma => "pragma",
-        Keyword::Propagate => "propagate",
-        Keyword::Exception => "exception",
-        Keyword::When => "when",
-        Keyword::Others => "others",
-        Keyword::ProgramError => "program_error",
-        Keyword::ConstraintError => "constraint_error",
-        Keyword::CapacityError => "capacity_error",
-    }
-}
-
 /// The keyword that names an exception, if a word is one.
 fn exception_keyword(word: &[u8]) -> Option<Keyword>
     ensures { result ≡ keyword_among (ProgramError ∷ ConstraintError ∷ CapacityError ∷ []) word.now }

@@ -16,17 +16,16 @@ mod limits;
 mod names;
 mod parser;
 mod piece;
-mod printer;
 mod reader;
 mod reading;
 mod reserved;
 mod stage;
 mod stop;
 
+pub use ac_printer::print;
 pub use ac_syntax::{
     Arg, Args, Decl, Decls, ElemKind, Handler, Handlers, Ident, Idents, Kind, RefusalKind, Script,
     ScriptFault, Stmt, Stmts, TaskText, TaskTexts, TypeDef, ViewKind,
 };
 pub use law::{each_text, items_read, one_script, refused_handlers, refused_tasks, refused_texts};
 pub use parser::parse;
-pub use printer::{append_literal, print};

@@ -64,7 +64,7 @@ fn enter(open_blocks: &mut Vec<Closing>, head: &Head) -> Result<Stage, NoMemory>
 
 /// Opens a block with handlers, and what is tried in it.
 fn enter_tried(open_blocks: &mut Vec<Closing>) -> Result<Stage, NoMemory>
-    ensures { IfOk result (Leads (λ propagating blocks. tried propagating blocks) open_blocks.old.items open_blocks.new.items) }
+    ensures { IfOk result (Leads tried open_blocks.old.items open_blocks.new.items) }
 {
     open_blocks.push(Closing::EndHandlers)?;
     open_blocks.push(Closing::EndTried)?;

@@ -1,0 +1,3 @@
+mod LineFeeds
+mod Pages
+mod PageTexts

@@ -1,0 +1,46 @@
+ghost use Rattle.std.specs.Prelude.{◌≡◌};
+ghost use Rattle.ac_syntax.specs.Keywords as keywords;
+ghost use Rattle.ac_syntax.specs.Parts as parts;
+
+use ac_syntax::{ElemKind, Keyword, Kind};
+
+pub fn kind_word(kind: Kind) -> &'static str
+    ensures { result.now ≡ parts.kind_word kind }
+{
+    match kind {
+        Kind::Vector => "vector",
+        Kind::List => "list",
+        Kind::HashedMap => "hashed_map",
+        Kind::OrderedMap => "ordered_map",
+        Kind::HashedSet => "hashed_set",
+        Kind::OrderedSet => "ordered_set",
+        Kind::Tree => "tree",
+        Kind::Holder => "holder",
+        Kind::Queue => "queue",
+        Kind::PriorityQueue => "priority_queue",
+    }
+}
+
+pub fn elem_word(elem: ElemKind) -> &'static str
+    ensures { result.now ≡ parts.elem_word elem }
+{
+    match elem {
+        ElemKind::Integer => "integer",
+        ElemKind::Str => "string",
+    }
+}
+
+pub fn keyword_text(own: Keyword) -> &'static str
+    ensures { result.now ≡ keywords.keyword_text own }
+{
+    match own {
+        Keyword::Pragma => "pragma",
+        Keyword::Propagate => "propagate",
+        Keyword::Exception => "exception",
+        Keyword::When => "when",
+        Keyword::Others => "others",
+        Keyword::ProgramError => "program_error",
+        Keyword::ConstraintError => "constraint_error",
+        Keyword::CapacityError => "capacity_error",
+    }
+}

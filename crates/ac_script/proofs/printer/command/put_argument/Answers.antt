@@ -1,4 +1,0 @@
-use Rattle.ac_script.proofs.printer.command.put_argument.Goals as goal
-
-pub returns-in-NoElement : goal.returns-in-NoElement
-returns-in-NoElement c = rw c.in-NoElement.is c.word.ensures
