@@ -104,6 +104,7 @@ abbrev pub is_twice : Scope → Option (List ℕ) → Bool
 is_twice scope None = false
 is_twice scope (Some name) = is_in_scope scope name
 
+-- it is the one that a handler names
 abbrev pub is_own : Option Exception → Exception → Bool
 is_own None exception = false
 is_own (Some own) exception = sameb the_type own exception
