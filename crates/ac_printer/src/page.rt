@@ -5,7 +5,6 @@ ghost use Rattle.ac_printer.specs.Page.{blank_page, put_space, put_bytes, put_pa
 
 use crate::literal::append_literal;
 use crate::mark::{follows_closely, leads_closely, mark_text};
-use crate::words::keyword_text;
 use ac_base::{NoMemory, Value};
 use ac_syntax::{Ident, Keyword, Mark};
 use itoa::Buffer;
@@ -87,7 +86,7 @@ impl Page {
         ensures { OnOk result (self.new ≡ put_part self.old (keywords own)) }
     {
         self.space(false, false)?;
-        self.bytes(keyword_text(own).as_bytes())
+        self.bytes(own.text().as_bytes())
     }
 
     #[tactic(auto, unfolding(crate::specs::Page::put_part))]

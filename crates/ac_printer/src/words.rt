@@ -1,8 +1,7 @@
 ghost use Rattle.std.specs.Prelude.{◌≡◌};
-ghost use Rattle.ac_syntax.specs.Keywords as keywords;
 ghost use Rattle.ac_syntax.specs.Parts as parts;
 
-use ac_syntax::{ElemKind, Keyword, Kind};
+use ac_syntax::{ElemKind, Kind};
 
 pub fn kind_word(kind: Kind) -> &'static str
     ensures { result.now ≡ parts.kind_word kind }
@@ -27,20 +26,5 @@ pub fn elem_word(elem: ElemKind) -> &'static str
     match elem {
         ElemKind::Integer => "integer",
         ElemKind::Str => "string",
-    }
-}
-
-pub fn keyword_text(own: Keyword) -> &'static str
-    ensures { result.now ≡ keywords.keyword_text own }
-{
-    match own {
-        Keyword::Pragma => "pragma",
-        Keyword::Propagate => "propagate",
-        Keyword::Exception => "exception",
-        Keyword::When => "when",
-        Keyword::Others => "others",
-        Keyword::ProgramError => "program_error",
-        Keyword::ConstraintError => "constraint_error",
-        Keyword::CapacityError => "capacity_error",
     }
 }

@@ -46,7 +46,7 @@ pub fn is_keyword_text(own: Keyword, token: &Token) -> bool
     ensures { result ≡ keywords.is_keyword_text own token.now }
 {
     match token {
-        Token::Word(word) => is(keyword_text(own).as_bytes(), word.bytes()),
+        Token::Word(word) => is(own.text().as_bytes(), word.bytes()),
         _ => false,
     }
 }

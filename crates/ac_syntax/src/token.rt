@@ -1,3 +1,6 @@
+ghost use Rattle.std.specs.Prelude.{◌≡◌};
+ghost use Rattle.ac_syntax.specs.Keywords.{keyword_text};
+
 use crate::ident::Ident;
 use crate::string_bytes::StringBytes;
 
@@ -28,6 +31,24 @@ pub enum Keyword {
     ProgramError,
     ConstraintError,
     CapacityError,
+}
+
+impl Keyword {
+    /// The word, in lower case.
+    pub fn text(&self) -> &'static str
+        ensures { result.now ≡ keyword_text self.now }
+    {
+        match self {
+            Keyword::Pragma => "pragma",
+            Keyword::Propagate => "propagate",
+            Keyword::Exception => "exception",
+            Keyword::When => "when",
+            Keyword::Others => "others",
+            Keyword::ProgramError => "program_error",
+            Keyword::ConstraintError => "constraint_error",
+            Keyword::CapacityError => "capacity_error",
+        }
+    }
 }
 
 #[derive(Drop)]
