@@ -15,8 +15,7 @@ use Rattle.ac_syntax.specs.declared.operation.Operation.{Operation}
 use Rattle.ac_calls.specs.Answers.{answers_list}
 use Rattle.ac_calls.specs.Elements.{ElementOf, tools_of, Text}
 use Rattle.ac_calls.specs.HolderReplies.{holder_source, holder_reply, holder_write}
-use Rattle.ac_calls.specs.Holdings.{Held, of_holder, number_of, names_of, holder_in, listing_of, Written, written, write, reply_of}
-use Rattle.ac_meaning.specs.Execution.{in_order}
+use Rattle.ac_calls.specs.Holdings.{Held, of_holder, number_of, holder_in, listing_of, Written, written, write, reply_of}
 use Rattle.ac_calls.specs.Replies.{without, itself, another, carried}
 use Rattle.ac_calls.specs.Replies as replies
 use Rattle.ac_meaning.specs.Stays.{HolderStays}
@@ -28,7 +27,6 @@ use Rattle.ac_calls.specs.declared.reply.Said.{Said}
 use Rattle.ac_calls.specs.declared.reply.Said.TheVariants as said
 use Rattle.ac_calls.specs.declared.reply.Placed.{Placed}
 use Rattle.ac_objects.specs.Called.{Tells, Places, HeldAfter, Called, CalledWith, Lasts, WritesTo}
-use Rattle.ac_objects.specs.Given.{StepsOn}
 use Rattle.ac_holder_calls.specs.HolderCalls.{ChangesHolder, HolderSays, HolderAfter, HolderReplied, HolderRepliedWith}
 use Rattle.ac_objects.specs.Standing.{held_counts}
 use Rattle.ac_objects.specs.World.{in_holder, memory_of, held_in, held_of, AgreesIn}
@@ -43,14 +41,6 @@ integer_holder h = refl
 pub text_holder : (h : Holder Text) → memory_of (TextHolder h) ≡ in_holder Str h
 unfolding memory_of
 text_holder h = refl
-
-no_names : (before : List ℕ) (name : ℕ) (after : List ℕ) → [] ≡ before ++ name ∷ after → ⊥
-no_names [] name after is = cc
-no_names (b ∷ before) name after is = cc
-
-pub no_turn : (backward : Bool) (before : List ℕ) (name : ℕ) (after : List ℕ) → in_order backward [] ≡ before ++ name ∷ after → ⊥
-no_turn false before name after is = no_names before name after is
-no_turn true before name after is = no_names before name after is
 
 module _ (e : ElemKind) where
   held_is : (h : Holder (ElementOf e)) (w : Object) → memory_of w ≡ in_holder e h → held_of w ≡ of_holder e h
@@ -131,12 +121,6 @@ module _ (e : ElemKind) where
       new ≡ after → HolderStays old reason after → Lasts w v
   stays_to old new after w v reason is now same s = lasts_in old new w v reason is now (subst (λ x. HolderStays old reason x) (sym same) s)
 
-  -- a loop over it has no turn
-  pub ends : (h : Holder (ElementOf e)) (w : Object) → memory_of w ≡ in_holder e h → (backward : Bool) (at next : Cursor) →
-      StepsOn backward (number_of (held_of w)) (names_of (held_of w)) at next
-  ends h w is backward at next before name after among stands =
-      absurd (no_turn backward before name after (ap (λ m. in_order backward (names_of (held_in m))) (sym is) ∙ among))
-
   -- without a source, or with itself
 
   abbrev pub OwnReply : Holder (ElementOf e) → Operation → replies.Arguments → replies.Reply (Holder (ElementOf e))
@@ -210,15 +194,15 @@ module _ (e : ElemKind) where
   with_none r q w v s (Err (fault.Raised reason)) same h = subst (λ x. CalledWith x w s v s (Err (fault.Raised reason))) (sym same) (h.0, h.1, refl)
   with_none r q w v s (Err fault.NoMemory) same h = (h, refl)
 
-  pub unlike_called : (old new : Holder (ElementOf e)) (w v s : Object) (op : Operation) (a : replies.Arguments) (result : Result Reply Fault) →
-      memory_of w ≡ in_holder e old → memory_of v ≡ in_holder e new → (new ≡ old → v ≡ w) → holder_in e (Some (held_of s)) ≡ None →
-      HolderReplied (tools_of e) (OwnReply old op a) old new result → CalledWith (reply_of (held_of w) (Some (held_of s)) op a) w s v s result
-  unlike_called old new w v s op a result is new_is same none h =
+  pub unlike_alone : (old : Holder (ElementOf e)) (w v s : Object) (op : Operation) (a : replies.Arguments) (result : Result Reply Fault) →
+      memory_of w ≡ in_holder e old → holder_in e (Some (held_of s)) ≡ None → Called (reply_of (held_of w) None op a) w v result →
+      CalledWith (reply_of (held_of w) (Some (held_of s)) op a) w s v s result
+  unlike_alone old w v s op a result is none h =
       let reply : reply_of (held_of w) (Some (held_of s)) op a ≡ reply_of (held_of w) None op a =
       ap (λ m. reply_of (held_in m) (Some (held_of s)) op a) is
       ∙ (ap (λ x. carried (of_holder e) (holder_reply (tools_of e) old (holder_source old x a) a op)) none
       ∙ ap (λ m. reply_of (held_in m) None op a) (sym is)) in
-      with_none (reply_of (held_of w) None op a) _ w v s result reply (own_called old new w v op a result is new_is same h)
+      with_none (reply_of (held_of w) None op a) _ w v s result reply h
 
   -- a write
 

@@ -3,6 +3,10 @@ use Rattle.std.proofs.Common.{◌≡◌, inl, inr, ℕ, refl, sym, ap, subst, �
 use Rattle.ac_base.specs.declared.fault.Fault.{Fault}
 use Rattle.ac_base.specs.declared.fault.Fault.TheVariants as fault
 use Rattle.ac_base.specs.declared.cursor.Cursor.{Cursor}
+use Rattle.ac_base.specs.declared.reason.Reason.TheVariants.{NoElement}
+use Rattle.ac_base.specs.declared.value.Value.{Value}
+use Rattle.ac_model.specs.Calls.{Done}
+use Rattle.ac_model.specs.Cursors.{plain_mark}
 use Rattle.ac_model.specs.Queues.{TaskQueue}
 use Rattle.ac_queue.specs.declared.any_queue.AnyQueue.{AnyQueue}
 use Rattle.ac_queue.specs.declared.any_queue.AnyQueue.TheVariants.{Plain, Ranked}
@@ -11,8 +15,7 @@ use Rattle.ac_queue.specs.Shared.{shared}
 use Rattle.ac_syntax.specs.declared.operation.Operation.{Operation}
 use Rattle.ac_calls.specs.Answers.{Answer, answers_list}
 use Rattle.ac_calls.specs.QueueReplies.{queue_reply}
-use Rattle.ac_calls.specs.Holdings.{Held, of_queue, number_of, names_of, listing_of, reply_of}
-use Rattle.ac_meaning.specs.Execution.{in_order}
+use Rattle.ac_calls.specs.Holdings.{Held, of_queue, listing_of, write, reply_of}
 use Rattle.ac_calls.specs.Replies.{carried}
 use Rattle.ac_calls.specs.Replies as replies
 use Rattle.ac_objects.specs.declared.numbered_queue.NumberedQueue.{NumberedQueue}
@@ -22,12 +25,10 @@ use Rattle.ac_calls.specs.declared.reply.Placed.{Placed}
 use Rattle.ac_calls.specs.declared.reply.Reply.{Reply}
 use Rattle.ac_calls.specs.declared.reply.Said.{Said}
 use Rattle.ac_calls.specs.declared.reply.Said.TheVariants as said
-use Rattle.ac_objects.specs.Called.{Tells, Places, HeldAfter, Called, CalledWith, Lasts}
-use Rattle.ac_objects.specs.Given.{StepsOn}
+use Rattle.ac_objects.specs.Called.{Tells, Places, HeldAfter, Called, CalledWith, Lasts, WritesTo}
 use Rattle.ac_queue_calls.specs.QueueCalls.{QueueSays, QueueReplied}
 use Rattle.ac_objects.specs.Standing.{held_counts}
 use Rattle.ac_objects.specs.World.{in_queue, memory_of, held_in, held_of, AgreesIn}
-use Rattle.ac_objects.proofs.CalledHolders.{no_turn}
 
 -- what the variant is in memory
 pub queue_memory : (q : NumberedQueue) → memory_of (Queue q) ≡ in_queue q.tag (shared q.queue)
@@ -93,13 +94,18 @@ module _ (number : ℕ) where
   with_any r w v s (Err (fault.Raised reason)) h = (h.0, h.1, refl)
   with_any r w v s (Err fault.NoMemory) h = (h, refl)
 
-  pub any_called : (old new : AnyQueue) (w v s : Object) (op : Operation) (a : replies.Arguments) (result : Result Reply Fault) →
-      memory_of w ≡ in_queue number (shared old) → memory_of v ≡ in_queue number (shared new) → (new ≡ old → v ≡ w) →
-      QueueReplied (queue_reply (shared old) a op) old new result → CalledWith (reply_of (held_of w) (Some (held_of s)) op a) w s v s result
-  any_called old new w v s op a result is now same h =
-      subst (λ r. CalledWith r w s v s result) (sym (reply_is (shared old) w (Some (held_of s)) op a is))
-      (with_any (carried (of_queue number) (queue_reply (shared old) a op)) w v s result
-      (called old new w v (queue_reply (shared old) a op) result now same h))
+  pub any_called : (old : TaskQueue) (w v s : Object) (op : Operation) (a : replies.Arguments) (result : Result Reply Fault) → memory_of w ≡ in_queue number old →
+      Called (reply_of (held_of w) None op a) w v result → CalledWith (reply_of (held_of w) (Some (held_of s)) op a) w s v s result
+  any_called old w v s op a result is h =
+      with_any (reply_of (held_of w) (Some (held_of s)) op a) w v s result
+      (subst (λ r. Called r w v result) (reply_is old w None op a is ∙ sym (reply_is old w (Some (held_of s)) op a is)) h)
+
+  -- no name stands for an item, so that nothing is written
+  pub wrote_to : (old new : AnyQueue) (w v : Object) (at : Cursor) (x : Value) (result : Result Done Fault) → memory_of w ≡ in_queue number (shared old) →
+      (new ≡ old → v ≡ w) → (result ≡ Err (fault.Raised NoElement)) × (new ≡ old) → WritesTo (write (held_of w) (plain_mark at) x) w v result
+  wrote_to old new w v at x result is same refused =
+      subst (λ r. WritesTo (write (held_of w) (plain_mark at) x) w v r) (sym refused.0)
+      (ap (λ m. (write (held_in m) (plain_mark at) x).reason) is, same refused.1)
 
   -- its number lasts
   pub lasts : (old new : TaskQueue) (w v : Object) → memory_of w ≡ in_queue number old → memory_of v ≡ in_queue number new → Lasts w v
@@ -107,9 +113,3 @@ module _ (number : ℕ) where
     cursors = λ c agrees. subst (λ m. AgreesIn m c) (sym now) tt;
     counts = ap (λ m. held_counts (held_in m)) now ∙ ap (λ m. held_counts (held_in m)) (sym is);
   }
-
-  -- a loop over it has no turn
-  pub ends : (q : TaskQueue) (w : Object) → memory_of w ≡ in_queue number q → (backward : _) (at next : Cursor) →
-      StepsOn backward (number_of (held_of w)) (names_of (held_of w)) at next
-  ends q w is backward at next before name after among stands =
-      absurd (no_turn backward before name after (ap (λ m. in_order backward (names_of (held_in m))) (sym is) ∙ among))

@@ -108,6 +108,15 @@ own_agrees : {V : Type 0} (l : Container V) (object : ℕ) (name : Name) → IsV
 own_agrees l object name valid (inl named) = named_agrees l object name valid named
 own_agrees l object name valid (inr is) = subst (λ n. SlotAgrees l.object (At object n)) (sym is) (root_agrees l object valid)
 
+-- what is told of an object is told of what it is
+
+pub called_as : (o w v s : AnyObject) (op : Operation) (a : replies.Arguments) (result : Result Reply Fault) → w ≡ o →
+    CalledWith (reply_of (held_of o) (Some (held_of s)) op a) o s v s result → CalledWith (reply_of (held_of w) (Some (held_of s)) op a) w s v s result
+called_as o w v s op a result is h = subst (λ x. CalledWith (reply_of (held_of x) (Some (held_of s)) op a) x s v s result) (sym is) h
+
+pub lasts_as : (o w v : AnyObject) → w ≡ o → Lasts o v → Lasts w v
+lasts_as o w v is h = subst (λ x. Lasts x v) (sym is) h
+
 -- rows of a kind, as an object of a script
 module _ (kind : RowKind) where
   found : (l : Container (RowOf kind)) (w : AnyObject) (c : Cursor) → memory_of w ≡ in_rows kind l → IsValid (plain l.object) →
@@ -288,15 +297,14 @@ module _ (kind : RowKind) where
   with_none r q w v s (Err (fault.Raised reason)) e h = subst (λ x. CalledWith x w s v s (Err (fault.Raised reason))) (sym e) (h.0, h.1, refl)
   with_none r q w v s (Err fault.NoMemory) e h = (h, refl)
 
-  pub unlike_called : (old new : Container (RowOf kind)) (w v s t : AnyObject) (op : Operation) (a : replies.Arguments) (result : Result Reply Fault) →
-      memory_of w ≡ in_rows kind old → memory_of v ≡ in_rows kind new → (new ≡ old → v ≡ w) → t ≡ s → rows_in kind (Some (held_of s)) ≡ None → AreValid old new →
-      Replied (OwnReply old op a) old new result → CalledWith (reply_of (held_of w) (Some (held_of s)) op a) w s v t result
-  unlike_called old new w v s t op a result is new_is same stays none valid h =
-      let o = plain old.object in
+  pub unlike_alone : (old : Container (RowOf kind)) (w v s : AnyObject) (op : Operation) (a : replies.Arguments) (result : Result Reply Fault) →
+      memory_of w ≡ in_rows kind old → rows_in kind (Some (held_of s)) ≡ None → Called (reply_of (held_of w) None op a) w v result →
+      CalledWith (reply_of (held_of w) (Some (held_of s)) op a) w s v s result
+  unlike_alone old w v s op a result is none h =
       let reply : reply_of (held_of w) (Some (held_of s)) op a ≡ reply_of (held_of w) None op a =
-      ap (λ m. reply_of (held_in m) (Some (held_of s)) op a) is ∙ (unlike_reply o (held_of s) op a none ∙ ap (λ m. reply_of (held_in m) None op a) (sym is)) in
-      subst (λ x. CalledWith (reply_of (held_of w) (Some (held_of s)) op a) w s v x result) (sym stays)
-      (with_none (reply_of (held_of w) None op a) _ w v s result reply (own_called old new w v op a result is new_is same valid h))
+      ap (λ m. reply_of (held_in m) (Some (held_of s)) op a) is
+      ∙ (unlike_reply (plain old.object) (held_of s) op a none ∙ ap (λ m. reply_of (held_in m) None op a) (sym is)) in
+      with_none (reply_of (held_of w) None op a) _ w v s result reply h
 
   -- a kind is this one, or none of its objects is found as one of this
   pub like_or_none : (other : RowKind) (o : Object ℕ (RowOf kind)) (p : Object ℕ (RowOf other)) →
@@ -327,22 +335,28 @@ module _ (kind : RowKind) where
       (now_is : other ≡ kind → memory_of t ≡ in_rows kind now) (valid : AreValid old new)
       (alike : other ≡ kind → RepliedWith (PairReply old source op a) old source new now result)
       (unlike : (other ≡ kind → ⊥) → Replied (OwnReply old op a) old new result × (t ≡ s)) where
-    pub two_called : (new ≡ old → v ≡ w) → (now ≡ source → t ≡ s) → (number_of (held_of w) ≡ number_of (held_of s) → ⊥) →
+    two_called : (new ≡ old → v ≡ w) → (now ≡ source → t ≡ s) → (number_of (held_of w) ≡ number_of (held_of s) → ⊥) →
         CalledWith (reply_of (held_of w) (Some (held_of s)) op a) w s v t result
     two_called same same_source differ = elim (like_or_none other (plain old.object) q) [
       | inl n ↦
           let u = unlike n.1 in
-          unlike_called old new w v s t op a result is new_is same u.1 (ap (λ h. rows_in kind (Some h)) held_is ∙ n.0) valid u.0
+          subst (λ x. CalledWith (reply_of (held_of w) (Some (held_of s)) op a) w s v x result) (sym u.1)
+          (unlike_alone old w v s op a result is (ap (λ h. rows_in kind (Some h)) held_is ∙ n.0) (own_called old new w v op a result is new_is same valid u.0))
       | inr e ↦ pair_called old new source now w v s t op a result is new_is same (source_is e) (now_is e) same_source differ valid (alike e)
     ]
 
-    pub two_lasts : AreValid source now → Lasts w v × Lasts s t
+    two_lasts : AreValid source now → Lasts w v × Lasts s t
     two_lasts source_valid = elim (like_or_none other (plain old.object) q) [
       | inl n ↦
           let u = unlike n.1 in
           (own_lasts old new w v op a result is new_is valid u.0, subst (λ x. Lasts s x) (sym u.1) (record { cursors = λ c agrees. agrees; counts = refl }))
       | inr e ↦ pair_lasts old new source now w v s t op a result is new_is (source_is e) (now_is e) valid source_valid (alike e)
     ]
+
+    pub two : (new ≡ old → v ≡ w) → (now ≡ source → t ≡ s) → (number_of (held_of w) ≡ number_of (held_of s) → ⊥) → AreValid source now →
+        CalledWith (reply_of (held_of w) (Some (held_of s)) op a) w s v t result × Lasts w v × Lasts s t
+    two same same_source differ source_valid =
+        let last = two_lasts source_valid in (two_called same same_source differ, last.0, last.1)
 
   -- a write
 

@@ -11,6 +11,8 @@ pub mod Apart
 pub mod CalledRows
 pub mod CalledHolders
 pub mod CalledQueues
+pub mod Visited
+pub mod Edited
 pub mod NewObjects
 pub mod Declaring
 pub mod InPlaces

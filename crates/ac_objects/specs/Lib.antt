@@ -11,4 +11,6 @@ pub mod Blocks
 pub mod Called
 pub mod KeyUpdates
 pub mod Steps
+pub mod Visited
+pub mod Edited
 pub mod Lent

@@ -18,7 +18,7 @@ use crate::held::{call_object, call_objects};
 use crate::object::Object;
 use crate::objects::Objects;
 use ac_base::Fault;
-use ac_calls::{Arguments, Reply};
+use ac_calls::Frame;
 use ac_syntax::Operation;
 use std::alloc::Global;
 
@@ -30,15 +30,14 @@ impl Objects {
         object: usize,
         source: Option<usize>,
         operation: Operation,
-        args: &mut Arguments,
-        reply: &mut Reply,
+        frame: &mut Frame,
     ) -> Result<(), Fault>
         requires object { IsObject (state_of self.old) object }
         requires source { ForSome source (IsObject (state_of self.old)) }
-        requires known { AllKnown self.old args.old }
+        requires known { AllKnown self.old frame.old.arguments }
         ensures called { (h : Held) → object_at (state_of self.old) object ≡ Some h →
-            CalledAt (reply_of h (source_of (state_of self.old) source) operation (arguments_of args.old))
-            object source self.old self.new (told reply.new result) }
+            CalledAt (reply_of h (source_of (state_of self.old) source) operation (arguments_of frame.old.arguments))
+            object source self.old self.new (told frame.new.reply result) }
         ensures persists { Persists self.old self.new }
         ensures counts { counts_of (state_of self.new) ≡ counts_of (state_of self.old) }
     {
@@ -48,8 +47,7 @@ impl Objects {
             object,
             source,
             operation,
-            args,
-            reply,
+            frame,
         )
     }
 }
@@ -61,15 +59,14 @@ fn call_in(
     object: usize,
     source: Option<usize>,
     operation: Operation,
-    args: &mut Arguments,
-    reply: &mut Reply,
+    frame: &mut Frame,
 ) -> Result<(), Fault>
-    requires { CanCallIn bounds.old.items object source args.old }
-    ensures { CallsIn operation args.old object source bounds.old.items bounds.new.items (told reply.new result) }
+    requires { CanCallIn bounds.old.items object source frame.old.arguments }
+    ensures { CallsIn operation frame.old.arguments object source bounds.old.items bounds.new.items (told frame.new.reply result) }
 {
     match source {
-        None => call_alone(bounds, alloc, object, operation, args, reply),
-        Some(other) => call_source(bounds, alloc, object, other, operation, args, reply),
+        None => call_alone(bounds, alloc, object, operation, frame),
+        Some(other) => call_source(bounds, alloc, object, other, operation, frame),
     }
 }
 
@@ -80,16 +77,15 @@ fn call_source(
     object: usize,
     other: usize,
     operation: Operation,
-    args: &mut Arguments,
-    reply: &mut Reply,
+    frame: &mut Frame,
 ) -> Result<(), Fault>
-    requires { CanCallIn bounds.old.items object (Some other) args.old }
-    ensures { CallsIn operation args.old object (Some other) bounds.old.items bounds.new.items (told reply.new result) }
+    requires { CanCallIn bounds.old.items object (Some other) frame.old.arguments }
+    ensures { CallsIn operation frame.old.arguments object (Some other) bounds.old.items bounds.new.items (told frame.new.reply result) }
 {
     if other == object {
-        return call_alone(bounds, alloc, object, operation, args, reply);
+        return call_alone(bounds, alloc, object, operation, frame);
     }
-    call_with(bounds, alloc, object, other, operation, args, reply)
+    call_with(bounds, alloc, object, other, operation, frame)
 }
 
 #[inline(always)]
@@ -98,16 +94,15 @@ fn call_alone(
     alloc: Global,
     place: usize,
     operation: Operation,
-    args: &mut Arguments,
-    reply: &mut Reply,
+    frame: &mut Frame,
 ) -> Result<(), Fault>
-    requires { (o : AnyObject) × (slice_get bounds.old.items place ≡ Some (bound.Object o)) × AgreesWith o args.old }
+    requires { (o : AnyObject) × (slice_get bounds.old.items place ≡ Some (bound.Object o)) × AgreesWith o frame.old.arguments }
     ensures { (o : AnyObject) → slice_get bounds.old.items place ≡ Some (bound.Object o) →
-        CalledIn (reply_of (held_of o) None operation (arguments_of args.old))
-        place o bounds.old.items bounds.new.items (told reply.new result) }
+        CalledIn (reply_of (held_of o) None operation (arguments_of frame.old.arguments))
+        place o bounds.old.items bounds.new.items (told frame.new.reply result) }
 {
     match &mut bounds[place] {
-        Bound::Object(object) => call_object(object, alloc, operation, args, reply),
+        Bound::Object(object) => call_object(object, alloc, operation, frame),
         _ => unreachable!(),
     }
 }
@@ -118,28 +113,20 @@ fn call_with(
     place: usize,
     source: usize,
     operation: Operation,
-    args: &mut Arguments,
-    reply: &mut Reply,
+    frame: &mut Frame,
 ) -> Result<(), Fault>
-    requires object { (o : AnyObject) × (slice_get bounds.old.items place ≡ Some (bound.Object o)) × AgreesWith o args.old }
-    requires source { (o : AnyObject) × (slice_get bounds.old.items source ≡ Some (bound.Object o)) × AgreesWith o args.old }
+    requires object { (o : AnyObject) × (slice_get bounds.old.items place ≡ Some (bound.Object o)) × AgreesWith o frame.old.arguments }
+    requires source { (o : AnyObject) × (slice_get bounds.old.items source ≡ Some (bound.Object o)) × AgreesWith o frame.old.arguments }
     requires apart { (o s : AnyObject) → slice_get bounds.old.items place ≡ Some (bound.Object o) →
         slice_get bounds.old.items source ≡ Some (bound.Object s) → number_of (held_of o) ≡ number_of (held_of s) → ⊥ }
     requires places { place ≡ source → ⊥ }
     ensures { (o s : AnyObject) → slice_get bounds.old.items place ≡ Some (bound.Object o) →
         slice_get bounds.old.items source ≡ Some (bound.Object s) →
-        CalledInBoth (reply_of (held_of o) (Some (held_of s)) operation (arguments_of args.old)) place source o s
-        bounds.old.items bounds.new.items (told reply.new result) }
+        CalledInBoth (reply_of (held_of o) (Some (held_of s)) operation (arguments_of frame.old.arguments)) place source o s
+        bounds.old.items bounds.new.items (told frame.new.reply result) }
 {
     let mut target = std::mem::replace(&mut bounds[place], Bound::Type);
-    let called = call_bounds(
-        &mut target,
-        &mut bounds[source],
-        alloc,
-        operation,
-        args,
-        reply,
-    );
+    let called = call_bounds(&mut target, &mut bounds[source], alloc, operation, frame);
     bounds[place] = target;
     called
 }
@@ -149,15 +136,14 @@ fn call_bounds(
     source: &mut Bound,
     alloc: Global,
     operation: Operation,
-    args: &mut Arguments,
-    reply: &mut Reply,
+    frame: &mut Frame,
 ) -> Result<(), Fault>
-    requires { CanCall target.old source.old args.old }
-    ensures { CalledBounds operation args.old target.old source.old target.new source.new (told reply.new result) }
+    requires { CanCall target.old source.old frame.old.arguments }
+    ensures { CalledBounds operation frame.old.arguments target.old source.old target.new source.new (told frame.new.reply result) }
 {
     match target {
         Bound::Object(object) => match source {
-            Bound::Object(other) => call_objects(object, other, alloc, operation, args, reply),
+            Bound::Object(other) => call_objects(object, other, alloc, operation, frame),
             _ => unreachable!(),
         },
         _ => unreachable!(),

@@ -4,52 +4,88 @@ ghost use Rattle.ac_model.specs.Objects.{plain};
 ghost use Rattle.ac_model.specs.Cursors.{plain_mark};
 ghost use Rattle.ac_calls.specs.Holdings.{reply_of, number_of, element_value, write, seen_in};
 ghost use Rattle.ac_calls.specs.Replies.{itself, another, arguments_seen};
-ghost use Rattle.ac_calls.specs.Arguments.{AllAgree, arguments_of, mark_in};
+ghost use Rattle.ac_calls.specs.Arguments.{AllAgree, SlotAgrees, arguments_of, mark_in};
+ghost use Rattle.ac_calls.specs.HolderReplies.{holder_reply};
+ghost use Rattle.ac_holder_calls.specs.HolderCalls.{HolderRepliedWith};
 ghost use Rattle.ac_calls.specs.Replied.{Replied, RepliedWith, told};
 ghost use Rattle.ac_objects.specs.Called.{AgreesWith, IsWithinLimit, Called, CalledWith, Lasts, AreValid, WritesTo};
 ghost use Rattle.ac_calls.specs.RowWrites.{WritesIn};
+ghost use Rattle.ac_objects.specs.Edited.{AllAgreeThere, TellsCall, TellsWrite};
+ghost use Rattle.ac_objects.specs.Visited.{AgreesThere, AsksElement, TellsElement};
 ghost use Rattle.ac_objects.specs.World.{held_of, ObjectAgrees};
 
 use crate::object::Object;
+use crate::visiting::{Editor, Visitor, edit, visit};
 use ac_base::{Fault, NoMemory, Reason, Value};
-use ac_calls::{Arguments, OperatedRows, Reply, RowObject};
+use ac_calls::{Frame, OperatedRows, RowObject, ScriptElement};
 use ac_cursor::Cursor;
+use ac_forms::Holder;
 use ac_holder_calls::{operate_holder, operate_holders, value, write};
+use ac_queue::AnyQueue;
 use ac_queue_calls::operate_queue;
 use ac_syntax::Operation;
 use std::alloc::Global;
 
+/// A call without a source, or with the object itself as the source. Its arguments and its reply stand in the frame.
+#[derive(Drop)]
+struct Call {
+    alloc: Global,
+    operation: Operation,
+}
+
+impl Editor for Call {
+    type State = Frame;
+
+    type Answer = Result<(), Fault>;
+
+    ghost asks = { λ call frame there. AllAgreeThere frame.arguments there };
+
+    ghost tells = { λ call old new answer edited.
+        TellsCall call.operation (arguments_of old.arguments) (told new.reply answer) edited };
+
+    #[inline(always)]
+    fn edit_rows<C: OperatedRows>(self, object: &mut C, frame: &mut Frame) -> Result<(), Fault> {
+        call_own(object, self.alloc, self.operation, frame)
+    }
+
+    fn edit_holder<T: ScriptElement>(
+        self,
+        holder: &mut Holder<T>,
+        frame: &mut Frame,
+    ) -> Result<(), Fault> {
+        operate_holder(
+            holder,
+            self.alloc,
+            self.operation,
+            &mut frame.arguments,
+            &mut frame.reply,
+        )
+    }
+
+    fn edit_queue(self, queue: &mut AnyQueue, frame: &mut Frame) -> Result<(), Fault> {
+        operate_queue(
+            queue,
+            self.operation,
+            &mut frame.arguments,
+            &mut frame.reply,
+        )
+    }
+}
+
 /// Makes a call on an object without a source, or with itself as the source.
 #[inline(always)]
-#[tactic(auto, unfolding(crate::specs::World::memory_of))]
 pub fn call_object(
     object: &mut Object,
     alloc: Global,
     operation: Operation,
-    args: &mut Arguments,
-    reply: &mut Reply,
+    frame: &mut Frame,
 ) -> Result<(), Fault>
-    requires agree { AgreesWith object.old args.old }
-    ensures called { Called (reply_of (held_of object.old) None operation (arguments_of args.old))
-        object.old object.new (told reply.new result) }
+    requires agree { AgreesWith object.old frame.old.arguments }
+    ensures called { Called (reply_of (held_of object.old) None operation (arguments_of frame.old.arguments))
+        object.old object.new (told frame.new.reply result) }
     ensures lasts { Lasts object.old object.new }
 {
-    match object {
-        Object::Integers(sequence) => call_own(sequence, alloc, operation, args, reply),
-        Object::Texts(sequence) => call_apart(sequence, alloc, operation, args, reply),
-        Object::IntegerSet(set) => call_own(set, alloc, operation, args, reply),
-        Object::TextSet(set) => call_own(set, alloc, operation, args, reply),
-        Object::KeyedSet(set) => call_own(set, alloc, operation, args, reply),
-        Object::IntegersByInteger(map) => call_own(map, alloc, operation, args, reply),
-        Object::IntegersByText(map) => call_own(map, alloc, operation, args, reply),
-        Object::TextsByInteger(map) => call_own(map, alloc, operation, args, reply),
-        Object::TextsByText(map) => call_own(map, alloc, operation, args, reply),
-        Object::IntegerTree(tree) => call_own(tree, alloc, operation, args, reply),
-        Object::TextTree(tree) => call_own(tree, alloc, operation, args, reply),
-        Object::IntegerHolder(holder) => operate_holder(holder, alloc, operation, args, reply),
-        Object::TextHolder(holder) => operate_holder(holder, alloc, operation, args, reply),
-        Object::Queue(queue) => operate_queue(&mut queue.queue, operation, args, reply),
-    }
+    edit(object, Call { alloc, operation }, frame)
 }
 
 /// Makes a call on an object with another one as the source, which is none where it is of another kind or type.
@@ -59,75 +95,70 @@ pub fn call_objects(
     source: &mut Object,
     alloc: Global,
     operation: Operation,
-    args: &mut Arguments,
-    reply: &mut Reply,
+    frame: &mut Frame,
 ) -> Result<(), Fault>
     requires apart { number_of (held_of object.old) ≡ number_of (held_of source.old) → ⊥ }
-    requires agree { AgreesWith object.old args.old }
-    requires agree_with_source { AgreesWith source.old args.old }
-    ensures called { CalledWith (reply_of (held_of object.old) (Some (held_of source.old)) operation (arguments_of args.old))
-        object.old source.old object.new source.new (told reply.new result) }
+    requires agree { AgreesWith object.old frame.old.arguments }
+    requires agree_with_source { AgreesWith source.old frame.old.arguments }
+    ensures called { CalledWith (reply_of (held_of object.old) (Some (held_of source.old)) operation (arguments_of frame.old.arguments))
+        object.old source.old object.new source.new (told frame.new.reply result) }
     ensures lasts { Lasts object.old object.new }
     ensures source_lasts { Lasts source.old source.new }
 {
     match object {
         Object::Integers(sequence) => match source {
-            Object::Integers(other) => call_two(sequence, other, alloc, operation, args, reply),
-            _ => call_own(sequence, alloc, operation, args, reply),
+            Object::Integers(other) => call_two(sequence, other, alloc, operation, frame),
+            _ => call_object(object, alloc, operation, frame),
         },
         Object::Texts(sequence) => match source {
-            Object::Texts(other) => call_two(sequence, other, alloc, operation, args, reply),
-            _ => call_own(sequence, alloc, operation, args, reply),
+            Object::Texts(other) => call_two(sequence, other, alloc, operation, frame),
+            _ => call_object(object, alloc, operation, frame),
         },
         Object::IntegerSet(set) => match source {
-            Object::IntegerSet(other) => call_two(set, other, alloc, operation, args, reply),
-            _ => call_own(set, alloc, operation, args, reply),
+            Object::IntegerSet(other) => call_two(set, other, alloc, operation, frame),
+            _ => call_object(object, alloc, operation, frame),
         },
         Object::TextSet(set) => match source {
-            Object::TextSet(other) => call_two(set, other, alloc, operation, args, reply),
-            _ => call_own(set, alloc, operation, args, reply),
+            Object::TextSet(other) => call_two(set, other, alloc, operation, frame),
+            _ => call_object(object, alloc, operation, frame),
         },
         Object::KeyedSet(set) => match source {
-            Object::KeyedSet(other) => call_two(set, other, alloc, operation, args, reply),
-            _ => call_own(set, alloc, operation, args, reply),
+            Object::KeyedSet(other) => call_two(set, other, alloc, operation, frame),
+            _ => call_object(object, alloc, operation, frame),
         },
         Object::IntegersByInteger(map) => match source {
-            Object::IntegersByInteger(other) => call_two(map, other, alloc, operation, args, reply),
-            _ => call_own(map, alloc, operation, args, reply),
+            Object::IntegersByInteger(other) => call_two(map, other, alloc, operation, frame),
+            _ => call_object(object, alloc, operation, frame),
         },
         Object::IntegersByText(map) => match source {
-            Object::IntegersByText(other) => call_two(map, other, alloc, operation, args, reply),
-            _ => call_own(map, alloc, operation, args, reply),
+            Object::IntegersByText(other) => call_two(map, other, alloc, operation, frame),
+            _ => call_object(object, alloc, operation, frame),
         },
         Object::TextsByInteger(map) => match source {
-            Object::TextsByInteger(other) => call_two(map, other, alloc, operation, args, reply),
-            _ => call_own(map, alloc, operation, args, reply),
+            Object::TextsByInteger(other) => call_two(map, other, alloc, operation, frame),
+            _ => call_object(object, alloc, operation, frame),
         },
         Object::TextsByText(map) => match source {
-            Object::TextsByText(other) => call_two(map, other, alloc, operation, args, reply),
-            _ => call_own(map, alloc, operation, args, reply),
+            Object::TextsByText(other) => call_two(map, other, alloc, operation, frame),
+            _ => call_object(object, alloc, operation, frame),
         },
         Object::IntegerTree(tree) => match source {
-            Object::IntegerTree(other) => call_two(tree, other, alloc, operation, args, reply),
-            _ => call_own(tree, alloc, operation, args, reply),
+            Object::IntegerTree(other) => call_two(tree, other, alloc, operation, frame),
+            _ => call_object(object, alloc, operation, frame),
         },
         Object::TextTree(tree) => match source {
-            Object::TextTree(other) => call_two(tree, other, alloc, operation, args, reply),
-            _ => call_own(tree, alloc, operation, args, reply),
+            Object::TextTree(other) => call_two(tree, other, alloc, operation, frame),
+            _ => call_object(object, alloc, operation, frame),
         },
         Object::IntegerHolder(holder) => match source {
-            Object::IntegerHolder(other) => {
-                operate_holders(holder, other, alloc, operation, args, reply)
-            }
-            _ => operate_holder(holder, alloc, operation, args, reply),
+            Object::IntegerHolder(other) => call_holders(holder, other, alloc, operation, frame),
+            _ => call_object(object, alloc, operation, frame),
         },
         Object::TextHolder(holder) => match source {
-            Object::TextHolder(other) => {
-                operate_holders(holder, other, alloc, operation, args, reply)
-            }
-            _ => operate_holder(holder, alloc, operation, args, reply),
+            Object::TextHolder(other) => call_holders(holder, other, alloc, operation, frame),
+            _ => call_object(object, alloc, operation, frame),
         },
-        Object::Queue(queue) => operate_queue(&mut queue.queue, operation, args, reply),
+        Object::Queue(_) => call_object(object, alloc, operation, frame),
     }
 }
 
@@ -136,39 +167,19 @@ fn call_own<C: OperatedRows>(
     object: &mut C,
     alloc: Global,
     operation: Operation,
-    args: &mut Arguments,
-    reply: &mut Reply,
+    frame: &mut Frame,
 ) -> Result<(), Fault>
-    requires agree { AllAgree (C.rows object.old).object args.old }
+    requires agree { AllAgree (C.rows object.old).object frame.old.arguments }
     ensures replied { let o = plain (C.rows object.old).object in
-        Replied (C.comes_to object.old o itself (arguments_seen (seen_in (C.kind object.old) o) (arguments_of args.old)) operation)
-        (C.rows object.old) (C.rows object.new) (told reply.new result) }
+        Replied (C.comes_to object.old o itself (arguments_seen (seen_in (C.kind object.old) o) (arguments_of frame.old.arguments)) operation)
+        (C.rows object.old) (C.rows object.new) (told frame.new.reply result) }
     ensures kind { C.kind object.new ≡ C.kind object.old }
     ensures valid { AreValid (C.rows object.old) (C.rows object.new) }
 {
     object.law();
-    let called = object.operate(alloc, operation, args, reply);
+    let called = object.operate(alloc, operation, &mut frame.arguments, &mut frame.reply);
     object.law();
     called
-}
-
-/// As `call_own`, and put in line nowhere: for lists and vectors of texts, so that the way of those of integers is short.
-#[inline(never)]
-fn call_apart<C: OperatedRows>(
-    object: &mut C,
-    alloc: Global,
-    operation: Operation,
-    args: &mut Arguments,
-    reply: &mut Reply,
-) -> Result<(), Fault>
-    requires agree { AllAgree (C.rows object.old).object args.old }
-    ensures replied { let o = plain (C.rows object.old).object in
-        Replied (C.comes_to object.old o itself (arguments_seen (seen_in (C.kind object.old) o) (arguments_of args.old)) operation)
-        (C.rows object.old) (C.rows object.new) (told reply.new result) }
-    ensures kind { C.kind object.new ≡ C.kind object.old }
-    ensures valid { AreValid (C.rows object.old) (C.rows object.new) }
-{
-    call_own(object, alloc, operation, args, reply)
 }
 
 /// The source is none where it is of another kind.
@@ -177,20 +188,19 @@ fn call_two<C: OperatedRows>(
     source: &mut C,
     alloc: Global,
     operation: Operation,
-    args: &mut Arguments,
-    reply: &mut Reply,
+    frame: &mut Frame,
 ) -> Result<(), Fault>
-    requires agree { AllAgree (C.rows object.old).object args.old }
-    requires agree_with_source { AllAgree (C.rows source.old).object args.old }
+    requires agree { AllAgree (C.rows object.old).object frame.old.arguments }
+    requires agree_with_source { AllAgree (C.rows source.old).object frame.old.arguments }
     ensures alike { let o = plain (C.rows object.old).object in let s = plain (C.rows source.old).object in
         C.kind source.old ≡ C.kind object.old → let kind = C.kind object.old in
-        RepliedWith (C.comes_to object.old o (another s (arguments_seen (seen_in kind s) (arguments_of args.old)))
-        (arguments_seen (seen_in kind o) (arguments_of args.old)) operation)
-        (C.rows object.old) (C.rows source.old) (C.rows object.new) (C.rows source.new) (told reply.new result) }
+        RepliedWith (C.comes_to object.old o (another s (arguments_seen (seen_in kind s) (arguments_of frame.old.arguments)))
+        (arguments_seen (seen_in kind o) (arguments_of frame.old.arguments)) operation)
+        (C.rows object.old) (C.rows source.old) (C.rows object.new) (C.rows source.new) (told frame.new.reply result) }
     ensures unlike { let o = plain (C.rows object.old).object in
         (C.kind source.old ≡ C.kind object.old → ⊥) →
-        Replied (C.comes_to object.old o itself (arguments_seen (seen_in (C.kind object.old) o) (arguments_of args.old)) operation)
-        (C.rows object.old) (C.rows object.new) (told reply.new result) × (source.new ≡ source.old) }
+        Replied (C.comes_to object.old o itself (arguments_seen (seen_in (C.kind object.old) o) (arguments_of frame.old.arguments)) operation)
+        (C.rows object.old) (C.rows object.new) (told frame.new.reply result) × (source.new ≡ source.old) }
     ensures kind { C.kind object.new ≡ C.kind object.old }
     ensures source_kind { C.kind source.new ≡ C.kind source.old }
     ensures valid { AreValid (C.rows object.old) (C.rows object.new) }
@@ -198,9 +208,9 @@ fn call_two<C: OperatedRows>(
 {
     source.law();
     if object.is_like(source) {
-        call_like(object, source, alloc, operation, args, reply)
+        call_like(object, source, alloc, operation, frame)
     } else {
-        call_own(object, alloc, operation, args, reply)
+        call_own(object, alloc, operation, frame)
     }
 }
 
@@ -210,17 +220,16 @@ fn call_like<C: OperatedRows>(
     source: &mut C,
     alloc: Global,
     operation: Operation,
-    args: &mut Arguments,
-    reply: &mut Reply,
+    frame: &mut Frame,
 ) -> Result<(), Fault>
     requires like { C.kind source.old ≡ C.kind object.old }
-    requires agree { AllAgree (C.rows object.old).object args.old }
-    requires agree_with_source { AllAgree (C.rows source.old).object args.old }
+    requires agree { AllAgree (C.rows object.old).object frame.old.arguments }
+    requires agree_with_source { AllAgree (C.rows source.old).object frame.old.arguments }
     ensures replied { let o = plain (C.rows object.old).object in let s = plain (C.rows source.old).object in
         let kind = C.kind object.old in
-        RepliedWith (C.comes_to object.old o (another s (arguments_seen (seen_in kind s) (arguments_of args.old)))
-        (arguments_seen (seen_in kind o) (arguments_of args.old)) operation)
-        (C.rows object.old) (C.rows source.old) (C.rows object.new) (C.rows source.new) (told reply.new result) }
+        RepliedWith (C.comes_to object.old o (another s (arguments_seen (seen_in kind s) (arguments_of frame.old.arguments)))
+        (arguments_seen (seen_in kind o) (arguments_of frame.old.arguments)) operation)
+        (C.rows object.old) (C.rows source.old) (C.rows object.new) (C.rows source.new) (told frame.new.reply result) }
     ensures kind { C.kind object.new ≡ C.kind object.old }
     ensures source_kind { C.kind source.new ≡ C.kind source.old }
     ensures valid { AreValid (C.rows object.old) (C.rows object.new) }
@@ -228,39 +237,122 @@ fn call_like<C: OperatedRows>(
 {
     object.law();
     source.law();
-    let called = object.operate_with(source, alloc, operation, args, reply);
+    let called = object.operate_with(
+        source,
+        alloc,
+        operation,
+        &mut frame.arguments,
+        &mut frame.reply,
+    );
     object.law();
     source.law();
     called
 }
 
+/// A call of a holder with another one of its element type as the source.
+fn call_holders<T: ScriptElement>(
+    holder: &mut Holder<T>,
+    source: &mut Holder<T>,
+    alloc: Global,
+    operation: Operation,
+    frame: &mut Frame,
+) -> Result<(), Fault>
+    ensures { HolderRepliedWith T.tools
+        (holder_reply T.tools holder.old (another source.old (arguments_of frame.old.arguments)) (arguments_of frame.old.arguments) operation)
+        holder.old source.old holder.new source.new (told frame.new.reply result) }
+{
+    operate_holders(
+        holder,
+        source,
+        alloc,
+        operation,
+        &mut frame.arguments,
+        &mut frame.reply,
+    )
+}
+
+/// A copy of the element at a cursor. Of a queue's items none is copied.
+#[derive(Drop)]
+struct ElementCopy {
+    alloc: Global,
+    at: Cursor,
+}
+
+impl Visitor for ElementCopy {
+    type Answer = Result<Value, NoMemory>;
+
+    ghost asks = { λ copy there. AsksElement copy.at there };
+
+    ghost tells = { λ copy there answer. TellsElement copy.at there answer };
+
+    fn visit_rows<C: RowObject>(self, object: &C) -> Result<Value, NoMemory> {
+        element_in(object, self.alloc, self.at)
+    }
+
+    fn visit_holder<T: ScriptElement>(self, holder: &Holder<T>) -> Result<Value, NoMemory> {
+        value(holder, self.alloc)
+    }
+
+    fn visit_queue(self) -> Result<Value, NoMemory> {
+        Err(NoMemory)
+    }
+}
+
+/// A copy of the element of rows at which the cursor stands.
+fn element_in<C: RowObject>(object: &C, alloc: Global, at: Cursor) -> Result<Value, NoMemory>
+    requires agrees { SlotAgrees (C.rows object.now).object at }
+    requires stands { let o = plain (C.rows object.now).object in
+        ((C.own object.now o).element (seen_in (C.kind object.now) o (plain_mark at))).reason ≡ None }
+    ensures { let o = plain (C.rows object.now).object in
+        IfOk result (λ value. ((C.own object.now o).element (seen_in (C.kind object.now) o (plain_mark at))).answer ≡ Some value) }
+{
+    object.element_value(alloc, at)
+}
+
 /// A copy of the element at which the cursor stands.
-#[tactic(auto, unfolding(crate::specs::World::memory_of))]
 pub fn element_of(object: &Object, alloc: Global, at: Cursor) -> Result<Value, NoMemory>
     requires agree { ObjectAgrees object.now at }
     requires stands { (element_value (held_of object.now) (plain_mark at)).reason ≡ None }
     ensures { IfOk result (λ value. (element_value (held_of object.now) (plain_mark at)).answer ≡ Some value) }
 {
-    match object {
-        Object::Integers(sequence) => sequence.element_value(alloc, at),
-        Object::Texts(sequence) => sequence.element_value(alloc, at),
-        Object::IntegerSet(set) => set.element_value(alloc, at),
-        Object::TextSet(set) => set.element_value(alloc, at),
-        Object::KeyedSet(set) => set.element_value(alloc, at),
-        Object::IntegersByInteger(map) => map.element_value(alloc, at),
-        Object::IntegersByText(map) => map.element_value(alloc, at),
-        Object::TextsByInteger(map) => map.element_value(alloc, at),
-        Object::TextsByText(map) => map.element_value(alloc, at),
-        Object::IntegerTree(tree) => tree.element_value(alloc, at),
-        Object::TextTree(tree) => tree.element_value(alloc, at),
-        Object::IntegerHolder(holder) => value(holder, alloc),
-        Object::TextHolder(holder) => value(holder, alloc),
-        Object::Queue(_) => unreachable!(),
+    visit(object, ElementCopy { alloc, at })
+}
+
+/// A write through a name that stands for the element at a cursor.
+#[derive(Drop)]
+struct Write {
+    alloc: Global,
+    at: Cursor,
+    value: Value,
+}
+
+impl Editor for Write {
+    type State = ();
+
+    type Answer = Result<(), Fault>;
+
+    ghost asks = { λ writing state there. AgreesThere writing.at there };
+
+    ghost tells = { λ writing old new answer edited. TellsWrite writing.at writing.value answer edited };
+
+    fn edit_rows<C: OperatedRows>(self, object: &mut C, _state: &mut ()) -> Result<(), Fault> {
+        written(object, self.alloc, self.at, self.value)
+    }
+
+    fn edit_holder<T: ScriptElement>(
+        self,
+        holder: &mut Holder<T>,
+        _state: &mut (),
+    ) -> Result<(), Fault> {
+        write(holder, self.alloc, self.value)
+    }
+
+    fn edit_queue(self, _queue: &mut AnyQueue, _state: &mut ()) -> Result<(), Fault> {
+        Err(Fault::Raised(Reason::NoElement))
     }
 }
 
 /// Writes a value through a name that stands for the element at the cursor.
-#[tactic(auto, unfolding(crate::specs::World::memory_of))]
 pub fn write_element(
     object: &mut Object,
     alloc: Global,
@@ -271,22 +363,7 @@ pub fn write_element(
     ensures written { WritesTo (write (held_of object.old) (plain_mark at) value) object.old object.new result }
     ensures lasts { Lasts object.old object.new }
 {
-    match object {
-        Object::Integers(sequence) => written(sequence, alloc, at, value),
-        Object::Texts(sequence) => written(sequence, alloc, at, value),
-        Object::IntegerSet(set) => written(set, alloc, at, value),
-        Object::TextSet(set) => written(set, alloc, at, value),
-        Object::KeyedSet(set) => written(set, alloc, at, value),
-        Object::IntegersByInteger(map) => written(map, alloc, at, value),
-        Object::IntegersByText(map) => written(map, alloc, at, value),
-        Object::TextsByInteger(map) => written(map, alloc, at, value),
-        Object::TextsByText(map) => written(map, alloc, at, value),
-        Object::IntegerTree(tree) => written(tree, alloc, at, value),
-        Object::TextTree(tree) => written(tree, alloc, at, value),
-        Object::IntegerHolder(holder) => write(holder, alloc, value),
-        Object::TextHolder(holder) => write(holder, alloc, value),
-        Object::Queue(_) => Err(Fault::Raised(Reason::NoElement)),
-    }
+    edit(object, Write { alloc, at, value }, &mut ())
 }
 
 impl Object {

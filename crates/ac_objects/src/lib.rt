@@ -24,6 +24,7 @@ mod sequence;
 mod set;
 mod updates;
 mod views;
+mod visiting;
 mod walking;
 
 pub use ac_calls::{

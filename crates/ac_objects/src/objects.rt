@@ -110,13 +110,7 @@ impl Objects {
             Ok(()) => {}
             Err(_) => return Err(Fault::NoMemory),
         }
-        match self.call_at(
-            object,
-            source,
-            operation,
-            &mut frame.arguments,
-            &mut frame.reply,
-        ) {
+        match self.call_at(object, source, operation, frame) {
             Ok(()) => {
                 self.set_variable(args, &frame.reply.variable);
                 Ok(())

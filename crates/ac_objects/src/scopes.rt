@@ -1,11 +1,12 @@
 //! The names in scope: those that declarations make, and those that go at a block's end.
-ghost use Rattle.std.specs.Prelude.{◌≡◌, ◌++◌, ◌∷◌, [], if◌then◌else◌, ℕ, true, false, is_ok, length, take, None, Some, IfOk, OnErr, Err};
+ghost use Rattle.std.specs.Prelude.{◌≡◌, ⊤, ◌++◌, ◌∷◌, [], if◌then◌else◌, ℕ, true, false, is_ok, length, take, None, Some, IfOk, OnErr, Err};
 ghost use Rattle.ac_meaning.specs.Environment.{object_at, object_in, with_name, leaving, after_decl, after_decls, nodes, nodes_in};
 ghost use Rattle.ac_calls.specs.Holdings.{nodes_of};
 ghost use Rattle.ac_meaning.specs.Environment.{declared};
 ghost use Rattle.ac_objects.specs.Declarations.{object_declared, spent_at};
 ghost use Rattle.ac_objects.specs.Given.{Finds};
 ghost use Rattle.ac_objects.specs.Standing.{IsObject, counts_of};
+ghost use Rattle.ac_objects.specs.Visited.{TellsCount};
 ghost use Rattle.ac_objects.specs.World.{held_of, bound_of, cursor_in, state_of, IsKnown, Persists};
 
 use crate::blocks::DeclareFault;
@@ -13,32 +14,44 @@ use crate::bound::Bound;
 use crate::new_objects::new_object;
 use crate::object::Object;
 use crate::objects::Objects;
+use crate::visiting::{Visitor, visit};
 use ac_base::{Elem, NoMemory, Text, Value};
-use ac_calls::RowObject;
+use ac_calls::{RowObject, ScriptElement};
 use ac_cursor::Cursor;
+use ac_forms::Holder;
 use ac_rules::ResolvedDecl;
 use ac_syntax::TypeDef;
 
+/// How many elements have a slot.
+#[derive(Drop)]
+struct Count;
+
+impl Visitor for Count {
+    type Answer = u64;
+
+    ghost asks = { λ count there. ⊤ };
+
+    ghost tells = { λ count there answer. TellsCount there answer };
+
+    fn visit_rows<C: RowObject>(self, object: &C) -> u64 {
+        object.live_nodes()
+    }
+
+    fn visit_holder<T: ScriptElement>(self, _holder: &Holder<T>) -> u64 {
+        0
+    }
+
+    fn visit_queue(self) -> u64 {
+        0
+    }
+}
+
 impl Object {
     /// How many elements have a slot.
-    #[tactic(auto, unfolding(crate::specs::World::memory_of))]
     fn live_nodes(&self) -> u64
         ensures { result ≡ nodes_of (held_of self.now) }
     {
-        match self {
-            Object::Integers(sequence) => sequence.live_nodes(),
-            Object::Texts(sequence) => sequence.live_nodes(),
-            Object::IntegerSet(set) => set.live_nodes(),
-            Object::TextSet(set) => set.live_nodes(),
-            Object::KeyedSet(set) => set.live_nodes(),
-            Object::IntegersByInteger(map) => map.live_nodes(),
-            Object::IntegersByText(map) => map.live_nodes(),
-            Object::TextsByInteger(map) => map.live_nodes(),
-            Object::TextsByText(map) => map.live_nodes(),
-            Object::IntegerTree(tree) => tree.live_nodes(),
-            Object::TextTree(tree) => tree.live_nodes(),
-            Object::IntegerHolder(_) | Object::TextHolder(_) | Object::Queue(_) => 0,
-        }
+        visit(self, Count)
     }
 }
 

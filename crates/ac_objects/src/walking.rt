@@ -1,5 +1,5 @@
 //! Where a loop stands in its object, and why an element can't be viewed.
-ghost use Rattle.std.specs.Prelude.{◌≡◌, []};
+ghost use Rattle.std.specs.Prelude.{◌≡◌, ⊤};
 ghost use Rattle.ac_base.specs.Rows.{names};
 ghost use Rattle.ac_model.specs.Objects.{plain};
 ghost use Rattle.ac_model.specs.Cursors.{plain_mark};
@@ -10,13 +10,16 @@ ghost use Rattle.ac_meaning.specs.Execution.{in_order};
 ghost use Rattle.ac_meaning.specs.Walks.{step_call, first_mark};
 ghost use Rattle.ac_objects.specs.Given.{GivenBy, IsGiven, StepsOn};
 ghost use Rattle.ac_objects.specs.RootFree.{NoRootAmong};
+ghost use Rattle.ac_objects.specs.Visited.{AgreesThere, TellsFirst, TellsNext, TellsRefusal};
 ghost use Rattle.ac_calls.specs.Arguments.{SlotAgrees};
 ghost use Rattle.ac_objects.specs.World.{held_of, ObjectAgrees};
 
 use crate::object::Object;
+use crate::visiting::{Visitor, visit};
 use ac_base::{Fault, Name, Reason};
-use ac_calls::RowObject;
+use ac_calls::{RowObject, ScriptElement};
 use ac_cursor::Cursor;
+use ac_forms::Holder;
 use ac_holder_calls::refused;
 use ac_sequence_calls::by_fields;
 
@@ -81,45 +84,93 @@ fn refused_in<C: RowObject>(object: &C, at: Cursor) -> Option<Reason>
     object.refused(at)
 }
 
-/// A holder or a queue has no cursors, so that a loop over it ends where it begins.
-fn first_of_none<T>(_object: &T) -> Cursor
-    ensures first { result ≡ Cursor.NoElement }
-    ensures named { NoRootAmong [] }
-{
-    Cursor::NoElement
+/// Where a loop over an object begins. A holder or a queue has no cursors.
+#[derive(Drop)]
+struct First {
+    backward: bool,
 }
 
-/// And so it goes on.
-fn next_of_none<T>(_object: &T) -> Cursor
-    ensures { result ≡ Cursor.NoElement }
-{
-    Cursor::NoElement
+impl Visitor for First {
+    type Answer = Cursor;
+
+    ghost asks = { λ first there. ⊤ };
+
+    ghost tells = { λ first there answer. TellsFirst first.backward there answer };
+
+    fn visit_rows<C: RowObject>(self, object: &C) -> Cursor {
+        first_in(object, self.backward)
+    }
+
+    fn visit_holder<T: ScriptElement>(self, _holder: &Holder<T>) -> Cursor {
+        Cursor::NoElement
+    }
+
+    fn visit_queue(self) -> Cursor {
+        Cursor::NoElement
+    }
+}
+
+/// Where it goes on behind a cursor.
+#[derive(Drop)]
+struct Following {
+    backward: bool,
+    at: Cursor,
+}
+
+impl Visitor for Following {
+    type Answer = Cursor;
+
+    ghost asks = { λ following there. AgreesThere following.at there };
+
+    ghost tells = { λ following there answer. TellsNext following.backward following.at there answer };
+
+    fn visit_rows<C: RowObject>(self, object: &C) -> Cursor {
+        next_in(object, self.backward, self.at)
+    }
+
+    fn visit_holder<T: ScriptElement>(self, _holder: &Holder<T>) -> Cursor {
+        Cursor::NoElement
+    }
+
+    fn visit_queue(self) -> Cursor {
+        Cursor::NoElement
+    }
+}
+
+/// Why the element at a cursor can't be viewed.
+#[derive(Drop)]
+struct Refusal {
+    at: Cursor,
+}
+
+impl Visitor for Refusal {
+    type Answer = Option<Reason>;
+
+    ghost asks = { λ refusal there. AgreesThere refusal.at there };
+
+    ghost tells = { λ refusal there answer. TellsRefusal refusal.at there answer };
+
+    fn visit_rows<C: RowObject>(self, object: &C) -> Option<Reason> {
+        refused_in(object, self.at)
+    }
+
+    fn visit_holder<T: ScriptElement>(self, holder: &Holder<T>) -> Option<Reason> {
+        refused(holder)
+    }
+
+    fn visit_queue(self) -> Option<Reason> {
+        Some(Reason::NoElement)
+    }
 }
 
 impl Object {
     /// The cursor at which a loop over the object begins.
-    #[tactic(auto, unfolding(crate::specs::World::memory_of))]
     pub(crate) fn first_of(&self, backward: bool) -> Cursor
         ensures given { IsGiven self.now result }
         ensures named { NoRootAmong (names_of (held_of self.now)) }
         ensures first { plain_mark result ≡ first_mark (number_of (held_of self.now)) (in_order backward (names_of (held_of self.now))) }
     {
-        match self {
-            Object::Integers(sequence) => first_in(sequence, backward),
-            Object::Texts(sequence) => first_in(sequence, backward),
-            Object::IntegerSet(set) => first_in(set, backward),
-            Object::TextSet(set) => first_in(set, backward),
-            Object::KeyedSet(set) => first_in(set, backward),
-            Object::IntegersByInteger(map) => first_in(map, backward),
-            Object::IntegersByText(map) => first_in(map, backward),
-            Object::TextsByInteger(map) => first_in(map, backward),
-            Object::TextsByText(map) => first_in(map, backward),
-            Object::IntegerTree(tree) => first_in(tree, backward),
-            Object::TextTree(tree) => first_in(tree, backward),
-            Object::IntegerHolder(holder) => first_of_none(holder),
-            Object::TextHolder(holder) => first_of_none(holder),
-            Object::Queue(queue) => first_of_none(queue),
-        }
+        visit(self, First { backward })
     }
 
     /// The cursor at which a loop goes on behind this one, and No_Element where it doesn't.
@@ -138,51 +189,19 @@ impl Object {
 
     /// As `next_of`, of any object. It stands apart, so that the way of a list or a vector of integers is short.
     #[inline(never)]
-    #[tactic(auto, unfolding(crate::specs::World::memory_of))]
     fn next_apart(&self, backward: bool, at: Cursor) -> Cursor
         requires { ObjectAgrees self.now at }
         ensures given { IsGiven self.now result }
         ensures next { StepsOn backward (number_of (held_of self.now)) (names_of (held_of self.now)) at result }
     {
-        match self {
-            Object::Integers(sequence) => next_in(sequence, backward, at),
-            Object::Texts(sequence) => next_in(sequence, backward, at),
-            Object::IntegerSet(set) => next_in(set, backward, at),
-            Object::TextSet(set) => next_in(set, backward, at),
-            Object::KeyedSet(set) => next_in(set, backward, at),
-            Object::IntegersByInteger(map) => next_in(map, backward, at),
-            Object::IntegersByText(map) => next_in(map, backward, at),
-            Object::TextsByInteger(map) => next_in(map, backward, at),
-            Object::TextsByText(map) => next_in(map, backward, at),
-            Object::IntegerTree(tree) => next_in(tree, backward, at),
-            Object::TextTree(tree) => next_in(tree, backward, at),
-            Object::IntegerHolder(holder) => next_of_none(holder),
-            Object::TextHolder(holder) => next_of_none(holder),
-            Object::Queue(queue) => next_of_none(queue),
-        }
+        visit(self, Following { backward, at })
     }
 
     /// Why the element at which the cursor stands can't be viewed.
-    #[tactic(auto, unfolding(crate::specs::World::memory_of))]
     pub(crate) fn refused_view(&self, at: Cursor) -> Option<Reason>
         requires { ObjectAgrees self.now at }
         ensures { result ≡ (element_value (held_of self.now) (plain_mark at)).reason }
     {
-        match self {
-            Object::Integers(sequence) => refused_in(sequence, at),
-            Object::Texts(sequence) => refused_in(sequence, at),
-            Object::IntegerSet(set) => refused_in(set, at),
-            Object::TextSet(set) => refused_in(set, at),
-            Object::KeyedSet(set) => refused_in(set, at),
-            Object::IntegersByInteger(map) => refused_in(map, at),
-            Object::IntegersByText(map) => refused_in(map, at),
-            Object::TextsByInteger(map) => refused_in(map, at),
-            Object::TextsByText(map) => refused_in(map, at),
-            Object::IntegerTree(tree) => refused_in(tree, at),
-            Object::TextTree(tree) => refused_in(tree, at),
-            Object::IntegerHolder(holder) => refused(holder),
-            Object::TextHolder(holder) => refused(holder),
-            Object::Queue(_) => Some(Reason::NoElement),
-        }
+        visit(self, Refusal { at })
     }
 }

@@ -1,24 +1,15 @@
-use Rattle.std.proofs.Common.{ap, ◌∙◌}
-use Rattle.ac_syntax.specs.declared.kind.ElemKind.TheVariants.{Integer, Str}
-use Rattle.ac_queue.specs.Shared.{shared}
 use Rattle.ac_objects.specs.World.{memory_of}
-use Rattle.ac_objects.proofs.CalledHolders.{integer_holder, text_holder, ends}
-use Rattle.ac_objects.proofs.CalledQueues as queues
-use Rattle.ac_objects.proofs.CalledQueues.{queue_memory}
+use Rattle.ac_objects.proofs.Visited.{agrees_there, next_number, next_agrees, next_steps}
 use Rattle.ac_objects.proofs.object.Object.next_apart.Goals as goal
 
-pub returns-in-IntegerHolder-clause-next : goal.returns-in-IntegerHolder-clause-next
-returns-in-IntegerHolder-clause-next c =
-    let here = c.in-IntegerHolder in
-    ends Integer here.holder c.args.self.now (ap memory_of here.is ∙ integer_holder here.holder) c.args.backward c.args.at c.next_of_none.result
+pub visit-requires : goal.visit-requires
+visit-requires c = agrees_there (memory_of c.args.self.now) c.args.at c.requires
 
-pub returns-in-TextHolder-clause-next : goal.returns-in-TextHolder-clause-next
-returns-in-TextHolder-clause-next c =
-    let here = c.in-TextHolder in
-    ends Str here.holder c.args.self.now (ap memory_of here.is ∙ text_holder here.holder) c.args.backward c.args.at c.next_of_none-in-TextHolder.result
+pub returns-clause-given : goal.returns-clause-given
+returns-clause-given c = record {
+  number = next_number c.args.backward c.args.at c.visit.result (memory_of c.args.self.now) c.visit.ensures;
+  agrees = next_agrees c.args.backward c.args.at c.visit.result (memory_of c.args.self.now) c.visit.ensures;
+}
 
-pub returns-in-Queue-clause-next : goal.returns-in-Queue-clause-next
-returns-in-Queue-clause-next c =
-    let here = c.in-Queue in
-    queues.ends here.queue.tag (shared here.queue.queue) c.args.self.now (ap memory_of here.is ∙ queue_memory here.queue) c.args.backward c.args.at
-    c.next_of_none-in-Queue.result
+pub returns-clause-next : goal.returns-clause-next
+returns-clause-next c = next_steps c.args.backward c.args.at c.visit.result (memory_of c.args.self.now) c.visit.ensures

@@ -13,7 +13,7 @@ set_variable-requires c =
     let source = c.source_place-source.result in
     let o = c.requires.object in
     sets_known (reply_of o.held (source_of e source) c.args.operation (arguments_of c.read_arguments.new.read)) c.args.object source c.args.self.now
-    c.call_at.new.self c.call_at.new.reply (c.in-Ok-call_at.ensures.called o.held o.there)
+    c.call_at.new.self c.call_at.new.frame.reply (c.in-Ok-call_at.ensures.called o.held o.there)
 
 pub returns-in-Ok-call_at-clause-performed : goal.returns-in-Ok-call_at-clause-performed
 returns-in-Ok-call_at-clause-performed c h there =
@@ -22,7 +22,7 @@ returns-in-Ok-call_at-clause-performed c h there =
     let args = c.args.args.now in
     let source = c.source_place-source.result in
     let mid = c.call_at.new.self in
-    let reply = c.call_at.new.reply in
+    let reply = c.call_at.new.frame.reply in
     let read = subst (λ a. CalledAt (reply_of h (source_of e source) c.args.operation a) c.args.object source old mid (Ok reply)) c.in-Ok.ensures.read
     (c.in-Ok-call_at.ensures.called h there) in
     let placed = subst (λ s. CalledAt (reply_of h (source_of e s) c.args.operation (arguments e args)) c.args.object source old mid (Ok reply))
