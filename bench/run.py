@@ -30,6 +30,7 @@ RUNS = 5
 # Processor times are the least of more runs: a machine that others share is often slower for a while.
 PROCESSOR_RUNS = 25
 ALGEBRA_RUNS = 9
+PAIRS = 7
 SIZES = (10_000, 100_000, 1_000_000)
 
 
@@ -236,13 +237,25 @@ def workload(program, *words, rounds):
     return (seconds(command + [str(rounds)]) - seconds(command + ["0"])) / rounds
 
 
+# Runs the command of its words and prints its peak. A program's peak counts what its parent had, so the parent is a Python without modules.
+SMALL_PARENT = """
+import os, sys
+pid = os.fork()
+if pid == 0:
+    os.dup2(os.open(os.devnull, os.O_WRONLY), 1)
+    os.execvp(sys.argv[1], sys.argv[1:])
+_, status, usage = os.wait4(pid, 0)
+print(usage.ru_maxrss)
+sys.exit(status != 0)
+"""
+
+
 def peak(command, script=subprocess.DEVNULL):
     """The most memory that a program had, in bytes."""
-    running = subprocess.Popen(command, stdin=script, stdout=subprocess.DEVNULL)
-    _, status, usage = os.wait4(running.pid, 0)
-    if status != 0:
+    ran = subprocess.run([sys.executable, "-S", "-E", "-I", "-c", SMALL_PARENT, *command], stdin=script, stdout=subprocess.PIPE, text=True)
+    if ran.returncode != 0:
         sys.exit(f"{command} failed")
-    return usage.ru_maxrss * 1024
+    return int(ran.stdout) * 1024
 
 
 def scripts(place):
@@ -356,11 +369,14 @@ def algebra(place, programs):
 
 
 def churn(program, place):
-    rounds = 10_000_000
-    ours = workload(program, "pool", rounds=rounds)
-    theirs = workload(build("pool_baseline.rs", place), "pool", rounds=rounds)
+    """The median of some pairs, since the plain program's time varies by half from run to run."""
+    plain, pairs = build("pool_baseline.rs", place), []
+    for _ in range(PAIRS):
+        ours, theirs = (workload(each, "pool", rounds=20_000_000) for each in (program, plain))
+        pairs.append((ours / theirs, ours))
+    ratio, ours = sorted(pairs)[PAIRS // 2]
     print(f"{'workload':<40}{'ns a round':>12}{'ratio':>8}")
-    print(f"{'a put and a take, 1,000 live':<40}{ours * 1e9:>12.1f}{ours / theirs:>8.2f}")
+    print(f"{'a put and a take, 1,000 live':<40}{ours * 1e9:>12.1f}{ratio:>8.2f}")
 
 
 def middle(program):
