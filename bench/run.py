@@ -252,7 +252,7 @@ sys.exit(status != 0)
 
 def peak(command, script=subprocess.DEVNULL):
     """The most memory that a program had, in bytes."""
-    ran = subprocess.run([sys.executable, "-S", "-E", "-I", "-c", SMALL_PARENT, *command], stdin=script, stdout=subprocess.PIPE, text=True)
+    ran = subprocess.run([sys.executable, "-I", "-S", "-c", SMALL_PARENT, *command], stdin=script, stdout=subprocess.PIPE, text=True)
     if ran.returncode != 0:
         sys.exit(f"{command} failed")
     return int(ran.stdout) * 1024
