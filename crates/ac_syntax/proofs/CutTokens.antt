@@ -11,12 +11,13 @@ use Rattle.std.specs.List.{prefix_len, list_all}
 use Rattle.std.specs.Char.{is_ascii_alphabetic, is_ascii_digit, is_ascii_lowercase, to_ascii_lowercase}
 use Rattle.std.specs.Str.Parse.{digits_value}
 use Rattle.ac_syntax.specs.declared.token.Keyword.{Keyword}
+use Rattle.ac_syntax.specs.declared.token.Mark.{Mark}
 use Rattle.ac_syntax.specs.declared.token.Token.{Token}
 use Rattle.ac_syntax.specs.declared.token.Token.TheVariants as token
 use Rattle.ac_syntax.specs.declared.token.Placed.{Placed}
 use Rattle.ac_syntax.specs.declared.piece.Piece.{Piece}
 use Rattle.ac_syntax.specs.Characters.{is_word_byte, is_blank, is_quote, is_printable}
-use Rattle.ac_syntax.specs.Tokens.{Cut, Ending, tokens, cut_from, cut_of, piece_at, word_piece, number_piece, number_value, token_of, with_byte, string_from, colon_piece, minus_piece, arrow_piece, mark_piece, line_after, placed_at, with_piece}
+use Rattle.ac_syntax.specs.Tokens.{Cut, Ending, tokens, cut_from, cut_of, piece_at, word_piece, number_piece, number_value, token_of, with_byte, string_from, colon_piece, minus_piece, longer_piece, slash_piece, mark_piece, line_after, placed_at, with_piece}
 use Rattle.ac_syntax.specs.Keywords.{keyword_of, reserved_word, reserved_token, reserved_placed, begins_propagating, reserved_where, script_cut}
 use Rattle.ac_syntax.specs.Canonical.{is_lower_word, is_written, RisesFrom}
 use Rattle.ac_syntax.proofs.Fronts.{list_all_front}
@@ -110,14 +111,19 @@ minus_written : (rest : List ℕ) → gives_written (minus_piece rest) ≡ true
 minus_written [] = refl
 minus_written (b ∷ rest) = either (b == 45) _ _ (λ _. refl) (λ _. refl)
 
-arrow_written : (rest : List ℕ) → gives_written (arrow_piece rest) ≡ true
-arrow_written [] = refl
-arrow_written (b ∷ rest) = either (b == 62) _ _ (λ _. refl) (λ _. refl)
+longer_written : (next : ℕ) (longer shorter : Mark) (rest : List ℕ) → gives_written (longer_piece next longer shorter rest) ≡ true
+longer_written next longer shorter [] = refl
+longer_written next longer shorter (b ∷ rest) = either (b == next) _ _ (λ _. refl) (λ _. refl)
+
+slash_written : (rest : List ℕ) → gives_written (slash_piece rest) ≡ true
+slash_written [] = refl
+slash_written (b ∷ rest) = either (b == 61) _ _ (λ _. refl) (λ _. refl)
 
 mark_written : (b : ℕ) → gives_written (mark_piece b) ≡ true
 mark_written b =
     either (b == 59) _ _ (λ _. refl) (λ _. either (b == 44) _ _ (λ _. refl) (λ _. either (b == 40) _ _ (λ _. refl)
-    (λ _. either (b == 41) _ _ (λ _. refl) (λ _. either (b == 46) _ _ (λ _. refl) (λ _. either (b == 43) _ _ (λ _. refl) (λ _. refl))))))
+    (λ _. either (b == 41) _ _ (λ _. refl) (λ _. either (b == 46) _ _ (λ _. refl) (λ _. either (b == 43) _ _ (λ _. refl)
+    (λ _. either (b == 91) _ _ (λ _. refl) (λ _. either (b == 93) _ _ (λ _. refl) (λ _. either (b == 39) _ _ (λ _. refl) (λ _. either (b == 42) _ _ (λ _. refl) (λ _. refl))))))))))
 
 piece_written : (b : ℕ) (rest : List ℕ) → gives_written (piece_at b rest) ≡ true
 piece_written b rest =
@@ -126,7 +132,8 @@ piece_written b rest =
     (λ _. either (is_blank b rest) _ _ (λ _. refl)
     (λ _. either (is_quote b) _ _ (λ _. string_written_by (string_from false rest) (string_printable rest false))
     (λ _. either (b == 58) _ _ (λ _. colon_written rest) (λ _. either (b == 45) _ _ (λ _. minus_written rest)
-    (λ _. either (b == 61) _ _ (λ _. arrow_written rest) (λ _. mark_written b)))))))
+    (λ _. either (b == 61) _ _ (λ _. longer_written 62 _ _ rest) (λ _. either (b == 60) _ _ (λ _. longer_written 61 _ _ rest)
+    (λ _. either (b == 62) _ _ (λ _. longer_written 61 _ _ rest) (λ _. either (b == 47) _ _ (λ _. slash_written rest) (λ _. mark_written b))))))))))
 
 -- the cut
 

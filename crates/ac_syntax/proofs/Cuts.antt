@@ -13,10 +13,10 @@ use Rattle.std.specs.Str.Parse.{AllDigits, digits_value}
 use Rattle.ac_syntax.specs.declared.token.Token.{Token}
 use Rattle.ac_syntax.specs.declared.token.Token.TheVariants as token
 use Rattle.ac_syntax.specs.declared.token.Mark.{Mark}
-use Rattle.ac_syntax.specs.declared.token.Mark.TheVariants.{Colon, Semicolon, Comma, Open, Close, Dot, Assign, Plus, Minus, Arrow}
+use Rattle.ac_syntax.specs.declared.token.Mark.TheVariants.{Colon, Semicolon, Comma, Open, Close, Dot, Assign, Plus, Minus, Arrow, BracketOpen, BracketClose, Tick, Star, Equal, NotEqual, Less, LessEqual, Greater, GreaterEqual}
 use Rattle.ac_syntax.specs.declared.token.Placed.{Placed}
 use Rattle.ac_syntax.specs.Characters.{is_blank, is_word_byte, is_comment_byte, is_quote, is_printable}
-use Rattle.ac_syntax.specs.Tokens.{Cut, cut_from, piece_at, token_of, line_after, string_from, with_byte, with_piece, word_piece, number_piece, number_value}
+use Rattle.ac_syntax.specs.Tokens.{Cut, cut_from, piece_at, token_of, line_after, string_from, with_byte, with_piece, word_piece, number_piece, number_value, longer_piece}
 use Rattle.ac_syntax.specs.Canonical.{quoted_byte, quoted, on_line, is_lower_word, mark_text, leads_closely}
 use Rattle.ac_syntax.specs.Parts.{marks}
 use Rattle.ac_syntax.proofs.Fronts.{list_all_weaker}
@@ -45,7 +45,7 @@ cut_token b bytes rest line t piece plain =
 
 -- the bytes at which every part ends
 abbrev ending_bytes : List ℕ
-ending_bytes = 32 ∷ 10 ∷ 59 ∷ 44 ∷ 41 ∷ 46 ∷ []
+ending_bytes = 32 ∷ 10 ∷ 59 ∷ 44 ∷ 41 ∷ 46 ∷ 93 ∷ []
 
 -- a part can't go on in this text
 abbrev pub ends_parts : List ℕ → Bool
@@ -221,6 +221,10 @@ cut_string bytes rest line h ends =
 
 -- marks
 
+-- a mark of one byte, where the byte of the longer one doesn't follow
+shorter : (b next : ℕ) (longer mark : Mark) (rest : List ℕ) → (b == next) ≡ false → longer_piece next longer mark (b ∷ rest) ≡ token_of 1 (token.Mark mark)
+shorter b next longer mark rest h = cond-false (b == next) _ _ h
+
 -- a minus, where what follows doesn't begin with another
 pub cut_minus : (b : ℕ) (rest : List ℕ) (line : ℕ) → (b == 45) ≡ false → cut_from 0 line (45 ∷ b ∷ rest) ≡ put_before (on_line line (token.Mark Minus) ∷ []) (cut_from 0 line (b ∷ rest))
 cut_minus b rest line h = cut_token 45 [] (b ∷ rest) line (token.Mark Minus) (cond-false (b == 45) _ _ h) refl
@@ -245,3 +249,20 @@ cut_mark Plus (_ ∷ _) line h = refl
 cut_mark Minus [] line h = refl
 cut_mark Minus (b ∷ rest) line h = cut_minus b rest line (fails_at (λ c. c == 45) ending_bytes b refl h)
 cut_mark Arrow rest line h = refl
+cut_mark BracketOpen [] line h = refl
+cut_mark BracketOpen (_ ∷ _) line h = refl
+cut_mark BracketClose [] line h = refl
+cut_mark BracketClose (_ ∷ _) line h = refl
+cut_mark Tick [] line h = refl
+cut_mark Tick (_ ∷ _) line h = refl
+cut_mark Star [] line h = refl
+cut_mark Star (_ ∷ _) line h = refl
+cut_mark Equal [] line h = refl
+cut_mark Equal (b ∷ rest) line h = cut_token 61 [] (b ∷ rest) line (token.Mark Equal) (shorter b 62 Arrow Equal rest (fails_at (λ c. c == 62) ending_bytes b refl h)) refl
+cut_mark NotEqual rest line h = refl
+cut_mark Less [] line h = refl
+cut_mark Less (b ∷ rest) line h = cut_token 60 [] (b ∷ rest) line (token.Mark Less) (shorter b 61 LessEqual Less rest (fails_at (λ c. c == 61) ending_bytes b refl h)) refl
+cut_mark LessEqual rest line h = refl
+cut_mark Greater [] line h = refl
+cut_mark Greater (b ∷ rest) line h = cut_token 62 [] (b ∷ rest) line (token.Mark Greater) (shorter b 61 GreaterEqual Greater rest (fails_at (λ c. c == 61) ending_bytes b refl h)) refl
+cut_mark GreaterEqual rest line h = refl

@@ -15,6 +15,7 @@ pub mod CutTokens
 pub mod Leading
 pub mod Refusing
 mod Semicolons
+mod FurtherMarks
 mod OuterItems
 mod HandledItems
 pub mod Modes

@@ -9,8 +9,9 @@ use Rattle.std.proofs.lemmas.Option.{none-some}
 use Rattle.std.specs.Int.{is_in_range}
 use Rattle.std.specs.Char.{is_ascii_alphabetic, is_ascii_digit}
 use Rattle.ac_syntax.specs.Characters.{is_word_byte, is_line_feed, is_blank, is_comment_byte, is_quote, is_printable}
-use Rattle.ac_syntax.specs.Tokens.{piece_at, cut_from, line_after, word_piece, number_piece, colon_piece, minus_piece, arrow_piece, mark_piece, Ending, string_from, with_byte, string_piece}
+use Rattle.ac_syntax.specs.Tokens.{piece_at, cut_from, line_after, word_piece, number_piece, colon_piece, minus_piece, longer_piece, slash_piece, mark_piece, Ending, string_from, with_byte, string_piece}
 use Rattle.ac_syntax.specs.declared.piece.Piece.{Piece}
+use Rattle.ac_syntax.specs.declared.token.Mark.{Mark}
 use Rattle.ac_syntax.specs.declared.token.Token.{Token}
 use Rattle.ac_syntax.proofs.Fronts.{list_all_front, list_all_weaker}
 
@@ -100,11 +101,18 @@ plain_minus (b ∷ rest) piece e =
         let skip : (2 + prefix_len is_comment_byte rest) - 1 ≡ suc (prefix_len is_comment_byte rest) = omega arith in
         rw (skip, h) (list_all_front is_comment_byte rest)
 
-plain_arrow : (rest : List ℕ) (piece : Piece) → arrow_piece rest ≡ Some piece → IsPlain rest piece
-plain_arrow [] piece e = absurd (none-some piece e)
-plain_arrow (b ∷ rest) piece e =
-    if_cases (IsPlain (b ∷ rest) piece) (b == 62) _ _ _ e
-    (λ is f. plain_at (b ∷ rest) 2 _ piece f (omega arith) (omega arith) (rw (no_line_feed (λ c. c == 62) refl b is) refl))
+plain_longer : (next : ℕ) (longer shorter : Mark) (rest : List ℕ) (piece : Piece) → (10 == next) ≡ false → longer_piece next longer shorter rest ≡ Some piece → IsPlain rest piece
+plain_longer next longer shorter [] piece none e = plain_one [] _ piece e
+plain_longer next longer shorter (b ∷ rest) piece none e =
+    if_cases (IsPlain (b ∷ rest) piece) (b == next) _ _ _ e
+    (λ is f. plain_at (b ∷ rest) 2 _ piece f (omega arith) (omega arith) (rw (no_line_feed (λ c. c == next) none b is) refl))
+    (λ _ f. plain_one (b ∷ rest) _ piece f)
+
+plain_slash : (rest : List ℕ) (piece : Piece) → slash_piece rest ≡ Some piece → IsPlain rest piece
+plain_slash [] piece e = absurd (none-some piece e)
+plain_slash (b ∷ rest) piece e =
+    if_cases (IsPlain (b ∷ rest) piece) (b == 61) _ _ _ e
+    (λ is f. plain_at (b ∷ rest) 2 _ piece f (omega arith) (omega arith) (rw (no_line_feed (λ c. c == 61) refl b is) refl))
     (λ _ f. absurd (none-some piece f))
 
 plain_mark : (b : ℕ) (rest : List ℕ) (piece : Piece) → mark_piece b ≡ Some piece → IsPlain rest piece
@@ -116,7 +124,11 @@ plain_mark b rest piece e =
     if_cases P (b == 40) _ _ _ e (λ _ f. one _ f) (λ _ e.
     if_cases P (b == 41) _ _ _ e (λ _ f. one _ f) (λ _ e.
     if_cases P (b == 46) _ _ _ e (λ _ f. one _ f) (λ _ e.
-    if_cases P (b == 43) _ _ _ e (λ _ f. one _ f) (λ _ e. absurd (none-some piece e)))))))
+    if_cases P (b == 43) _ _ _ e (λ _ f. one _ f) (λ _ e.
+    if_cases P (b == 91) _ _ _ e (λ _ f. one _ f) (λ _ e.
+    if_cases P (b == 93) _ _ _ e (λ _ f. one _ f) (λ _ e.
+    if_cases P (b == 39) _ _ _ e (λ _ f. one _ f) (λ _ e.
+    if_cases P (b == 42) _ _ _ e (λ _ f. one _ f) (λ _ e. absurd (none-some piece e)))))))))))
 
 -- a string's end is within the text, and no LF stands in it
 record IsPlainEnd (text : List ℕ) (e : Ending) : Type 0 where
@@ -172,4 +184,7 @@ plain_piece b rest piece e =
     if_cases P (is_quote b) _ _ _ e (λ _ f. plain_string rest piece f) (λ _ e.
     if_cases P (b == 58) _ _ _ e (λ _ f. plain_colon rest piece f) (λ _ e.
     if_cases P (b == 45) _ _ _ e (λ _ f. plain_minus rest piece f) (λ _ e.
-    if_cases P (b == 61) _ _ _ e (λ _ f. plain_arrow rest piece f) (λ _ f. plain_mark b rest piece f)))))))
+    if_cases P (b == 61) _ _ _ e (λ _ f. plain_longer 62 _ _ rest piece refl f) (λ _ e.
+    if_cases P (b == 60) _ _ _ e (λ _ f. plain_longer 61 _ _ rest piece refl f) (λ _ e.
+    if_cases P (b == 62) _ _ _ e (λ _ f. plain_longer 61 _ _ rest piece refl f) (λ _ e.
+    if_cases P (b == 47) _ _ _ e (λ _ f. plain_slash rest piece f) (λ _ f. plain_mark b rest piece f))))))))))

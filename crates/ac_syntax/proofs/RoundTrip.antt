@@ -17,7 +17,7 @@ use Rattle.ac_syntax.specs.declared.token.Keyword.{Keyword}
 use Rattle.ac_syntax.specs.declared.token.Keyword.TheVariants as keyword
 use Rattle.ac_syntax.specs.declared.token.Token.{Token}
 use Rattle.ac_syntax.specs.declared.token.Token.TheVariants as token
-use Rattle.ac_syntax.specs.declared.token.Mark.TheVariants.{Colon, Semicolon, Comma, Open, Close, Dot, Assign, Plus, Minus, Arrow}
+use Rattle.ac_syntax.specs.declared.token.Mark.TheVariants.{Colon, Semicolon, Comma, Open, Close, Dot, Assign, Plus, Minus, Arrow, BracketOpen, BracketClose, Tick, Star, Equal, NotEqual, Less, LessEqual, Greater, GreaterEqual}
 use Rattle.ac_syntax.specs.declared.token.Placed.{Placed}
 use Rattle.ac_syntax.specs.Code.{call_at, set_at, sum_at, Head, loop_at, view_at, stable_at, declare_at, tasks_at, task_at, Code, stop, one, block, handled}
 use Rattle.ac_syntax.specs.Items.{Item, declares, opens, item_line, bare, items, pragma_items, script_items}
@@ -103,6 +103,16 @@ closely_ends (marks Assign) rest h = absurd (true≢false (sym h))
 closely_ends (marks Plus) rest h = absurd (true≢false (sym h))
 closely_ends (marks Minus) rest h = absurd (true≢false (sym h))
 closely_ends (marks Arrow) rest h = absurd (true≢false (sym h))
+closely_ends (marks BracketOpen) rest h = absurd (true≢false (sym h))
+closely_ends (marks BracketClose) rest h = refl
+closely_ends (marks Tick) rest h = absurd (true≢false (sym h))
+closely_ends (marks Star) rest h = absurd (true≢false (sym h))
+closely_ends (marks Equal) rest h = absurd (true≢false (sym h))
+closely_ends (marks NotEqual) rest h = absurd (true≢false (sym h))
+closely_ends (marks Less) rest h = absurd (true≢false (sym h))
+closely_ends (marks LessEqual) rest h = absurd (true≢false (sym h))
+closely_ends (marks Greater) rest h = absurd (true≢false (sym h))
+closely_ends (marks GreaterEqual) rest h = absurd (true≢false (sym h))
 closely_ends (names _) rest h = absurd (true≢false (sym h))
 closely_ends (counts _) rest h = absurd (true≢false (sym h))
 closely_ends (writes _) rest h = absurd (true≢false (sym h))

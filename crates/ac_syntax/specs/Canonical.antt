@@ -10,7 +10,7 @@ use Rattle.ac_base.specs.declared.value.Value.TheVariants as value
 use Rattle.ac_syntax.specs.declared.token.Token.{Token}
 use Rattle.ac_syntax.specs.declared.token.Token.TheVariants as token
 use Rattle.ac_syntax.specs.declared.token.Mark.{Mark}
-use Rattle.ac_syntax.specs.declared.token.Mark.TheVariants.{Colon, Semicolon, Comma, Open, Close, Dot, Assign, Plus, Minus, Arrow}
+use Rattle.ac_syntax.specs.declared.token.Mark.TheVariants.{Colon, Semicolon, Comma, Open, Close, Dot, Assign, Plus, Minus, Arrow, BracketOpen, BracketClose, Tick, Star, Equal, NotEqual, Less, LessEqual, Greater, GreaterEqual}
 use Rattle.ac_syntax.specs.declared.token.Placed.{Placed}
 use Rattle.ac_syntax.specs.declared.script.Script.{Script}
 use Rattle.ac_syntax.specs.Characters.{is_quote, is_printable, is_word_byte}
@@ -32,6 +32,16 @@ mark_text Assign = codes ":="
 mark_text Plus = codes "+"
 mark_text Minus = codes "-"
 mark_text Arrow = codes "=>"
+mark_text BracketOpen = codes "["
+mark_text BracketClose = codes "]"
+mark_text Tick = codes "'"
+mark_text Star = codes "*"
+mark_text Equal = codes "="
+mark_text NotEqual = codes "/="
+mark_text Less = codes "<"
+mark_text LessEqual = codes "<="
+mark_text Greater = codes ">"
+mark_text GreaterEqual = codes ">="
 
 -- a quote is doubled
 abbrev pub quoted_byte : ℕ → List ℕ
@@ -64,13 +74,13 @@ is_part_mark mark (counts _) = false
 is_part_mark mark (writes _) = false
 is_part_mark mark lacks = false
 
--- no space stands before `; , ) .`
+-- no space stands before `; , ) . ]`
 abbrev pub follows_closely : Part → Bool
-follows_closely part = is_part_mark Semicolon part || is_part_mark Comma part || is_part_mark Close part || is_part_mark Dot part
+follows_closely part = is_part_mark Semicolon part || is_part_mark Comma part || is_part_mark Close part || is_part_mark Dot part || is_part_mark BracketClose part
 
--- no space stands behind `( .`
+-- no space stands behind `( . [`
 abbrev pub leads_closely : Part → Bool
-leads_closely part = is_part_mark Open part || is_part_mark Dot part
+leads_closely part = is_part_mark Open part || is_part_mark Dot part || is_part_mark BracketOpen part
 
 abbrev pub space_between : Part → Part → List ℕ
 space_between left right = if leads_closely left || follows_closely right then [] else 32 ∷ []

@@ -10,11 +10,8 @@ use Rattle.ac_syntax.specs.declared.kind.Kind.TheVariants as kind
 use Rattle.ac_syntax.specs.declared.kind.ElemKind.TheVariants.{Integer}
 use Rattle.ac_syntax.specs.declared.refusal.RefusalKind.TheVariants.{Syntax, Limit}
 use Rattle.ac_syntax.specs.declared.script.Script.{Script}
-use Rattle.ac_syntax.specs.declared.token.Mark.TheVariants.{Arrow}
-use Rattle.ac_syntax.specs.declared.token.Token.TheVariants as token
-use Rattle.ac_syntax.specs.Tokens.{cut_of}
 use Rattle.ac_syntax.specs.Refusals.{Spells, IsFirstRefusal}
-use Rattle.ac_syntax.specs.Canonical.{canonical_text, on_line, IsWellFormed}
+use Rattle.ac_syntax.specs.Canonical.{canonical_text, IsWellFormed}
 use Rattle.ac_syntax.specs.Examples.{lines, repeated}
 
 -- on line 2 a type l of lists of integers, and an object a of it
@@ -91,9 +88,9 @@ abbrev pub SpellsEachException : Type 0
 SpellsEachException = Spells each_exception (lines (
     codes "pragma Propagate; begin exception" ∷ codes "when Capacity_Error =>" ∷ codes "when Constraint_Error =>" ∷ codes "when Program_Error => end;" ∷ []))
 
--- `=` alone is no mark
+-- `=` isn't `=>`
 abbrev pub RefusesEquals : Type 0
-RefusesEquals = cut_of (codes "A => B = C") ≡ record { placed = on_line 1 (token.Word (codes "a")) ∷ on_line 1 (token.Mark Arrow) ∷ on_line 1 (token.Word (codes "b")) ∷ []; malformed = Some 1 }
+RefusesEquals = IsFirstRefusal (lines (codes "pragma Propagate;" ∷ codes "begin exception" ∷ codes "when others = end;" ∷ [])) 3 Syntax
 
 -- ---- words
 

@@ -5,6 +5,7 @@ pub mod StatementsFall
 pub mod Characters
 pub mod Tokens
 pub mod Keywords
+pub mod FurtherMarks
 pub mod Items
 pub mod Kinds
 pub mod Parts
@@ -16,6 +17,7 @@ pub mod Examples
 pub mod RefusalExamples
 pub mod FormExamples
 pub mod WordExamples
+pub mod MarkExamples
 pub mod TaskExamples
 pub mod HandlerExamples
 pub mod Order

@@ -2,7 +2,7 @@
 use Rattle.std.specs.Prelude.{◌^◌, ℕ, pos, neg_ℤ, replicate, codes, true, List, [], ◌∷◌, ◌++◌, Some, None}
 use Rattle.ac_syntax.specs.Code.{Code, call_at, set_at, sum_at, stop, one}
 use Rattle.ac_base.specs.declared.value.Value.TheVariants as value
-use Rattle.ac_syntax.specs.declared.arg.Arg.TheVariants.{Lit}
+use Rattle.ac_syntax.specs.declared.arg.Arg.TheVariants.{Lit, Var}
 use Rattle.ac_syntax.specs.declared.decl.Decl.TheVariants.{Object, IntVar}
 use Rattle.ac_syntax.specs.declared.refusal.RefusalKind.TheVariants.{Syntax, Limit}
 use Rattle.ac_syntax.specs.declared.script.Script.{Script}
@@ -86,3 +86,21 @@ appended = with_list (one (call_at 2 None (codes "a") (codes "append") (Lit (val
 
 abbrev pub RefusesMalformed : Type 0
 RefusesMalformed = IsFirstRefusal (on_list (codes "a.append (12a);")) 2 Syntax
+
+-- marks that no script has
+
+abbrev pub RefusesBracket : Type 0
+RefusesBracket = IsFirstRefusal (on_list (codes "a.append [12];")) 2 Syntax
+
+-- up to the mark these are tokens of an assignment
+abbrev pub assigned : Script
+assigned = with_list (one (set_at 2 (codes "x") (Var (codes "a"))) stop)
+
+abbrev pub RefusesTick : Type 0
+RefusesTick = IsFirstRefusal (on_list (codes "x := a'length;")) 2 Syntax
+
+abbrev pub RefusesStar : Type 0
+RefusesStar = IsFirstRefusal (on_list (codes "x := a*2;")) 2 Syntax
+
+abbrev pub RefusesLessEqual : Type 0
+RefusesLessEqual = IsFirstRefusal (on_list (codes "x := a <= 2;")) 2 Syntax

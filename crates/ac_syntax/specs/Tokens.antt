@@ -9,7 +9,7 @@ use Rattle.ac_syntax.specs.declared.token.Token.{Token}
 use Rattle.ac_syntax.specs.declared.token.Token.TheVariants.{Word, Number, Text}
 use Rattle.ac_syntax.specs.declared.token.Token.TheVariants as token
 use Rattle.ac_syntax.specs.declared.token.Mark.{Mark}
-use Rattle.ac_syntax.specs.declared.token.Mark.TheVariants.{Colon, Semicolon, Comma, Open, Close, Dot, Assign, Plus, Minus, Arrow}
+use Rattle.ac_syntax.specs.declared.token.Mark.TheVariants.{Colon, Semicolon, Comma, Open, Close, Dot, Assign, Plus, Minus, Arrow, BracketOpen, BracketClose, Tick, Star, Equal, NotEqual, Less, LessEqual, Greater, GreaterEqual}
 use Rattle.ac_syntax.specs.declared.token.Placed.{Placed}
 use Rattle.ac_syntax.specs.declared.piece.Piece.{Piece}
 
@@ -71,10 +71,15 @@ abbrev pub minus_piece : List ℕ → Option Piece
 minus_piece [] = mark_of 1 Minus
 minus_piece (b ∷ rest) = if b == 45 then blank_of (2 + prefix_len is_comment_byte rest) else mark_of 1 Minus
 
--- `=>`, after `=`, which is no mark alone
-abbrev pub arrow_piece : List ℕ → Option Piece
-arrow_piece [] = None
-arrow_piece (b ∷ _) = if b == 62 then mark_of 2 Arrow else None
+-- a mark of two bytes where this byte follows, and of one byte where it doesn't
+abbrev pub longer_piece : (next : ℕ) (longer shorter : Mark) → List ℕ → Option Piece
+longer_piece next longer shorter [] = mark_of 1 shorter
+longer_piece next longer shorter (b ∷ _) = if b == next then mark_of 2 longer else mark_of 1 shorter
+
+-- `/=`, after `/`, which is no mark alone
+abbrev pub slash_piece : List ℕ → Option Piece
+slash_piece [] = None
+slash_piece (b ∷ _) = if b == 61 then mark_of 2 NotEqual else None
 
 -- any other mark
 abbrev pub mark_piece : ℕ → Option Piece
@@ -85,6 +90,10 @@ mark_piece b =
     else if b == 41 then mark_of 1 Close
     else if b == 46 then mark_of 1 Dot
     else if b == 43 then mark_of 1 Plus
+    else if b == 91 then mark_of 1 BracketOpen
+    else if b == 93 then mark_of 1 BracketClose
+    else if b == 39 then mark_of 1 Tick
+    else if b == 42 then mark_of 1 Star
     else None
 
 -- the piece at the front of a byte and the rest; None where it is malformed
@@ -96,7 +105,10 @@ piece_at b rest =
     else if is_quote b then string_piece rest
     else if b == 58 then colon_piece rest
     else if b == 45 then minus_piece rest
-    else if b == 61 then arrow_piece rest
+    else if b == 61 then longer_piece 62 Arrow Equal rest
+    else if b == 60 then longer_piece 61 LessEqual Less rest
+    else if b == 62 then longer_piece 61 GreaterEqual Greater rest
+    else if b == 47 then slash_piece rest
     else mark_piece b
 
 abbrev pub front_piece : List ℕ → Option Piece

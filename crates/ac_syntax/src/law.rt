@@ -1,14 +1,19 @@
 //! What holds of the language itself, whatever reads it.
-ghost use Rattle.std.specs.Prelude.{◌≡◌, ℕ, List, ◌++◌, Some, None, IsTrue};
-ghost use Rattle.std.specs.List.{list_all};
+ghost use Rattle.std.specs.Prelude.{◌≡◌, ℕ, false, List, ◌∷◌, ◌++◌, Some, None, IsTrue};
+ghost use Rattle.std.specs.List.{list_all, list_any};
 ghost use Rattle.ac_syntax.specs.declared.script.Script.{Script};
+ghost use Rattle.ac_syntax.specs.declared.token.Placed.{Placed};
+ghost use Rattle.ac_syntax.specs.FurtherMarks.{is_further};
+ghost use Rattle.ac_syntax.specs.Grammar.{IsItem, BeginsScript};
+ghost use Rattle.ac_syntax.specs.Tokens.{tokens};
 ghost use Rattle.ac_syntax.specs.Items.{Item, script_items};
 ghost use Rattle.ac_syntax.specs.Keywords.{script_cut};
 ghost use Rattle.ac_syntax.specs.Canonical.{canonical_text, canonical_placed, canonical_tokens, is_written, propagates_in, IsWellFormed};
 ghost use Rattle.ac_syntax.specs.Nesting.{AreStatements};
 ghost use Rattle.ac_syntax.specs.Order.{Context, context_after, at_front, AreInOrder};
-ghost use Rattle.ac_syntax.specs.Refusals.{Spells, IsFirstRefusal};
+ghost use Rattle.ac_syntax.specs.Refusals.{Spells, HasNoBadToken, IsFirstRefusal};
 ghost use Rattle.ac_syntax.specs.declared.refusal.RefusalKind.{RefusalKind};
+ghost use Rattle.ac_syntax.specs.declared.refusal.RefusalKind.TheVariants.{Syntax};
 ghost use Rattle.ac_syntax.specs.Examples.{SpellsLoosely, WritesStrictly, SpellsNested, WritesNested, ReadsDoubledQuote, RefusesOpenString, EndsComment, RefusesLetterAfterNumber, WritesNothing, TakesDepth16, RefusesDepth17, Takes17InARow};
 ghost use Rattle.ac_syntax.specs.Examples.{TakesTab, TakesReturnBeforeLineFeed, RefusesLoneReturn, RefusesReturnTwice, RefusesLastReturn, TakesReturnInComment, RefusesTabInString};
 ghost use Rattle.ac_syntax.specs.TaskExamples.{SpellsSharing, WritesSharing, IsSharingWell, NeedsTask, NeedsBlock, NeedsCommands, Takes8Tasks, RefusesTask9};
@@ -16,8 +21,9 @@ ghost use Rattle.ac_syntax.specs.TaskExamples.{TakesTasksAtDepth16, RefusesTasks
 ghost use Rattle.ac_syntax.specs.HandlerExamples.{SpellsHandled, WritesHandled, IsHandledWell, NeedsPragma, NeedsHandler, NeedsException, EndsAtOthers, NeedsStatements, SpellsEachException, RefusesEquals, NamesWhen, NamesPragma, NamesPropagate};
 ghost use Rattle.ac_syntax.specs.HandlerExamples.{ReservesWhen, ReservesPragma, WritesNoWhen, NeedsFront, NeedsOnePragma, TakesBegin16, RefusesBegin17, RefusesDepth17InHandler, TakesDeclare16, RefusesBeginBehindDeclare};
 ghost use Rattle.ac_syntax.specs.WordExamples.{ReservesWords, LeavesWords};
+ghost use Rattle.ac_syntax.specs.MarkExamples.{CutsEachMark, TakesLessEqual, TakesGreaterEqual, TakesArrow, TakesNotEqual, TakesAssign, TakesApart, RefusesSlash, RefusesOtherBytes, CutsReduction, WritesBrackets};
 ghost use Rattle.ac_syntax.specs.FormExamples.{SpellsEveryForm, WritesEveryForm, IsEveryFormWell, SpellsMinusZero, WritesZero, NeedsCursor, NeedsRisingLines};
-ghost use Rattle.ac_syntax.specs.RefusalExamples.{TakesName64, RefusesName65, TakesString1000, RefusesString1001, TakesLeast, TakesCounting, RefusesPastGreatest, RefusesLessTooMuch, RefusesTooRoomy, RefusesMalformed};
+ghost use Rattle.ac_syntax.specs.RefusalExamples.{TakesName64, RefusesName65, TakesString1000, RefusesString1001, TakesLeast, TakesCounting, RefusesPastGreatest, RefusesLessTooMuch, RefusesTooRoomy, RefusesMalformed, RefusesBracket, RefusesTick, RefusesStar, RefusesLessEqual};
 
 /// A text has at most one first refusal, and none where it spells a script.
 pub fn one_refusal()
@@ -55,6 +61,14 @@ pub fn well_formed()
     ensures again { (script : Script) (text : List ℕ) → Spells script text → Spells script (canonical_text script) }
 {}
 
+/// No item has a further mark, and no script begins with tokens of which one is such a mark. So a text is refused there, unless it is refused before.
+pub fn further_marks()
+    ensures items { (item : Item) (placed : List Placed) → IsItem item placed → list_any is_further (tokens placed) ≡ false }
+    ensures begun { (placed : List Placed) → BeginsScript placed → list_any is_further (tokens placed) ≡ false }
+    ensures refused { (text : List ℕ) (before after : List Placed) (bad : Placed) → (script_cut text).placed ≡ before ++ bad ∷ after →
+        IsTrue (is_further bad.token) → HasNoBadToken before → IsFirstRefusal text bad.line Syntax }
+{}
+
 /// Texts whose tokens, scripts and canonical texts were worked out by hand.
 pub fn examples()
     ensures loose { SpellsLoosely }
@@ -88,6 +102,21 @@ pub fn words()
     ensures others { LeavesWords }
 {}
 
+/// Marks next to each other, worked out by hand.
+pub fn marks()
+    ensures each { CutsEachMark }
+    ensures less_equal { TakesLessEqual }
+    ensures greater_equal { TakesGreaterEqual }
+    ensures arrow { TakesArrow }
+    ensures not_equal { TakesNotEqual }
+    ensures assign { TakesAssign }
+    ensures apart { TakesApart }
+    ensures slash { RefusesSlash }
+    ensures other_bytes { RefusesOtherBytes }
+    ensures reduction { CutsReduction }
+    ensures brackets { WritesBrackets }
+{}
+
 /// Each form of the grammar, and what is or isn't well formed, worked out by hand.
 pub fn forms()
     ensures every_form { SpellsEveryForm }
@@ -111,6 +140,10 @@ pub fn refusals()
     ensures less_too_much { RefusesLessTooMuch }
     ensures too_roomy { RefusesTooRoomy }
     ensures malformed { RefusesMalformed }
+    ensures bracket { RefusesBracket }
+    ensures tick { RefusesTick }
+    ensures star { RefusesStar }
+    ensures less_equal { RefusesLessEqual }
 {}
 
 /// Blocks of tasks, worked out by hand.

@@ -25,8 +25,8 @@ pub use fault::ScriptFault;
 pub use ident::{Ident, Idents};
 pub use kind::{ElemKind, Kind};
 pub use law::{
-    blanks, examples, forms, handler_limits, handlers, items_alone, items_order, one_refusal,
-    pragma_words, refusals, round_trip, task_limits, tasks, well_formed, words,
+    blanks, examples, forms, further_marks, handler_limits, handlers, items_alone, items_order,
+    marks, one_refusal, pragma_words, refusals, round_trip, task_limits, tasks, well_formed, words,
 };
 pub use operation::{
     CapacityCall, CommonCall, HolderCall, KeyedCall, ListCall, MapCall, Operation, OrderedCall,

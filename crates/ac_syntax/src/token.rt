@@ -18,6 +18,18 @@ pub enum Mark {
     Minus,
     /// `=>`
     Arrow,
+    BracketOpen,
+    BracketClose,
+    /// `'`
+    Tick,
+    Star,
+    Equal,
+    /// `/=`
+    NotEqual,
+    Less,
+    LessEqual,
+    Greater,
+    GreaterEqual,
 }
 
 /// A word that is reserved where exceptions propagate, and there alone.

@@ -5,6 +5,7 @@ use Rattle.std.specs.Fmt.{digits}
 use Rattle.ac_syntax.specs.Code.{stop, handled, no_handler, handler}
 use Rattle.ac_syntax.specs.declared.script.Script.{Script}
 use Rattle.ac_syntax.specs.declared.token.Keyword.TheVariants as keyword
+use Rattle.ac_syntax.specs.declared.token.Mark.TheVariants.{Equal}
 use Rattle.ac_syntax.specs.declared.token.Token.TheVariants as token
 use Rattle.ac_syntax.specs.Items.{item_line, script_items}
 use Rattle.ac_syntax.specs.Keywords.{script_cut}
@@ -18,6 +19,7 @@ use Rattle.ac_syntax.proofs.Derivations.{script_derives, placed_on, derives_on, 
 use Rattle.ac_syntax.proofs.Withins.{within}
 use Rattle.ac_syntax.proofs.FirstFaults.{syntax_behind, syntax_at}
 use Rattle.ac_syntax.proofs.OuterItems.{front_past, outer_past, begin_no}
+use Rattle.ac_syntax.proofs.FurtherMarks.{further_at}
 use Rattle.ac_syntax.proofs.HandledItems.{behind_pragma, behind_begin, no_end_tried, behind_exception, no_end_first, behind_others, no_when}
 use Rattle.ac_syntax.proofs.law.handlers.Goals as goal
 
@@ -86,6 +88,15 @@ returns-clause-others c =
     syntax_at others_text a_block (take 8 (canonical_placed a_block)) (drop 9 (script_cut others_text).placed) (drop 8 (canonical_placed a_block))
     (on_line 4 (token.Keyword keyword.When)) refl refl refl refl
     (λ more. behind_pragma 1 _ _ _ (behind_begin 2 _ (behind_exception 2 _ (behind_others 3 3 3 _ (no_when 4 more)))))
+
+abbrev equals_text : List ℕ
+equals_text = lines (codes "pragma Propagate;" ∷ codes "begin exception" ∷ codes "when others = end;" ∷ [])
+
+pub returns-clause-equals : goal.returns-clause-equals
+unfolding reserved is_reserved item_parts canonical_placed
+returns-clause-equals c =
+    further_at equals_text a_block (take 7 (canonical_placed a_block)) (drop 8 (script_cut equals_text).placed) (drop 7 (canonical_placed a_block))
+    (on_line 3 (token.Mark Equal)) refl refl refl refl refl
 
 pub returns-clause-in_task : goal.returns-clause-in_task
 returns-clause-in_task c = λ w. none-some _ w.derives.ordered.leads

@@ -1,15 +1,18 @@
 use Rattle.std.proofs.Common.{refl, take, drop, ◌^◌}
 use Rattle.std.specs.Prelude.{codes, replicate, [], ◌∷◌}
+use Rattle.ac_syntax.specs.declared.token.Mark.TheVariants.{BracketOpen, Tick, Star, LessEqual}
 use Rattle.ac_syntax.specs.declared.token.Token.TheVariants as token
 use Rattle.ac_syntax.specs.Code.{stop}
 use Rattle.ac_syntax.specs.Parts.{item_parts}
 use Rattle.ac_syntax.specs.Grammar.{reserved, is_reserved}
+use Rattle.ac_syntax.specs.Keywords.{script_cut}
 use Rattle.ac_syntax.specs.Tokens.{tokens}
 use Rattle.ac_syntax.specs.Canonical.{canonical_placed, on_line}
-use Rattle.ac_syntax.specs.RefusalExamples.{on_list, named, naming, with_string, string_text, least, counting, counting_text, past_greatest, less_too_much, too_roomy, appended}
+use Rattle.ac_syntax.specs.RefusalExamples.{on_list, named, naming, with_string, string_text, least, counting, counting_text, past_greatest, less_too_much, too_roomy, appended, assigned}
 use Rattle.ac_syntax.proofs.Derivations.{script_derives}
 use Rattle.ac_syntax.proofs.Withins.{within}
 use Rattle.ac_syntax.proofs.FirstFaults.{limit_at, malformed_at}
+use Rattle.ac_syntax.proofs.FurtherMarks.{further_at}
 use Rattle.ac_syntax.proofs.law.refusals.Goals as goal
 
 pub returns-clause-name_64 : goal.returns-clause-name_64
@@ -61,3 +64,27 @@ returns-clause-too_roomy c =
 pub returns-clause-malformed : goal.returns-clause-malformed
 unfolding reserved is_reserved item_parts canonical_placed
 returns-clause-malformed c = malformed_at (on_list (codes "a.append (12a);")) appended (drop 16 (canonical_placed appended)) 2 refl refl refl refl
+
+pub returns-clause-bracket : goal.returns-clause-bracket
+unfolding reserved is_reserved item_parts canonical_placed
+returns-clause-bracket c =
+    further_at (on_list (codes "a.append [12];")) appended (take 15 (canonical_placed appended)) (drop 16 (script_cut (on_list (codes "a.append [12];"))).placed) (drop 15 (canonical_placed appended))
+    (on_line 2 (token.Mark BracketOpen)) refl refl refl refl refl
+
+pub returns-clause-tick : goal.returns-clause-tick
+unfolding reserved is_reserved item_parts canonical_placed
+returns-clause-tick c =
+    further_at (on_list (codes "x := a'length;")) assigned (take 15 (canonical_placed assigned)) (drop 16 (script_cut (on_list (codes "x := a'length;"))).placed) (drop 15 (canonical_placed assigned))
+    (on_line 2 (token.Mark Tick)) refl refl refl refl refl
+
+pub returns-clause-star : goal.returns-clause-star
+unfolding reserved is_reserved item_parts canonical_placed
+returns-clause-star c =
+    further_at (on_list (codes "x := a*2;")) assigned (take 15 (canonical_placed assigned)) (drop 16 (script_cut (on_list (codes "x := a*2;"))).placed) (drop 15 (canonical_placed assigned))
+    (on_line 2 (token.Mark Star)) refl refl refl refl refl
+
+pub returns-clause-less_equal : goal.returns-clause-less_equal
+unfolding reserved is_reserved item_parts canonical_placed
+returns-clause-less_equal c =
+    further_at (on_list (codes "x := a <= 2;")) assigned (take 15 (canonical_placed assigned)) (drop 16 (script_cut (on_list (codes "x := a <= 2; !"))).placed) (drop 15 (canonical_placed assigned))
+    (on_line 2 (token.Mark LessEqual)) refl refl refl refl refl
