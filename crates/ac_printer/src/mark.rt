@@ -18,6 +18,16 @@ pub fn mark_text(mark: Mark) -> &'static str
         Mark::Plus => "+",
         Mark::Minus => "-",
         Mark::Arrow => "=>",
+        Mark::BracketOpen => "[",
+        Mark::BracketClose => "]",
+        Mark::Tick => "'",
+        Mark::Star => "*",
+        Mark::Equal => "=",
+        Mark::NotEqual => "/=",
+        Mark::Less => "<",
+        Mark::LessEqual => "<=",
+        Mark::Greater => ">",
+        Mark::GreaterEqual => ">=",
     }
 }
 
@@ -27,7 +37,7 @@ pub fn follows_closely(mark: Mark) -> bool
 {
     matches!(
         mark,
-        Mark::Semicolon | Mark::Comma | Mark::Close | Mark::Dot
+        Mark::Semicolon | Mark::Comma | Mark::Close | Mark::Dot | Mark::BracketClose
     )
 }
 
@@ -35,5 +45,5 @@ pub fn follows_closely(mark: Mark) -> bool
 pub fn leads_closely(mark: Mark) -> bool
     ensures { result ≡ canonical.leads_closely (marks mark) }
 {
-    matches!(mark, Mark::Open | Mark::Dot)
+    matches!(mark, Mark::Open | Mark::Dot | Mark::BracketOpen)
 }
