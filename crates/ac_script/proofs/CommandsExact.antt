@@ -9,7 +9,7 @@ use Rattle.ac_syntax.specs.declared.token.Token.TheVariants.{Word, Number, Text}
 use Rattle.ac_syntax.specs.declared.token.Token.TheVariants as token
 use Rattle.ac_syntax.specs.declared.token.Placed.{Placed}
 use Rattle.ac_syntax.specs.declared.token.Mark.{Mark}
-use Rattle.ac_syntax.specs.declared.token.Mark.TheVariants.{Colon, Semicolon, Comma, Open, Close, Dot, Assign, Plus, Minus, Arrow}
+use Rattle.ac_syntax.specs.declared.token.Mark.TheVariants.{Colon, Semicolon, Comma, Open, Close, Dot, Assign, Plus, Minus, Arrow, BracketOpen, BracketClose, Tick, Star, Equal, NotEqual, Less, LessEqual, Greater, GreaterEqual}
 use Rattle.ac_syntax.specs.Parts.{Part, marks, names, counts, arg_part, args_parts}
 use Rattle.ac_script.specs.Readers.{as_mark}
 use Rattle.ac_script.specs.Commands.{as_constant, negative, call, set_end, as_sign, sum, sum_or_set, behind_source, from_name, from_negative, from_other, assigned, assignment, command}
@@ -49,6 +49,16 @@ sign_found (token.Mark Dot) x e = absurd (none-some x e)
 sign_found (token.Mark Assign) x e = absurd (none-some x e)
 sign_found (token.Mark Plus) x e = (false, sym (same_Some false x e), refl)
 sign_found (token.Mark Arrow) x e = absurd (none-some x e)
+sign_found (token.Mark BracketOpen) x e = absurd (none-some x e)
+sign_found (token.Mark BracketClose) x e = absurd (none-some x e)
+sign_found (token.Mark Tick) x e = absurd (none-some x e)
+sign_found (token.Mark Star) x e = absurd (none-some x e)
+sign_found (token.Mark Equal) x e = absurd (none-some x e)
+sign_found (token.Mark NotEqual) x e = absurd (none-some x e)
+sign_found (token.Mark Less) x e = absurd (none-some x e)
+sign_found (token.Mark LessEqual) x e = absurd (none-some x e)
+sign_found (token.Mark Greater) x e = absurd (none-some x e)
+sign_found (token.Mark GreaterEqual) x e = absurd (none-some x e)
 sign_found (token.Mark Minus) x e = (true, sym (same_Some true x e), refl)
 
 sign_only : (i : Bool) → as_sign (token.Mark (sign_mark i)) ≡ Some i

@@ -14,7 +14,7 @@ use Rattle.ac_base.specs.declared.value.Value.TheVariants as value
 use Rattle.ac_syntax.specs.declared.token.Token.{Token}
 use Rattle.ac_syntax.specs.declared.token.Token.TheVariants as token
 use Rattle.ac_syntax.specs.declared.token.Mark.{Mark}
-use Rattle.ac_syntax.specs.declared.token.Mark.TheVariants.{Colon, Semicolon, Comma, Open, Close, Dot, Assign, Plus, Minus, Arrow}
+use Rattle.ac_syntax.specs.declared.token.Mark.TheVariants.{Colon, Semicolon, Comma, Open, Close, Dot, Assign, Plus, Minus, Arrow, BracketOpen, BracketClose, Tick, Star, Equal, NotEqual, Less, LessEqual, Greater, GreaterEqual}
 use Rattle.ac_syntax.specs.declared.token.Placed.{Placed}
 use Rattle.ac_syntax.specs.Tokens.{tokens}
 use Rattle.ac_syntax.specs.Code.{Simple, call_at, set_at, sum_at}
@@ -47,6 +47,16 @@ one_last seen (token.Mark Dot) e = refl
 one_last seen (token.Mark Assign) e = refl
 one_last seen (token.Mark Plus) e = refl
 one_last seen (token.Mark Arrow) e = refl
+one_last seen (token.Mark BracketOpen) e = refl
+one_last seen (token.Mark BracketClose) e = refl
+one_last seen (token.Mark Tick) e = refl
+one_last seen (token.Mark Star) e = refl
+one_last seen (token.Mark Equal) e = refl
+one_last seen (token.Mark NotEqual) e = refl
+one_last seen (token.Mark Less) e = refl
+one_last seen (token.Mark LessEqual) e = refl
+one_last seen (token.Mark Greater) e = refl
+one_last seen (token.Mark GreaterEqual) e = refl
 one_last seen (token.Mark Minus) e = absurd (cc e)
 
 not_both : (seen : Seen) (before : List Token) → IsNotBoth seen → IsNotBoth (fold seen_after seen before)

@@ -8,7 +8,7 @@ use Rattle.ac_syntax.specs.declared.arg.Arg.TheVariants.{Lit, NoElement, Var}
 use Rattle.ac_syntax.specs.declared.token.Token.{Token}
 use Rattle.ac_syntax.specs.declared.token.Token.TheVariants as token
 use Rattle.ac_syntax.specs.declared.token.Mark.{Mark}
-use Rattle.ac_syntax.specs.declared.token.Mark.TheVariants.{Colon, Semicolon, Comma, Open, Close, Dot, Assign, Plus, Minus, Arrow}
+use Rattle.ac_syntax.specs.declared.token.Mark.TheVariants.{Colon, Semicolon, Comma, Open, Close, Dot, Assign, Plus, Minus, Arrow, BracketOpen, BracketClose, Tick, Star, Equal, NotEqual, Less, LessEqual, Greater, GreaterEqual}
 use Rattle.ac_script.specs.Outcomes.{Reader, ◌>>=◌, gives, fork, one}
 use Rattle.ac_script.specs.Readers.{mark, name, number}
 
@@ -90,6 +90,16 @@ as_sign (token.Mark mark) = sign_of mark where
   sign_of Plus = Some false
   sign_of Minus = Some true
   sign_of Arrow = None
+  sign_of BracketOpen = None
+  sign_of BracketClose = None
+  sign_of Tick = None
+  sign_of Star = None
+  sign_of Equal = None
+  sign_of NotEqual = None
+  sign_of Less = None
+  sign_of LessEqual = None
+  sign_of Greater = None
+  sign_of GreaterEqual = None
 
 -- whether the number is taken away
 abbrev pub sign : Reader Bool

@@ -183,12 +183,22 @@ fn minus_piece(after: &[u8]) -> Option<Piece>
     }
 }
 
-/// What begins with `=`, which is no mark alone.
-fn arrow_piece(after: &[u8]) -> Option<Piece>
-    ensures { result ≡ tokens.arrow_piece after.now }
+/// The longer mark where this byte follows, and the shorter one where it doesn't.
+fn longer_piece(next: u8, longer: Mark, shorter: Mark, after: &[u8]) -> Option<Piece>
+    ensures { result ≡ tokens.longer_piece next longer shorter after.now }
 {
     match after {
-        [b'>', ..] => mark(2, Mark::Arrow),
+        [b, ..] if *b == next => mark(2, longer),
+        _ => mark(1, shorter),
+    }
+}
+
+/// What begins with `/`, which is no mark alone.
+fn slash_piece(after: &[u8]) -> Option<Piece>
+    ensures { result ≡ tokens.slash_piece after.now }
+{
+    match after {
+        [b'=', ..] => mark(2, Mark::NotEqual),
         _ => None,
     }
 }
@@ -203,6 +213,10 @@ fn mark_piece(first: u8) -> Option<Piece>
         b')' => mark(1, Mark::Close),
         b'.' => mark(1, Mark::Dot),
         b'+' => mark(1, Mark::Plus),
+        b'[' => mark(1, Mark::BracketOpen),
+        b']' => mark(1, Mark::BracketClose),
+        b'\'' => mark(1, Mark::Tick),
+        b'*' => mark(1, Mark::Star),
         _ => None,
     }
 }
@@ -217,7 +231,10 @@ fn any_piece(alloc: Global, text: &[u8]) -> Result<Option<Piece>, NoMemory>
         [b'"', after @ ..] => return string_piece(alloc, after),
         [b':', after @ ..] => colon_piece(after),
         [b'-', after @ ..] => minus_piece(after),
-        [b'=', after @ ..] => arrow_piece(after),
+        [b'=', after @ ..] => longer_piece(b'>', Mark::Arrow, Mark::Equal, after),
+        [b'<', after @ ..] => longer_piece(b'=', Mark::LessEqual, Mark::Less, after),
+        [b'>', after @ ..] => longer_piece(b'=', Mark::GreaterEqual, Mark::Greater, after),
+        [b'/', after @ ..] => slash_piece(after),
         [first, ..] => mark_piece(*first),
         [] => None,
     })
