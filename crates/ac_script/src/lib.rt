@@ -4,7 +4,7 @@
 mod argument;
 mod build;
 mod command;
-mod cut;
+mod cut_text;
 mod declaration;
 mod handler;
 mod head;
@@ -22,10 +22,13 @@ mod reserved;
 mod stage;
 mod stop;
 
-pub use ac_printer::print;
+pub use ac_printer::{append_literal, print};
 pub use ac_syntax::{
     Arg, Args, Decl, Decls, ElemKind, Handler, Handlers, Ident, Idents, Kind, RefusalKind, Script,
     ScriptFault, Stmt, Stmts, TaskText, TaskTexts, TypeDef, ViewKind,
 };
+pub use cut_text::{CutText, cut};
 pub use law::{each_text, items_read, one_script, refused_handlers, refused_tasks, refused_texts};
 pub use parser::parse;
+pub use reader::{find_mark, find_number, find_word};
+pub use reserved::{is_among, is_reserved};

@@ -12,7 +12,7 @@ ghost use Rattle.ac_syntax.specs.declared.fault.ScriptFault.TheVariants.{Refused
 ghost use Rattle.ac_script.specs.Answers.{IsAnswer, IsOrNoMemory, IsCut, EndPast};
 
 use crate::build::build;
-use crate::cut::{CutText, script_cut};
+use crate::cut_text::{CutText, script_cut};
 use crate::limits::within;
 use crate::reading::{Reading, read};
 use ac_base::NoMemory;

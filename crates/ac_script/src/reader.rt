@@ -15,6 +15,7 @@ pub fn is(word: &[u8], wanted: &[u8]) -> bool
     word == wanted
 }
 
+/// What stands behind the wanted word.
 pub fn find_word<'a>(tokens: &'a [Placed], wanted: &[u8]) -> Option<&'a [Placed]>
     ensures { Finds (λ rest. (tt, rest.now)) result tokens.now (readers.word wanted.now tokens.now) }
 {
@@ -30,6 +31,7 @@ pub fn find_word<'a>(tokens: &'a [Placed], wanted: &[u8]) -> Option<&'a [Placed]
     }
 }
 
+/// What stands behind the wanted mark.
 pub fn find_mark(tokens: &[Placed], wanted: Mark) -> Option<&[Placed]>
     ensures { Finds (λ rest. (tt, rest.now)) result tokens.now (readers.mark wanted tokens.now) }
 {
@@ -45,6 +47,7 @@ pub fn find_mark(tokens: &[Placed], wanted: Mark) -> Option<&[Placed]>
     }
 }
 
+/// What stands behind the wanted keyword.
 pub fn find_keyword(tokens: &[Placed], wanted: Keyword) -> Option<&[Placed]>
     ensures { Finds (λ rest. (tt, rest.now)) result tokens.now (readers.keyword wanted tokens.now) }
 {
@@ -60,6 +63,7 @@ pub fn find_keyword(tokens: &[Placed], wanted: Keyword) -> Option<&[Placed]>
     }
 }
 
+/// A number, and what stands behind it.
 pub fn find_number(tokens: &[Placed]) -> Option<(u64, &[Placed])>
     ensures { Finds (λ read. (read.0, read.1.now)) result tokens.now (readers.number tokens.now) }
 {

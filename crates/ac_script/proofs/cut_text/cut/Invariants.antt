@@ -1,6 +1,6 @@
 use Rattle.std.proofs.Common.{◌+◌, ◌≤◌, length}
 use Rattle.ac_script.proofs.Cutting.{IsCutting}
-use Rattle.ac_script.proofs.cut.cut.Given as goal
+use Rattle.ac_script.proofs.cut_text.cut.Given as goal
 
 abbrev pub invariant-loop-rest : goal.invariant-loop-rest
 invariant-loop-rest l = record {

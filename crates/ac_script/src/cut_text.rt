@@ -36,7 +36,7 @@ fn line_after(line: u64, first: u8) -> u64
 }
 
 /// Cuts a text into its tokens, each with its line.
-fn cut(alloc: Global, text: &[u8]) -> Result<CutText, NoMemory>
+pub fn cut(alloc: Global, text: &[u8]) -> Result<CutText, NoMemory>
     ensures placed { IfOk result (λ made. made.placed.items ≡ (cut_of text.now).placed) }
     ensures malformed { IfOk result (λ made. made.malformed ≡ (cut_of text.now).malformed) }
 {

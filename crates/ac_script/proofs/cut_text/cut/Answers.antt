@@ -1,6 +1,6 @@
 use Rattle.std.proofs.Common.{◌∙◌, sym, arith, get_or, length-drop}
 use Rattle.ac_script.proofs.Cutting.{more_tokens, line_small, all_cut, stopped, front_some}
-use Rattle.ac_script.proofs.cut.cut.Goals as goal
+use Rattle.ac_script.proofs.cut_text.cut.Goals as goal
 
 pub returns-in_default-2-clause-placed : goal.returns-in_default-2-clause-placed
 returns-in_default-2-clause-placed c = (stopped c.loop-rest.placed.items c.loop-rest.line c.loop-rest.rest.now c.args.text.now c.in-len1-up.len_at_least (sym c.in_default-2.is ∙ c.in_ok-len.ensures.piece) c.loop-rest.invariant.told).0

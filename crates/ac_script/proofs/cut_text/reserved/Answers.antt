@@ -1,7 +1,7 @@
 use Rattle.std.proofs.Common.{map, sym, ap, ◌∙◌}
 use Rattle.ac_syntax.specs.Keywords.{reserved_placed as same}
 use Rattle.ac_script.proofs.Lefts.{next_left, none_left}
-use Rattle.ac_script.proofs.cut.reserved.Goals as goal
+use Rattle.ac_script.proofs.cut_text.reserved.Goals as goal
 
 pub loop-one-init : goal.loop-one-init
 loop-one-init c =
