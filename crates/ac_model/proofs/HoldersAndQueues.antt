@@ -1,5 +1,5 @@
 -- The calls of holders and queues keep them valid.
-use Rattle.std.proofs.Common.{◌≡◌, ◌==◌, ◌+◌, ◌≤◌, ℕ, ℤ, Bool, cond, true, false, not, ◌&&◌, List, ◌∷◌, ◌++◌, length, take, drop, refl, ap, arith, Option, Some, None, one-add, if◌then◌else◌, []}
+use Rattle.std.proofs.Common.{◌≡◌, ◌==◌, ◌+◌, ◌≤◌, ℕ, ℤ, Bool, cond, true, false, not, ◌&&◌, List, ◌∷◌, ◌++◌, length, take, drop, refl, ap, arith, Option, Some, None, one-add, max, if◌then◌else◌, []}
 use Rattle.std.specs.Prelude.{int_lt, is_none}
 use Rattle.std.specs.List.{prefix_len}
 use Rattle.std.proofs.lemmas.Bool.Decides.{nat_tests}
@@ -129,6 +129,11 @@ fits_more Unbounded n range past le full long = record { within = refl; most = g
 fits_more (Bounded most) n range past le full long =
     let below : n + 1 ≤ most = grind (arith, nat_tests) in record { within = grind (arith, nat_tests); most = omega arith }
 
+-- of two numbers within the limit the greater is within it
+past_greater : (limit : Limit) (m n : ℕ) → is_past limit m ≡ false → is_past limit n ≡ false → is_past limit (max m n) ≡ false
+past_greater Unbounded m n h k = refl
+past_greater (Bounded most) m n h k = grind (arith, nat_tests)
+
 pub enqueue_keeps : (discipline : Discipline) (q : Queue) (item : ℤ) → KeepsQueue discipline q (queue.enqueue_call discipline q item)
 enqueue_keeps discipline q item valid goes none =
     let long = not_if (is_too_long q) LengthRange (none_first (reason_if (is_too_long q) LengthRange) [] none) in
@@ -139,6 +144,7 @@ enqueue_keeps discipline q item valid goes none =
       within_limit = rw len room.within;
       within_greatest = rw len room.most;
       within_peak = rw len (omega arith);
+      peak_within = past_greater q.limit q.peak (length q.items + 1) valid.peak_within room.within;
       in_line = lined_up_line discipline q.items item valid.in_line;
     }
 
@@ -154,6 +160,7 @@ dropped discipline q valid =
       within_limit = past_less q.limit (length (drop 1 q.items)) (length q.items) valid.within_limit (omega (arith, len));
       within_greatest = let le = valid.within_greatest in omega (arith, len, le);
       within_peak = let le = valid.within_peak in omega (arith, len, le);
+      peak_within = valid.peak_within;
       in_line = line_drop discipline q.items valid.in_line;
     }
 

@@ -58,6 +58,7 @@ pub record IsValidQueue (discipline : Discipline) (q : Queue) : Type 0 where
   pub within_limit : is_past q.limit (length q.items) ≡ false
   pub within_greatest : length q.items ≤ GREATEST_LENGTH
   pub within_peak : length q.items ≤ q.peak
+  pub peak_within : is_past q.limit q.peak ≡ false
   pub in_line : are_in_line_by discipline q.items ≡ true
 
 -- the queue's call would wait; where it doesn't, the first reason to refuse it, and where there is none, what it leaves and answers

@@ -39,6 +39,10 @@ pub record IsQueueState (discipline : Discipline) (s : QueueState) : Type 0 wher
   pub room : HasRoom s.queue.limit (length s.queue.items) s.spare
   pub peak_in_range : s.queue.peak ≤ GREATEST_LENGTH
 
+-- the queue with this as the greatest number of items held so far
+abbrev pub with_peak : QueueState → ℕ → QueueState
+with_peak s peak = state (queue_of s.queue.limit s.queue.items peak) s.spare
+
 -- how many items a new queue takes without memory
 abbrev pub first_spare : Limit → ℕ
 first_spare Unbounded = 0

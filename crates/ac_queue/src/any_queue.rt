@@ -1,12 +1,13 @@
 //! A queue of either kind.
-ghost use Rattle.std.specs.Prelude.{◌≡◌, ◌≤◌, pos, max, IsOk, IfOk, OnErr, OnOk};
+ghost use Rattle.std.specs.Prelude.{◌≡◌, ◌≤◌, false, pos, length, max, IsOk, IfOk, OnErr, OnOk};
 ghost use Rattle.std.specs.Bool.{Decides};
 ghost use Rattle.ac_base.specs.declared.limit.TheConstants.{GREATEST_LENGTH};
+ghost use Rattle.ac_base.specs.Limits.{is_past};
 ghost use Rattle.std.specs.List.{slice_get};
 ghost use Rattle.ac_model.specs.Queues as queues;
 ghost use Rattle.ac_model.specs.Queues.{by_priority};
 ghost use Rattle.ac_queue.specs.Kinds.{discipline_of, state_of};
-ghost use Rattle.ac_queue.specs.QueueStates.{IsQueueState, with_spare};
+ghost use Rattle.ac_queue.specs.QueueStates.{IsQueueState, with_spare, with_peak};
 ghost use Rattle.ac_queue.specs.QueueCalls.{HasSpareFor, enqueue_answer, dequeue_answer, after_enqueue, after_leaving};
 
 use crate::answers::{Dequeued, Enqueued};
@@ -136,6 +137,20 @@ impl AnyQueue {
         match self {
             AnyQueue::Plain(queue) => queue.reserve(n),
             AnyQueue::Ranked(queue) => queue.reserve(n),
+        }
+    }
+
+    /// Sets the greatest number of items held so far (Peak_Use, A.18.27).
+    pub fn restore_peak(&mut self, peak: u64)
+        requires held { length (state_of self.old).queue.items ≤ peak }
+        requires limit { is_past (state_of self.old).queue.limit peak ≡ false }
+        requires greatest { peak ≤ GREATEST_LENGTH }
+        ensures kind { discipline_of self.new ≡ discipline_of self.old }
+        ensures peak { state_of self.new ≡ with_peak (state_of self.old) peak }
+    {
+        match self {
+            AnyQueue::Plain(queue) => queue.restore_peak(peak),
+            AnyQueue::Ranked(queue) => queue.restore_peak(peak),
         }
     }
 

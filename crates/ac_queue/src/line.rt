@@ -2,9 +2,10 @@
 ghost use Rattle.std.specs.Prelude.{◌≡◌, ◌+◌, ◌-◌, ◌<◌, ◌≤◌, ◌∷◌, ◌++◌, length, take, drop, [], true, false, not, max, IsOk, IfOk, OnErr, OnOk};
 ghost use Rattle.std.specs.Bool.{Decides};
 ghost use Rattle.ac_base.specs.declared.limit.TheConstants.{GREATEST_LENGTH};
+ghost use Rattle.ac_base.specs.Limits.{is_past};
 ghost use Rattle.std.specs.List.{slice_get, prefix_len};
 ghost use Rattle.ac_model.specs.Queues.{LimitInRange, by_arrival, are_in_line, comes_before, is_full, is_too_long, front};
-ghost use Rattle.ac_queue.specs.QueueStates.{IsQueueState, queue_of, state, first_spare, new_state, with_spare};
+ghost use Rattle.ac_queue.specs.QueueStates.{IsQueueState, queue_of, state, first_spare, new_state, with_spare, with_peak};
 
 use crate::priority::priority;
 use ac_base::{GREATEST_LENGTH, Limit, NoMemory};
@@ -194,6 +195,16 @@ impl Line {
         let first = self.items.pop_front()?;
         self.spare += 1;
         Some(first)
+    }
+
+    /// Sets the greatest number of items held so far.
+    pub(crate) fn restore_peak(&mut self, peak: u64)
+        requires held { length self.old.queue.items ≤ peak }
+        requires limit { is_past self.old.queue.limit peak ≡ false }
+        requires greatest { peak ≤ GREATEST_LENGTH }
+        ensures { self.new ≡ with_peak self.old peak }
+    {
+        self.peak = peak;
     }
 }
 

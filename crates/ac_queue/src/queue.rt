@@ -1,11 +1,12 @@
 //! The plain queue.
-ghost use Rattle.std.specs.Prelude.{◌≡◌, ◌≤◌, pos, max, IsOk, IfOk, OnErr, OnOk};
+ghost use Rattle.std.specs.Prelude.{◌≡◌, ◌≤◌, false, pos, length, max, IsOk, IfOk, OnErr, OnOk};
 ghost use Rattle.std.specs.Bool.{Decides};
 ghost use Rattle.ac_base.specs.declared.limit.TheConstants.{GREATEST_LENGTH};
+ghost use Rattle.ac_base.specs.Limits.{is_past};
 ghost use Rattle.std.specs.List.{slice_get};
 ghost use Rattle.ac_model.specs.Queues as queues;
 ghost use Rattle.ac_model.specs.Queues.{LimitInRange, by_arrival};
-ghost use Rattle.ac_queue.specs.QueueStates.{IsQueueState, new_state, with_spare};
+ghost use Rattle.ac_queue.specs.QueueStates.{IsQueueState, new_state, with_spare, with_peak};
 ghost use Rattle.ac_queue.specs.QueueCalls.{HasSpareFor, enqueue_answer, dequeue_answer, after_enqueue, after_leaving};
 
 use crate::answers::{Dequeued, Enqueued};
@@ -114,6 +115,16 @@ impl Queue {
         ensures in_place { n ≤ self.old.spare → IsOk result }
     {
         self.line.reserve(n)
+    }
+
+    /// Sets the greatest number of items held so far (Peak_Use, A.18.27).
+    pub fn restore_peak(&mut self, peak: u64)
+        requires held { length self.old.queue.items ≤ peak }
+        requires limit { is_past self.old.queue.limit peak ≡ false }
+        requires greatest { peak ≤ GREATEST_LENGTH }
+        ensures { self.new ≡ with_peak self.old peak }
+    {
+        self.line.restore_peak(peak);
     }
 
     /// Enqueue (A.18.27).

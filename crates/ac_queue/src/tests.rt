@@ -52,3 +52,26 @@ fn a_queue_of_either_kind_reserves(rt: HostRuntime) -> Result<(), Fail> {
     assert!(rt; queue.item(0) == Some(7));
     Ok(())
 }
+
+#[test]
+fn a_peak_is_restored(rt: HostRuntime) -> Result<(), Fail> {
+    let mut queue = Queue::new(rt.alloc(), Limit::Bounded(3))
+        .ok()
+        .ok_or("no memory")?;
+    queue.restore_peak(2);
+    assert!(rt; queue.try_enqueue(5) == Enqueued::Took);
+    assert!(rt; queue.peak_use() == 2);
+    Ok(())
+}
+
+#[test]
+fn a_queue_of_either_kind_has_its_peak_restored(rt: HostRuntime) -> Result<(), Fail> {
+    let mut queue = AnyQueue::Ranked(
+        PriorityQueue::new(rt.alloc(), Limit::Unbounded)
+            .ok()
+            .ok_or("no memory")?,
+    );
+    queue.restore_peak(7);
+    assert!(rt; queue.peak_use() == 7);
+    Ok(())
+}
