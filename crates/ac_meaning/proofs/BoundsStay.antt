@@ -1,12 +1,13 @@
 -- What names hold goes on: the relation alone.
-use Rattle.std.proofs.Common.{◌≡◌, ℕ, zero, suc, List, [], ◌∷◌, slice_get, slice_set, length, refl, sym, ap, subst, ◌∙◌, arith, Option, Some, None}
+use Rattle.std.proofs.Common.{◌≡◌, ℕ, zero, suc, true, List, [], ◌∷◌, slice_get, slice_set, length, refl, sym, ap, subst, ◌∙◌, arith, Option, Some, None, is_some, inl, inr}
+use Rattle.ac_base.specs.declared.limit.Limit.{Limit}
 use Rattle.ac_base.specs.declared.reason.Reason.{Reason}
 use Rattle.ac_base.specs.declared.guard.Class.TheVariants as class
 use Rattle.ac_base.specs.Tampering.{forbids}
 use Rattle.ac_model.specs.Objects.{Object}
 use Rattle.ac_calls.specs.Holdings.{Held, of_rows, of_holder, of_queue}
 use Rattle.ac_meaning.specs.Environment.{Bound, binds_type, binds_object, binds_cursor, binds_value, binds_element, State, bound_in, bound_at, with_bound, object_in}
-use Rattle.ac_meaning.specs.Stays.{Stays, HeldStays, BoundStays, EachStays, StateStays}
+use Rattle.ac_meaning.specs.Stays.{CapacityGoesOn, Stays, HeldStays, BoundStays, EachStays, StateStays}
 use Rattle.ac_meaning.proofs.CallsStay.{none_some, same}
 use Rattle.ac_meaning.proofs.HoldersStay.{holder_same, holder_then}
 use Rattle.ac_meaning.proofs.QueuesStay.{queue_same, queue_then}
@@ -15,17 +16,36 @@ use Rattle.ac_meaning.proofs.QueuesStay.{queue_same, queue_then}
 pub passed : {V : Type 0} (o : Object ℕ V) (reason : Option Reason) (after : Object ℕ V) → reason ≡ None → Stays o reason after → Stays o None after
 passed o reason after none s = record {
   number = s.number;
+  limit = s.limit;
   next = s.next;
+  capacity = λ _. s.capacity none;
   cursor_guards = s.cursor_guards;
   element_guards = s.element_guards;
   names = λ _. s.names none;
 }
 
+-- one Capacity after another
+pub capacity_then : (limit later : Limit) (a b c : Option ℕ) → later ≡ limit → CapacityGoesOn limit a b → CapacityGoesOn later b c →
+    CapacityGoesOn limit a c
+capacity_then limit later a b c same h (inl stays) = subst (λ x. CapacityGoesOn limit a x) (sym stays) h
+capacity_then limit later a b c same (inl stays) (inr grew) =
+    inr (record {
+      unbounded = sym same ∙ grew.unbounded;
+      had = subst (λ x. is_some x ≡ true) stays grew.had;
+      step = grew.step;
+      is = grew.is;
+      is_step = grew.is_step;
+    })
+capacity_then limit later a b c same (inr first) (inr grew) =
+    inr (record { unbounded = first.unbounded; had = first.had; step = grew.step; is = grew.is; is_step = grew.is_step })
+
 -- one call after another
 pub stays_then : {V : Type 0} (o a b : Object ℕ V) → Stays o None a → Stays a None b → Stays o None b
 stays_then o a b h k = record {
   number = k.number ∙ h.number;
+  limit = k.limit ∙ h.limit;
   next = omega (arith, h.next, k.next);
+  capacity = λ none. capacity_then o.limit a.limit o.capacity a.capacity b.capacity h.limit (h.capacity none) (k.capacity none);
   cursor_guards = k.cursor_guards ∙ h.cursor_guards;
   element_guards = k.element_guards ∙ h.element_guards;
   names = λ none tampering t. k.names none tampering

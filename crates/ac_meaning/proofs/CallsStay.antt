@@ -1,13 +1,20 @@
 -- What stays of an object through a call: the parts.
-use Rattle.std.proofs.Common.{◌≡◌, ◌==◌, ℕ, Bool, true, false, List, [], ◌∷◌, refl, sym, ◌∙◌, arith, Option, Some, None, if◌then◌else◌}
+use Rattle.std.proofs.Common.{◌≡◌, ◌==◌, ◌*◌, ◌^◌, ◌≤◌, ℕ, Bool, true, false, List, [], ◌∷◌, length, refl, sym, ◌∙◌, arith, Option, Some, None, inl, inr, if◌then◌else◌}
+use Rattle.std.specs.Prelude.{nat_le}
+use Rattle.ac_base.specs.declared.limit.Limit.{Limit}
+use Rattle.ac_base.specs.declared.limit.Limit.TheVariants.{Unbounded, Bounded}
+use Rattle.ac_base.specs.declared.limit.TheConstants.{GREATEST_LENGTH}
 use Rattle.ac_base.specs.declared.reason.Reason.{Reason}
 use Rattle.ac_base.specs.FirstReason.{first_reason, earlier}
+use Rattle.ac_base.specs.Growth.{pow8}
 use Rattle.ac_base.specs.Rows.{Row, row, names}
+use Rattle.ac_base.proofs.Powers.{IsLeastPow8-pow8, pow8-within}
+use Rattle.ac_model.specs.Capacities.{IsStep, widened}
 use Rattle.ac_model.specs.Rows.{with_value, with_some_value, with_exchanged_values, value_at, over}
-use Rattle.ac_model.specs.Objects.{Object, with_rows, grown, grown_unless}
+use Rattle.ac_model.specs.Objects.{Object, with_rows, grown, grown_unless, capacity_after}
 use Rattle.ac_model.specs.Letters.{tampers_cursors}
 use Rattle.ac_calls.specs.Replies.{Arguments, Source, without, itself, another, by_source, Reply}
-use Rattle.ac_meaning.specs.Stays.{Stays, SourceStays, ReplyStays}
+use Rattle.ac_meaning.specs.Stays.{CapacityGoesOn, Stays, SourceStays, ReplyStays}
 
 pub none_some : {A : Type 0} {B : Type 0} (x : A) → None ≡ Some x → B
 none_some x e = absurd (cc)
@@ -38,43 +45,94 @@ pub second_check : {V : Type 0} (o : Object ℕ V) (first : Option Reason) (othe
     Checked o (first_reason (first ∷ tampers_cursors o ∷ others))
 second_check o first others h = second_none first (tampers_cursors o) others h
 
+-- a need that is allowed makes a step of a Capacity that is too small
+
+fits_greatest : (need : ℕ) → need ≤ GREATEST_LENGTH → need ≤ 8 * 2 ^ 17
+fits_greatest need h = let most : GREATEST_LENGTH ≤ 8 * 2 ^ 17 = omega arith in omega arith
+
+power_of : (need : ℕ) → need ≤ GREATEST_LENGTH → IsStep (pow8 need)
+power_of need h =
+    let least = IsLeastPow8-pow8 need in
+    inr (record { exponent = least.power.0; is = least.power.1; within = pow8-within need 17 (fits_greatest need h) })
+
+capacity_case : (need c : ℕ) (b : Bool) → need ≤ GREATEST_LENGTH → CapacityGoesOn Unbounded (Some c) (Some (if b then c else pow8 need))
+capacity_case need c true h = inl refl
+capacity_case need c false h = inr (record { unbounded = refl; had = refl; step = pow8 need; is = refl; is_step = power_of need h })
+
+pub capacity_grows : (limit : Limit) (capacity : Option ℕ) (need : ℕ) → need ≤ GREATEST_LENGTH →
+    CapacityGoesOn limit capacity (capacity_after limit capacity need)
+capacity_grows (Bounded most) capacity need h = inl refl
+capacity_grows Unbounded None need h = inl refl
+capacity_grows Unbounded (Some c) need h = capacity_case need c (nat_le need c) h
+
+-- where no call that isn't refused makes more rows than there may be
+abbrev pub HasRoomFor : {V : Type 0} → Option Reason → List (Row ℕ V) → Type 0
+HasRoomFor reason rows = reason ≡ None → length rows ≤ GREATEST_LENGTH
+
 pub same : {V : Type 0} (o : Object ℕ V) (reason : Option Reason) → Stays o reason o
 same o reason =
-    record { number = refl; next = omega arith; cursor_guards = refl; element_guards = refl; names = λ h tampering t. refl }
+    record {
+      number = refl;
+      limit = refl;
+      next = omega arith;
+      capacity = λ none. inl refl;
+      cursor_guards = refl;
+      element_guards = refl;
+      names = λ none tampering t. refl;
+    }
 
 pub renamed : {V : Type 0} (o : Object ℕ V) (reason : Option Reason) (rows : List (Row ℕ V)) → names rows ≡ names o.rows →
     Stays o reason (with_rows o rows)
 renamed o reason rows e =
-    record { number = refl; next = omega arith; cursor_guards = refl; element_guards = refl; names = λ h tampering t. e }
+    record {
+      number = refl;
+      limit = refl;
+      next = omega arith;
+      capacity = λ none. inl refl;
+      cursor_guards = refl;
+      element_guards = refl;
+      names = λ none tampering t. e;
+    }
 
 pub changed : {V : Type 0} (o : Object ℕ V) (reason : Option Reason) (rows : List (Row ℕ V)) → Checked o reason → Stays o reason (with_rows o rows)
 changed o reason rows checked = record {
   number = refl;
+  limit = refl;
   next = omega arith;
+  capacity = λ none. inl refl;
   cursor_guards = refl;
   element_guards = refl;
   names = λ h tampering t. none_some tampering (sym (checked h) ∙ t);
 }
 
-pub grows : {V : Type 0} (o : Object ℕ V) (reason : Option Reason) (rows : List (Row ℕ V)) (more : ℕ) → Checked o reason →
+pub grows : {V : Type 0} (o : Object ℕ V) (reason : Option Reason) (rows : List (Row ℕ V)) (more : ℕ) → Checked o reason → HasRoomFor reason rows →
     Stays o reason (grown o rows more)
-grows o reason rows more checked = record {
+grows o reason rows more checked room = record {
   number = refl;
+  limit = refl;
   next = omega arith;
+  capacity = λ none. capacity_grows o.limit o.capacity (length rows) (room none);
   cursor_guards = refl;
   element_guards = refl;
   names = λ h tampering t. none_some tampering (sym (checked h) ∙ t);
 }
 
 pub grows_unless : {V : Type 0} (test : Bool) (o : Object ℕ V) (reason : Option Reason) (rows longer : List (Row ℕ V)) (more : ℕ) →
-    Checked o reason → Stays o reason (grown_unless test o rows longer more)
-grows_unless true o reason rows longer more checked = changed o reason rows checked
-grows_unless false o reason rows longer more checked = grows o reason longer more checked
+    Checked o reason → (test ≡ false → HasRoomFor reason longer) → Stays o reason (grown_unless test o rows longer more)
+grows_unless true o reason rows longer more checked room = changed o reason rows checked
+grows_unless false o reason rows longer more checked room = grows o reason longer more checked (room refl)
 
-pub reserves : {V : Type 0} (o : Object ℕ V) (reason : Option Reason) (capacity : Option ℕ) →
-    Stays o reason (record o { capacity = capacity })
-reserves o reason capacity =
-    record { number = refl; next = omega arith; cursor_guards = refl; element_guards = refl; names = λ h tampering t. refl }
+pub reserves : {V : Type 0} (o : Object ℕ V) (reason : Option Reason) (need : ℕ) → (reason ≡ None → need ≤ GREATEST_LENGTH) →
+    Stays o reason (widened o need)
+reserves o reason need asked = record {
+  number = refl;
+  limit = refl;
+  next = omega arith;
+  capacity = λ none. capacity_grows o.limit o.capacity need (asked none);
+  cursor_guards = refl;
+  element_guards = refl;
+  names = λ none tampering t. refl;
+}
 
 -- a reply that changes no source
 none_stays : {V : Type 0} (source : Source (Object ℕ V)) (reason : Option Reason) (after : Option (Object ℕ V)) → after ≡ None →

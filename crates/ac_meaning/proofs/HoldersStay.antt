@@ -24,13 +24,14 @@ use Rattle.ac_meaning.proofs.CallsStay.{none_some, first_none, second_none}
 
 pub holder_same : {T : Type 0} (h : Holder T) (reason : Option Reason) → HolderStays h reason h
 holder_same h reason =
-    record { number = refl; cursor_guards = refl; element_guards = refl; element = λ none tampering t. refl }
+    record { number = refl; limit = refl; cursor_guards = refl; element_guards = refl; element = λ none tampering t. refl }
 
 -- where no call with this check goes on
 changed : {T : Type 0} (h : Holder T) (reason : Option Reason) (element : Option T) → (reason ≡ None → tampers h ≡ None) →
     HolderStays h reason (with_element h element)
 changed h reason element checked = record {
   number = refl;
+  limit = refl;
   cursor_guards = refl;
   element_guards = refl;
   element = λ none tampering t. none_some tampering (sym (checked none) ∙ t);
@@ -41,6 +42,7 @@ pub holder_passed : {T : Type 0} (h : Holder T) (reason : Option Reason) (after 
     HolderStays h None after
 holder_passed h reason after none s = record {
   number = s.number;
+  limit = s.limit;
   cursor_guards = s.cursor_guards;
   element_guards = s.element_guards;
   element = λ _. s.element none;
@@ -50,6 +52,7 @@ holder_passed h reason after none s = record {
 pub holder_then : {T : Type 0} (h a b : Holder T) → HolderStays h None a → HolderStays a None b → HolderStays h None b
 holder_then h a b s t = record {
   number = t.number ∙ s.number;
+  limit = t.limit ∙ s.limit;
   cursor_guards = t.cursor_guards ∙ s.cursor_guards;
   element_guards = t.element_guards ∙ s.element_guards;
   element = λ none tampering e. t.element none tampering
@@ -68,6 +71,7 @@ pub holder_write_stays : {T : Type 0} (tools : Tools T) (h : Holder T) (v : Valu
     HolderStays h None (holder_write tools h v).after
 holder_write_stays tools h v none = record {
   number = refl;
+  limit = refl;
   cursor_guards = refl;
   element_guards = refl;
   element = λ _ tampering t. sym (some_there h.element (fits tools.size h (Some (tools.from_value v)) ∷ []) none);

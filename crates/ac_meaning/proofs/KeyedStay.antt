@@ -7,13 +7,13 @@ use Rattle.ac_base.specs.Key.{key_of_text}
 use Rattle.ac_base.specs.Rows.{Row, names}
 use Rattle.ac_model.specs.Rows.{Entry, row_by}
 use Rattle.ac_model.specs.Objects.{Object}
-use Rattle.ac_model.specs.Letters.{Mark, name_of, needs, in_range, reason_if, room_for_one}
+use Rattle.ac_model.specs.Letters.{Mark, name_of, needs, in_range, reason_if, room_for_one, tampers_cursors}
 use Rattle.ac_model.specs.Calls.{Call}
 use Rattle.ac_model.specs.Keyed as keyed
 use Rattle.ac_model.specs.Keyed.{Order, row_like, replaced_rows, on_key, room_where_absent, another_is_like}
 use Rattle.ac_model.specs.KeyedSets as by_key
 use Rattle.ac_model.specs.Maps as map
-use Rattle.ac_model.specs.Sets.{unchecked_union, unchecked_symmetric_difference}
+use Rattle.ac_model.specs.Sets.{additions, own_rows, unchecked_union, unchecked_symmetric_difference}
 use Rattle.ac_syntax.specs.declared.operation.Operation.{Operation}
 use Rattle.ac_syntax.specs.declared.operation.Operation.TheVariants as operation
 use Rattle.ac_syntax.specs.declared.operation.WalkCall.{WalkCall}
@@ -40,6 +40,7 @@ use Rattle.ac_calls.specs.KeyedSetReplies.{key_reply, keyed_set_reply}
 use Rattle.ac_calls.specs.Replies.{Arguments, Source, another, Reply}
 use Rattle.ac_meaning.specs.Stays.{Stays, ReplyStays}
 use Rattle.ac_meaning.proofs.CallsStay.{alone, by_source_stays, same, renamed, changed, grows, grows_unless, first_check, earlier_check, names-with_value, names-with_some_value}
+use Rattle.ac_meaning.proofs.RoomsFound.{added_fits, absent_fits}
 use Rattle.ac_meaning.proofs.ListsStay.{common_stays}
 use Rattle.ac_meaning.proofs.VectorsStay.{capacity_stays}
 
@@ -53,13 +54,19 @@ names-replaced rows (Some r) v = names-with_value rows r.name v
 
 module _ {V : Type 0} (order : Order V) (o : Object ℕ V) (v : V) where
   insert_stays : CallStays o (keyed.insert_call order o v)
-  insert_stays = grows o _ _ _ (first_check o (reason_if (is_some (row_like order o v)) KeyPresent ∷ room_for_one o))
+  insert_stays =
+      let checked = reason_if (is_some (row_like order o v)) KeyPresent in
+      grows o _ _ _ (first_check o (checked ∷ room_for_one o)) (added_fits (tampers_cursors o ∷ checked ∷ []) order o o.rows (v ∷ []))
 
   insert_pos_stays : CallStays o (keyed.insert_pos_call order o v)
-  insert_pos_stays = grows_unless (is_some (row_like order o v)) o _ _ _ _ (first_check o (room_where_absent o (row_like order o v)))
+  insert_pos_stays =
+      let present = row_like order o v in
+      grows_unless (is_some present) o _ _ _ _ (first_check o (room_where_absent o present)) (absent_fits order o v present)
 
   include_stays : CallStays o (keyed.include_call order o v)
-  include_stays = grows_unless (is_some (row_like order o v)) o _ _ _ _ (first_check o (room_where_absent o (row_like order o v)))
+  include_stays =
+      let present = row_like order o v in
+      grows_unless (is_some present) o _ _ _ _ (first_check o (room_where_absent o present)) (absent_fits order o v present)
 
   replace_stays : (tampering : Option Reason) → CallStays o (keyed.replace_call tampering order o v)
   replace_stays tampering = renamed o _ _ (names-replaced o.rows (row_like order o v) v)
@@ -143,7 +150,9 @@ module _ {T : Type 0} (tools : Tools T) (o : Object ℕ T) (source : Source (Obj
   set_pair_stays : (which : KeyedKind) (c : SetPairCall) → ReplyStays o source (set_pair_reply tools (order_by tools which) o source c)
   set_pair_stays which set_pair_call.Union =
       by_source_stays o source _ _ refl (same o _)
-      (λ s seen. alone o (another s seen) _ refl (grows o _ _ _ (earlier_check o (unchecked_union (order_by tools which) o s).reason)))
+      (λ s seen. alone o (another s seen) _ refl
+      (grows o _ _ _ (earlier_check o (unchecked_union (order_by tools which) o s).reason)
+      (added_fits (tampers_cursors o ∷ []) (order_by tools which) o o.rows (additions (order_by tools which) o s))))
   set_pair_stays which set_pair_call.Intersection =
       by_source_stays o source _ _ refl (same o _) (λ s seen. alone o (another s seen) _ refl (changed o _ _ (earlier_check o None)))
   set_pair_stays which set_pair_call.Difference =
@@ -152,7 +161,8 @@ module _ {T : Type 0} (tools : Tools T) (o : Object ℕ T) (source : Source (Obj
   set_pair_stays which set_pair_call.SymmetricDifference =
       by_source_stays o source _ _ refl (changed o _ _ (earlier_check o None))
       (λ s seen. alone o (another s seen) _ refl
-      (grows o _ _ _ (earlier_check o (unchecked_symmetric_difference (order_by tools which) o s).reason)))
+      (grows o _ _ _ (earlier_check o (unchecked_symmetric_difference (order_by tools which) o s).reason)
+      (added_fits (tampers_cursors o ∷ []) (order_by tools which) o (own_rows (order_by tools which) o s) (additions (order_by tools which) o s))))
   set_pair_stays which set_pair_call.Overlap = alone o source _ refl (same o _)
   set_pair_stays which set_pair_call.IsSubset = alone o source _ refl (same o _)
   set_pair_stays which set_pair_call.EquivalentSets = alone o source _ refl (same o _)

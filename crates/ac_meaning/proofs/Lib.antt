@@ -1,5 +1,6 @@
 pub mod Resolved
 pub mod CallsStay
+pub mod RoomsFound
 pub mod ListsStay
 pub mod VectorsStay
 pub mod KeyedStay
@@ -36,8 +37,13 @@ pub mod TasksFit
 pub mod TypeShapes
 pub mod HoldsHeads
 pub mod HoldsOn
+pub mod QueuesTold
 pub mod SortsOfBlocks
 pub mod ExecHolds
+pub mod GoesOnLists
+pub mod GoesOnBlocks
+pub mod ExecGoesOn
+pub mod AsDeclared
 pub mod Suiting
 pub mod Places
 pub mod Sources

@@ -15,7 +15,7 @@ queue_same q = record { discipline = refl; limit = refl }
 pub queue_then : (q a b : TaskQueue) → QueueStays q a → QueueStays a b → QueueStays q b
 queue_then q a b h k = record { discipline = k.discipline ∙ h.discipline; limit = k.limit ∙ h.limit }
 
-either_limit : (b : Bool) (q taken : Queue) → taken.limit ≡ q.limit → (if b then taken else q).limit ≡ q.limit
+pub either_limit : (b : Bool) (q taken : Queue) → taken.limit ≡ q.limit → (if b then taken else q).limit ≡ q.limit
 either_limit true q taken e = e
 either_limit false q taken e = refl
 

@@ -1,7 +1,7 @@
 -- What stays of a vector through each call, and so of a list or a vector.
 use Rattle.std.proofs.Common.{◌≡◌, ◌+◌, ◌-◌, ℕ, [], ◌∷◌, reverse, nat_le, refl, None}
 use Rattle.ac_model.specs.Objects.{Object, contents, length_of}
-use Rattle.ac_model.specs.Letters.{may, count_of, in_range, index_in, room}
+use Rattle.ac_model.specs.Letters.{may, count_of, in_range, index_in, place_at, place_of_index, room, tampers_cursors}
 use Rattle.ac_model.specs.Sequences.{room_for_copies}
 use Rattle.ac_model.specs.Vectors as vector
 use Rattle.ac_syntax.specs.declared.operation.Operation.{Operation}
@@ -17,12 +17,13 @@ use Rattle.ac_calls.specs.VectorReplies.{vector_alone_reply, vector_reply}
 use Rattle.ac_calls.specs.Holdings.{SequenceKind, of_list, of_vector, reply_by}
 use Rattle.ac_meaning.specs.Stays.{Stays, ReplyStays}
 use Rattle.ac_meaning.proofs.CallsStay.{alone, by_source_stays, same, renamed, changed, grows, grows_unless, reserves, first_check, names-with_value, names-with_exchanged_values, names-over}
+use Rattle.ac_meaning.proofs.RoomsFound.{reserve_fits, copies_fit, rows_fit, length_fits}
 use Rattle.ac_meaning.proofs.ListsStay.{common_stays, sequence_stays, list_stays}
 
 module _ {V : Type 0} (o : Object ℕ V) (source : Source (Object ℕ V)) (args : Arguments) where
   pub capacity_stays : (c : CapacityCall) → ReplyStays o source (capacity_reply o args c)
   capacity_stays capacity_call.Capacity = alone o source _ refl (same o _)
-  capacity_stays capacity_call.ReserveCapacity = alone o source _ refl (reserves o _ _)
+  capacity_stays capacity_call.ReserveCapacity = alone o source _ refl (reserves o _ (count_of args.first.count) (reserve_fits o args.first.count))
 
 module _ {T : Type 0} (tools : Tools T) (o : Object ℕ T) (source : Source (Object ℕ T)) (args : Arguments) where
   -- a call that copies its source, which may be the vector itself
@@ -34,7 +35,8 @@ module _ {T : Type 0} (tools : Tools T) (o : Object ℕ T) (source : Source (Obj
   alone_stays vector_call.SetLength =
       let count = count_of args.first.count in
       alone o source _ refl
-      (grows_unless (nat_le count (length_of o)) o _ _ _ _ (first_check o (in_range args.first.count ∷ room o count (count - length_of o))))
+      (grows_unless (nat_le count (length_of o)) o _ _ _ _ (first_check o (in_range args.first.count ∷ room o count (count - length_of o)))
+      (length_fits (tampers_cursors o ∷ in_range args.first.count ∷ []) o _ count))
   alone_stays vector_call.ToCursor = alone o source _ refl (same o _)
   alone_stays vector_call.ToIndex = alone o source _ refl (same o _)
   alone_stays vector_call.FirstIndex = alone o source _ refl (same o _)
@@ -44,22 +46,26 @@ module _ {T : Type 0} (tools : Tools T) (o : Object ℕ T) (source : Source (Obj
   alone_stays vector_call.SwapIndex = alone o source _ refl (renamed o _ _ (names-with_exchanged_values o.rows _ _))
   alone_stays vector_call.InsertIndex =
       alone o source _ refl
-      (grows o _ _ _ (first_check o (index_in args.first.count (length_of o + 1) ∷ room_for_copies o args.third.count)))
+      (grows o _ _ _ (first_check o (index_in args.first.count (length_of o + 1) ∷ room_for_copies o args.third.count))
+      (copies_fit (tampers_cursors o ∷ index_in args.first.count (length_of o + 1) ∷ []) o (place_of_index args.first.count) _ args.third.count))
   alone_stays vector_call.InsertVectorIndex =
       copies_stay (λ s. changes_ok (vector.insert_vector_index_call o args.first.count s)) (λ s. refl)
-      (λ s. grows o _ _ _ (first_check o (index_in args.first.count (length_of o + 1) ∷ vector.room_for_source o s)))
+      (λ s. grows o _ _ _ (first_check o (index_in args.first.count (length_of o + 1) ∷ vector.room_for_source o s))
+      (rows_fit (tampers_cursors o ∷ index_in args.first.count (length_of o + 1) ∷ []) o (place_of_index args.first.count) s.rows))
   alone_stays vector_call.InsertVector =
       copies_stay (λ s. changes_ok (vector.insert_vector_call o args.first.cursor s)) (λ s. refl)
-      (λ s. grows o _ _ _ (first_check o (may o args.first.cursor ∷ vector.room_for_source o s)))
+      (λ s. grows o _ _ _ (first_check o (may o args.first.cursor ∷ vector.room_for_source o s))
+      (rows_fit (tampers_cursors o ∷ may o args.first.cursor ∷ []) o (place_at o.rows args.first.cursor) s.rows))
   alone_stays vector_call.InsertVectorPos =
       copies_stay (λ s. changes_variable _ (vector.insert_vector_pos_call o args.first.cursor s)) (λ s. refl)
-      (λ s. grows o _ _ _ (first_check o (may o args.first.cursor ∷ vector.room_for_source o s)))
+      (λ s. grows o _ _ _ (first_check o (may o args.first.cursor ∷ vector.room_for_source o s))
+      (rows_fit (tampers_cursors o ∷ may o args.first.cursor ∷ []) o (place_at o.rows args.first.cursor) s.rows))
   alone_stays vector_call.AppendVector =
       copies_stay (λ s. changes_ok (vector.append_vector_call o s)) (λ s. refl)
-      (λ s. grows o _ _ _ (first_check o (vector.room_for_source o s)))
+      (λ s. grows o _ _ _ (first_check o (vector.room_for_source o s)) (rows_fit (tampers_cursors o ∷ []) o (length_of o) s.rows))
   alone_stays vector_call.PrependVector =
       copies_stay (λ s. changes_ok (vector.prepend_vector_call o s)) (λ s. refl)
-      (λ s. grows o _ _ _ (first_check o (vector.room_for_source o s)))
+      (λ s. grows o _ _ _ (first_check o (vector.room_for_source o s)) (rows_fit (tampers_cursors o ∷ []) o 0 s.rows))
   alone_stays vector_call.DeleteIndex =
       alone o source _ refl (changed o _ _ (first_check o (index_in args.first.count (length_of o + 1) ∷ in_range args.second.count ∷ [])))
   alone_stays vector_call.FindIndex = alone o source _ refl (same o _)

@@ -9,6 +9,7 @@ pub mod GuardedNames
 pub mod Walks
 pub mod FitsScope
 pub mod HoldsTypes
+pub mod AsDeclared
 pub mod Suits
 pub mod ValueTypes
 pub mod ReadsByLetter

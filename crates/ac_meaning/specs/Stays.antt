@@ -1,7 +1,10 @@
 -- What stays of an object through a call on it, and of what the names in scope hold through a command.
-use Rattle.std.specs.Prelude.{◌≡◌, ◌<◌, ◌≤◌, ⊤, ℕ, List, [], ◌∷◌, length, Option, Some, None, IfSome, is_none}
+use Rattle.std.specs.Prelude.{◌≡◌, ◌<◌, ◌≤◌, ◌⊎◌, ⊤, ℕ, true, List, [], ◌∷◌, length, Option, Some, None, IfSome, is_none, is_some}
+use Rattle.ac_base.specs.declared.limit.Limit.{Limit}
+use Rattle.ac_base.specs.declared.limit.Limit.TheVariants.{Unbounded}
 use Rattle.ac_base.specs.declared.reason.Reason.{Reason}
 use Rattle.ac_base.specs.Rows.{names}
+use Rattle.ac_model.specs.Capacities.{IsStep}
 use Rattle.ac_model.specs.Objects.{Object}
 use Rattle.ac_model.specs.Letters.{tampers_cursors}
 use Rattle.ac_model.specs.Holders.{Holder, tampers}
@@ -11,11 +14,25 @@ use Rattle.ac_calls.specs.Replies.{Source, without, itself, another, Reply}
 use Rattle.ac_calls.specs.Holdings.{RowOf, Held, of_rows, of_holder, of_queue, from_rows, number_of}
 use Rattle.ac_meaning.specs.Environment.{Bound, binds_type, binds_object, binds_cursor, binds_value, binds_element, State, bound_at, object_at, with_name, leaving}
 
--- the object's number and its counts of guards; no name is taken back; and where a guard is held, a call that isn't refused keeps the
--- names in the rows, in their order
+-- the Capacity of an object that has one and no limit grew, to a step
+pub record Grew (limit : Limit) (capacity after : Option ℕ) : Type 0 where
+  pub unbounded : limit ≡ Unbounded
+  pub had : is_some capacity ≡ true
+  pub step : ℕ
+  pub is : after ≡ Some step
+  pub is_step : IsStep step
+
+-- within this limit a Capacity stays, or it grew
+abbrev pub CapacityGoesOn : Limit → (capacity after : Option ℕ) → Type 0
+CapacityGoesOn limit capacity after = (after ≡ capacity) ⊎ Grew limit capacity after
+
+-- the object's number, its limit and its counts of guards; no name is taken back; and a call that isn't refused leaves its Capacity or
+-- grows it by steps, and where a guard is held keeps the names in the rows, in their order
 pub record Stays {V : Type 0} (o : Object ℕ V) (reason : Option Reason) (after : Object ℕ V) : Type 0 where
   pub number : after.number ≡ o.number
+  pub limit : after.limit ≡ o.limit
   pub next : o.next ≤ after.next
+  pub capacity : reason ≡ None → CapacityGoesOn o.limit o.capacity after.capacity
   pub cursor_guards : after.cursor_guards ≡ o.cursor_guards
   pub element_guards : after.element_guards ≡ o.element_guards
   pub names : reason ≡ None → (tampering : Reason) → tampers_cursors o ≡ Some tampering → names after.rows ≡ names o.rows
@@ -31,10 +48,11 @@ pub record ReplyStays {V : Type 0} (o : Object ℕ V) (source : Source (Object �
   pub target : Stays o r.reason r.after
   pub source_stays : SourceStays source r.reason r.source
 
--- of a holder its number and its counts; and where an element guard is held, a call that isn't refused keeps that it has an element, or
--- that it has none
+-- of a holder its number, its limit and its counts; and where an element guard is held, a call that isn't refused keeps that it has an
+-- element, or that it has none
 pub record HolderStays {T : Type 0} (h : Holder T) (reason : Option Reason) (after : Holder T) : Type 0 where
   pub number : after.number ≡ h.number
+  pub limit : after.limit ≡ h.limit
   pub cursor_guards : after.cursor_guards ≡ h.cursor_guards
   pub element_guards : after.element_guards ≡ h.element_guards
   pub element : reason ≡ None → (tampering : Reason) → tampers h ≡ Some tampering → is_none after.element ≡ is_none h.element

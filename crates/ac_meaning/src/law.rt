@@ -8,6 +8,7 @@ ghost use Rattle.ac_meaning.specs.GuardedNames.{TurnsKeepNames, UpdatesAreAlone,
 ghost use Rattle.ac_meaning.specs.Walks.{WalksInOrder};
 ghost use Rattle.ac_meaning.specs.FitsScope.{NamesFound, DeclaredFits, HeadsFit, GoesOnFitting};
 ghost use Rattle.ac_meaning.specs.HoldsTypes.{TypesFound, DeclaredHolds, HeadsHold, GoesOnHolding};
+ghost use Rattle.ac_meaning.specs.AsDeclared.{StatesGoOn, StaysDeclared};
 ghost use Rattle.ac_meaning.specs.Suits.{CallsSuit, BlocksSuit, TasksFit, TasksRun};
 ghost use Rattle.ac_meaning.specs.ValueTypes.{ValuesFound, ValuesDeclared, ValuesInBlocks, ValuesGoOn, AnswersAreTold, ValuesTaken};
 ghost use Rattle.ac_meaning.specs.ReadsByLetter.{ReadsByLetter};
@@ -89,6 +90,13 @@ pub fn types_hold()
     ensures declared { DeclaredHolds }
     ensures heads { HeadsHold }
     ensures statements { GoesOnHolding }
+{}
+
+/// An object stays what it was declared as, from the declarations to a script's end: of its kind with the types of its elements, within
+/// its limit, and with a Capacity or without. That of a bounded object is its limit, and another one goes by steps.
+pub fn objects_as_declared()
+    ensures statements { StatesGoOn }
+    ensures script { StaysDeclared }
 {}
 
 /// So a call that keeps the rules is on an object, and means one of the operations of that object's kind; a block on an object finds one

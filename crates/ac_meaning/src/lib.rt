@@ -13,7 +13,8 @@ pub use examples::{
 };
 pub use law::{
     blocks_have_orders, counts_stay, entries_have_lines, guarded_names_stay, loops_meet_each_name,
-    names_fit, numbers_differ, objects_stay, refusals_leave, replies_read_by_letter,
-    resolved_statements, statements_end, statements_suit, types_hold, values_hold, values_suit,
+    names_fit, numbers_differ, objects_as_declared, objects_stay, refusals_leave,
+    replies_read_by_letter, resolved_statements, statements_end, statements_suit, types_hold,
+    values_hold, values_suit,
 };
 pub use limits::INPUT_LIMIT;
