@@ -424,7 +424,7 @@ kept_step : (guards : Guards) (others : State → Declared) (x : Declared) (s : 
 kept_step guards others x None f h rest = rw (f, unless_spent) (rest x.after h)
 kept_step guards others x (Some line) f h rest = rw (f, unless_spent) h
 
-decls_kept : (guards : Guards) (ds : List ResolvedDecl) (e : State) → ElementsKept guards (kept guards e) → ElementsKept guards (kept guards (after_decls ds e).after)
+pub decls_kept : (guards : Guards) (ds : List ResolvedDecl) (e : State) → ElementsKept guards (kept guards e) → ElementsKept guards (kept guards (after_decls ds e).after)
 decls_kept guards [] e all = all
 decls_kept guards (d ∷ ds) e all =
     let x = after_decl e d in kept_step guards (after_decls ds) x x.spent refl (decl_kept guards e d all) (decls_kept guards ds)

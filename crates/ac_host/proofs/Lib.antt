@@ -15,6 +15,7 @@ mod Opening
 mod Commands
 mod Blocks
 mod Updating
+mod Starting
 mod Scripts
 mod OneLine
 mod TasksRun

@@ -1,8 +1,7 @@
 -- A whole script: where it begins, and what it comes to.
-use Rattle.std.proofs.Common.{◌≡◌, ◌+◌, ℕ, Bool, List, [], ◌∷◌, map, refl, sym, ap, subst, ◌∙◌, Option, Result, Ok, Err, IsErrAnd, IfOk}
+use Rattle.std.proofs.Common.{◌≡◌, ◌+◌, ℕ, Bool, List, [], ◌∷◌, map, refl, sym, ap, subst, ◌∙◌, Option, None, Result, Ok, Err, IsErrAnd, IfOk}
 use Rattle.std.specs.List.{fold}
 use Rattle.std.proofs.lemmas.List.Elements.{All-nil}
-use Rattle.std.proofs.lemmas.Option.{none-some}
 use Rattle.std.proofs.lemmas.Result.{err_from_is_err_and}
 use Rattle.ac_syntax.specs.Canonical.{propagates_in}
 use Rattle.ac_syntax.specs.declared.script.Script.{Script}
@@ -12,46 +11,36 @@ use Rattle.ac_rules.specs.declared.resolved.ResolvedDecl.{ResolvedDecl}
 use Rattle.ac_calls.specs.Answers.{lines_text}
 use Rattle.ac_calls.specs.Holdings.{of_rows, of_holder, of_queue, Guards, held_under}
 use Rattle.ac_meaning.specs.Environment.{Bound, binds_type, binds_object, binds_cursor, binds_value, binds_element, bound_by, State, first_state, under, after_decls, nodes_in, nodes}
-use Rattle.ac_meaning.specs.Execution.{Outcome, Orders, exec_resolved, no_orders, run, run_with, text_of, text_with}
-use Rattle.ac_meaning.proofs.NewObjects.{new_objects_are_unguarded}
-use Rattle.ac_meaning.proofs.NumbersApart.{numbers_go_on}
-use Rattle.ac_meaning.proofs.Resolved.{script_runs_resolved}
+use Rattle.ac_meaning.specs.Execution.{Outcome, Orders, exec_resolved, no_orders, run, run_from, run_with, text_of, text_with}
+use Rattle.ac_meaning.proofs.Resolved.{runs_resolved}
 use Rattle.ac_objects.specs.World.{World, counted_from, world, state_of}
 use Rattle.ac_host.specs.declared.end.HostEnd.{HostEnd}
 use Rattle.ac_host.specs.Ready.{IsUnder}
+use Rattle.ac_host.specs.Start.{IsAtStart}
 use Rattle.ac_host.specs.Told.{GoBy, Tells, TellsAll}
 use Rattle.ac_host.specs.Writing.{Broke, Writes}
-use Rattle.ac_host.proofs.Blocks.{decls_begin}
-use Rattle.ac_host.proofs.Counting.{decls_count}
+use Rattle.ac_host.proofs.Starting.{decls_start}
 
-first_stands : IsUnder (world [] (counted_from 1)) [] first_state
-first_stands = record {
-  is = refl;
-  ready = record {
-    below = new_objects_are_unguarded.none first_state;
-    differ = numbers_go_on.first;
-    elements = λ place object at is. absurd (none-some _ is);
-  };
+-- objects on which statements begin
+pub start_stands : (w : World) → IsAtStart (state_of w) → IsUnder w [] (state_of w)
+start_stands w start = record { is = sym start.rest; ready = start.ready }
+
+pub start_tells : {allows : List ℕ → Type 0} {T : Type 0} {r : Result T HostEnd} {P R : Orders → Type 0} (w : World) {later : World} →
+    IsAtStart (state_of w) → Tells allows w later r P → ((orders : Orders) → P orders → R orders) → TellsAll allows R
+start_tells w start t then = record {
+  told = t.told;
+  allowed = t.allowed;
+  holds = λ orders g. then orders (t.holds orders (subst (λ n. GoBy t.told n orders) (sym start.no_block) g));
 }
 
--- behind the outermost declarations
-pub script_begins : (old now : World) (ds : List ResolvedDecl) → old ≡ world [] (counted_from 1) → state_of now ≡ (after_decls ds (state_of old)).after →
-    IsUnder now [] (after_decls ds first_state).after
-script_begins old now ds is declared =
-    decls_begin (world [] (counted_from 1)) now [] first_state ds first_stands (declared ∙ ap (λ w. (after_decls ds (state_of w)).after) is)
+-- so they do behind the outermost declarations
+pub script_starts : (old now : World) (ds : List ResolvedDecl) → old ≡ world [] (counted_from 1) → state_of now ≡ (after_decls ds (state_of old)).after →
+    IsAtStart (state_of now)
+script_starts old now ds is declared =
+    subst IsAtStart (sym (declared ∙ ap (λ w. (after_decls ds (state_of w)).after) is)) (decls_start ds)
 
--- and no block of tasks began there
-pub script_tells : {allows : List ℕ → Type 0} {T : Type 0} {r : Result T HostEnd} {P R : Orders → Type 0} (old now : World) {later : World} (ds : List ResolvedDecl) →
-    old ≡ world [] (counted_from 1) → state_of now ≡ (after_decls ds (state_of old)).after → Tells allows now later r P → ((orders : Orders) → P orders → R orders) →
-    TellsAll allows R
-script_tells old now ds is declared t then =
-    let none : now.counters.blocks ≡ 0 =
-    ap (λ (s : State). s.blocks) declared ∙ (decls_count ds (state_of old) ∙ ap (λ (w : World). w.counters.blocks) is) in
-    record {
-      told = t.told;
-      allowed = t.allowed;
-      holds = λ orders g. then orders (t.holds orders (subst (λ n. GoBy t.told n orders) (sym none) g));
-    }
+pub tells_more : {allows : List ℕ → Type 0} {P R : Orders → Type 0} → TellsAll allows P → ((orders : Orders) → P orders → R orders) → TellsAll allows R
+tells_more t then = record { told = t.told; allowed = t.allowed; holds = λ orders g. then orders (t.holds orders g) }
 
 pub none_told : {allows : List ℕ → Type 0} {R : Orders → Type 0} → ((orders : Orders) → R orders) → TellsAll allows R
 none_told {allows = allows} holds = record { told = []; allowed = All-nil allows; holds = λ orders g. holds orders }
@@ -60,12 +49,17 @@ pub if_ok_exit : {T E : Type 0} (P : T → Type 0) (Q : E → Type 0) (r : Resul
 if_ok_exit P Q (Ok x) exit = absurd exit
 if_ok_exit P Q (Err e) exit = tt
 
-abbrev pub comes_to : (propagates : Bool) → Orders → ResolvedCode → List ResolvedDecl → Outcome
-comes_to propagates orders code ds = exec_resolved propagates orders code [] (after_decls ds first_state).after
+pub comes_from : (propagates : Bool) (orders : Orders) (script : Script) (code : ResolvedCode) (e : State) → propagates ≡ propagates_in script →
+    code ≡ resolve (with_decls [] script.decls) script.stmts → exec_resolved propagates orders code [] e ≡ run_from orders script e
+comes_from propagates orders script code e p c =
+    (λ i. exec_resolved (p i) orders (c i) [] e)
+    ∙ runs_resolved (propagates_in script) orders script.stmts (with_decls [] script.decls) [] None e
 
-pub script_comes : (propagates : Bool) (orders : Orders) (script : Script) (code : ResolvedCode) (ds : List ResolvedDecl) → propagates ≡ propagates_in script →
-    code ≡ resolve (with_decls [] script.decls) script.stmts → ds ≡ resolve_decls [] script.decls → comes_to propagates orders code ds ≡ run_with orders script
-script_comes propagates orders script code ds p c d = (λ i. comes_to (p i) orders (c i) (d i)) ∙ script_runs_resolved orders script
+pub script_comes : (orders : Orders) (script : Script) (ds : List ResolvedDecl) (old now : World) → ds ≡ resolve_decls [] script.decls →
+    old ≡ world [] (counted_from 1) → state_of now ≡ (after_decls ds (state_of old)).after → run_from orders script (state_of now) ≡ run_with orders script
+unfolding run_with
+script_comes orders script ds old now d is declared =
+    ap (run_from orders script) (declared ∙ (ap (λ w. (after_decls ds (state_of w)).after) is ∙ ap (λ xs. (after_decls xs first_state).after) d))
 
 pub script_text : (orders : Orders) (script : Script) (r : Outcome) → r ≡ run_with orders script → lines_text r.lines ≡ text_with orders script
 unfolding text_with

@@ -1,5 +1,6 @@
 pub mod Lines
 pub mod Ready
+pub mod Start
 pub mod Handling
 pub mod Writing
 pub mod Told

@@ -5,6 +5,7 @@ mod end;
 mod fitting;
 mod handling;
 mod host;
+mod law;
 mod line;
 mod named_task;
 mod places;
@@ -20,3 +21,4 @@ mod written;
 
 pub use end::HostEnd;
 pub use host::Host;
+pub use law::statements_begin;

@@ -1,8 +1,10 @@
-//! A script that runs from its beginning to its end.
+//! A script that runs to its end: from its beginning, or on objects that stand already.
 ghost use Rattle.std.specs.Prelude.{◌≡◌, [], IfOk, OnOk};
-ghost use Rattle.ac_meaning.specs.Environment.{after_decls, nodes};
-ghost use Rattle.ac_meaning.specs.Execution.{Orders, run, run_with, text_of, text_with};
+ghost use Rattle.ac_calls.specs.Answers.{lines_text};
+ghost use Rattle.ac_meaning.specs.Environment.{after_decls, at_rest, nodes};
+ghost use Rattle.ac_meaning.specs.Execution.{Orders, no_orders, run, run_from, run_with, text_of, text_with};
 ghost use Rattle.ac_objects.specs.World.{counted_from, world, state_of};
+ghost use Rattle.ac_host.specs.Start.{IsAtStart};
 ghost use Rattle.ac_host.specs.Told.{TellsAll};
 ghost use Rattle.ac_host.specs.Writing.{Writes};
 
@@ -33,6 +35,18 @@ impl Host {
         })
     }
 
+    /// Over these objects.
+    fn over(objects: Objects) -> Host
+        ensures { result.objects ≡ objects }
+    {
+        let alloc = objects.allocator();
+        Host {
+            objects,
+            frame: Frame::new(),
+            text: Vec::new(alloc),
+        }
+    }
+
     /// Makes the names of the outermost declarations, for which 64 bits have numbers enough.
     fn declare(&mut self, decls: &[ResolvedDecl]) -> Result<(), NoMemory>
         ensures { OnOk result (state_of self.new.objects ≡ (after_decls decls.now (state_of self.old.objects)).after) }
@@ -41,6 +55,25 @@ impl Host {
             Ok(_) => Ok(()),
             Err(_) => Err(NoMemory),
         }
+    }
+
+    /// Runs a script's statements from here on, with its blocks of tasks by a runner, and hands the objects back as the end leaves them.
+    fn run_on<K: Sink, B: BlockRunner>(
+        self,
+        script: &Checked,
+        sink: &mut K,
+        runner: &B,
+    ) -> Result<Objects, HostEnd>
+        requires sound { B.is_sound runner.now }
+        requires start { IsAtStart (state_of self.objects) }
+        ensures { TellsAll B.allows (λ orders.
+            let r = run_from orders script.now (state_of self.objects) in
+            Writes K.held K.faults K.room K.counts_failures sink.old sink.new (lines_text r.lines) result
+            × IfOk result (λ left. state_of left ≡ at_rest r.after)) }
+    {
+        let mut host = self;
+        host.run_statements(script.statements(), script.propagates(), sink, runner)?;
+        Ok(host.objects)
     }
 
     /// Runs a script, with its blocks of tasks by a runner.
@@ -57,8 +90,8 @@ impl Host {
     {
         let mut host = Host::new(alloc)?;
         host.declare(script.decls())?;
-        host.run_statements(script.statements(), script.propagates(), sink, runner)?;
-        Ok(host.objects.live_nodes()?)
+        let left = host.run_on(script, sink, runner)?;
+        Ok(left.live_nodes()?)
     }
 
     /// Runs a script, and says how many elements its objects have at the end. Tasks have turns in rounds.
@@ -89,5 +122,40 @@ impl Host {
             run: |book: Book| run_in_threads(rt, alloc, gate, book),
         };
         Host::run_by(alloc, script, sink, &runner)
+    }
+
+    /// Runs a script's statements on objects that stand already, and hands them back as the end leaves them. Tasks have turns in rounds.
+    pub fn run_serial_from<K: Sink>(
+        script: &Checked,
+        objects: Objects,
+        sink: &mut K,
+    ) -> Result<Objects, HostEnd>
+        requires { IsAtStart (state_of objects) }
+        ensures writes { Writes K.held K.faults K.room K.counts_failures sink.old sink.new
+            (lines_text (run_from no_orders script.now (state_of objects)).lines) result }
+        ensures left { IfOk result (λ left. state_of left ≡ at_rest (run_from no_orders script.now (state_of objects)).after) }
+    {
+        Host::over(objects).run_on(script, sink, &InTurn)
+    }
+
+    /// Runs them as well, and each task of their blocks by a worker in a thread of its own, with a gate that looks on.
+    pub fn run_from<R: Threads + Wait + Sync, K: Sink, G: Gate + Sync>(
+        rt: &R,
+        script: &Checked,
+        objects: Objects,
+        sink: &mut K,
+        gate: &G,
+    ) -> Result<Objects, HostEnd>
+        requires { IsAtStart (state_of objects) }
+        ensures { (orders : Orders)
+            × Writes K.held K.faults K.room K.counts_failures sink.old sink.new
+            (lines_text (run_from orders script.now (state_of objects)).lines) result
+            × IfOk result (λ left. state_of left ≡ at_rest (run_from orders script.now (state_of objects)).after) }
+    {
+        let alloc = objects.allocator();
+        let runner = ByCall {
+            run: |book: Book| run_in_threads(rt, alloc, gate, book),
+        };
+        Host::over(objects).run_on(script, sink, &runner)
     }
 }

@@ -257,10 +257,13 @@ abbrev mutual
 abbrev pub exec : (propagates : Bool) → Orders → Code → Scope → Guards → State → Outcome
 exec propagates orders code scope guards e = exec_behind propagates orders code scope guards None e
 
+-- a script's statements with no guards, from what its outermost declarations are found to hold
+abbrev pub run_from : Orders → Script → State → Outcome
+run_from orders script e = exec (propagates_in script) orders script.stmts (with_decls [] script.decls) [] e
+
 -- a script: its outermost declarations, and its statements with no guards. Without the pragma its exceptions don't propagate: each statement runs, whatever the one before it raised
 unfoldable pub run_with : Orders → Script → Outcome
-run_with orders script =
-    exec (propagates_in script) orders script.stmts (with_decls [] script.decls) [] (after_decls (resolve_decls [] script.decls) first_state).after
+run_with orders script = run_from orders script (after_decls (resolve_decls [] script.decls) first_state).after
 
 unfoldable pub text_with : Orders → Script → List ℕ
 text_with orders script = lines_text (run_with orders script).lines

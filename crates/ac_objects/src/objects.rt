@@ -60,6 +60,11 @@ impl Objects {
         })
     }
 
+    /// What its objects take their memory from.
+    pub fn allocator(&self) -> Global {
+        self.alloc
+    }
+
     /// Makes a call on the object at this place, and gives its answer, which stands in the frame, to the target.
     #[inline(always)]
     pub fn call(
