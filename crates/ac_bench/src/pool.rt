@@ -6,6 +6,7 @@ use std::alloc::{AllocError, Global};
 const LIVE: u64 = 1000;
 
 /// Puts a value where there is room for one.
+#[inline(always)]
 fn put(pool: &mut Pool<u64>, value: u64) -> Option<Name> {
     if pool.live() < LIVE {
         pool.put(value).ok()

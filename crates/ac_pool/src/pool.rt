@@ -106,6 +106,7 @@ impl<T> Pool<T> {
     }
 
     /// Puts a value under a fresh name. Where no slot is spare it grows as `reserve(1)` does.
+    #[inline(always)]
     pub fn put(&mut self, value: T) -> Result<Name, PutFault<T>>
         requires { live_count self.old < 2 ^ 30 }
         ensures fresh { IfOk result (IsFresh self.old) }
