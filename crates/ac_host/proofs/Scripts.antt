@@ -6,17 +6,17 @@ use Rattle.std.proofs.lemmas.Result.{err_from_is_err_and}
 use Rattle.ac_syntax.specs.Canonical.{propagates_in}
 use Rattle.ac_syntax.specs.declared.script.Script.{Script}
 use Rattle.ac_rules.specs.Scopes.{with_decls}
-use Rattle.ac_rules.specs.Resolved.{ResolvedCode, resolve, resolve_decls}
+use Rattle.ac_rules.specs.Resolved.{ResolvedCode, resolve}
 use Rattle.ac_rules.specs.declared.resolved.ResolvedDecl.{ResolvedDecl}
 use Rattle.ac_calls.specs.Answers.{lines_text}
 use Rattle.ac_calls.specs.Holdings.{of_rows, of_holder, of_queue, Guards, held_under}
 use Rattle.ac_meaning.specs.Environment.{Bound, binds_type, binds_object, binds_cursor, binds_value, binds_element, bound_by, State, first_state, under, after_decls, nodes_in, nodes}
 use Rattle.ac_meaning.specs.Execution.{Outcome, Orders, exec_resolved, no_orders, run, run_from, run_with, text_of, text_with}
 use Rattle.ac_meaning.proofs.Resolved.{runs_resolved}
-use Rattle.ac_objects.specs.World.{World, counted_from, world, state_of}
+use Rattle.ac_objects.specs.World.{World, state_of}
 use Rattle.ac_host.specs.declared.end.HostEnd.{HostEnd}
 use Rattle.ac_host.specs.Ready.{IsUnder}
-use Rattle.ac_host.specs.Start.{IsAtStart}
+use Rattle.ac_host.specs.Start.{IsAtStart, start_of}
 use Rattle.ac_host.specs.Told.{GoBy, Tells, TellsAll}
 use Rattle.ac_host.specs.Writing.{Broke, Writes}
 use Rattle.ac_host.proofs.Starting.{decls_start}
@@ -34,10 +34,8 @@ start_tells w start t then = record {
 }
 
 -- so they do behind the outermost declarations
-pub script_starts : (old now : World) (ds : List ResolvedDecl) → old ≡ world [] (counted_from 1) → state_of now ≡ (after_decls ds (state_of old)).after →
-    IsAtStart (state_of now)
-script_starts old now ds is declared =
-    subst IsAtStart (sym (declared ∙ ap (λ w. (after_decls ds (state_of w)).after) is)) (decls_start ds)
+pub script_starts : (e : State) (ds : List ResolvedDecl) → e ≡ (after_decls ds first_state).after → IsAtStart e
+script_starts e ds declared = subst IsAtStart (sym declared) (decls_start ds)
 
 pub tells_more : {allows : List ℕ → Type 0} {P R : Orders → Type 0} → TellsAll allows P → ((orders : Orders) → P orders → R orders) → TellsAll allows R
 tells_more t then = record { told = t.told; allowed = t.allowed; holds = λ orders g. then orders (t.holds orders g) }
@@ -55,11 +53,9 @@ comes_from propagates orders script code e p c =
     (λ i. exec_resolved (p i) orders (c i) [] e)
     ∙ runs_resolved (propagates_in script) orders script.stmts (with_decls [] script.decls) [] None e
 
-pub script_comes : (orders : Orders) (script : Script) (ds : List ResolvedDecl) (old now : World) → ds ≡ resolve_decls [] script.decls →
-    old ≡ world [] (counted_from 1) → state_of now ≡ (after_decls ds (state_of old)).after → run_from orders script (state_of now) ≡ run_with orders script
+pub script_comes : (orders : Orders) (script : Script) (e : State) → e ≡ start_of script → run_from orders script e ≡ run_with orders script
 unfolding run_with
-script_comes orders script ds old now d is declared =
-    ap (run_from orders script) (declared ∙ (ap (λ w. (after_decls ds (state_of w)).after) is ∙ ap (λ xs. (after_decls xs first_state).after) d))
+script_comes orders script e is = ap (run_from orders script) is
 
 pub script_text : (orders : Orders) (script : Script) (r : Outcome) → r ≡ run_with orders script → lines_text r.lines ≡ text_with orders script
 unfolding text_with

@@ -1,10 +1,10 @@
 //! A script that runs to its end: from its beginning, or on objects that stand already.
-ghost use Rattle.std.specs.Prelude.{◌≡◌, [], IfOk, OnOk};
+ghost use Rattle.std.specs.Prelude.{◌≡◌, IfOk};
 ghost use Rattle.ac_calls.specs.Answers.{lines_text};
-ghost use Rattle.ac_meaning.specs.Environment.{after_decls, at_rest, nodes};
+ghost use Rattle.ac_meaning.specs.Environment.{after_decls, at_rest, first_state, nodes};
 ghost use Rattle.ac_meaning.specs.Execution.{Orders, no_orders, run, run_from, run_with, text_of, text_with};
-ghost use Rattle.ac_objects.specs.World.{counted_from, world, state_of};
-ghost use Rattle.ac_host.specs.Start.{IsAtStart};
+ghost use Rattle.ac_objects.specs.World.{state_of};
+ghost use Rattle.ac_host.specs.Start.{IsAtStart, start_of};
 ghost use Rattle.ac_host.specs.Told.{TellsAll};
 ghost use Rattle.ac_host.specs.Writing.{Writes};
 
@@ -24,15 +24,23 @@ use std::sync::Wait;
 use std::thread::Threads;
 
 impl Host {
-    /// No names yet, and objects whose numbers run from 1.
-    fn new(alloc: Global) -> Result<Host, NoMemory>
-        ensures { IfOk result (λ host. host.objects ≡ world [] (counted_from 1)) }
+    /// The objects of the outermost declarations, for which 64 bits have numbers enough.
+    fn declared(alloc: Global, decls: &[ResolvedDecl]) -> Result<Objects, NoMemory>
+        ensures { IfOk result (λ objects. state_of objects ≡ (after_decls decls.now first_state).after) }
     {
-        Ok(Host {
-            objects: Objects::new(alloc)?,
-            frame: Frame::new(),
-            text: Vec::new(alloc),
-        })
+        let mut objects = Objects::new(alloc)?;
+        match objects.enter_scope(decls) {
+            Ok(_) => Ok(objects),
+            Err(_) => Err(NoMemory),
+        }
+    }
+
+    /// The objects of a script's outermost declarations, on which its statements begin.
+    pub fn started(alloc: Global, script: &Checked) -> Result<Objects, NoMemory>
+        ensures declared { IfOk result (λ objects. state_of objects ≡ start_of script.now) }
+        ensures start { IfOk result (λ objects. IsAtStart (state_of objects)) }
+    {
+        Host::declared(alloc, script.decls())
     }
 
     /// Over these objects.
@@ -44,16 +52,6 @@ impl Host {
             objects,
             frame: Frame::new(),
             text: Vec::new(alloc),
-        }
-    }
-
-    /// Makes the names of the outermost declarations, for which 64 bits have numbers enough.
-    fn declare(&mut self, decls: &[ResolvedDecl]) -> Result<(), NoMemory>
-        ensures { OnOk result (state_of self.new.objects ≡ (after_decls decls.now (state_of self.old.objects)).after) }
-    {
-        match self.objects.enter_scope(decls) {
-            Ok(_) => Ok(()),
-            Err(_) => Err(NoMemory),
         }
     }
 
@@ -88,9 +86,8 @@ impl Host {
             Writes K.held K.faults K.room K.counts_failures sink.old sink.new (text_with orders script.now) result
             × IfOk result (λ count. count ≡ nodes (run_with orders script.now).after)) }
     {
-        let mut host = Host::new(alloc)?;
-        host.declare(script.decls())?;
-        let left = host.run_on(script, sink, runner)?;
+        let objects = Host::started(alloc, script)?;
+        let left = Host::over(objects).run_on(script, sink, runner)?;
         Ok(left.live_nodes()?)
     }
 
