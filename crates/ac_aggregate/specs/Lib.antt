@@ -1,0 +1,13 @@
+pub mod Asked
+pub mod Grammar
+pub mod Views
+pub mod Outcomes
+pub mod Readers
+pub mod Reading
+pub mod Limits
+pub mod Generators
+pub mod Names
+pub mod Refusals
+pub mod Plains
+pub mod Values
+pub mod Examples
