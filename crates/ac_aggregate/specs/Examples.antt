@@ -20,8 +20,8 @@ abbrev row : Option Value → Value → PlainRow
 row key v = record { depth = 0; key = key; value = v }
 
 abbrev object : Kind → (first : ElemKind) → (second : Option ElemKind) → List ℕ → List PlainRow → Plain
-object kind first second name rows =
-    plain.Object name (record { bounded = false; kind = kind; first = first; second = second; keyed = false }) None None None rows
+object kind first second called rows =
+    plain.Object called (record { bounded = false; kind = kind; first = first; second = second; keyed = false }) None None None rows
 
 abbrev integers : List ℤ → List PlainRow
 integers zs = map (λ z. row None (value.Int z)) zs

@@ -13,7 +13,7 @@ use Rattle.ac_aggregate.specs.Generators.{Generator, generator, innermost}
 -- a generator's name is in scope in the condition and in what its aggregate gives
 
 abbrev pub with_generator : {A : Type 0} → List (Generator A) → List ℕ → A → List (Generator A)
-with_generator gs name is = gs ++ generator name is ∷ []
+with_generator gs own is = gs ++ generator own is ∷ []
 
 -- the name is an outermost one, or that of a generator
 abbrev pub is_named : {A : Type 0} → Scope → List (Generator A) → List ℕ → Bool

@@ -122,9 +122,27 @@ heading = do
   object ← named
   gives (generator, object)
 
+-- a number or a string, as it is spelled
+abbrev pub negative : Reader Asked
+negative = number >>= λ n. gives (literal true n)
+
+unfoldable pub spelled : Reader Asked
+spelled = fork (marked mark.Minus) (λ _. negative) constant
+
+-- what begins a negation
+unfoldable pub negation : Reader (Unit {0})
+negation = word (codes "not") >>= λ _. marked mark.Open
+
+-- an object's name
+abbrev pub object : Reader Asked
+object = named >>= λ word. gives (all_of word)
+
 -- a reduction of this source, behind its tick
 abbrev pub reduced_by : Asked → Oper × (Bool × ℕ) → Asked
 reduced_by source by = reduced source by.0 by.1.0 by.1.1
+
+abbrev pub reduction : Asked → Reader Asked
+reduction source = reducing >>= λ by. gives (reduced_by source by)
 
 -- what a source is to a factor where no reduction follows: a name
 abbrev pub as_factor : Asked → Reader Asked
@@ -137,9 +155,9 @@ as_question (each generator object c e) = gives (each generator object c e)
 as_question _ = gives_up
 
 -- a source, with the reduction behind it where there is one
-unfoldable pub reduced_or : (Asked → Reader Asked) → Asked → Reader Asked
-reduced_or alone source = fork (marked mark.Tick) (λ _. reducing >>= λ by. gives (reduced_by source by)) (alone source)
+abbrev pub reduced_or : (Asked → Reader Asked) → Asked → Reader Asked
+reduced_or alone source = fork (marked mark.Tick) (λ _. reduction source) (alone source)
 
--- the closing parenthesis behind a part of which something is made
-unfoldable pub closed : (Asked → Asked) → Asked → Reader Asked
-closed make e = marked mark.Close >>= λ _. gives (make e)
+-- the mark behind a part of which something is made
+abbrev pub closed : Mark → (Asked → Asked) → Asked → Reader Asked
+closed close make e = marked close >>= λ _. gives (make e)

@@ -2,9 +2,9 @@
 use Rattle.std.specs.Prelude.{ℕ, zero, suc, codes, Bool, List}
 use Rattle.ac_syntax.specs.declared.token.Token.{Token}
 use Rattle.ac_syntax.specs.declared.token.Mark.TheVariants as mark
-use Rattle.ac_aggregate.specs.Asked.{Asked, literal, group, product, sum, all_of, each, always, compares, both, negated}
+use Rattle.ac_aggregate.specs.Asked.{Asked, group, product, sum, each, always, compares, both, negated}
 use Rattle.ac_aggregate.specs.Outcomes.{Outcome, got, stuck, Reader, gives, ◌>>=◌, fork}
-use Rattle.ac_aggregate.specs.Readers.{marked, word, named, number, constant, signs, comparing, heading, reduced_or, as_factor, as_question, closed}
+use Rattle.ac_aggregate.specs.Readers.{marked, word, signs, comparing, heading, spelled, negation, object, reduced_or, as_factor, as_question, closed}
 
 pub data Rule : Type 0 where
   factor : Rule
@@ -30,18 +30,14 @@ pub data Rule : Type 0 where
 module _ (by : Rule → Reader Asked) where
   abbrev pub read_factor : Reader Asked
   read_factor =
-      fork (marked mark.Open) (λ _. by expr >>= closed group)
-      (fork (marked mark.Minus) (λ _. number >>= λ n. gives (literal true n))
-      (fork constant (λ e. gives e) (by source >>= reduced_or as_factor)))
+      fork (marked mark.Open) (λ _. by expr >>= closed mark.Close group)
+      (fork spelled (λ e. gives e) (by source >>= reduced_or as_factor))
 
   abbrev pub read_atom : Reader Asked
-  read_atom =
-      fork (word (codes "not")) (λ _. marked mark.Open >>= λ _. by condition >>= closed negated)
-      (by expr >>= λ l. by (compared l))
+  read_atom = fork negation (λ _. by condition >>= closed mark.Close negated) (by expr >>= λ l. by (compared l))
 
-  abbrev pub read_given : (generator object : List ℕ) → Asked → Reader Asked
-  read_given generator object c =
-      marked mark.Arrow >>= λ _. by expr >>= λ e. marked mark.BracketClose >>= λ _. gives (each generator object c e)
+  abbrev pub read_given : (generator own : List ℕ) → Asked → Reader Asked
+  read_given generator own c = marked mark.Arrow >>= λ _. by expr >>= closed mark.BracketClose (each generator own c)
 
   abbrev pub read_rule : Rule → Reader Asked
   read_rule factor = read_factor
@@ -51,13 +47,13 @@ module _ (by : Rule → Reader Asked) where
   read_rule condition = by atom >>= λ c. by (conditions c)
   read_rule filter = fork (word (codes "when")) (λ _. by condition) (gives always)
   read_rule aggregate = heading >>= λ h. by filter >>= λ c. by (given h.0 h.1 c)
-  read_rule source = fork (marked mark.BracketOpen) (λ _. by aggregate) (named >>= λ object. gives (all_of object))
+  read_rule source = fork (marked mark.BracketOpen) (λ _. by aggregate) object
   read_rule question = by source >>= reduced_or as_question
   read_rule (factors l) = fork (marked mark.Star) (λ _. by factor >>= λ r. by (factors (product l r))) (gives l)
   read_rule (terms l) = fork signs (λ minus. by term >>= λ r. by (terms (sum l minus r))) (gives l)
   read_rule (compared l) = comparing >>= λ op. by expr >>= λ r. gives (compares l op r)
   read_rule (conditions l) = fork (word (codes "and")) (λ _. by atom >>= λ r. by (conditions (both l r))) (gives l)
-  read_rule (given generator object c) = read_given generator object c
+  read_rule (given generator own c) = read_given generator own c
 
 unfoldable pub read_by : ℕ → Rule → Reader Asked
 read_by zero rule ts = stuck

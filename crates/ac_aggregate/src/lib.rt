@@ -2,9 +2,14 @@
 #![tactic(auto)]
 
 mod law;
+mod making;
 mod oper;
 mod part;
+mod part_reader;
 mod plains;
+mod reserved;
+mod token_reader;
 
-pub use law::examples;
+pub use law::{examples, one_question, readings};
+pub use part_reader::question;
 pub use plains::{Plain, PlainRow, PlainRows, Plains};
