@@ -2,7 +2,7 @@
 use Rattle.std.specs.Str.{bytes_eq}
 use Rattle.std.proofs.lemmas.Slice.Eq.{bytes_eq-Decides}
 use Rattle.ac_syntax.specs.Grammar.{is_reserved, reserved}
-use Rattle.std.proofs.Common.{◌≡◌, ◌+◌, ◌-◌, ◌*◌, ◌≤◌, ℕ, zero, suc, Bool, true, false, List, [], ◌∷◌, ◌++◌, length, Option, Some, None, if◌then◌else◌, refl, sym, ap, ◌∙◌, arith, append_assoc, length-append, append-nil}
+use Rattle.std.proofs.Common.{◌≡◌, ◌+◌, ◌*◌, ◌≤◌, ℕ, zero, suc, Bool, true, false, List, [], ◌∷◌, ◌++◌, length, Some, None, if◌then◌else◌, refl, sym, ap, ◌∙◌, arith, append_assoc, length-append, append-nil}
 use Rattle.std.specs.Prelude.{codes}
 use Rattle.ac_syntax.specs.declared.token.Token.{Token}
 use Rattle.ac_syntax.specs.declared.token.Token.TheVariants as token
@@ -15,7 +15,7 @@ use Rattle.ac_aggregate.specs.declared.oper.Oper.TheVariants as oper
 use Rattle.ac_aggregate.specs.Asked.{Asked, literal, text, name, group, product, sum, all_of, each, reduced, always, compares, both, negated}
 use Rattle.ac_aggregate.specs.Outcomes.{Outcome, got, stuck, Reader, onward, either, seen}
 use Rattle.ac_aggregate.specs.Readers.{marked, word, named, signs, heading, spelled, negation, signed_number, reducing, reduction, object, reduced_or, as_factor, as_question, closed}
-use Rattle.ac_aggregate.specs.Reading.{Rule, read_rule, read_by, factor, term, expr, atom, condition, filter, aggregate, source, question, factors, terms, compared, conditions, given}
+use Rattle.ac_aggregate.specs.Reading.{read_by, factor, term, expr, atom, condition, filter, source, question, factors, terms, compared, conditions, given}
 use Rattle.ac_aggregate.specs.Grammar as grammar
 use Rattle.ac_aggregate.specs.Grammar.{Level, Derives, is_name, comparison_mark, oper_text, sign, signed, head, given_by, reduction_end, a_literal, a_text, a_name, a_group, a_reduced_factor, a_factor, a_product, a_term, a_sum, a_comparison, a_negation, an_atom, a_conjunction, an_aggregate, a_filtered, an_object, a_source, a_reduction, asks_aggregate, asks_reduction}
 
@@ -269,9 +269,9 @@ comparison_read l r by ts us none left right (suc n) rest end h =
     let all = append_assoc ts (token.Mark (comparison_mark by) ∷ us) rest in
     ap (read_by (suc n) atom) all
     ∙ ap (λ o. either o (λ _ ts. onward (read_by n condition ts) (closed mark.Close negated)) (λ ts. onward (read_by n expr ts) (λ l. read_by n (compared l))) (ts ++ behind))
-      (none behind)
+    (none behind)
     ∙ ap (λ o. onward o (λ l. read_by n (compared l)))
-      (expr_read l ts left n behind (comparison_ends by (us ++ rest)) (omega (arith, h, length-append ts (token.Mark (comparison_mark by) ∷ us))))
+    (expr_read l ts left n behind (comparison_ends by (us ++ rest)) (omega (arith, h, length-append ts (token.Mark (comparison_mark by) ∷ us))))
     ∙ side_read l r by us rest right end n (omega (arith, h, length-append ts (token.Mark (comparison_mark by) ∷ us)))
 
 -- nothing more is read of a condition before another word, or before a mark
@@ -324,7 +324,7 @@ heading_read : (own it : List ℕ) → is_name own ≡ true → is_name it ≡ t
 unfolding heading
 heading_read own it is also rest =
     ap (λ b. onward (seen (if b then Some own else None) (token.Word (codes "of") ∷ token.Word it ∷ rest))
-      (λ own ts. onward (word (codes "of") ts) (λ _ ts. onward (named ts) (λ it ts. got (own, it) ts)))) is
+    (λ own ts. onward (word (codes "of") ts) (λ _ ts. onward (named ts) (λ it ts. got (own, it) ts)))) is
     ∙ ap (λ b. onward (seen (if b then Some it else None) rest) (λ it ts. got (own, it) ts)) also
 
 -- its end, behind the condition
@@ -356,10 +356,11 @@ no_filter us (suc k) rest h = refl
 
 aggregate_read : (own it : List ℕ) (e : Asked) (us : List Token) → is_name own ≡ true → is_name it ≡ true → IsReadAt grammar.expressions e us
     → IsReadAt grammar.aggregates (each own it always e) (head own it ++ given_by us)
-aggregate_read own it e us is also one =
-    (λ n rest h. filtered_read own it always e (given_by us) us is also one n rest (omega (arith, h, length-append us (token.Mark mark.BracketClose ∷ [])))
+aggregate_read own it e us is also one = (
+  λ n rest h. filtered_read own it always e (given_by us) us is also one n rest (omega (arith, h, length-append us (token.Mark mark.BracketClose ∷ [])))
       (λ k g. no_filter us k rest (omega (arith, h, g, length-append us (token.Mark mark.BracketClose ∷ [])))),
-    λ rest. refl)
+  λ rest. refl,
+)
 
 -- the word and the condition behind it
 filter_read : (c : Asked) (ts us : List Token) → IsReadAt grammar.conditions c ts → (k : ℕ) (rest : List Token) → 4 * length ts + 6 ≤ k
@@ -372,12 +373,13 @@ filter_read c ts us one (suc k) rest h =
 
 when_read : (own it : List ℕ) (c e : Asked) (ts us : List Token) → is_name own ≡ true → is_name it ≡ true → IsReadAt grammar.conditions c ts
     → IsReadAt grammar.expressions e us → IsReadAt grammar.aggregates (each own it c e) (head own it ++ token.Word (codes "when") ∷ (ts ++ given_by us))
-when_read own it c e ts us is also where_ one =
-    (λ n rest h. filtered_read own it c e (token.Word (codes "when") ∷ (ts ++ given_by us)) us is also one n rest
+when_read own it c e ts us is also where_ one = (
+  λ n rest h. filtered_read own it c e (token.Word (codes "when") ∷ (ts ++ given_by us)) us is also one n rest
       (omega (arith, h, length-append ts (given_by us), length-append us (token.Mark mark.BracketClose ∷ [])))
       (λ k g. filter_read c ts us where_ k rest
-        (omega (arith, h, g, length-append ts (given_by us), length-append us (token.Mark mark.BracketClose ∷ [])))),
-    λ rest. refl)
+      (omega (arith, h, g, length-append ts (given_by us), length-append us (token.Mark mark.BracketClose ∷ [])))),
+  λ rest. refl,
+)
 
 -- reductions
 
@@ -400,7 +402,7 @@ end_read : (look : Asked → Reader Asked) (s : Asked) (by : Oper) (minus : Bool
 end_read look s by minus x rest =
     ap (λ o. onward o (λ by ts. got (reduced s by.0 by.1.0 by.1.1) ts))
     (reducing_by by minus x ((signed minus x ++ token.Mark mark.Close ∷ []) ++ rest) rest
-      (ap signed_number (append_assoc (signed minus x) (token.Mark mark.Close ∷ []) rest) ∙ signed_read minus x (token.Mark mark.Close ∷ rest)))
+    (ap signed_number (append_assoc (signed minus x) (token.Mark mark.Close ∷ []) rest) ∙ signed_read minus x (token.Mark mark.Close ∷ rest)))
 
 -- a factor that begins as a source is one
 abbrev IsFactorSource : List Token → Type 0
@@ -453,7 +455,7 @@ through_source : (n : ℕ) (s : Asked) (ts rest : List Token) → IsFactorSource
 unfolding read_by
 through_source n s ts rest begun is =
     ap (λ o. either o (λ _ ts. onward (read_by n expr ts) (closed mark.Close group))
-      (λ ts. either (spelled ts) (λ e ts. got e ts) (λ ts. onward (read_by n source ts) (reduced_or as_factor)) ts) (ts ++ rest)) (begun rest).0
+    (λ ts. either (spelled ts) (λ e ts. got e ts) (λ ts. onward (read_by n source ts) (reduced_or as_factor)) ts) (ts ++ rest)) (begun rest).0
     ∙ ap (λ o. either o (λ e ts. got e ts) (λ ts. onward (read_by n source ts) (reduced_or as_factor)) (ts ++ rest)) (begun rest).1
     ∙ ap (λ o. onward o (reduced_or as_factor)) is
 
@@ -471,6 +473,7 @@ reduction_read s by minus x ts begun one = (as_part, as_whole) where
       ap (read_by (suc n) factor) (append_assoc ts (reduction_end by minus x) rest)
       ∙ through_source n s ts (reduction_end by minus x ++ rest) begun (one n (reduction_end by minus x ++ rest) (omega (arith, h, length-append ts (reduction_end by minus x))))
       ∙ end_read as_factor s by minus x rest
+
   as_whole : (n : ℕ) (rest : List Token) → 4 * length (ts ++ reduction_end by minus x) ≤ n + 2 → read_by n question ((ts ++ reduction_end by minus x) ++ rest) ≡ got (reduced s by minus x) rest
   as_whole zero rest h = absurd (omega (arith, h, length-append ts (reduction_end by minus x)))
   as_whole (suc n) rest h =

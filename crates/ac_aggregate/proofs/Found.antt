@@ -1,8 +1,7 @@
 -- What readers find at the front of their tokens.
 use Rattle.std.proofs.Common.{◌≡◌, List, [], ◌∷◌, ◌++◌, Option, Some, None, refl, sym, ap, ◌∙◌, subst, append_assoc}
-use Rattle.std.proofs.lemmas.Option.{none-some, same_Some}
 use Rattle.ac_syntax.specs.declared.token.Token.{Token}
-use Rattle.ac_aggregate.specs.Outcomes.{Outcome, got, stuck, Reader, gives, gives_up, onward, ◌>>=◌, either, fork, seen, one}
+use Rattle.ac_aggregate.specs.Outcomes.{Outcome, got, stuck, Reader, onward, either, seen, one}
 
 -- what was read stands in front of the rest, and is so
 pub record IsFront {A : Type 0} (P : A → List Token → Type 0) (ts : List Token) (x : A) (rest : List Token) : Type 0 where
@@ -38,23 +37,29 @@ pub seq_found : {A B : Type 0} {P : A → List Token → Type 0} {Q : A → B �
     → IsFound P reader → ((x : A) → IsFound (Q x) (next x)) → ((x : A) (y : B) (us vs : List Token) → P x us → Q x y vs → R y (us ++ vs))
     → IsFound R (λ ts. onward (reader ts) next)
 seq_found {A} {B} {P} {Q} {R} {reader} {next} first second put =
-    record { found = λ ts y rest h. bound (IsFront R ts y rest) (reader ts) next y rest h
-      (λ x r f g. join P (Q x) R ts r rest x y (put x y) (first.found ts x r f) ((second x).found r y rest g)) }
+    record {
+      found = λ ts y rest h. bound (IsFront R ts y rest) (reader ts) next y rest h
+          (λ x r f g. join P (Q x) R ts r rest x y (put x y) (first.found ts x r f) ((second x).found r y rest g));
+    }
 
 pub fork_found : {A B : Type 0} {P : A → List Token → Type 0} {Q : A → B → List Token → Type 0} {R : B → List Token → Type 0} {front : Reader A} {next : A → Reader B} {other : Reader B}
     → IsFound P front → ((x : A) → IsFound (Q x) (next x)) → ((x : A) (y : B) (us vs : List Token) → P x us → Q x y vs → R y (us ++ vs))
     → IsFound R other → IsFound R (λ ts. either (front ts) next other ts)
 fork_found {A} {B} {P} {Q} {R} {front} {next} {other} first second put instead =
-    record { found = λ ts y rest h. forked (IsFront R ts y rest) (front ts) next other ts y rest h
-      (λ x r f g. join P (Q x) R ts r rest x y (put x y) (first.found ts x r f) ((second x).found r y rest g))
-      (instead.found ts y rest) }
+    record {
+      found = λ ts y rest h. forked (IsFront R ts y rest) (front ts) next other ts y rest h
+          (λ x r f g. join P (Q x) R ts r rest x y (put x y) (first.found ts x r f) ((second x).found r y rest g))
+          (instead.found ts y rest);
+    }
 
 pub gives_found : {A : Type 0} {P : A → List Token → Type 0} (x : A) → P x [] → IsFound P (λ ts. got x ts)
 gives_found {A} {P} x is =
-    record { found = λ ts y rest h.
-      let same : x ≡ y = cc h in
-      let left : ts ≡ rest = cc h in
-      record { front = []; whole = left; is = subst (λ y. P y []) same is } }
+    record {
+      found = λ ts y rest h.
+          let same : x ≡ y = cc h in
+          let left : ts ≡ rest = cc h in
+          record { front = []; whole = left; is = subst (λ y. P y []) same is };
+    }
 
 pub nothing_found : {A : Type 0} {P : A → List Token → Type 0} → IsFound P (λ ts. stuck)
 nothing_found {A} {P} = record { found = λ ts y rest h. absurd (cc h) }

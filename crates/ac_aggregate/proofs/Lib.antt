@@ -4,3 +4,14 @@ pub mod OneQuestion
 pub mod Found
 pub mod Looks
 pub mod Sound
+pub mod Lefts
+pub mod Depths
+pub mod Folds
+pub mod Closed
+pub mod Stands
+pub mod Asking
+pub mod Judged
+pub mod Answered
+pub mod Settles
+pub mod Tokens
+pub mod EachText

@@ -17,9 +17,9 @@ use Rattle.ac_aggregate.specs.declared.oper.Oper.TheVariants as oper
 use Rattle.ac_aggregate.specs.Asked.{Asked, literal, text, all_of}
 use Rattle.ac_aggregate.specs.Grammar as grammar
 use Rattle.ac_aggregate.specs.Grammar.{Derives, is_name, comparison_mark, oper_text, sign, signed, a_literal, a_text, an_object}
-use Rattle.ac_aggregate.specs.Outcomes.{Outcome, got, stuck, Reader, onward, either, one}
+use Rattle.ac_aggregate.specs.Outcomes.{got, Reader, onward}
 use Rattle.ac_aggregate.specs.Readers.{as_mark, as_word, as_name, as_number, as_constant, as_sign, as_comparison, oper_of, as_oper, marked, word, named, number, constant, signs, comparing, operating, signed_number, reducing, heading, spelled, negation, object}
-use Rattle.ac_aggregate.proofs.Found.{IsFront, IsFound, bound, forked, seq_found, fork_found, gives_found, one_found}
+use Rattle.ac_aggregate.proofs.Found.{IsFront, IsFound, bound, seq_found, fork_found, gives_found, one_found}
 
 -- these tokens were read
 abbrev pub Are : {A : Type 0} → (A → List Token) → A → List Token → Type 0
@@ -216,14 +216,14 @@ heading_is ts p rest h =
     name_step (IsFront IsHeading ts p rest) a _ p rest h (λ own b is e2 h.
     word_step (IsFront IsHeading ts p rest) (codes "of") b _ p rest h (λ c e3 h.
     name_step (IsFront IsHeading ts p rest) c _ p rest h (λ it d also e4 h.
-      let same : (own, it) ≡ p = cc h in
-      let left : d ≡ rest = cc h in
-      let front : List Token = token.Word (codes "for") ∷ token.Word own ∷ token.Word (codes "of") ∷ token.Word it ∷ [] in
-      record {
-        front = front;
-        whole = rw (e1, e2, e3, e4, left) refl;
-        is = subst (λ p. IsHeading p front) same (record { own = is; it = also; spelled_so = refl });
-      }))))
+    let same : (own, it) ≡ p = cc h in
+    let left : d ≡ rest = cc h in
+    let front : List Token = token.Word (codes "for") ∷ token.Word own ∷ token.Word (codes "of") ∷ token.Word it ∷ [] in
+    record {
+      front = front;
+      whole = rw (e1, e2, e3, e4, left) refl;
+      is = subst (λ p. IsHeading p front) same (record { own = is; it = also; spelled_so = refl });
+    }))))
 
 pub heading_found : IsFound IsHeading heading
 heading_found = record { found = heading_is }
@@ -233,14 +233,18 @@ pub signed_found : IsFound (Are (λ p. signed p.0 p.1)) signed_number
 unfolding signed_number
 signed_found =
     fork_found (marked_found mark.Minus) (λ _. behind true) (λ x y us vs a b. signed_put y us vs a b) (behind_none) where
-  behind : (minus : Bool) → IsFound (λ (p : Bool × ℕ) front. (p.0 ≡ minus) × (front ≡ token.Number p.1 ∷ [])) (λ ts. onward (number ts) (λ n ts. got (minus, n) ts))
-  behind minus = seq_found number_found (λ n. gives_found {P = λ (p : Bool × ℕ) front. (p ≡ (minus, n)) × (front ≡ [])} (minus, n) (refl, refl))
-      (λ n p us vs a b. (ap (λ (q : Bool × ℕ). q.0) b.0, ap (λ us. us ++ vs) a ∙ ap (λ vs. token.Number n ∷ vs) b.1 ∙ ap (λ (q : Bool × ℕ). token.Number q.1 ∷ []) (sym b.0)))
-  signed_put : (p : Bool × ℕ) (us vs : List Token) → us ≡ token.Mark mark.Minus ∷ [] → (p.0 ≡ true) × (vs ≡ token.Number p.1 ∷ []) → us ++ vs ≡ signed p.0 p.1
-  signed_put p us vs a b = ap (λ us. us ++ vs) a ∙ ap (λ vs. token.Mark mark.Minus ∷ vs) b.1 ∙ ap (λ minus. signed minus p.1) (sym b.0)
-  behind_none : IsFound (Are (λ (p : Bool × ℕ). signed p.0 p.1)) (λ ts. onward (number ts) (λ n ts. got (false, n) ts))
-  behind_none = record { found = λ ts p rest h. let a = (behind false).found ts p rest h in
-      record { front = a.front; whole = a.whole; is = a.is.1 ∙ ap (λ minus. signed minus p.1) (sym a.is.0) } }
+      behind : (minus : Bool) → IsFound (λ (p : Bool × ℕ) front. (p.0 ≡ minus) × (front ≡ token.Number p.1 ∷ [])) (λ ts. onward (number ts) (λ n ts. got (minus, n) ts))
+      behind minus = seq_found number_found (λ n. gives_found {P = λ (p : Bool × ℕ) front. (p ≡ (minus, n)) × (front ≡ [])} (minus, n) (refl, refl))
+          (λ n p us vs a b. (ap (λ (q : Bool × ℕ). q.0) b.0, ap (λ us. us ++ vs) a ∙ ap (λ vs. token.Number n ∷ vs) b.1 ∙ ap (λ (q : Bool × ℕ). token.Number q.1 ∷ []) (sym b.0)))
+
+      signed_put : (p : Bool × ℕ) (us vs : List Token) → us ≡ token.Mark mark.Minus ∷ [] → (p.0 ≡ true) × (vs ≡ token.Number p.1 ∷ []) → us ++ vs ≡ signed p.0 p.1
+      signed_put p us vs a b = ap (λ us. us ++ vs) a ∙ ap (λ vs. token.Mark mark.Minus ∷ vs) b.1 ∙ ap (λ minus. signed minus p.1) (sym b.0)
+
+      behind_none : IsFound (Are (λ (p : Bool × ℕ). signed p.0 p.1)) (λ ts. onward (number ts) (λ n ts. got (false, n) ts))
+      behind_none = record {
+        found = λ ts p rest h. let a = (behind false).found ts p rest h in
+            record { front = a.front; whole = a.whole; is = a.is.1 ∙ ap (λ minus. signed minus p.1) (sym a.is.0) };
+      }
 
 -- how a reduction reduces
 abbrev pub reducing_tokens : Oper × (Bool × ℕ) → List Token
@@ -256,15 +260,15 @@ reducing_is ts p rest h =
     mark_step (IsFront (Are reducing_tokens) ts p rest) mark.Comma c _ p rest h (λ d e4 h.
     step (IsFront (Are reducing_tokens) ts p rest) (Are (λ p. signed p.0 p.1)) signed_number signed_found d _ p rest h (λ from front e is e5 h.
     mark_step (IsFront (Are reducing_tokens) ts p rest) mark.Close e _ p rest h (λ f e6 h.
-      let same : (by, from) ≡ p = cc h in
-      let left : f ≡ rest = cc h in
-      record {
-        front = reducing_tokens (by, from);
-        whole = e1 ∙ ap (λ ts. token.Word (codes "reduce") ∷ ts) (e2 ∙ ap (λ ts. token.Mark mark.Open ∷ ts) (e3 ∙ ap (λ ts. token.Text (oper_text by) ∷ ts)
-            (e4 ∙ ap (λ ts. token.Mark mark.Comma ∷ ts) (e5 ∙ ap (λ us. us ++ e) is ∙ ap (λ ts. signed from.0 from.1 ++ ts) (e6 ∙ ap (λ ts. token.Mark mark.Close ∷ ts) left)
-            ∙ sym (append_assoc (signed from.0 from.1) (token.Mark mark.Close ∷ []) rest)))));
-        is = ap reducing_tokens same;
-      }))))))
+    let same : (by, from) ≡ p = cc h in
+    let left : f ≡ rest = cc h in
+    record {
+      front = reducing_tokens (by, from);
+      whole = e1 ∙ ap (λ ts. token.Word (codes "reduce") ∷ ts) (e2 ∙ ap (λ ts. token.Mark mark.Open ∷ ts) (e3 ∙ ap (λ ts. token.Text (oper_text by) ∷ ts)
+          (e4 ∙ ap (λ ts. token.Mark mark.Comma ∷ ts) (e5 ∙ ap (λ us. us ++ e) is ∙ ap (λ ts. signed from.0 from.1 ++ ts) (e6 ∙ ap (λ ts. token.Mark mark.Close ∷ ts) left)
+          ∙ sym (append_assoc (signed from.0 from.1) (token.Mark mark.Close ∷ []) rest)))));
+      is = ap reducing_tokens same;
+    }))))))
 
 pub reducing_found : IsFound (Are reducing_tokens) reducing
 reducing_found = record { found = reducing_is }
@@ -274,14 +278,15 @@ pub spelled_found : IsFound (Derives grammar.factors) spelled
 unfolding spelled
 spelled_found =
     fork_found {Q = λ _ y front. (n : ℕ) × (y ≡ literal true n) × (front ≡ token.Number n ∷ [])} (marked_found mark.Minus) (λ _. negative_found) (λ x y us vs a b. negative_put y us vs a b) constant_found where
-  negative_found : IsFound (λ y front. (n : ℕ) × (y ≡ literal true n) × (front ≡ token.Number n ∷ [])) (λ ts. onward (number ts) (λ n ts. got (literal true n) ts))
-  negative_found = seq_found number_found (λ n. gives_found {P = λ y front. (y ≡ literal true n) × (front ≡ [])} (literal true n) (refl, refl))
-      (λ n y us vs a b. (n, b.0, ap (λ us. us ++ vs) a ∙ ap (λ vs. token.Number n ∷ vs) b.1))
-  negative_put : (y : Asked) (us vs : List Token) → us ≡ token.Mark mark.Minus ∷ [] → ((n : ℕ) × (y ≡ literal true n) × (vs ≡ token.Number n ∷ []))
-      → Derives grammar.factors y (us ++ vs)
-  negative_put y us vs a b =
-      subst (λ y. Derives grammar.factors y (us ++ vs)) (sym b.1)
-      (subst (Derives grammar.factors (literal true b.0)) (sym (ap (λ us. us ++ vs) a ∙ ap (λ vs. token.Mark mark.Minus ∷ vs) b.2)) (a_literal true b.0))
+      negative_found : IsFound (λ y front. (n : ℕ) × (y ≡ literal true n) × (front ≡ token.Number n ∷ [])) (λ ts. onward (number ts) (λ n ts. got (literal true n) ts))
+      negative_found = seq_found number_found (λ n. gives_found {P = λ y front. (y ≡ literal true n) × (front ≡ [])} (literal true n) (refl, refl))
+          (λ n y us vs a b. (n, b.0, ap (λ us. us ++ vs) a ∙ ap (λ vs. token.Number n ∷ vs) b.1))
+
+      negative_put : (y : Asked) (us vs : List Token) → us ≡ token.Mark mark.Minus ∷ [] → ((n : ℕ) × (y ≡ literal true n) × (vs ≡ token.Number n ∷ []))
+          → Derives grammar.factors y (us ++ vs)
+      negative_put y us vs a b =
+          subst (λ y. Derives grammar.factors y (us ++ vs)) (sym b.1)
+          (subst (Derives grammar.factors (literal true b.0)) (sym (ap (λ us. us ++ vs) a ∙ ap (λ vs. token.Mark mark.Minus ∷ vs) b.2)) (a_literal true b.0))
 
 -- what begins a negation
 pub negation_found : IsFound (Are (λ _. token.Word (codes "not") ∷ token.Mark mark.Open ∷ [])) negation

@@ -1,6 +1,6 @@
 -- What is read is derived by the grammar.
 use Rattle.std.specs.Prelude.{codes}
-use Rattle.std.proofs.Common.{◌≡◌, ◌⊎◌, inl, inr, ℕ, zero, suc, Bool, true, false, List, [], ◌∷◌, ◌++◌, refl, sym, ap, ◌∙◌, subst, append_assoc, append-nil}
+use Rattle.std.proofs.Common.{◌≡◌, ◌⊎◌, inl, inr, ℕ, zero, suc, Bool, true, List, [], ◌∷◌, ◌++◌, refl, sym, ap, ◌∙◌, subst, append_assoc, append-nil}
 use Rattle.ac_syntax.specs.declared.token.Token.{Token}
 use Rattle.ac_syntax.specs.declared.token.Token.TheVariants as token
 use Rattle.ac_syntax.specs.declared.token.Mark.{Mark}
@@ -8,13 +8,13 @@ use Rattle.ac_syntax.specs.declared.token.Mark.TheVariants as mark
 use Rattle.ac_aggregate.specs.declared.oper.Comparison.{Comparison}
 use Rattle.ac_aggregate.specs.declared.oper.Oper.{Oper}
 use Rattle.ac_aggregate.specs.Asked.{Asked, literal, text, name, group, product, sum, all_of, each, reduced, always, compares, both, negated}
-use Rattle.ac_aggregate.specs.Outcomes.{Outcome, got, stuck, Reader, onward, either}
+use Rattle.ac_aggregate.specs.Outcomes.{got, Reader, onward}
 use Rattle.ac_aggregate.specs.Readers.{reduction, as_factor, as_question, reduced_or, closed}
 use Rattle.ac_aggregate.specs.Reading.{Rule, read_rule, read_by, factor, term, expr, atom, condition, filter, aggregate, source, question, factors, terms, compared, conditions, given}
 use Rattle.ac_aggregate.specs.Grammar as grammar
 use Rattle.ac_aggregate.specs.Grammar.{Level, Derives, is_name, comparison_mark, sign, signed, head, given_by, reduction_end, a_literal, a_text, a_name, a_group, a_reduced_factor, a_factor, a_product, a_term, a_sum, a_comparison, a_negation, an_atom, a_conjunction, an_aggregate, a_filtered, an_object, a_source, a_reduction, asks_aggregate, asks_reduction}
-use Rattle.ac_aggregate.proofs.Found.{IsFront, IsFound, seq_found, fork_found, gives_found, nothing_found}
-use Rattle.ac_aggregate.proofs.Looks.{Are, marked_found, word_found, signs_found, comparing_found, IsHeading, heading_found, reducing_tokens, reducing_found, spelled_found, negation_found, object_found}
+use Rattle.ac_aggregate.proofs.Found.{IsFound, seq_found, fork_found, gives_found, nothing_found}
+use Rattle.ac_aggregate.proofs.Looks.{marked_found, word_found, signs_found, comparing_found, IsHeading, heading_found, reducing_tokens, reducing_found, spelled_found, negation_found, object_found}
 
 recast : (level : Level) {a b : Asked} {ts us : List Token} → a ≡ b → ts ≡ us → Derives level a ts → Derives level b us
 recast level {a} {b} {ts} {us} same whole d = subst (λ b. Derives level b us) same (subst (Derives level a) whole d)
@@ -189,8 +189,8 @@ module _ (by : Rule → Reader Asked) (sound : (rule : Rule) → IsFound (IsOf r
   factor_found =
       fork_found (marked_found mark.Open) (λ _. within_found expr mark.Close group) (λ x y us vs a b. group_put y us vs a b)
       (fork_found spelled_found (λ e. gives_found {P = λ y front. (y ≡ e) × (front ≡ [])} e (refl, refl))
-        (λ x y us vs a b. recast grammar.factors (sym b.0) (sym (ap (λ vs. us ++ vs) b.1 ∙ append-nil us)) a)
-        (seq_found (sound source) reduced_factor_found (λ s y us vs a b. b us a)))
+      (λ x y us vs a b. recast grammar.factors (sym b.0) (sym (ap (λ vs. us ++ vs) b.1 ∙ append-nil us)) a)
+      (seq_found (sound source) reduced_factor_found (λ s y us vs a b. b us a)))
 
   negation_put : (y : Asked) (us vs : List Token) → us ≡ token.Word (codes "not") ∷ token.Mark mark.Open ∷ [] → IsClosed (IsOf condition) mark.Close negated y vs
       → Derives grammar.atoms y (us ++ vs)
@@ -255,7 +255,7 @@ module _ (by : Rule → Reader Asked) (sound : (rule : Rule) → IsFound (IsOf r
   compared_found l =
       seq_found {Q = λ op y vs. (r : Asked) × (ts : List Token) × Derives grammar.expressions r ts × (y ≡ compares l op r) × (vs ≡ ts)} comparing_found
       (λ op. seq_found (sound expr) (λ r. gives_found {P = λ y front. (y ≡ compares l op r) × (front ≡ [])} (compares l op r) (refl, refl))
-        (λ r y us vs a b. (r, us, a, b.0, ap (λ vs. us ++ vs) b.1 ∙ append-nil us)))
+      (λ r y us vs a b. (r, us, a, b.0, ap (λ vs. us ++ vs) b.1 ∙ append-nil us)))
       (λ op y us vs a b. compared_put l op y us vs a b)
 
   filter_found : IsFound (IsOf filter) (read_rule by filter)
@@ -274,7 +274,7 @@ module _ (by : Rule → Reader Asked) (sound : (rule : Rule) → IsFound (IsOf r
   given_put own it c y us vs a b front is also (inr f) =
       recast grammar.aggregates (sym b.value)
       (ap (λ ts. head own it ++ token.Word (codes "when") ∷ (f.0 ++ ts)) (behind_one (token.Mark mark.Arrow) us vs _ a b.closed_so)
-        ∙ ap (λ ts. head own it ++ (ts ++ (us ++ vs))) (sym f.2))
+      ∙ ap (λ ts. head own it ++ (ts ++ (us ++ vs))) (sym f.2))
       (a_filtered own it c b.part f.0 b.inside is also f.1 b.is)
 
   given_found : (own it : List ℕ) (c : Asked) → IsFound (IsOf (given own it c)) (read_rule by (given own it c))

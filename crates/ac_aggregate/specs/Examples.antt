@@ -1,19 +1,17 @@
 -- What questions come to, worked out by hand.
-use Rattle.std.specs.Prelude.{◌≡◌, ℕ, ℤ, pos, negsuc, neg_ℤ, ◌-◌, ◌^◌, codes, false, true, List, [], ◌∷◌, map, Option, Some, None}
+use Rattle.std.specs.Prelude.{◌≡◌, ℕ, ℤ, pos, neg_ℤ, ◌-◌, ◌^◌, codes, false, true, List, [], ◌∷◌, map, Option, Some, None}
 use Rattle.ac_base.specs.declared.value.Value.{Value}
 use Rattle.ac_base.specs.declared.value.Value.TheVariants as value
 use Rattle.ac_syntax.specs.declared.kind.Kind.{Kind}
 use Rattle.ac_syntax.specs.declared.kind.Kind.TheVariants as kind
 use Rattle.ac_syntax.specs.declared.kind.ElemKind.{ElemKind}
 use Rattle.ac_syntax.specs.declared.kind.ElemKind.TheVariants.{Integer, Str}
-use Rattle.ac_syntax.specs.declared.type_def.TypeDef.{TypeDef}
-use Rattle.ac_aggregate.specs.declared.oper.Comparison.{Comparison}
-use Rattle.ac_aggregate.specs.declared.oper.Comparison.TheVariants.{Equal, NotEqual, Less, LessEqual, Greater, GreaterEqual}
+use Rattle.ac_aggregate.specs.declared.oper.Comparison.TheVariants.{Less, LessEqual, Greater, GreaterEqual}
 use Rattle.ac_aggregate.specs.declared.oper.Oper.TheVariants.{Sum, Product, Least, Greatest}
 use Rattle.ac_aggregate.specs.declared.plains.Plain.{Plain}
 use Rattle.ac_aggregate.specs.declared.plains.Plain.TheVariants as plain
 use Rattle.ac_aggregate.specs.declared.plains.PlainRow.{PlainRow}
-use Rattle.ac_aggregate.specs.Asked.{Asked, literal, text, name, group, product, sum, all_of, each, reduced, always, compares, both, negated}
+use Rattle.ac_aggregate.specs.Asked.{Asked, literal, name, product, sum, all_of, each, reduced, always, compares, both, negated}
 use Rattle.ac_aggregate.specs.Values.{Answer, number, listing, overflow, ask_of}
 
 abbrev row : Option Value → Value → PlainRow
@@ -54,7 +52,7 @@ plains =
     ∷ object kind.List Integer None B []
     ∷ object kind.List Integer None C (integers (pos 1 ∷ neg_ℤ (pos 2) ∷ []))
     ∷ object kind.OrderedMap Integer (Some Str) M
-        (row (Some (value.Int (pos 1))) (value.Text (codes "milk")) ∷ row (Some (value.Int (pos 2))) (value.Text (codes "bread")) ∷ [])
+    (row (Some (value.Int (pos 1))) (value.Text (codes "milk")) ∷ row (Some (value.Int (pos 2))) (value.Text (codes "bread")) ∷ [])
     ∷ plain.Int N (pos 15) ∷ plain.Str S (codes "m") ∷ []
 
 abbrev of : ℕ → Asked

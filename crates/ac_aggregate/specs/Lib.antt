@@ -7,7 +7,13 @@ pub mod Reading
 pub mod Limits
 pub mod Generators
 pub mod Names
+pub mod Entries
+pub mod Typed
 pub mod Refusals
 pub mod Plains
 pub mod Values
+pub mod Settled
+pub mod Answers
+pub mod Asking
 pub mod Examples
+pub mod RefusalExamples

@@ -1,9 +1,8 @@
 -- The limits of a question: how deep it is nested, its numbers and its strings.
-use Rattle.std.specs.Prelude.{ℕ, ◌+◌, ◌-◌, ◌^◌, ◌||◌, max, nat_lt, Bool, true, false, List, [], ◌∷◌, length, if◌then◌else◌}
+use Rattle.std.specs.Prelude.{ℕ, ◌+◌, ◌-◌, ◌^◌, ◌||◌, max, nat_lt, Bool, false, List, [], ◌∷◌, length, if◌then◌else◌}
 use Rattle.ac_syntax.specs.declared.token.Token.{Token}
 use Rattle.ac_syntax.specs.declared.token.Mark.TheVariants as mark
 use Rattle.ac_syntax.specs.Limits.{is_mark}
-use Rattle.ac_syntax.specs.Tokens.{cut_of, tokens}
 use Rattle.ac_aggregate.specs.Asked.{Asked, literal, text, name, group, product, sum, all_of, each, reduced, always, compares, both, negated}
 
 abbrev pub opens : Token → Bool
@@ -14,14 +13,14 @@ closes t = is_mark mark.Close t || is_mark mark.BracketClose t
 
 -- how many brackets and parentheses are open behind a token
 abbrev pub open_after : ℕ → Token → ℕ
-open_after open t = if opens t then open + 1 else if closes t then open - 1 else open
+open_after count t = if opens t then count + 1 else if closes t then count - 1 else count
 
 -- the greatest number of brackets and parentheses that are open at once, where so many are to begin with
-abbrev pub nesting : (open : ℕ) → List Token → ℕ
-nesting open [] = open
-nesting open (t ∷ ts) = max open (nesting (open_after open t) ts)
+abbrev pub nesting : (count : ℕ) → List Token → ℕ
+nesting count [] = count
+nesting count (t ∷ ts) = max count (nesting (open_after count t) ts)
 
--- more digits than an integer has, with a minus before them or none
+-- a number outside the integers, with a minus before it or none
 abbrev pub is_past_integer : (minus : Bool) → ℕ → Bool
 is_past_integer minus n = nat_lt (if minus then 2 ^ 63 else 2 ^ 63 - 1) n
 
@@ -41,5 +40,5 @@ has_long (compares l by r) = has_long l || has_long r
 has_long (both l r) = has_long l || has_long r
 has_long (negated c) = has_long c
 
-abbrev pub is_past_limit : (word : List ℕ) → Asked → Bool
-is_past_limit word q = nat_lt 16 (nesting 0 (tokens (cut_of word).placed)) || has_long q
+abbrev pub is_past_limit : List Token → Asked → Bool
+is_past_limit ts q = nat_lt 16 (nesting 0 ts) || has_long q

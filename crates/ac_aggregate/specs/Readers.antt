@@ -1,5 +1,5 @@
 -- Readers of a token or a few, none of which leads back to a whole question.
-use Rattle.std.specs.Prelude.{ℕ, codes, Bool, true, false, List, [], ◌∷◌, Option, Some, None, if◌then◌else◌}
+use Rattle.std.specs.Prelude.{ℕ, codes, Bool, true, false, List, Option, Some, None, if◌then◌else◌}
 use Rattle.std.specs.Str.{bytes_eq}
 use denote.Enum.Bare.{sameb}
 use Rattle.ac_syntax.specs.contracts.token.Mark.{the_type}
@@ -13,7 +13,7 @@ use Rattle.ac_aggregate.specs.declared.oper.Oper.{Oper}
 use Rattle.ac_aggregate.specs.declared.oper.Oper.TheVariants as oper
 use Rattle.ac_aggregate.specs.Asked.{Asked, literal, text, name, all_of, each, reduced}
 use Rattle.ac_aggregate.specs.Grammar.{is_name}
-use Rattle.ac_aggregate.specs.Outcomes.{Outcome, got, stuck, Reader, gives, gives_up, ◌>>=◌, fork, one}
+use Rattle.ac_aggregate.specs.Outcomes.{Reader, gives, gives_up, ◌>>=◌, fork, one}
 
 abbrev pub as_mark : Mark → Token → Option (Unit {0})
 as_mark wanted (token.Mark found) = if sameb the_type found wanted then Some tt else None

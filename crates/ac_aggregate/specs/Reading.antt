@@ -1,9 +1,8 @@
 -- Reading a question from the front of its tokens, in at most so many steps.
-use Rattle.std.specs.Prelude.{ℕ, zero, suc, codes, Bool, List}
-use Rattle.ac_syntax.specs.declared.token.Token.{Token}
+use Rattle.std.specs.Prelude.{ℕ, zero, suc, codes, List}
 use Rattle.ac_syntax.specs.declared.token.Mark.TheVariants as mark
 use Rattle.ac_aggregate.specs.Asked.{Asked, group, product, sum, each, always, compares, both, negated}
-use Rattle.ac_aggregate.specs.Outcomes.{Outcome, got, stuck, Reader, gives, ◌>>=◌, fork}
+use Rattle.ac_aggregate.specs.Outcomes.{stuck, Reader, gives, ◌>>=◌, fork}
 use Rattle.ac_aggregate.specs.Readers.{marked, word, signs, comparing, heading, spelled, negation, object, reduced_or, as_factor, as_question, closed}
 
 pub data Rule : Type 0 where

@@ -1,5 +1,4 @@
 -- Parts in memory as contracts see them.
-use Rattle.std.specs.Prelude.{ℕ, Bool, List}
 use Rattle.ac_aggregate.specs.declared.part.Part.{Part}
 use Rattle.ac_aggregate.specs.declared.part.Part.TheVariants as part
 use Rattle.ac_aggregate.specs.Asked.{Asked, literal, text, name, group, product, sum, all_of, each, reduced, always, compares, both, negated}

@@ -8,7 +8,7 @@ ghost use Rattle.ac_aggregate.specs.Views.{asked};
 
 use crate::oper::Comparison;
 use crate::part::Part;
-use crate::token_reader::{Heading, mark, name, number, reducing};
+use crate::token_reader::{Head, mark, name, number, reducing};
 use ac_base::NoMemory;
 use ac_syntax::{Mark, Token};
 use std::alloc::Global;
@@ -52,7 +52,11 @@ pub fn group(alloc: Global, e: Part, tokens: &[Token]) -> Result<Option<(Part, &
 }
 
 /// A condition that is negated, and its closing parenthesis.
-pub fn negated(alloc: Global, c: Part, tokens: &[Token]) -> Result<Option<(Part, &[Token])>, NoMemory>
+pub fn negated(
+    alloc: Global,
+    c: Part,
+    tokens: &[Token],
+) -> Result<Option<(Part, &[Token])>, NoMemory>
     ensures { IfOk result (λ read. Finds asked read (readers.closed mark.Close what.negated (asked c) tokens.now)) }
 {
     match mark(tokens, Mark::Close) {
@@ -62,7 +66,12 @@ pub fn negated(alloc: Global, c: Part, tokens: &[Token]) -> Result<Option<(Part,
 }
 
 /// The aggregate of this heading.
-fn aggregate(alloc: Global, heading: &Heading<'_>, condition: Part, gives: Part) -> Result<Part, NoMemory>
+fn aggregate(
+    alloc: Global,
+    heading: &Head<'_>,
+    condition: Part,
+    gives: Part,
+) -> Result<Part, NoMemory>
     ensures { IfOk result (λ made. asked made ≡ what.each heading.now.generator.now heading.now.object.now (asked condition) (asked gives)) }
 {
     let generator = heading.generator.copy(alloc)?;
@@ -75,7 +84,7 @@ fn aggregate(alloc: Global, heading: &Heading<'_>, condition: Part, gives: Part)
 /// What an aggregate gives, and its closing bracket.
 pub fn each<'a>(
     alloc: Global,
-    heading: &Heading<'_>,
+    heading: &Head<'_>,
     condition: Part,
     gives: Part,
     tokens: &'a [Token],
@@ -130,7 +139,11 @@ pub fn object(alloc: Global, tokens: &[Token]) -> Result<Option<(Part, &[Token])
 }
 
 /// A reduction, behind its tick.
-fn reduction(alloc: Global, source: Part, tokens: &[Token]) -> Result<Option<(Part, &[Token])>, NoMemory>
+fn reduction(
+    alloc: Global,
+    source: Part,
+    tokens: &[Token],
+) -> Result<Option<(Part, &[Token])>, NoMemory>
     ensures { IfOk result (λ read. Finds asked read (readers.reduction (asked source) tokens.now)) }
 {
     match reducing(tokens) {
@@ -165,7 +178,11 @@ fn as_question(source: Part, tokens: &[Token]) -> Option<(Part, &[Token])>
 }
 
 /// A source in an expression, with the reduction behind it where there is one.
-pub fn factor_of(alloc: Global, source: Part, tokens: &[Token]) -> Result<Option<(Part, &[Token])>, NoMemory>
+pub fn factor_of(
+    alloc: Global,
+    source: Part,
+    tokens: &[Token],
+) -> Result<Option<(Part, &[Token])>, NoMemory>
     ensures { IfOk result (λ read. Finds asked read (readers.reduced_or readers.as_factor (asked source) tokens.now)) }
 {
     match mark(tokens, Mark::Tick) {
@@ -175,7 +192,11 @@ pub fn factor_of(alloc: Global, source: Part, tokens: &[Token]) -> Result<Option
 }
 
 /// The same of a source as a whole question.
-pub fn question_of(alloc: Global, source: Part, tokens: &[Token]) -> Result<Option<(Part, &[Token])>, NoMemory>
+pub fn question_of(
+    alloc: Global,
+    source: Part,
+    tokens: &[Token],
+) -> Result<Option<(Part, &[Token])>, NoMemory>
     ensures { IfOk result (λ read. Finds asked read (readers.reduced_or readers.as_question (asked source) tokens.now)) }
 {
     match mark(tokens, Mark::Tick) {

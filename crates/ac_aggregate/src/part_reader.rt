@@ -9,7 +9,7 @@ use crate::making::{
     both, compares, each, factor_of, group, negated, object, product, question_of, spelled, sum,
 };
 use crate::part::Part;
-use crate::token_reader::{Heading, comparison, heading, mark, negation, sign, word};
+use crate::token_reader::{Head, comparison, heading, mark, negation, sign, word};
 use ac_base::NoMemory;
 use ac_syntax::{Mark, Token};
 use std::alloc::Global;
@@ -188,7 +188,11 @@ fn conditions(
 
 #[cycle(parts)]
 #[tactic(auto, unfolding(crate::specs::Reading::read_by))]
-fn condition(alloc: Global, tokens: &[Token], steps: u32) -> Result<Option<(Part, &[Token])>, NoMemory>
+fn condition(
+    alloc: Global,
+    tokens: &[Token],
+    steps: u32,
+) -> Result<Option<(Part, &[Token])>, NoMemory>
     ensures { IfOk result (λ read. Finds asked read (read_by steps reading.condition tokens.now)) }
 {
     if steps == 0 {
@@ -220,7 +224,7 @@ fn filter(alloc: Global, tokens: &[Token], steps: u32) -> Result<Option<(Part, &
 #[tactic(auto, unfolding(crate::specs::Reading::read_by))]
 fn given<'a>(
     alloc: Global,
-    heading: &Heading<'_>,
+    heading: &Head<'_>,
     condition: Part,
     tokens: &'a [Token],
     steps: u32,
@@ -243,7 +247,11 @@ fn given<'a>(
 /// An aggregate, behind its bracket.
 #[cycle(parts)]
 #[tactic(auto, unfolding(crate::specs::Reading::read_by))]
-fn aggregate(alloc: Global, tokens: &[Token], steps: u32) -> Result<Option<(Part, &[Token])>, NoMemory>
+fn aggregate(
+    alloc: Global,
+    tokens: &[Token],
+    steps: u32,
+) -> Result<Option<(Part, &[Token])>, NoMemory>
     ensures { IfOk result (λ read. Finds asked read (read_by steps reading.aggregate tokens.now)) }
 {
     if steps == 0 {
@@ -275,7 +283,11 @@ fn source(alloc: Global, tokens: &[Token], steps: u32) -> Result<Option<(Part, &
 
 /// A question at the front of its tokens.
 #[tactic(auto, unfolding(crate::specs::Reading::read_by))]
-pub fn question(alloc: Global, tokens: &[Token], steps: u32) -> Result<Option<(Part, &[Token])>, NoMemory>
+pub fn whole(
+    alloc: Global,
+    tokens: &[Token],
+    steps: u32,
+) -> Result<Option<(Part, &[Token])>, NoMemory>
     ensures { IfOk result (λ read. Finds asked read (read_by steps reading.question tokens.now)) }
 {
     if steps == 0 {

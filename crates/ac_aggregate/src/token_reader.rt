@@ -131,7 +131,7 @@ fn signed_number(tokens: &[Token]) -> Option<((bool, u64), &[Token])>
 
 /// How a reduction reduces, and the number that it begins with.
 #[derive(Drop)]
-pub struct Reducing {
+pub struct How {
     pub by: Oper,
     pub minus: bool,
     pub number: u64,
@@ -139,7 +139,7 @@ pub struct Reducing {
 
 /// What stands behind the tick of a reduction.
 #[tactic(auto, unfolding(crate::specs::Readers::reducing))]
-pub fn reducing(tokens: &[Token]) -> Option<(Reducing, &[Token])>
+pub fn reducing(tokens: &[Token]) -> Option<(How, &[Token])>
     ensures { Finds (λ read. (read.by, (read.minus, read.number))) result (readers.reducing tokens.now) }
 {
     let rest = word(tokens, b"reduce")?;
@@ -148,7 +148,7 @@ pub fn reducing(tokens: &[Token]) -> Option<(Reducing, &[Token])>
     let rest = mark(rest, Mark::Comma)?;
     let ((minus, number), rest) = signed_number(rest)?;
     let rest = mark(rest, Mark::Close)?;
-    Some((Reducing { by, minus, number }, rest))
+    Some((How { by, minus, number }, rest))
 }
 
 /// What begins a negation.
@@ -162,19 +162,19 @@ pub fn negation(tokens: &[Token]) -> Option<&[Token]>
 
 /// The generator of an aggregate and its object.
 #[derive(Drop)]
-pub struct Heading<'a> {
+pub struct Head<'a> {
     pub generator: &'a Ident,
     pub object: &'a Ident,
 }
 
 /// What stands behind the bracket of an aggregate.
 #[tactic(auto, unfolding(crate::specs::Readers::heading))]
-pub fn heading(tokens: &[Token]) -> Option<(Heading<'_>, &[Token])>
+pub fn heading(tokens: &[Token]) -> Option<(Head<'_>, &[Token])>
     ensures { Finds (λ read. (read.generator.now, read.object.now)) result (readers.heading tokens.now) }
 {
     let rest = word(tokens, b"for")?;
     let (generator, rest) = name(rest)?;
     let rest = word(rest, b"of")?;
     let (object, rest) = name(rest)?;
-    Some((Heading { generator, object }, rest))
+    Some((Head { generator, object }, rest))
 }
