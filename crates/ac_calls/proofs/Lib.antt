@@ -6,3 +6,4 @@ pub mod Quoted
 pub mod Operations
 pub mod NoRoot
 pub mod Walks
+pub mod RowsCopied

@@ -9,6 +9,8 @@ pub mod ListReplies
 pub mod Listed
 pub mod Listings
 pub mod MapReplies
+pub mod PlainRows
+pub mod Plains
 pub mod QueueReplies
 pub mod Replied
 pub mod Replies

@@ -12,7 +12,9 @@ ghost use Rattle.ac_calls.specs.Listings.{bracketed};
 ghost use Rattle.ac_calls.specs.SequenceReplies.{OwnCalls};
 ghost use Rattle.ac_calls.specs.Arguments.{mark_in};
 ghost use Rattle.ac_calls.specs.RowWrites.{WritesIn};
+ghost use Rattle.ac_calls.specs.declared.plains.PlainRow.{PlainRow as Plain};
 
+use crate::plains::PlainRow;
 use ac_base::{Fault, NoMemory, Reason, Value};
 use ac_cursor::Cursor;
 use ac_io::{Sink, WriteFault};
@@ -82,6 +84,9 @@ pub trait ListedRows: RowObject {
     /// What a listing shows of a row.
     ghost row_text: { Self.Row → List ℕ };
 
+    /// What a row is as a plain one.
+    ghost plain_of: { Self.Row → Plain };
+
     /// Adds what a listing shows of the row at the cursor to a text that is written in pieces.
     fn add_row<K: Sink>(
         &self,
@@ -94,6 +99,13 @@ pub trait ListedRows: RowObject {
             (sequences.element_call (plain (Self.rows self.now).object) (mark_by (Self.rows self.now) c)).answer ≡ Some row →
             Adds K.held K.faults K.room K.counts_failures sink.old sink.new text.old.items text.new.items (row_text row) result }
         ensures short { length text.old.items ≤ MOST_WAITING → length text.new.items ≤ MOST_WAITING };
+
+    /// A copy of the row at the cursor as a plain one.
+    fn plain_row(&self, c: Cursor, alloc: Global) -> Result<PlainRow, NoMemory>
+        requires { (sequences.element_call (plain (Self.rows self.now).object) (mark_by (Self.rows self.now) c)).reason ≡ None }
+        ensures { IfOk result (λ made. (row : Self.Row) →
+            (sequences.element_call (plain (Self.rows self.now).object) (mark_by (Self.rows self.now) c)).answer ≡ Some row →
+            made ≡ plain_of row) };
 
     ghost listing_is: { (object : Self) (o : Object ℕ Self.Row) → (Self.own object o).listing ≡ bracketed row_text (contents o) };
 }

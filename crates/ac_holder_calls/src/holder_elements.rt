@@ -1,15 +1,16 @@
 //! What a name that stands for a holder's element is, and what a holder shows.
-ghost use Rattle.std.specs.Prelude.{◌≡◌, ◌≤◌, ◌∷◌, [], IfOk, Some, None, length};
+ghost use Rattle.std.specs.Prelude.{◌≡◌, ◌≤◌, ◌∷◌, [], IfOk, Some, None, length, map, option_to_list};
 ghost use Rattle.ac_io.specs.declared.pieces.TheConstants.{MOST_WAITING};
 ghost use Rattle.ac_io.specs.Pieces.{Adds};
 ghost use Rattle.ac_model.specs.Holders as holders;
 ghost use Rattle.ac_syntax.specs.Canonical.{literal_text};
 ghost use Rattle.ac_calls.specs.Listings.{bracketed};
 ghost use Rattle.ac_calls.specs.HolderReplies.{holder_element, holder_write, holder_listing};
+ghost use Rattle.ac_calls.specs.PlainRows.{element_form};
 ghost use Rattle.ac_holder_calls.specs.HolderCalls.{ChangesHolder};
 
 use ac_base::{Fault, NoMemory, Reason, Value};
-use ac_calls::ScriptElement;
+use ac_calls::{PlainRows, ScriptElement, element_row};
 use ac_forms::Holder;
 use ac_io::{Sink, WriteFault, add};
 use ac_model::reason_if;
@@ -80,4 +81,26 @@ fn write_one<T: ScriptElement, K: Sink>(
     add(text, b"[", sink)?;
     element.add_literal(text, sink)?;
     add(text, b"]", sink)
+}
+
+/// The element as a plain row, if there is one.
+pub fn plain_element<T: ScriptElement>(
+    holder: &Holder<T>,
+    alloc: Global,
+) -> Result<PlainRows, NoMemory>
+    ensures { IfOk result (λ rows. rows ≡ map (element_form T.tools) (option_to_list holder.now.element)) }
+{
+    match holder.element() {
+        Ok(element) => one_row(element, alloc),
+        Err(_) => Ok(PlainRows::from_vec(Vec::new(alloc))),
+    }
+}
+
+fn one_row<T: ScriptElement>(element: &T, alloc: Global) -> Result<PlainRows, NoMemory>
+    ensures { IfOk result (λ rows. rows ≡ element_form T.tools element.now ∷ []) }
+{
+    let row = element_row(element, alloc)?;
+    let mut rows = Vec::with_capacity(alloc, 1)?;
+    rows.push_reserved(row);
+    Ok(PlainRows::from_vec(rows))
 }

@@ -5,4 +5,4 @@ mod holder_calls;
 mod holder_elements;
 
 pub use holder_calls::{operate_holder, operate_holders};
-pub use holder_elements::{refused, value, write, write_listing};
+pub use holder_elements::{plain_element, refused, value, write, write_listing};

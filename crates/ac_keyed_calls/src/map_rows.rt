@@ -51,6 +51,12 @@ impl<K: ScriptElement, V: ScriptElement, M: MapKind<K, V>> MapRows<K, V, M> {
             Err(fault) => Err(fault),
         }
     }
+
+    pub fn limit(&self) -> Limit
+        ensures { result ≡ self.now.object.limit }
+    {
+        self.table.limit()
+    }
 }
 
 impl<K: ScriptElement, V: ScriptElement, M: MapKind<K, V>> Guarded for MapRows<K, V, M> {

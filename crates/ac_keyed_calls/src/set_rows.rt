@@ -2,11 +2,12 @@
 ghost use Rattle.std.specs.Prelude.{◌≡◌, ◌<◌, true, refl, IfOk, None};
 ghost use Rattle.ac_base.specs.Limits.{IsLimit};
 ghost use Rattle.ac_model.specs.Calls.{Lends, Same};
+ghost use Rattle.ac_model.specs.Common as common;
 ghost use Rattle.ac_model.specs.Containers.{container, first_spare, guards_of, with_guards};
 ghost use Rattle.ac_model.specs.Cursors.{needs_cursor};
 ghost use Rattle.ac_model.specs.Forms.{Looks, seen_by};
 ghost use Rattle.ac_model.specs.KeyedSets as by_key;
-ghost use Rattle.ac_model.specs.Objects.{empty_object};
+ghost use Rattle.ac_model.specs.Objects.{empty_object, plain};
 ghost use Rattle.ac_model.specs.Sequences as sequences;
 ghost use Rattle.ac_setwork.specs.KeyCalls.{DoesAlways, cursor_guard_of};
 
@@ -60,6 +61,19 @@ where
             Ok(table) => Ok(SetRows { table }),
             Err(_) => Err(NoMemory),
         }
+    }
+
+    pub fn limit(&self) -> Limit
+        ensures { result ≡ self.now.object.limit }
+    {
+        self.table.limit()
+    }
+
+    /// Capacity (A.18.8), and 0 where there is none.
+    pub fn capacity(&self) -> i64
+        ensures { result ≡ common.capacity_call (plain self.now.object) }
+    {
+        self.table.capacity()
     }
 
     /// Element (A.18.7).

@@ -19,6 +19,13 @@ impl<S> SequenceRows<S> {
     {
         SequenceRows { sequence }
     }
+
+    /// The list or vector that it is.
+    pub fn sequence(&self) -> &S
+        ensures { result.now ≡ self.now.sequence }
+    {
+        &self.sequence
+    }
 }
 
 impl<S: Guarded> Guarded for SequenceRows<S> {

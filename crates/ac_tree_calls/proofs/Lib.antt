@@ -6,3 +6,4 @@ mod NodeLooks
 mod MetNodes
 mod TreeLooks
 mod Guarding
+pub mod NodesCopied

@@ -5,6 +5,7 @@ ghost use Rattle.ac_model.specs.Containers.{guards_of, with_guards};
 mod common_rows;
 mod listing;
 mod operated_rows;
+mod plain_copies;
 mod row_object;
 
 use ac_calls::ScriptElement;
@@ -39,6 +40,13 @@ impl<T: ScriptElement, C: EditedTree<T>> TreeRows<T, C> {
             tree,
             of: PhantomData,
         }
+    }
+
+    /// The tree that it is.
+    pub fn tree(&self) -> &C
+        ensures { C.seen result.now ≡ self.now }
+    {
+        &self.tree
     }
 }
 

@@ -3,6 +3,7 @@ ghost use Rattle.std.specs.Prelude.{refl};
 ghost use Rattle.ac_syntax.specs.Canonical.{literal_text};
 ghost use Rattle.ac_calls.specs.Elements.{keyed_texts};
 ghost use Rattle.ac_calls.specs.Holdings.{a_keyed_set};
+ghost use Rattle.ac_calls.specs.PlainRows.{element_form};
 ghost use Rattle.ac_calls.specs.KeyedReplies.{order_by};
 ghost use Rattle.ac_calls.specs.SetReplies.{set_own};
 ghost use Rattle.ac_keyed_calls.specs.KeyedSets.{keyed_items, keyed_kind};
@@ -10,7 +11,7 @@ ghost use Rattle.ac_keyed_calls.specs.KeyedSets.{keyed_items, keyed_kind};
 use super::KeyedSet;
 use crate::set_kind::SetKind;
 use ac_base::{Fault, KeyedText, NoMemory, Reason, Value};
-use ac_calls::{ListedRows, RowObject};
+use ac_calls::{ListedRows, PlainRow, RowObject};
 use ac_cursor::Cursor;
 use ac_io::{Sink, WriteFault};
 use std::alloc::Global;
@@ -69,6 +70,8 @@ impl<H: SetKind<KeyedText>, O: SetKind<KeyedText>> RowObject for KeyedSet<H, O> 
 impl<H: SetKind<KeyedText>, O: SetKind<KeyedText>> ListedRows for KeyedSet<H, O> {
     ghost row_text = { λ e. literal_text (keyed_texts.to_value e) };
 
+    ghost plain_of = { element_form keyed_texts };
+
     ghost listing_is = { λ _ _. refl };
 
     fn add_row<K: Sink>(
@@ -78,5 +81,9 @@ impl<H: SetKind<KeyedText>, O: SetKind<KeyedText>> ListedRows for KeyedSet<H, O>
         sink: &mut K,
     ) -> Result<(), WriteFault> {
         self.set.add_row(c, text, sink)
+    }
+
+    fn plain_row(&self, c: Cursor, alloc: Global) -> Result<PlainRow, NoMemory> {
+        self.set.plain_row(c, alloc)
     }
 }

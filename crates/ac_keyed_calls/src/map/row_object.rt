@@ -2,6 +2,7 @@
 ghost use Rattle.std.specs.Prelude.{refl};
 ghost use Rattle.ac_syntax.specs.Canonical.{literal_text};
 ghost use Rattle.ac_calls.specs.Holdings.{a_map};
+ghost use Rattle.ac_calls.specs.PlainRows.{entry_form};
 ghost use Rattle.ac_calls.specs.MapReplies.{map_own};
 ghost use Rattle.ac_calls.specs.Listings.{entry_text};
 ghost use Rattle.ac_keyed_calls.specs.Maps.{entries_of, map_kind_of};
@@ -10,7 +11,7 @@ use super::Map;
 use crate::map_kind::{HashedMapKind, OrderedMapKind};
 use crate::map_rows::MapRows;
 use ac_base::{Fault, NoMemory, Reason, Value};
-use ac_calls::{ListedRows, RowObject, ScriptElement};
+use ac_calls::{ListedRows, PlainRow, RowObject, ScriptElement};
 use ac_cursor::Cursor;
 use ac_io::{Sink, WriteFault};
 use ac_setwork::{Entry, Ordered};
@@ -113,6 +114,8 @@ where
 {
     ghost row_text = { entry_text (λ k. literal_text (K.tools.to_value k)) (λ e. literal_text (V.tools.to_value e)) };
 
+    ghost plain_of = { entry_form K.tools V.tools };
+
     ghost listing_is = { λ _ _. refl };
 
     fn add_row<W: Sink>(
@@ -124,6 +127,13 @@ where
         match self {
             Map::Hashed(map) => map.add_row(c, text, sink),
             Map::Ordered(map) => map.add_row(c, text, sink),
+        }
+    }
+
+    fn plain_row(&self, c: Cursor, alloc: Global) -> Result<PlainRow, NoMemory> {
+        match self {
+            Map::Hashed(map) => map.plain_row(c, alloc),
+            Map::Ordered(map) => map.plain_row(c, alloc),
         }
     }
 }

@@ -2,6 +2,7 @@
 ghost use Rattle.std.specs.Prelude.{refl};
 ghost use Rattle.ac_syntax.specs.Canonical.{literal_text};
 ghost use Rattle.ac_calls.specs.Holdings.{a_map};
+ghost use Rattle.ac_calls.specs.PlainRows.{entry_form};
 ghost use Rattle.ac_calls.specs.MapReplies.{map_own};
 ghost use Rattle.ac_calls.specs.Listings.{entry_text};
 
@@ -9,7 +10,7 @@ use super::MapRows;
 use crate::entry_listing::add_entry;
 use crate::map_kind::MapKind;
 use ac_base::{Fault, NoMemory, Reason, Value};
-use ac_calls::{ListedRows, RowObject, ScriptElement};
+use ac_calls::{ListedRows, PlainRow, RowObject, ScriptElement, entry_row};
 use ac_cursor::Cursor;
 use ac_io::{Sink, WriteFault};
 use ac_setwork::Entry;
@@ -76,6 +77,8 @@ impl<K: ScriptElement, V: ScriptElement, M: MapKind<K, V>> RowObject for MapRows
 impl<K: ScriptElement, V: ScriptElement, M: MapKind<K, V>> ListedRows for MapRows<K, V, M> {
     ghost row_text = { entry_text (λ k. literal_text (K.tools.to_value k)) (λ e. literal_text (V.tools.to_value e)) };
 
+    ghost plain_of = { entry_form K.tools V.tools };
+
     ghost listing_is = { λ _ _. refl };
 
     fn add_row<W: Sink>(
@@ -86,6 +89,13 @@ impl<K: ScriptElement, V: ScriptElement, M: MapKind<K, V>> ListedRows for MapRow
     ) -> Result<(), WriteFault> {
         match self.table.row(c) {
             Ok(row) => add_entry(row.key(), row.element(), text, sink),
+            Err(_) => unreachable!(),
+        }
+    }
+
+    fn plain_row(&self, c: Cursor, alloc: Global) -> Result<PlainRow, NoMemory> {
+        match self.table.row(c) {
+            Ok(row) => entry_row(row.key(), row.element(), alloc),
             Err(_) => unreachable!(),
         }
     }

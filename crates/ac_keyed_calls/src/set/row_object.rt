@@ -2,6 +2,7 @@
 ghost use Rattle.std.specs.Prelude.{refl};
 ghost use Rattle.ac_syntax.specs.Canonical.{literal_text};
 ghost use Rattle.ac_calls.specs.Holdings.{a_set};
+ghost use Rattle.ac_calls.specs.PlainRows.{element_form};
 ghost use Rattle.ac_calls.specs.KeyedReplies.{order_by};
 ghost use Rattle.ac_calls.specs.SetReplies.{set_own};
 ghost use Rattle.ac_keyed_calls.specs.Sets.{items_of, set_kind_of};
@@ -9,7 +10,7 @@ ghost use Rattle.ac_keyed_calls.specs.Sets.{items_of, set_kind_of};
 use super::Set;
 use crate::set_kind::SetKind;
 use ac_base::{Fault, NoMemory, Reason, Value};
-use ac_calls::{ListedRows, RowObject, ScriptElement};
+use ac_calls::{ListedRows, PlainRow, RowObject, ScriptElement, element_row};
 use ac_cursor::Cursor;
 use ac_io::{Sink, WriteFault};
 use std::alloc::Global;
@@ -96,6 +97,8 @@ impl<T: ScriptElement, H: SetKind<T>, O: SetKind<T>> RowObject for Set<T, H, O> 
 impl<T: ScriptElement, H: SetKind<T>, O: SetKind<T>> ListedRows for Set<T, H, O> {
     ghost row_text = { λ e. literal_text (T.tools.to_value e) };
 
+    ghost plain_of = { element_form T.tools };
+
     ghost listing_is = { λ _ _. refl };
 
     fn add_row<K: Sink>(
@@ -106,6 +109,13 @@ impl<T: ScriptElement, H: SetKind<T>, O: SetKind<T>> ListedRows for Set<T, H, O>
     ) -> Result<(), WriteFault> {
         match self.element(c) {
             Ok(element) => element.add_literal(text, sink),
+            Err(_) => unreachable!(),
+        }
+    }
+
+    fn plain_row(&self, c: Cursor, alloc: Global) -> Result<PlainRow, NoMemory> {
+        match self.element(c) {
+            Ok(element) => element_row(element, alloc),
             Err(_) => unreachable!(),
         }
     }

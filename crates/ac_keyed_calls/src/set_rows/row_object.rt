@@ -2,12 +2,13 @@
 ghost use Rattle.std.specs.Prelude.{refl};
 ghost use Rattle.ac_syntax.specs.Canonical.{literal_text};
 ghost use Rattle.ac_calls.specs.Holdings.{a_set};
+ghost use Rattle.ac_calls.specs.PlainRows.{element_form};
 ghost use Rattle.ac_calls.specs.KeyedReplies.{kind_by_capacity};
 ghost use Rattle.ac_calls.specs.SetReplies.{set_own};
 
 use super::SetRows;
 use ac_base::{Fault, NoMemory, Reason, Value};
-use ac_calls::{ListedRows, RowObject, ScriptElement};
+use ac_calls::{ListedRows, PlainRow, RowObject, ScriptElement, element_row};
 use ac_cursor::Cursor;
 use ac_io::{Sink, WriteFault};
 use ac_setwork::Keyed;
@@ -80,6 +81,8 @@ where
 {
     ghost row_text = { λ e. literal_text (I.Row.tools.to_value e) };
 
+    ghost plain_of = { element_form I.Row.tools };
+
     ghost listing_is = { λ _ _. refl };
 
     fn add_row<K: Sink>(
@@ -90,6 +93,13 @@ where
     ) -> Result<(), WriteFault> {
         match self.element(c) {
             Ok(element) => element.add_literal(text, sink),
+            Err(_) => unreachable!(),
+        }
+    }
+
+    fn plain_row(&self, c: Cursor, alloc: Global) -> Result<PlainRow, NoMemory> {
+        match self.element(c) {
+            Ok(element) => element_row(element, alloc),
             Err(_) => unreachable!(),
         }
     }

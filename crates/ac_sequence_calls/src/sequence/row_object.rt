@@ -2,13 +2,14 @@
 ghost use Rattle.std.specs.Prelude.{refl};
 ghost use Rattle.ac_syntax.specs.Canonical.{literal_text};
 ghost use Rattle.ac_calls.specs.Holdings.{a_sequence};
+ghost use Rattle.ac_calls.specs.PlainRows.{element_form};
 ghost use Rattle.ac_calls.specs.SequenceReplies.{sequence_own};
 ghost use Rattle.ac_sequence_calls.specs.Sequences.{by_kind, kind_of};
 
 use super::Sequence;
 use crate::fields::{answer_by_fields, by_fields};
 use ac_base::{Fault, NoMemory, Reason, Value};
-use ac_calls::{ListedRows, RowObject, ScriptElement};
+use ac_calls::{ListedRows, PlainRow, RowObject, ScriptElement};
 use ac_chain::{ListLike, VectorLike};
 use ac_cursor::Cursor;
 use ac_io::{Sink, WriteFault};
@@ -105,6 +106,8 @@ where
 {
     ghost row_text = { λ e. literal_text (L.Element.tools.to_value e) };
 
+    ghost plain_of = { element_form L.Element.tools };
+
     ghost listing_is = { λ _ _. refl };
 
     fn add_row<K: Sink>(
@@ -116,6 +119,13 @@ where
         match self {
             Sequence::List(list) => list.add_row(c, text, sink),
             Sequence::Vector(vector) => vector.add_row(c, text, sink),
+        }
+    }
+
+    fn plain_row(&self, c: Cursor, alloc: Global) -> Result<PlainRow, NoMemory> {
+        match self {
+            Sequence::List(list) => list.plain_row(c, alloc),
+            Sequence::Vector(vector) => vector.plain_row(c, alloc),
         }
     }
 }

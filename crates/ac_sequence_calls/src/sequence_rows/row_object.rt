@@ -2,12 +2,13 @@
 ghost use Rattle.std.specs.Prelude.{refl};
 ghost use Rattle.ac_syntax.specs.Canonical.{literal_text};
 ghost use Rattle.ac_calls.specs.Holdings.{a_sequence};
+ghost use Rattle.ac_calls.specs.PlainRows.{element_form};
 ghost use Rattle.ac_calls.specs.SequenceReplies.{sequence_own};
 ghost use Rattle.ac_sequence_calls.specs.SequenceCalls.{kind_by_names};
 
 use super::SequenceRows;
 use ac_base::{Fault, NoMemory, Reason, Value};
-use ac_calls::{ListedRows, RowObject, ScriptElement};
+use ac_calls::{ListedRows, PlainRow, RowObject, ScriptElement, element_row};
 use ac_chain::SequenceLike;
 use ac_cursor::Cursor;
 use ac_io::{Sink, WriteFault};
@@ -82,6 +83,8 @@ where
 {
     ghost row_text = { λ e. literal_text (S.Element.tools.to_value e) };
 
+    ghost plain_of = { element_form S.Element.tools };
+
     ghost listing_is = { λ _ _. refl };
 
     fn add_row<K: Sink>(
@@ -92,6 +95,13 @@ where
     ) -> Result<(), WriteFault> {
         match self.sequence.element(c) {
             Ok(element) => element.add_literal(text, sink),
+            Err(_) => unreachable!(),
+        }
+    }
+
+    fn plain_row(&self, c: Cursor, alloc: Global) -> Result<PlainRow, NoMemory> {
+        match self.sequence.element(c) {
+            Ok(element) => element_row(element, alloc),
             Err(_) => unreachable!(),
         }
     }
