@@ -69,3 +69,4 @@ pub mod KeyedReads
 pub mod OtherReads
 pub mod RepliesRead
 pub mod Ends
+pub mod TypesTold

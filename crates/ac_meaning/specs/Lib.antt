@@ -24,3 +24,5 @@ pub mod HolderExamples
 pub mod TaskExamples
 pub mod MeaningExamples
 pub mod Propagation
+pub mod Plains
+pub mod PlainExamples

@@ -17,11 +17,25 @@ ghost use Rattle.ac_meaning.specs.TreeExamples.{BoundedTreesAreFull, RootsAreNoN
 ghost use Rattle.ac_meaning.specs.HolderExamples.{HolderIsBounded, ViewsGuardHolders, HoldersAreCompared, HoldersGiveAndTake};
 ghost use Rattle.ac_meaning.specs.HolderExamples.{LimitsAreOfBoth, WritesAreWithinLimits, IntegersHaveEightBytes, EmptyStringsHaveNone};
 ghost use Rattle.ac_meaning.specs.HolderExamples.{HoldersMeetThemselves, GuardsAreOfBoth, InnerHoldersAreNew, HoldersHaveNoNodes};
+ghost use Rattle.ac_meaning.specs.PlainExamples.{VectorsArePlain, ListsArePlain, MapsArePlain, SetsArePlain, TreesArePlain};
+ghost use Rattle.ac_meaning.specs.PlainExamples.{HoldersArePlain, QueuesArePlain, VariablesArePlain};
 ghost use Rattle.ac_meaning.specs.MeaningExamples.{RefusalsAreOneLine, UnknownNamesAreRefused, NothingWritesNothing};
 ghost use Rattle.ac_meaning.specs.TaskExamples.{QueuesStall, PrioritiesGoFirst, AllTasksStall, OneItemGoesByTurns};
 ghost use Rattle.ac_meaning.specs.TaskExamples.{TwoItemsGoAsOrdered, RaisedStepGoesOn, LocalsAreOwn, UsesAreTold, BlocksHaveOrders};
 ghost use Rattle.ac_meaning.specs.Propagation.{LoopIsLeft, GoesOnWithout, CopyIsDropped, FirstHandlerTakes};
 ghost use Rattle.ac_meaning.specs.Propagation.{EndsTheScript, StalledRaisesNothing, NoFurtherTurn, EndRaises};
+
+/// What small scripts leave of each kind of object, as plain values.
+pub fn plain_values()
+    ensures vectors_are_plain { VectorsArePlain }
+    ensures lists_are_plain { ListsArePlain }
+    ensures maps_are_plain { MapsArePlain }
+    ensures sets_are_plain { SetsArePlain }
+    ensures trees_are_plain { TreesArePlain }
+    ensures holders_are_plain { HoldersArePlain }
+    ensures queues_are_plain { QueuesArePlain }
+    ensures variables_are_plain { VariablesArePlain }
+{}
 
 /// What small scripts write, to the byte.
 pub fn list_scripts()

@@ -11,6 +11,7 @@ ghost use Rattle.ac_meaning.specs.HoldsTypes.{TypesFound, DeclaredHolds, HeadsHo
 ghost use Rattle.ac_meaning.specs.AsDeclared.{StatesGoOn, StaysDeclared};
 ghost use Rattle.ac_meaning.specs.Suits.{CallsSuit, BlocksSuit, TasksFit, TasksRun};
 ghost use Rattle.ac_meaning.specs.ValueTypes.{ValuesFound, ValuesDeclared, ValuesInBlocks, ValuesGoOn, AnswersAreTold, ValuesTaken};
+ghost use Rattle.ac_meaning.specs.Plains.{TypesTold};
 ghost use Rattle.ac_meaning.specs.ReadsByLetter.{ReadsByLetter};
 ghost use Rattle.ac_meaning.specs.HistoryLines.{EntriesHaveLines, BlocksAreCounted};
 ghost use Rattle.ac_meaning.specs.Numbers.{NumbersTell, NumbersGoOnDiffering, NextRises, BlocksRise};
@@ -154,4 +155,9 @@ pub fn refusals_leave()
 pub fn statements_end()
     ensures normal { EndsStayNormal }
     ensures none_runs { NoneRunsBehind }
+{}
+
+/// The type that a plain value tells of a new object is the one that it was declared with.
+pub fn types_told()
+    ensures { TypesTold }
 {}
