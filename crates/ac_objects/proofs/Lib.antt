@@ -20,3 +20,4 @@ pub mod Names
 pub mod Lasting
 pub mod Performing
 pub mod Lent
+pub mod PlainsMade

@@ -14,3 +14,4 @@ pub mod Steps
 pub mod Visited
 pub mod Edited
 pub mod Lent
+pub mod Told

@@ -17,19 +17,21 @@ mod new_objects;
 mod numbered_queue;
 mod object;
 mod objects;
+mod plains;
 mod ranking;
 mod reading;
 mod scopes;
 mod sequence;
 mod set;
+mod telling;
 mod updates;
 mod views;
 mod visiting;
 mod walking;
 
 pub use ac_calls::{
-    Argument, Arguments, Frame, ListedRows, OperatedRows, Placed, Reply, RowObject, Said,
-    ScriptElement,
+    Argument, Arguments, Frame, ListedRows, OperatedRows, Placed, Plain, PlainRow, PlainRows,
+    Plains, Reply, RowObject, Said, ScriptElement,
 };
 pub use blocks::{DeclareFault, LoopKey, UpdateKey, ViewKey};
 pub use bound::Bound;
