@@ -13,8 +13,9 @@ use Rattle.ac_meaning.specs.Environment.{State, objects_by, under, object_at, le
 use Rattle.ac_meaning.specs.Execution.{End, commanded, key_end_on}
 use Rattle.ac_meaning.specs.UnderGuards.{held_without}
 use Rattle.ac_meaning.proofs.CommandsStay.{command_stays}
-use Rattle.ac_objects.specs.declared.blocks.UpdateKey.{UpdateKey}
-use Rattle.ac_objects.specs.Blocks.{holding, releasing, guards_of_update_key}
+use Rattle.ac_objects.specs.declared.blocks.ViewKey.{ViewKey}
+use Rattle.ac_objects.specs.declared.blocks.ViewKey.TheVariants as keys
+use Rattle.ac_objects.specs.Blocks.{holding, releasing, guards_of_open_update, guards_of_view_key}
 use Rattle.ac_objects.specs.World.{World}
 use Rattle.ac_host.specs.declared.end.HostEnd.{HostEnd}
 use Rattle.ac_host.specs.Ready.{IsUnder}
@@ -63,11 +64,17 @@ decls_count [] e = refl
 decls_count (d ∷ ds) e =
     let x = after_decl e d in step_count (after_decls ds) x x.spent e.blocks refl (decl_count e d) (decls_count ds x.after)
 
--- Commands, and ends of updates of a key
+-- Commands, and ends of blocks that view an object
 
 key_end_count : (line object : ℕ) (e : State) (at : Mark) (copy : Value) (found : Option Held) → (key_end_on line object e at copy found).after.blocks ≡ e.blocks
 key_end_count line object e at copy None = refl
 key_end_count line object e at copy (Some h) = refl
+
+ended_count : (line : ℕ) (key : ViewKey) (guards : Guards) (e : State) → (key_ending line key guards None e).after.blocks ≡ e.blocks
+ended_count line (keys.View view) guards e = refl
+ended_count line (keys.Update update) guards e =
+    let left = leaving update.names e in
+    key_end_count line update.object left (plain_mark update.at) _ (object_at (under (guards_of_open_update update ++ guards) left) update.object)
 
 module _ {K : Type 0} (held : K → Option (List ℕ)) (faults : K → ℕ) (room : K → Option ℕ) (counts : K → Bool) where
   pub commanded_blocks : {old : World} {a b : K} {result : Result End HostEnd} (new : World) (simple : ResolvedSimple) (guards : Guards) (e : State) → IsUnder old guards e →
@@ -76,13 +83,9 @@ module _ {K : Type 0} (held : K → Option (List ℕ)) (faults : K → ℕ) (roo
       on_ok_weaker result
       (λ is. ap (λ (s : State). s.blocks) is ∙ ((command_stays (under guards e) simple).blocks ∙ ap (λ (s : State). s.blocks) (sym u.is))) ran.after
 
-  pub ending_blocks : {old : World} {a b : K} {result : Result End HostEnd} (new : World) (line : ℕ) (key : UpdateKey) (guards : Guards) (e : State) →
-      IsUnder old (guards_of_update_key key ++ guards) e →
+  pub ending_blocks : {old : World} {a b : K} {result : Result End HostEnd} (new : World) (line : ℕ) (key : ViewKey) (guards : Guards) (e : State) →
+      IsUnder old (guards_of_view_key key ++ guards) e →
       Ran held faults room counts a b new guards (key_ending line key guards None e) result → OnOk result (SameCount old new)
   ending_blocks {result = result} new line key guards e u ran =
-      let left = leaving key.names e in
       on_ok_weaker result
-      (λ is.
-      ap (λ (s : State). s.blocks) is
-      ∙ (key_end_count line key.object left (plain_mark key.at) _ (object_at (under (guards_of_update_key key ++ guards) left) key.object)
-      ∙ ap (λ (s : State). s.blocks) (sym u.is))) ran.after
+      (λ is. ap (λ (s : State). s.blocks) is ∙ (ended_count line key guards e ∙ ap (λ (s : State). s.blocks) (sym u.is))) ran.after

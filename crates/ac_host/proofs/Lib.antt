@@ -15,6 +15,7 @@ mod Opening
 mod Commands
 mod Blocks
 mod Updating
+mod Viewing
 mod Starting
 mod Scripts
 mod OneLine

@@ -1,5 +1,5 @@
 -- What a statement comes to, and where the turns of a loop stand.
-use Rattle.std.specs.Prelude.{◌≡◌, ◌<◌, ◌+◌, ℕ, Bool, true, List, ◌++◌, length, slice_get, Option, Some, Result}
+use Rattle.std.specs.Prelude.{◌≡◌, ◌<◌, ◌+◌, ⊤, ℕ, Bool, true, List, [], ◌++◌, length, slice_get, Option, Some, Result}
 use Rattle.ac_base.specs.declared.guard.GuardKind.TheVariants.{Cursors}
 use Rattle.ac_model.specs.Cursors.{plain_mark}
 use Rattle.ac_model.specs.Letters.{Mark}
@@ -11,8 +11,12 @@ use Rattle.ac_meaning.specs.Environment.{State, under, value_at, leaving}
 use Rattle.ac_meaning.specs.Execution.{End, Outcome, ending, Orders, passed_on, followed, unless_raised, commanded, gathered, block_on, resolved_behind, exec_resolved, in_order, guards_of_loop, key_end}
 use Rattle.ac_meaning.specs.GuardedNames.{is_guarded, of_object, of_value, kept}
 use Rattle.ac_meaning.specs.Walks.{first_mark}
-use Rattle.ac_objects.specs.declared.blocks.UpdateKey.{UpdateKey}
-use Rattle.ac_objects.specs.Blocks.{guards_of_update_key, IsHeldAt}
+use Rattle.ac_objects.specs.declared.blocks.OpenUpdate.{OpenUpdate}
+use Rattle.ac_objects.specs.declared.blocks.ViewHead.{ViewHead}
+use Rattle.ac_objects.specs.declared.blocks.ViewHead.TheVariants as heads
+use Rattle.ac_objects.specs.declared.blocks.ViewKey.{ViewKey}
+use Rattle.ac_objects.specs.declared.blocks.ViewKey.TheVariants as keys
+use Rattle.ac_objects.specs.Blocks.{object_of_key, names_of_key, guard_of_key, guards_of_view_key, guards_of_open_update, IsHeldAt}
 use Rattle.ac_objects.specs.RootFree.{NoRootAmong}
 use Rattle.ac_objects.specs.Standing.{counts_of}
 use Rattle.ac_objects.specs.World.{World, state_of, IsKnown, Persists}
@@ -24,6 +28,11 @@ use Rattle.ac_host.specs.Writing.{Ran, WroteSoFar}
 -- a block, with its body
 abbrev pub block_of : (propagates : Bool) → Orders → (body : ResolvedCode) → Guards → State → ResolvedHead → Outcome
 block_of propagates orders body guards e head = block_on (exec_resolved propagates orders body) guards orders body e head
+
+-- the head of a block that views an object, as the block's line has it
+abbrev pub head_at : ℕ → ViewHead → ResolvedHead
+head_at line (heads.Element kind object at) = views_at line kind object at
+head_at line (heads.Stable object) = stables_at line object
 
 -- a block with handlers: behind an exception that leaves the body, the first that takes it
 abbrev pub handled_of : (propagates : Bool) → Orders → (body handlers : ResolvedCode) → Guards → State → Outcome
@@ -47,10 +56,13 @@ statement_outcome (Handled body handlers) propagates orders guards e = handled_o
 abbrev pub inside : ℕ → Outcome → Outcome
 inside count r = ending r.end r.lines (leaving count r.after)
 
--- what an update of a key comes to behind its body, which ended so and has left this environment: behind an exception the copy's name goes, and nothing else is done
-abbrev pub key_ending : ℕ → UpdateKey → Guards → End → State → Outcome
-key_ending line key guards end e =
-    unless_raised (key_end line key.object (plain_mark key.at) (value_at e key.names) (guards_of_update_key key ++ guards)) end (leaving key.names e)
+-- what a block that views an object comes to behind its body, which ended so and has left this environment: the block's name goes, and the
+-- end stays. An update of a key ends with its copy, but behind an exception
+abbrev pub key_ending : ℕ → ViewKey → Guards → End → State → Outcome
+key_ending line (keys.View view) guards end e = ending end [] (leaving view.names e)
+key_ending line (keys.Update update) guards end e =
+    unless_raised (key_end line update.object (plain_mark update.at) (value_at e update.names) (guards_of_open_update update ++ guards)) end
+    (leaving update.names e)
 
 -- what runs on the objects comes to this, for whatever environment they are
 abbrev pub Runs : {K : Type 0} → (K → Option (List ℕ)) → (K → ℕ) → (K → Option ℕ) → (K → Bool) → (sink_old sink_new : K) → (old new : World) →
@@ -92,19 +104,28 @@ pub record IsTurning (elements : Bool) (w : World) (count object : ℕ) (backwar
   pub names : List ℕ
   pub turning : Turning w count object backward coming (guards_of_loop elements held ++ guards) env (number_of held) (names_of held) names
 
--- an update of a key goes on: its guard is held, among others in such an environment, its cursor designates an element of its object, and
--- the last name is that of the copy
-pub record IsUpdating (w : World) (key : UpdateKey) : Type 0 where
+-- an update of a key goes on while these guards are held in this environment: its cursor designates an element of its object, and the last
+-- name is that of the copy
+pub record UpdateGoesOn (w : World) (held : Guards) (env : State) (update : OpenUpdate) : Type 0 where
+  pub element : IsKept held (kept held env) update.object (plain_mark update.at)
+  pub copy : slice_get (kept held env) update.names ≡ Some of_value
+  pub last : length w.bounds ≡ update.names + 1
+  pub known : IsKnown w update.at
+  pub cursors : update.guard.kind ≡ Cursors
+
+-- nothing of that is asked of a view or a `stable`
+abbrev pub IsUpdating : World → Guards → State → ViewKey → Type 0
+IsUpdating w held env (keys.View view) = ⊤
+IsUpdating w held env (keys.Update update) = UpdateGoesOn w held env update
+
+-- a block that views an object goes on: its guard is held, among others in such an environment
+pub record IsViewing (w : World) (key : ViewKey) : Type 0 where
   pub guards : Guards
   pub env : State
-  pub stands : IsUnder w (guards_of_update_key key ++ guards) env
-  pub element : IsKept (guards_of_update_key key ++ guards) (kept (guards_of_update_key key ++ guards) env) key.object (plain_mark key.at)
-  pub copy : slice_get (kept (guards_of_update_key key ++ guards) env) key.names ≡ Some of_value
-  pub last : length w.bounds ≡ key.names + 1
-  pub known : IsKnown w key.at
-  pub inner : key.object < key.names
-  pub guard : IsHeldAt (state_of w) key.object key.guard
-  pub cursors : key.guard.kind ≡ Cursors
+  pub stands : IsUnder w (guards_of_view_key key ++ guards) env
+  pub inner : object_of_key key < names_of_key key
+  pub guard : IsHeldAt (state_of w) (object_of_key key) (guard_of_key key)
+  pub updating : IsUpdating w (guards_of_view_key key ++ guards) env key
 
 -- in the middle of a whole: what is left of it, of the environment that stands
 

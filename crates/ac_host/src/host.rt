@@ -1,19 +1,17 @@
 //! The host: it runs statements in order, and writes the line of each command as soon as it has run.
-ghost use Rattle.std.specs.Prelude.{◌≡◌, ◌<◌, ◌+◌, ◌++◌, [], ◌∷◌, ℕ, List, length, take, Some, None};
+ghost use Rattle.std.specs.Prelude.{◌≡◌, ◌<◌, ◌+◌, ◌++◌, ℕ, List, length, take, Some, None};
 ghost use Rattle.ac_base.specs.declared.reason.Reason.TheVariants.{NamesSpent};
-ghost use Rattle.ac_base.specs.declared.fault.Fault.TheVariants as fault;
 ghost use Rattle.ac_model.specs.Cursors.{plain_mark};
-ghost use Rattle.ac_rules.specs.Resolved.{calls_at, sets_at, sums_at, loops_at, views_at, stables_at, declares_at};
+ghost use Rattle.ac_rules.specs.Resolved.{calls_at, sets_at, sums_at, loops_at, declares_at};
 ghost use Rattle.ac_rules.specs.ResolvedStatements.{resolved_handlers_of};
-ghost use Rattle.ac_calls.specs.Answers.{line as line_of, lines_text, answers_raised};
 ghost use Rattle.ac_calls.specs.Holdings.{Held, Guards, number_of, names_of};
 ghost use Rattle.ac_meaning.specs.Environment.{State, leaving};
 ghost use Rattle.ac_meaning.specs.Execution.{commanded, exec_resolved, resolved_behind, followed, turns, guards_of_loop};
-ghost use Rattle.ac_objects.specs.Blocks.{releasing, guards_of_loop_key, guards_of_update_key, guards_of_view_key, IsHeldAt};
-ghost use Rattle.ac_objects.specs.Standing.{TakesGuards, counts_of};
+ghost use Rattle.ac_objects.specs.Blocks.{releasing, names_of_key, guards_of_loop_key, guards_of_view_key};
+ghost use Rattle.ac_objects.specs.Standing.{counts_of};
 ghost use Rattle.ac_objects.specs.World.{state_of, IsKnown, Persists};
 ghost use Rattle.ac_host.specs.Ready.{IsReady, IsUnder};
-ghost use Rattle.ac_host.specs.Running.{block_of, handled_of, statement_outcome, inside, key_ending, Runs, RunsByOrders, Leaves, Turning, IsTurning, IsUpdating};
+ghost use Rattle.ac_host.specs.Running.{block_of, handled_of, statement_outcome, head_at, inside, key_ending, Runs, RunsByOrders, Leaves, Turning, IsTurning, IsViewing};
 ghost use Rattle.ac_host.specs.Told.{Tells};
 ghost use Rattle.ac_host.specs.Writing.{Ran, Reached};
 
@@ -23,9 +21,9 @@ use crate::runner::BlockRunner;
 use crate::written::{write_line, write_refusal};
 use ac_base::{Exception, Fault, Reason};
 use ac_io::Sink;
-use ac_objects::{DeclareFault, Frame, LoopKey, Objects, UpdateKey, ViewKey};
+use ac_objects::{DeclareFault, Frame, LoopKey, Objects, ViewHead, ViewKey};
 use ac_rules::{ResolvedArg, ResolvedDecl, ResolvedHandler, ResolvedStmt, ResolvedStmts};
-use ac_syntax::{Operation, ViewKind};
+use ac_syntax::Operation;
 
 /// A script that runs: what its names hold, and the line that is made next.
 #[derive(Drop)]
@@ -188,10 +186,32 @@ impl Host {
         ended
     }
 
-    /// Runs the body of a view or `stable` that was begun, and ends it.
+    /// Ends a block that views an object, whose body ended. Where the copy of an update has another key, a line of the block says so.
+    fn end_view<K: Sink>(
+        &mut self,
+        line: u64,
+        key: ViewKey,
+        sink: &mut K,
+    ) -> Result<Option<Exception>, HostEnd>
+        requires viewing { IsViewing self.old.objects key }
+        ensures runs { (guards : Guards) (e : State) → IsUnder self.old.objects (guards_of_view_key key ++ guards) e →
+            Ran K.held K.faults K.room K.counts_failures sink.old sink.new self.new.objects guards (key_ending line key guards None e) result }
+        ensures persists { Persists self.old.objects self.new.objects }
+        ensures counts { counts_of (state_of self.new.objects)
+            ≡ counts_of (releasing (guards_of_view_key key) (leaving (names_of_key key) (state_of self.old.objects))) }
+    {
+        match self.objects.leave_view(key) {
+            Ok(()) => Ok(None),
+            Err(Fault::Raised(reason)) => write_refusal(line, reason, &mut self.text, sink),
+            Err(Fault::NoMemory) => unreachable!(),
+        }
+    }
+
+    /// Runs the body of a block that views an object and was begun, and ends it, or drops its key where the body was left.
     #[cycle(statements)]
     fn run_viewed<K: Sink, B: BlockRunner>(
         &mut self,
+        line: u64,
         key: ViewKey,
         body: &ResolvedStmts,
         propagates: bool,
@@ -199,142 +219,35 @@ impl Host {
         runner: &B,
     ) -> Result<Option<Exception>, HostEnd>
         requires sound { B.is_sound runner.now }
-        requires ready { IsReady self.old.objects }
-        requires inner { key.object < key.names }
-        requires guard { IsHeldAt (state_of self.old.objects) key.object key.guard }
+        requires viewing { IsViewing self.old.objects key }
         ensures runs { Tells B.allows self.old.objects self.new.objects result (λ orders.
             (guards : Guards) (e : State) → IsUnder self.old.objects (guards_of_view_key key ++ guards) e →
             Ran K.held K.faults K.room K.counts_failures sink.old sink.new self.new.objects guards
-            (inside key.names (exec_resolved propagates orders body.now (guards_of_view_key key ++ guards) e)) result) }
+            (followed (exec_resolved propagates orders body.now (guards_of_view_key key ++ guards) e) (key_ending line key guards)) result) }
         ensures persists { Persists self.old.objects self.new.objects }
         ensures counts { counts_of (state_of self.new.objects)
-            ≡ counts_of (releasing (guards_of_view_key key) (leaving key.names (state_of self.old.objects))) }
-    {
-        let ended = self.run_statements(body, propagates, sink, runner);
-        self.objects.leave_view(key);
-        ended
-    }
-
-    /// Runs a view of an element itself.
-    #[cycle(statements)]
-    fn run_element_view<K: Sink, B: BlockRunner>(
-        &mut self,
-        line: u64,
-        kind: ViewKind,
-        object: usize,
-        at: Option<usize>,
-        body: &ResolvedStmts,
-        propagates: bool,
-        sink: &mut K,
-        runner: &B,
-    ) -> Result<Option<Exception>, HostEnd>
-        requires sound { B.is_sound runner.now }
-        requires ready { IsReady self.old.objects }
-        requires view { kind ≡ ViewKind.UpdateKey → ⊥ }
-        requires object { TakesGuards (state_of self.old.objects) object }
-        ensures runs { RunsByOrders B.allows K.held K.faults K.room K.counts_failures sink.old sink.new
-            self.old.objects self.new.objects
-            (λ orders guards e. block_of propagates orders body.now guards e (views_at line kind object at)) result }
-        ensures leaves { Leaves self.old.objects self.new.objects }
-    {
-        match self.objects.enter_view(kind, object, at) {
-            Ok(key) => self.run_viewed(key, body, propagates, sink, runner),
-            Err(Fault::Raised(reason)) => write_refusal(line, reason, &mut self.text, sink),
-            Err(Fault::NoMemory) => Err(HostEnd::NoMemory),
-        }
-    }
-
-    #[cycle(statements)]
-    #[inline(never)]
-    fn run_view<K: Sink, B: BlockRunner>(
-        &mut self,
-        line: u64,
-        kind: ViewKind,
-        object: usize,
-        at: Option<usize>,
-        body: &ResolvedStmts,
-        propagates: bool,
-        sink: &mut K,
-        runner: &B,
-    ) -> Result<Option<Exception>, HostEnd>
-        requires sound { B.is_sound runner.now }
-        requires ready { IsReady self.old.objects }
-        ensures runs { RunsByOrders B.allows K.held K.faults K.room K.counts_failures sink.old sink.new
-            self.old.objects self.new.objects
-            (λ orders guards e. block_of propagates orders body.now guards e (views_at line kind object at)) result }
-        ensures leaves { Leaves self.old.objects self.new.objects }
-    {
-        if !self.objects.takes_guards(object) {
-            return Ok(None);
-        }
-        match kind {
-            ViewKind::UpdateKey => self.run_update(
-                line, object, at, body, propagates, sink, runner,
-            ),
-            _ => self.run_element_view(line, kind, object, at, body, propagates, sink, runner),
-        }
-    }
-
-    /// Ends an update of a key whose body ended. Where the copy has another key, a line of the block says so.
-    fn end_update<K: Sink>(
-        &mut self,
-        line: u64,
-        key: UpdateKey,
-        sink: &mut K,
-    ) -> Result<Option<Exception>, HostEnd>
-        requires updating { IsUpdating self.old.objects key }
-        ensures runs { (guards : Guards) (e : State) → IsUnder self.old.objects (guards_of_update_key key ++ guards) e →
-            Ran K.held K.faults K.room K.counts_failures sink.old sink.new self.new.objects guards (key_ending line key guards None e) result }
-        ensures persists { Persists self.old.objects self.new.objects }
-        ensures counts { counts_of (state_of self.new.objects)
-            ≡ counts_of (releasing (guards_of_update_key key) (leaving key.names (state_of self.old.objects))) }
-    {
-        match self.objects.leave_update(key) {
-            Some(reason) => write_refusal(line, reason, &mut self.text, sink),
-            None => Ok(None),
-        }
-    }
-
-    /// Runs the body of an update of a key that was begun, and ends it, or drops it where the body was left.
-    #[cycle(statements)]
-    fn run_updated<K: Sink, B: BlockRunner>(
-        &mut self,
-        line: u64,
-        key: UpdateKey,
-        body: &ResolvedStmts,
-        propagates: bool,
-        sink: &mut K,
-        runner: &B,
-    ) -> Result<Option<Exception>, HostEnd>
-        requires sound { B.is_sound runner.now }
-        requires updating { IsUpdating self.old.objects key }
-        ensures runs { Tells B.allows self.old.objects self.new.objects result (λ orders.
-            (guards : Guards) (e : State) → IsUnder self.old.objects (guards_of_update_key key ++ guards) e →
-            Ran K.held K.faults K.room K.counts_failures sink.old sink.new self.new.objects guards
-            (followed (exec_resolved propagates orders body.now (guards_of_update_key key ++ guards) e) (key_ending line key guards)) result) }
-        ensures persists { Persists self.old.objects self.new.objects }
-        ensures counts { counts_of (state_of self.new.objects)
-            ≡ counts_of (releasing (guards_of_update_key key) (leaving key.names (state_of self.old.objects))) }
+            ≡ counts_of (releasing (guards_of_view_key key) (leaving (names_of_key key) (state_of self.old.objects))) }
     {
         match self.run_statements(body, propagates, sink, runner) {
-            Ok(None) => self.end_update(line, key, sink),
+            Ok(None) => self.end_view(line, key, sink),
             Ok(Some(raised)) => {
-                self.objects.drop_update(key);
+                self.objects.drop_view(key);
                 Ok(Some(raised))
             }
             Err(end) => {
-                self.objects.drop_update(key);
+                self.objects.drop_view(key);
                 Err(end)
             }
         }
     }
 
+    /// Runs a view of an element, an update of its key or a `stable`.
     #[cycle(statements)]
-    fn run_update<K: Sink, B: BlockRunner>(
+    #[inline(never)]
+    fn run_view<K: Sink, B: BlockRunner>(
         &mut self,
         line: u64,
-        object: usize,
-        at: Option<usize>,
+        head: ViewHead,
         body: &ResolvedStmts,
         propagates: bool,
         sink: &mut K,
@@ -342,42 +255,19 @@ impl Host {
     ) -> Result<Option<Exception>, HostEnd>
         requires sound { B.is_sound runner.now }
         requires ready { IsReady self.old.objects }
-        requires object { TakesGuards (state_of self.old.objects) object }
         ensures runs { RunsByOrders B.allows K.held K.faults K.room K.counts_failures sink.old sink.new
             self.old.objects self.new.objects
-            (λ orders guards e. block_of propagates orders body.now guards e (views_at line ViewKind.UpdateKey object at)) result }
+            (λ orders guards e. block_of propagates orders body.now guards e (head_at line head)) result }
         ensures leaves { Leaves self.old.objects self.new.objects }
     {
-        match self.objects.enter_update(object, at) {
-            Ok(key) => self.run_updated(line, key, body, propagates, sink, runner),
+        if !self.objects.takes_guards(head.object()) {
+            return Ok(None);
+        }
+        match self.objects.enter_view(head) {
+            Ok(key) => self.run_viewed(line, key, body, propagates, sink, runner),
             Err(Fault::Raised(reason)) => write_refusal(line, reason, &mut self.text, sink),
             Err(Fault::NoMemory) => Err(HostEnd::NoMemory),
         }
-    }
-
-    #[cycle(statements)]
-    #[inline(never)]
-    fn run_stable<K: Sink, B: BlockRunner>(
-        &mut self,
-        line: u64,
-        object: usize,
-        body: &ResolvedStmts,
-        propagates: bool,
-        sink: &mut K,
-        runner: &B,
-    ) -> Result<Option<Exception>, HostEnd>
-        requires sound { B.is_sound runner.now }
-        requires ready { IsReady self.old.objects }
-        ensures runs { RunsByOrders B.allows K.held K.faults K.room K.counts_failures sink.old sink.new
-            self.old.objects self.new.objects
-            (λ orders guards e. block_of propagates orders body.now guards e (stables_at line object)) result }
-        ensures leaves { Leaves self.old.objects self.new.objects }
-    {
-        if !self.objects.takes_guards(object) {
-            return Ok(None);
-        }
-        let key = self.objects.enter_stable(object)?;
-        self.run_viewed(key, body, propagates, sink, runner)
     }
 
     /// Runs what stands behind declarations, and then has so many names again.
@@ -531,9 +421,17 @@ impl Host {
                 object,
                 at,
                 body,
-            } => self.run_view(*line, *kind, *object, *at, body, propagates, sink, runner),
+            } => {
+                let head = ViewHead::Element {
+                    kind: *kind,
+                    object: *object,
+                    at: *at,
+                };
+                self.run_view(*line, head, body, propagates, sink, runner)
+            }
             ResolvedStmt::Stable { line, object, body } => {
-                self.run_stable(*line, *object, body, propagates, sink, runner)
+                let head = ViewHead::Stable { object: *object };
+                self.run_view(*line, head, body, propagates, sink, runner)
             }
             ResolvedStmt::Declare { line, decls, body } => {
                 self.run_declare(*line, decls.items(), body, propagates, sink, runner)

@@ -2,6 +2,7 @@ pub mod Worlds
 pub mod InScope
 pub mod Counted
 pub mod Updating
+pub mod ByHeads
 pub mod Memory
 pub mod Given
 pub mod Found

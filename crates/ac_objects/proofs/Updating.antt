@@ -1,12 +1,12 @@
 -- The end of an update of an element that keeps its key.
 use Rattle.std.proofs.Common.{◌≡◌, ◌==◌, ◌&&◌, ◌+◌, ◌-◌, ◌<◌, ℕ, Bool, true, false, List, [], ◌∷◌, get_or, set, slice_get, slice_set, refl, sym, ap, subst, ◌∙◌, arith, eq-eqb, Option, Some, None, option_map, if◌then◌else◌}
-use Rattle.std.specs.Prelude.{Result, Ok, Err, IfOk}
+use Rattle.std.specs.Prelude.{Result, Ok, Err, IfOk, IfSome, not}
 use Rattle.std.proofs.lemmas.Option.{same_Some}
 use Rattle.ac_base.specs.declared.fault.NoMemory.{NoMemory}
 use Rattle.ac_base.specs.declared.cursor.Cursor.{Cursor}
 use Rattle.ac_base.specs.declared.guard.GuardKind.TheVariants as guard
 use Rattle.ac_base.specs.declared.reason.Reason.{Reason}
-use Rattle.ac_base.specs.declared.reason.Reason.TheVariants.{NoElement}
+use Rattle.ac_base.specs.declared.reason.Reason.TheVariants.{NoElement, KeyChanged}
 use Rattle.ac_base.specs.FirstReason.{first_reason}
 use Rattle.ac_base.specs.Guards.{HeldGuard, count_of, raised_kind}
 use Rattle.ac_base.specs.declared.value.Value.{Value}
@@ -15,8 +15,9 @@ use Rattle.ac_base.proofs.Earlier.{with_none_later}
 use Rattle.ac_model.specs.Calls.{Call, Done, IsAfter}
 use Rattle.ac_model.specs.Common.{release_call}
 use Rattle.ac_model.specs.Cursors.{Agrees, needs_cursor, mark, plain_mark, seen}
-use Rattle.ac_model.specs.KeyedSets.{end_update_key_call, update_key_reason}
-use Rattle.ac_model.specs.Letters.{Mark, needs, tampers_cursors}
+use Rattle.ac_model.specs.KeyedSets.{end_update_key_call, keeps_key, update_key_reason}
+use Rattle.ac_model.specs.Letters.{Mark, name_of, needs, reason_if, tampers_cursors}
+use Rattle.ac_model.specs.Rows.{value_at as row_value}
 use Rattle.ac_model.specs.Objects.{IsValid, plain}
 use Rattle.ac_model.specs.Objects as model
 use Rattle.ac_model.proofs.Reasons.{none_others}
@@ -31,7 +32,7 @@ use Rattle.ac_meaning.specs.Execution.{end_lines, key_end_on, reason_end}
 use Rattle.ac_meaning.specs.UnderGuards.{held_without}
 use Rattle.ac_meaning.proofs.CountsStay.{guards_come_and_go, counts_are_the_guards, parts_under, cursors_of, elements_of}
 use Rattle.ac_meaning.proofs.OnePlace.{guards_are_on_one_object}
-use Rattle.ac_objects.specs.declared.blocks.UpdateKey.{UpdateKey}
+use Rattle.ac_objects.specs.declared.blocks.OpenUpdate.{OpenUpdate}
 use Rattle.ac_objects.specs.declared.bound.Bound.{Bound as Place}
 use Rattle.ac_objects.specs.declared.bound.Bound.TheVariants as bound
 use Rattle.ac_objects.specs.declared.object.Object.{Object}
@@ -177,6 +178,21 @@ module _ (o now : Object) (g : HeldGuard) (now_is : now ≡ with_one_less o g.ki
 
   pub other_goes : GoesOn o now
   other_goes = subst (GoesOn o) (sym is_less) (less_goes_on o guard.Cursors)
+
+-- and for no other reason than that the copy has another key
+
+other_key : (keeps : Bool) → IfSome (first_reason (reason_if (not keeps) KeyChanged ∷ [])) (λ reason. reason ≡ KeyChanged)
+other_key true = tt
+other_key false = refl
+
+pub only_changed : (h : Held) (m : Mark) (copy : Text) → IfSome (key_ended h m copy).reason (λ reason. reason ≡ KeyChanged)
+only_changed (of_rows (a_keyed_set which) o) m copy = other_key (keeps_key key_of_text (order_by texts which) (row_value o.rows (name_of (seen o m))) copy)
+only_changed (of_rows (a_sequence which k) o) m copy = tt
+only_changed (of_rows (a_map which k v) o) m copy = tt
+only_changed (of_rows (a_set which k) o) m copy = tt
+only_changed (of_rows (a_tree k) o) m copy = tt
+only_changed (of_holder k h) m copy = tt
+only_changed (of_queue number q) m copy = tt
 
 -- In its place
 
@@ -365,7 +381,7 @@ reasons_fit (of_rows (a_tree k) o) at v = refl
 reasons_fit (of_holder k h) at v = refl
 reasons_fit (of_queue number q) at v = refl
 
-module _ (key : UpdateKey) (old new : State) (copy : Text) (result : Option Reason) (held : IsHeldAt old key.object key.guard)
+module _ (key : OpenUpdate) (old new : State) (copy : Text) (result : Option Reason) (held : IsHeldAt old key.object key.guard)
     (cursors : key.guard.kind ≡ guard.Cursors) (below : key.object < key.names) (copied : copy ≡ text_in (value_at old key.names))
     (ended : (h : Held) → object_at (leaving key.names old) key.object ≡ Some h → (result ≡ (key_ended h (plain_mark key.at) copy).reason)
     × (new ≡ with_bound (objects_by (held_without key.guard) (leaving key.names old)) key.object (binds_object (key_ended h (plain_mark key.at) copy).after))) where

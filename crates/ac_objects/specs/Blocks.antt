@@ -6,8 +6,10 @@ use Rattle.ac_calls.specs.Holdings.{Held, Guards, number_of, is_a_set, takes_gua
 use Rattle.ac_meaning.specs.Environment.{State, objects_by, object_at}
 use Rattle.ac_meaning.specs.UnderGuards.{held_with, held_without}
 use Rattle.ac_objects.specs.declared.blocks.LoopKey.{LoopKey}
-use Rattle.ac_objects.specs.declared.blocks.UpdateKey.{UpdateKey}
+use Rattle.ac_objects.specs.declared.blocks.OpenUpdate.{OpenUpdate}
+use Rattle.ac_objects.specs.declared.blocks.OpenView.{OpenView}
 use Rattle.ac_objects.specs.declared.blocks.ViewKey.{ViewKey}
+use Rattle.ac_objects.specs.declared.blocks.ViewKey.TheVariants as keys
 use Rattle.ac_objects.specs.Standing.{counts_in_held}
 
 -- with these guards held, the last first
@@ -29,11 +31,28 @@ guard_if (Some g) = g ∷ []
 abbrev pub guards_of_loop_key : LoopKey → Guards
 guards_of_loop_key key = key.cursors ∷ guard_if key.elements
 
-abbrev pub guards_of_view_key : ViewKey → Guards
-guards_of_view_key key = key.guard ∷ []
+abbrev pub guards_of_open_view : OpenView → Guards
+guards_of_open_view view = view.guard ∷ []
 
-abbrev pub guards_of_update_key : UpdateKey → Guards
-guards_of_update_key key = key.guard ∷ []
+abbrev pub guards_of_open_update : OpenUpdate → Guards
+guards_of_open_update update = update.guard ∷ []
+
+-- of a view, of an update of a key or of a `stable`: the place of its object, how many names there were, and its guard
+
+abbrev pub object_of_key : ViewKey → ℕ
+object_of_key (keys.View view) = view.object
+object_of_key (keys.Update update) = update.object
+
+abbrev pub names_of_key : ViewKey → ℕ
+names_of_key (keys.View view) = view.names
+names_of_key (keys.Update update) = update.names
+
+abbrev pub guard_of_key : ViewKey → HeldGuard
+guard_of_key (keys.View view) = view.guard
+guard_of_key (keys.Update update) = update.guard
+
+abbrev pub guards_of_view_key : ViewKey → Guards
+guards_of_view_key key = guard_of_key key ∷ []
 
 -- the guard is held on the object at the place
 pub record IsHeldAt (e : State) (place : ℕ) (g : HeldGuard) : Type 0 where

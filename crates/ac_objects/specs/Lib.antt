@@ -10,6 +10,7 @@ pub mod Performs
 pub mod Blocks
 pub mod Called
 pub mod KeyUpdates
+pub mod ViewHeads
 pub mod Steps
 pub mod Visited
 pub mod Edited

@@ -1,6 +1,7 @@
-//! The keys of open blocks.
+//! The heads and the keys of blocks.
 use ac_base::KeyRoom;
 use ac_cursor::{Cursor, GuardKey};
+use ac_syntax::ViewKind;
 
 /// Why declarations failed.
 #[derive(Clone, Copy)]
@@ -20,8 +21,29 @@ pub struct LoopKey {
     pub(crate) elements: Option<GuardKey>,
 }
 
+/// The head of a block that views an object, its names as places.
+#[derive(Clone, Copy)]
+pub enum ViewHead {
+    /// A view of the element at which a cursor stands, or an update of its key.
+    Element {
+        kind: ViewKind,
+        object: usize,
+        at: Option<usize>,
+    },
+    Stable {
+        object: usize,
+    },
+}
+
+/// An open block that views an object.
+pub enum ViewKey {
+    /// A view or a `stable`.
+    View(OpenView),
+    Update(OpenUpdate),
+}
+
 /// An open view or `stable`: its object, and the guard that it holds.
-pub struct ViewKey {
+pub struct OpenView {
     pub(crate) object: usize,
     pub(crate) names: usize,
     pub(crate) guard: GuardKey,
@@ -29,7 +51,7 @@ pub struct ViewKey {
 
 /// An open update of a key: its object, where the element stands, the guard that it holds, and memory for the key that the copy has at the
 /// block's end. The block's name holds the copy.
-pub struct UpdateKey {
+pub struct OpenUpdate {
     pub(crate) object: usize,
     pub(crate) names: usize,
     pub(crate) at: Cursor,

@@ -25,6 +25,7 @@ mod sequence;
 mod set;
 mod telling;
 mod updates;
+mod viewing;
 mod views;
 mod visiting;
 mod walking;
@@ -33,7 +34,7 @@ pub use ac_calls::{
     Argument, Arguments, Frame, ListedRows, OperatedRows, Placed, Plain, PlainRow, PlainRows,
     Plains, Reply, RowObject, Said, ScriptElement,
 };
-pub use blocks::{DeclareFault, LoopKey, UpdateKey, ViewKey};
+pub use blocks::{DeclareFault, LoopKey, OpenUpdate, OpenView, ViewHead, ViewKey};
 pub use bound::Bound;
 pub use keyed_set::KeyedSet;
 pub use map::{HashedMaps, Map, OrderedMaps};

@@ -1,13 +1,13 @@
 //! The names of a script in scope, with what they hold, and its commands.
 ghost use Rattle.std.specs.Prelude.{◌≡◌, [], Some, Ok, IfOk};
-ghost use Rattle.ac_meaning.specs.Commands.{called, set_from, summed, sum_of, variable_set};
+ghost use Rattle.ac_meaning.specs.Commands.{called, set_from, summed, sum_of};
 ghost use Rattle.ac_calls.specs.Elements.{integer_in};
 ghost use Rattle.ac_meaning.specs.Environment.{object_at, value_at};
 ghost use Rattle.ac_calls.specs.Holdings.{Held};
 ghost use Rattle.ac_base.specs.declared.reason.Reason.{Reason as Refusal};
 ghost use Rattle.ac_objects.specs.Performs.{Performs, Untouched, answered};
 ghost use Rattle.ac_objects.specs.Standing.{IsObject, ElementsStand, counts_of};
-ghost use Rattle.ac_objects.specs.Steps.{PerformsAt, PlacedKnown, placed_of, reply_in, if_integer, sum_given};
+ghost use Rattle.ac_objects.specs.Steps.{PerformsAt, reply_in, if_integer, sum_given};
 ghost use Rattle.ac_objects.specs.World.{state_of, world, counted_from, Persists};
 
 use crate::bound::Bound;
@@ -64,6 +64,9 @@ impl Objects {
     pub fn allocator(&self) -> Global {
         self.alloc
     }
+
+    /// Drops the objects here, so that no crate above proves their drops again.
+    pub fn end(self) {}
 
     /// Makes a call on the object at this place, and gives its answer, which stands in the frame, to the target.
     #[inline(always)]

@@ -1,6 +1,7 @@
 //! What begins and ends an update of an element that keeps its key.
-ghost use Rattle.std.specs.Prelude.{◌≡◌, ◌<◌, ◌+◌, length, Some, None, IfOk, OnErr, Err};
+ghost use Rattle.std.specs.Prelude.{◌≡◌, ◌<◌, ◌+◌, length, Some, None, IfSome, IfOk, OnErr, Err};
 ghost use Rattle.ac_base.specs.declared.reason.Reason.{Reason as ReasonData};
+ghost use Rattle.ac_base.specs.declared.reason.Reason.TheVariants.{KeyChanged};
 ghost use Rattle.ac_base.specs.declared.value.Value.{Value as ValueData};
 ghost use Rattle.ac_model.specs.Cursors.{plain_mark};
 ghost use Rattle.ac_setwork.specs.KeyCalls.{cursor_guard_of};
@@ -10,13 +11,13 @@ ghost use Rattle.ac_calls.specs.Holdings.{Held, element_value, key_update_reason
 ghost use Rattle.ac_meaning.specs.Environment.{object_at, mark_at, value_at, value_or_zero, objects_by, with_bound, with_name, leaving, binds_object, binds_value};
 ghost use Rattle.ac_meaning.specs.Execution.{head_reason, guards_of_view};
 ghost use Rattle.ac_meaning.specs.UnderGuards.{held_without};
-ghost use Rattle.ac_objects.specs.Blocks.{holding, releasing, guards_of_update_key, IsHeldAt};
+ghost use Rattle.ac_objects.specs.Blocks.{holding, releasing, guards_of_open_update, IsHeldAt};
 ghost use Rattle.ac_objects.specs.Standing.{TakesGuards, HasValue, StandsAt, counts_in_held, counts_of};
 ghost use Rattle.ac_objects.specs.KeyUpdates.{UpdateEnds, key_ended};
 ghost use Rattle.ac_objects.specs.declared.bound.Bound.TheVariants as bounds;
 ghost use Rattle.ac_objects.specs.World.{held_of, state_of, IsKnown, ObjectAgrees, Persists};
 
-use crate::blocks::UpdateKey;
+use crate::blocks::OpenUpdate;
 use crate::bound::Bound;
 use crate::object::Object;
 use crate::objects::Objects;
@@ -28,14 +29,18 @@ use std::alloc::Global;
 
 impl Objects {
     /// Begins an update of the element at which a cursor stands: its name holds a copy, and a guard is held.
-    pub fn enter_update(&mut self, object: usize, at: Option<usize>) -> Result<UpdateKey, Fault>
+    pub(crate) fn open_update(
+        &mut self,
+        object: usize,
+        at: Option<usize>,
+    ) -> Result<OpenUpdate, Fault>
         requires object { TakesGuards (state_of self.old) object }
         ensures key { IfOk result (λ key. (key.object ≡ object) × (key.names ≡ length self.old.bounds)
             × (plain_mark key.at ≡ mark_at (state_of self.old) at) × IsKnown self.new key.at) }
         ensures guard { IfOk result (λ key. key.guard.kind ≡ GuardKind.Cursors) }
         ensures opened { (h : Held) → object_at (state_of self.old) object ≡ Some h → IfOk result (λ key.
             (head_reason views.UpdateKey h (mark_at (state_of self.old) at) ≡ None)
-            × (guards_of_update_key key ≡ guards_of_view views.UpdateKey h)
+            × (guards_of_open_update key ≡ guards_of_view views.UpdateKey h)
             × (state_of self.new ≡ with_name (holding (guards_of_view views.UpdateKey h) (state_of self.old))
             (binds_value (value_or_zero (element_value h (mark_at (state_of self.old) at)).answer)))) }
         ensures refused { (h : Held) (reason : ReasonData) → object_at (state_of self.old) object ≡ Some h →
@@ -53,7 +58,7 @@ impl Objects {
         let copy = self.copy_at(object, at)?;
         self.add(Bound::Value(copy))?;
         let guard = self.hold(object, GuardKind::Cursors);
-        Ok(UpdateKey {
+        Ok(OpenUpdate {
             object,
             names,
             at,
@@ -64,7 +69,7 @@ impl Objects {
 
     /// Ends an update: its name goes, its guard is released, and the element becomes what the copy is now. Where that has another
     /// key, the element goes, and this is why. Takes no memory.
-    pub fn leave_update(&mut self, key: UpdateKey) -> Option<Reason>
+    pub(crate) fn close_update(&mut self, key: OpenUpdate) -> Option<Reason>
         requires inner { key.object < key.names }
         requires last { length self.old.bounds ≡ key.names + 1 }
         requires copy { HasValue (state_of self.old) key.names }
@@ -73,11 +78,12 @@ impl Objects {
         requires known { IsKnown self.old key.at }
         requires element { StandsAt (state_of self.old) key.object (plain_mark key.at) }
         ensures ended { UpdateEnds key (state_of self.old) (state_of self.new) result }
+        ensures only { IfSome result (λ reason. reason ≡ KeyChanged) }
         ensures persists { Persists self.old self.new }
         ensures counts { counts_of (state_of self.new)
-            ≡ counts_of (releasing (guards_of_update_key key) (leaving key.names (state_of self.old))) }
+            ≡ counts_of (releasing (guards_of_open_update key) (leaving key.names (state_of self.old))) }
     {
-        let UpdateKey {
+        let OpenUpdate {
             object,
             names,
             at,
@@ -90,13 +96,13 @@ impl Objects {
     }
 
     /// Ends an update whose body was left: its copy is dropped, its name goes, and its guard is released.
-    pub fn drop_update(&mut self, key: UpdateKey)
+    pub(crate) fn drop_update(&mut self, key: OpenUpdate)
         requires inner { key.object < key.names }
         requires guard { IsHeldAt (state_of self.old) key.object key.guard }
-        ensures left { state_of self.new ≡ releasing (guards_of_update_key key) (leaving key.names (state_of self.old)) }
+        ensures left { state_of self.new ≡ releasing (guards_of_open_update key) (leaving key.names (state_of self.old)) }
         ensures persists { Persists self.old self.new }
     {
-        let UpdateKey {
+        let OpenUpdate {
             object,
             names,
             at: _,

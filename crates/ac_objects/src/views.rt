@@ -5,11 +5,11 @@ ghost use Rattle.ac_model.specs.Cursors.{plain_mark};
 ghost use Rattle.ac_calls.specs.Holdings.{Held, guard_on};
 ghost use Rattle.ac_meaning.specs.Environment.{object_at, mark_at, with_name, leaving, binds_element};
 ghost use Rattle.ac_meaning.specs.Execution.{head_reason, guards_of_view, guards_of_stable};
-ghost use Rattle.ac_objects.specs.Blocks.{holding, releasing, guards_of_view_key, IsHeldAt};
+ghost use Rattle.ac_objects.specs.Blocks.{holding, releasing, guards_of_open_view, IsHeldAt};
 ghost use Rattle.ac_objects.specs.Standing.{TakesGuards};
 ghost use Rattle.ac_objects.specs.World.{state_of, IsKnown, Persists};
 
-use crate::blocks::ViewKey;
+use crate::blocks::OpenView;
 use crate::bound::Bound;
 use crate::objects::Objects;
 use ac_base::{Fault, NoMemory, Reason};
@@ -19,18 +19,18 @@ use ac_syntax::ViewKind;
 
 impl Objects {
     /// Begins a view of the element at which a cursor stands, with its guard held.
-    pub fn enter_view(
+    pub(crate) fn open_view(
         &mut self,
         kind: ViewKind,
         object: usize,
         at: Option<usize>,
-    ) -> Result<ViewKey, Fault>
+    ) -> Result<OpenView, Fault>
         requires view { kind ≡ ViewKind.UpdateKey → ⊥ }
         requires object { TakesGuards (state_of self.old) object }
         ensures key { IfOk result (λ key. (key.object ≡ object) × (key.names ≡ length self.old.bounds)) }
         ensures opened { (h : Held) → object_at (state_of self.old) object ≡ Some h → IfOk result (λ key.
             (head_reason kind h (mark_at (state_of self.old) at) ≡ None)
-            × (guards_of_view_key key ≡ guards_of_view kind h)
+            × (guards_of_open_view key ≡ guards_of_view kind h)
             × (state_of self.new
             ≡ with_name (holding (guards_of_view kind h) (state_of self.old)) (binds_element object (mark_at (state_of self.old) at)))) }
         ensures refused { (h : Held) (reason : ReasonData) → object_at (state_of self.old) object ≡ Some h →
@@ -47,7 +47,7 @@ impl Objects {
         let names = self.names();
         self.add(Bound::Element { object, at })?;
         let guard = self.hold(object, guarded);
-        Ok(ViewKey {
+        Ok(OpenView {
             object,
             names,
             guard,
@@ -55,11 +55,11 @@ impl Objects {
     }
 
     /// Begins a `stable` block, with its guard held.
-    pub fn enter_stable(&mut self, object: usize) -> Result<ViewKey, NoMemory>
+    pub(crate) fn open_stable(&mut self, object: usize) -> Result<OpenView, NoMemory>
         requires object { TakesGuards (state_of self.old) object }
         ensures key { IfOk result (λ key. (key.object ≡ object) × (key.names ≡ length self.old.bounds)) }
         ensures opened { (h : Held) → object_at (state_of self.old) object ≡ Some h → IfOk result (λ key.
-            (guards_of_view_key key ≡ guards_of_stable h)
+            (guards_of_open_view key ≡ guards_of_stable h)
             × (state_of self.new ≡ holding (guards_of_stable h) (state_of self.old))) }
         ensures persists { Persists self.old self.new }
         ensures fault { OnErr result (self.new ≡ self.old) }
@@ -69,7 +69,7 @@ impl Objects {
         }
         let names = self.names();
         let guard = self.hold(object, GuardKind::Elements);
-        Ok(ViewKey {
+        Ok(OpenView {
             object,
             names,
             guard,
@@ -77,13 +77,13 @@ impl Objects {
     }
 
     /// Ends a view or `stable`: its name goes, and its guard is released.
-    pub fn leave_view(&mut self, key: ViewKey)
+    pub(crate) fn close_view(&mut self, key: OpenView)
         requires inner { key.object < key.names }
         requires guard { IsHeldAt (state_of self.old) key.object key.guard }
-        ensures left { state_of self.new ≡ releasing (guards_of_view_key key) (leaving key.names (state_of self.old)) }
+        ensures left { state_of self.new ≡ releasing (guards_of_open_view key) (leaving key.names (state_of self.old)) }
         ensures persists { Persists self.old self.new }
     {
-        let ViewKey {
+        let OpenView {
             object,
             names,
             guard,

@@ -1,31 +1,30 @@
-use Rattle.std.proofs.Common.{◌≡◌, ◌+◌, ◌<◌, ◌++◌, List, [], take, drop, length, get_or, refl, sym, ap, subst, ◌∙◌, arith, Some, None, Ok, Err}
-use Rattle.ac_rules.specs.Resolved.{resolved_size, no_statement, calls_at, sets_at, sums_at, stables_at}
+use Rattle.std.proofs.Common.{◌≡◌, ◌+◌, ◌++◌, List, [], take, drop, length, get_or, refl, sym, ap, subst, ◌∙◌, arith, Some, None, Ok, Err}
+use Rattle.ac_rules.specs.Resolved.{resolved_size, no_statement, calls_at, sets_at, sums_at}
 use Rattle.ac_rules.specs.ResolvedStatements.{resolved_before, resolved_of, resolved_handlers_of}
 use Rattle.ac_rules.specs.declared.resolved.ResolvedDecl.{ResolvedDecl}
 use Rattle.ac_rules.specs.declared.resolved.ResolvedStmt.{ResolvedStmt}
 use Rattle.ac_rules.specs.declared.resolved.ResolvedStmt.TheVariants.{Call, Declare, Handled}
-use Rattle.ac_meaning.specs.Environment.{leaving, guarded_at, mark_at, with_name, binds_element, binds_value, after_decls}
-use Rattle.ac_meaning.specs.Execution.{End, ending, passed_on, followed, resolved_behind, exec_resolved, guards_of_view, guards_of_stable}
+use Rattle.ac_meaning.specs.Environment.{leaving, guarded_at, after_decls}
+use Rattle.ac_meaning.specs.Execution.{End, ending, passed_on, followed, resolved_behind, exec_resolved}
 use Rattle.ac_base.specs.declared.reason.Reason.TheVariants.{NamesSpent}
-use Rattle.ac_syntax.specs.declared.view_kind.ViewKind.TheVariants.{UpdateKey}
-use Rattle.ac_host.specs.declared.end.HostEnd.TheVariants.{NoMemory}
 use Rattle.ac_host.specs.Ready.{IsUnder}
-use Rattle.ac_objects.specs.Blocks.{releasing, guards_of_update_key, guards_of_view_key, IsHeldAt}
+use Rattle.ac_objects.specs.Blocks.{holding, releasing, names_of_key, guards_of_view_key}
 use Rattle.ac_objects.specs.Standing.{counts_of}
+use Rattle.ac_objects.specs.ViewHeads.{viewed_object, guards_of_head, with_viewed}
 use Rattle.ac_objects.specs.World.{state_of}
-use Rattle.ac_host.proofs.ByOrders.{on_exit, on_ok_always, told_by_some, tells_none, tells_as, tells_behind, tells_on, tells_off, tells_before, tells_then, tells_more, tells_stopped}
+use Rattle.ac_host.proofs.ByOrders.{on_ok_always, told_by_some, tells_none, tells_as, tells_behind, tells_on, tells_off, tells_before, tells_then, tells_more, tells_stopped}
 use Rattle.ac_host.proofs.Counting.{same_blocks, same_count, holding_count, releasing_count, decls_count, commanded_blocks, ending_blocks}
-use Rattle.ac_host.proofs.Blocks.{taken, ran_inside, ran_as, ran_broke, ran_nowhere, ran_all, ran_line, there_within, many_names, many_under, leaving_held, leaving_named, counts_before, stable_held, view_held, stable_comes, view_comes, view_refused, mark_under, decls_begin, declare_comes, declare_spent, declare_back}
-use Rattle.ac_host.specs.Running.{block_of, handled_of, statement_outcome, key_ending}
+use Rattle.ac_host.proofs.Blocks.{ran_inside, ran_as, ran_broke, ran_all, ran_line, many_under, counts_before, decls_begin, declare_comes, declare_spent, declare_back}
+use Rattle.ac_host.specs.Running.{handled_of, statement_outcome, key_ending}
 use Rattle.ac_host.specs.Writing.{Ran, WroteSoFar}
-use Rattle.ac_host.proofs.Holding.{counts_back, leaving_counts, held_still}
-use Rattle.ac_host.proofs.Opening.{stable_begins, view_begins}
+use Rattle.ac_host.proofs.Holding.{counts_back, leaving_counts}
 use Rattle.ac_rules.proofs.SizesAmong.{size_among}
 use Rattle.ac_host.proofs.Steps.{statement_told, statements_next, statements_none, statements_behind, ready_statement, no_handler_taken, handler_taken, handler_smaller, exec_passed, handled_unasked, end_passed, normal_end}
 use Rattle.ac_host.proofs.Standing.{ready_exec}
 use Rattle.ac_host.proofs.Telling.{wrote_nothing, broke_nothing, so_far_none, so_far_more, so_far_broke}
 use Rattle.ac_host.proofs.Turns.{held}
-use Rattle.ac_host.proofs.Updating.{copied, updating_under, updating_begins, updating_held, updating_goes_on, update_comes, ran_then, ran_stopped, ran_dropped}
+use Rattle.ac_host.proofs.Updating.{ran_then, ran_stopped, ran_dropped}
+use Rattle.ac_host.proofs.Viewing.{block_taken, block_under, block_left, block_viewing, viewed_count, block_comes, block_refused, block_nowhere, block_still, block_goes_on}
 use Rattle.ac_host.proofs.host.Host.+statements.Goals as goal
 use Rattle.ac_host.proofs.host.Host.+statements.Answers.Loops as loops
 mod Loops
@@ -298,7 +297,7 @@ run_statement-returns-in-Tasks-clause-runs g t c =
     let sink = g.K.Sink in
     statement_told sink.held sink.faults sink.room sink.counts_failures c.args.propagates (sym c.in-Tasks.is) c.run_tasks.ensures.runs
 
--- Behind the body of a scope and of a view
+-- Behind the body of a scope
 
 pub run_scope-returns-clause-runs : goal.run_scope-returns-clause-runs
 run_scope-returns-clause-runs g t c =
@@ -314,214 +313,109 @@ run_scope-returns-clause-counts g t c =
     ap counts_of c.leave_scope.ensures.left
     ∙ (leaving_counts c.args.names (state_of c.run_statements-ended.new.self.objects) ∙ ap (take c.args.names) c.run_statements-ended.ensures.leaves.counts)
 
-pub run_viewed-leave_view-requires-clause-guard : goal.run_viewed-leave_view-requires-clause-guard
-run_viewed-leave_view-requires-clause-guard g t c =
-    held_still (state_of c.args.self.now.objects) (state_of c.run_statements-ended.new.self.objects) c.args.key.object c.args.key.names c.args.key.guard
-    c.requires.inner (ap (take c.args.key.names) c.run_statements-ended.ensures.leaves.counts) c.requires.guard
+-- Blocks that view an object
 
-pub run_viewed-returns-clause-runs : goal.run_viewed-returns-clause-runs
-run_viewed-returns-clause-runs g t c =
-    let sink = g.K.Sink in
-    let more = guards_of_view_key c.args.key in
-    let now = c.run_statements-ended.new.self.objects in
-    tells_behind c.run_statements-ended.ensures.runs (same_count c.leave_view.ensures.left ∙ releasing_count more (leaving c.args.key.names (state_of now))) (λ orders runs guards e u.
-    ran_inside sink.held sink.faults sink.room sink.counts_failures more guards c.args.key.names c.args.sink.now c.run_statements-ended.new.sink
-    now c.leave_view.new.self (exec_resolved c.args.propagates orders c.args.body.now (more ++ guards) e) c.run_statements-ended.result
-    c.leave_view.ensures.left (runs (more ++ guards) e u))
-
-pub run_viewed-returns-clause-counts : goal.run_viewed-returns-clause-counts
-run_viewed-returns-clause-counts g t c =
-    ap counts_of c.leave_view.ensures.left
-    ∙ counts_back (guards_of_view_key c.args.key) c.args.key.names (state_of c.run_statements-ended.new.self.objects) (state_of c.args.self.now.objects)
-    (ap (take c.args.key.names) c.run_statements-ended.ensures.leaves.counts)
-
--- `stable`
-
-pub run_stable-run_viewed-requires : goal.run_stable-run_viewed-requires
-run_stable-run_viewed-requires g t c κs within =
-    let old = c.args.self.now.objects in
-    let r = c.requires.ready in
-    let o = taken (state_of old) c.args.object (c.takes_guards.ensures.yes c.if-not-takes_guards.false) in
-    let is = c.in_ok-key.ensures.opened o.held o.there in
-    let key = c.in_ok-key.ensures.key in (
-      omega arith,
-      (
-        within.0,
-        (
-          within.1,
-          (
-            c.requires.sound,
-            (
-              record { guards = guards_of_stable o.held ++ r.guards; env = r.env; stands = stable_begins old r.guards r.env r.stands c.args.object o.held o.there c.enter_stable.new.self is.1 },
-              (
-                subst (λ p. p < c.in_ok-key.key.names) (sym key.0)
-                    (subst (λ n. c.args.object < n) (many_names old ∙ sym key.1) (there_within (state_of old) c.args.object o.held o.there)),
-                subst (λ p. IsHeldAt (state_of c.enter_stable.new.self) p c.in_ok-key.key.guard) (sym key.0)
-                    (subst (λ s. IsHeldAt s c.args.object c.in_ok-key.key.guard) (sym is.1)
-                    (stable_held (state_of old) c.args.object o.held o.takes c.in_ok-key.key.guard o.there is.0)),
-              ),
-            ),
-          ),
-        ),
-      ),
-    )
-
-pub run_stable-returns-clause-runs : goal.run_stable-returns-clause-runs
-run_stable-returns-clause-runs g t c =
-    let sink = g.K.Sink in
-    let old = c.args.self.now.objects in
-    let o = taken (state_of old) c.args.object (c.takes_guards.ensures.yes c.if-not-takes_guards.false) in
-    let is = c.in_ok-key.ensures.opened o.held o.there in
-    let key = c.in_ok-key.ensures.key in
-    let more = guards_of_view_key c.in_ok-key.key in
-    tells_before (same_count is.1 ∙ holding_count (guards_of_stable o.held) (state_of old)) c.run_viewed.ensures.runs (λ orders runs guards e u.
-    let begun = subst (λ m. IsUnder c.enter_stable.new.self (m ++ guards) e) (sym is.0)
-    (stable_begins old guards e u c.args.object o.held o.there c.enter_stable.new.self is.1) in
-    ran_as sink.held sink.faults sink.room sink.counts_failures c.args.sink.now c.run_viewed.new.sink c.run_viewed.new.self.objects guards _ _ c.run_viewed.result
-    (stable_comes c.args.propagates orders c.args.body.now guards more e c.args.line c.args.object c.in_ok-key.key.names o.held
-    (ap (λ s. guarded_at s c.args.object) (sym u.is) ∙ o.guarded) is.0 (key.1 ∙ many_under old guards e u))
-    (runs guards e begun))
-
-pub run_stable-returns-then-not-takes_guards-clause-runs : goal.run_stable-returns-then-not-takes_guards-clause-runs
-run_stable-returns-then-not-takes_guards-clause-runs g t c =
-    let sink = g.K.Sink in
-    let none = c.takes_guards.ensures.no c.if-not-takes_guards.true in
-    tells_none refl (λ orders guards e u.
-    ran_nowhere sink.held sink.faults sink.room sink.counts_failures c.args.sink.now c.args.self.now.objects guards e u (exec_resolved c.args.propagates orders c.args.body.now)
-    (stables_at c.args.line c.args.object) c.args.object none)
-
-pub run_stable-returns-in_err-key-clause-runs : goal.run_stable-returns-in_err-key-clause-runs
-run_stable-returns-in_err-key-clause-runs g t c =
-    let sink = g.K.Sink in
-    tells_none (on_exit _ _ c.from_residual.result c.from_residual.ensures.1) (λ orders guards e u.
-    ran_broke sink.held sink.faults sink.room sink.counts_failures c.args.sink.now c.args.sink.now _ guards
-    (block_of c.args.propagates orders c.args.body.now guards e (stables_at c.args.line c.args.object)) NoMemory c.from_residual.result c.from_residual.ensures.1
-    (broke_nothing sink.held sink.faults sink.room sink.counts_failures c.args.sink.now _))
-
-pub run_stable-returns-clause-leaves : goal.run_stable-returns-clause-leaves
-run_stable-returns-clause-leaves g t c =
-    let old = c.args.self.now.objects in
-    let o = taken (state_of old) c.args.object (c.takes_guards.ensures.yes c.if-not-takes_guards.false) in
-    let is = c.in_ok-key.ensures.opened o.held o.there in
-    let key = c.in_ok-key.ensures.key in
-    let names = c.in_ok-key.key.names in
+pub run_viewed-end_view-requires : goal.run_viewed-end_view-requires
+run_viewed-end_view-requires g t c =
+    let k = c.requires.viewing in
+    let some = told_by_some c.in-Ok-None.ensures.runs in
+    let ran = some.1 (guards_of_view_key c.args.key ++ k.guards) k.env k.stands in
+    let leaves = c.in-Ok-None.ensures.leaves in
     record {
-      persists = λ x known. c.run_viewed.ensures.persists x (c.enter_stable.ensures.persists x known);
-      counts =
-          c.run_viewed.ensures.counts
-          ∙ (ap (λ m. counts_of (releasing m (leaving names (state_of c.enter_stable.new.self)))) is.0
-          ∙ counts_before (guards_of_stable o.held) names (state_of old) (state_of c.enter_stable.new.self)
-          (ap (leaving names) is.1 ∙ leaving_held (guards_of_stable o.held) (state_of old) names (key.1 ∙ sym (many_names old))));
+      viewing =
+          block_goes_on c.args.propagates some.0 c.args.body.now c.args.self.now.objects c.run_statements.new.self.objects c.args.key k ran.after leaves.counts
+          leaves.persists;
     }
 
--- Views
-
-pub run_element_view-run_viewed-requires : goal.run_element_view-run_viewed-requires
-run_element_view-run_viewed-requires g t c κs within =
-    let old = c.args.self.now.objects in
-    let now = c.enter_view.new.self in
-    let r = c.requires.ready in
-    let o = taken (state_of old) c.args.object c.requires.object in
-    let is = c.in-Ok.ensures.opened o.held o.there in
-    let key = c.in-Ok.ensures.key in
-    let at = mark_at (state_of old) c.args.at in (
-      omega arith,
-      (
-        within.0,
-        (
-          within.1,
-          (
-            c.requires.sound,
-            (
-              record {
-                guards = guards_of_view c.args.kind o.held ++ r.guards;
-                env = with_name r.env (binds_element c.args.object at);
-                stands = view_begins old r.guards r.env r.stands c.args.object o.held o.there c.args.kind at now is.0 is.2;
-              },
-              (
-                subst (λ p. p < c.in-Ok.key.names) (sym key.0)
-                    (subst (λ n. c.args.object < n) (many_names old ∙ sym key.1) (there_within (state_of old) c.args.object o.held o.there)),
-                subst (λ p. IsHeldAt (state_of now) p c.in-Ok.key.guard) (sym key.0)
-                    (subst (λ s. IsHeldAt s c.args.object c.in-Ok.key.guard) (sym is.2)
-                    (view_held (state_of old) (binds_element c.args.object at) c.args.object c.args.kind o.held o.takes
-                    c.in-Ok.key.guard o.there is.1)),
-              ),
-            ),
-          ),
-        ),
-      ),
-    )
-
-pub run_element_view-returns-in-Ok-clause-runs : goal.run_element_view-returns-in-Ok-clause-runs
-run_element_view-returns-in-Ok-clause-runs g t c =
-    let sink = g.K.Sink in
-    let old = c.args.self.now.objects in
-    let now = c.enter_view.new.self in
-    let o = taken (state_of old) c.args.object c.requires.object in
-    let is = c.in-Ok.ensures.opened o.held o.there in
-    let key = c.in-Ok.ensures.key in
-    let at = mark_at (state_of old) c.args.at in
-    let more = guards_of_view_key c.in-Ok.key in
-    tells_before (same_count is.2 ∙ holding_count (guards_of_view c.args.kind o.held) (state_of old)) c.run_viewed.ensures.runs (λ orders runs guards e u.
-    let begun = subst (λ m. IsUnder now (m ++ guards) (with_name e (binds_element c.args.object at))) (sym is.1)
-    (view_begins old guards e u c.args.object o.held o.there c.args.kind at now is.0 is.2) in
-    ran_as sink.held sink.faults sink.room sink.counts_failures c.args.sink.now c.run_viewed.new.sink c.run_viewed.new.self.objects guards _ _ c.run_viewed.result
-    (view_comes c.args.propagates orders c.args.body.now guards more e c.args.line c.args.object c.in-Ok.key.names c.args.kind c.args.at at o.held c.requires.view
-    (ap (λ s. guarded_at s c.args.object) (sym u.is) ∙ o.guarded) is.1 (key.1 ∙ many_under old guards e u)
-    (ap (λ s. mark_at s c.args.at) u.is ∙ mark_under guards e c.args.at) is.0)
-    (runs guards (with_name e (binds_element c.args.object at)) begun))
-
-pub run_element_view-returns-in-Ok-clause-leaves : goal.run_element_view-returns-in-Ok-clause-leaves
-run_element_view-returns-in-Ok-clause-leaves g t c =
-    let old = c.args.self.now.objects in
-    let now = c.enter_view.new.self in
-    let o = taken (state_of old) c.args.object c.requires.object in
-    let is = c.in-Ok.ensures.opened o.held o.there in
-    let key = c.in-Ok.ensures.key in
-    let names = c.in-Ok.key.names in
-    let at = mark_at (state_of old) c.args.at in
+pub run_viewed-drop_view-requires : goal.run_viewed-drop_view-requires
+run_viewed-drop_view-requires g t c =
+    let k = c.requires.viewing in
     record {
-      persists = λ x known. c.run_viewed.ensures.persists x (c.enter_view.ensures.persists x known);
-      counts =
-          c.run_viewed.ensures.counts
-          ∙ (ap (λ m. counts_of (releasing m (leaving names (state_of now)))) is.1
-          ∙ counts_before (guards_of_view c.args.kind o.held) names (state_of old) (state_of now)
-          (ap (leaving names) is.2
-          ∙ leaving_named (guards_of_view c.args.kind o.held) (state_of old) (binds_element c.args.object at) names (key.1 ∙ sym (many_names old))));
+      inner = k.inner;
+      guard = block_still c.args.self.now.objects c.run_statements.new.self.objects c.args.key k c.in-Ok-Some.ensures.leaves.counts;
     }
 
-pub run_element_view-returns-in-Err-Raised-clause-runs : goal.run_element_view-returns-in-Err-Raised-clause-runs
-run_element_view-returns-in-Err-Raised-clause-runs g t c =
+pub run_viewed-drop_view-requires-in-Err : goal.run_viewed-drop_view-requires-in-Err
+run_viewed-drop_view-requires-in-Err g t c =
+    let k = c.requires.viewing in
+    record {
+      inner = k.inner;
+      guard = block_still c.args.self.now.objects c.run_statements.new.self.objects c.args.key k c.in-Err.ensures.leaves.counts;
+    }
+
+pub run_viewed-returns-in-Ok-None-clause-runs : goal.run_viewed-returns-in-Ok-None-clause-runs
+run_viewed-returns-in-Ok-None-clause-runs g t c =
     let sink = g.K.Sink in
-    let old = c.args.self.now.objects in
-    let now = c.enter_view.new.self in
-    let here = c.in-Err-Raised in
-    let o = taken (state_of old) c.args.object c.requires.object in
-    let at = mark_at (state_of old) c.args.at in
-    let some = here.ensures.refused o.held here.reason o.there (ap Err here.field-0-is) in
-    tells_none (on_ok_always c.write_refusal.result (same_blocks here.ensures.fault)) (λ orders guards e u.
-    ran_line sink.held sink.faults sink.room sink.counts_failures c.args.sink.now c.write_refusal.new.sink now guards c.args.line here.reason e _ c.write_refusal.result
-    (view_refused c.args.propagates orders c.args.body.now guards e c.args.line c.args.object c.args.kind c.args.at at o.held here.reason
-    (ap (λ s. guarded_at s c.args.object) (sym u.is) ∙ o.guarded) (ap (λ s. mark_at s c.args.at) u.is ∙ mark_under guards e c.args.at) some)
-    (ap state_of here.ensures.fault ∙ u.is)
-    c.write_refusal.ensures.writes c.write_refusal.ensures.ended)
+    let p = c.args.propagates in
+    let k = c.requires.viewing in
+    let here = c.in-Ok-None in
+    let all = guards_of_view_key c.args.key ++ k.guards in
+    let some = told_by_some here.ensures.runs in
+    let left = (exec_resolved p some.0 c.args.body.now all k.env).after in
+    let so_far = some.1 all k.env k.stands in
+    let stands : IsUnder c.run_statements.new.self.objects all left = record { is = so_far.after; ready = ready_exec p some.0 c.args.body.now all k.env k.stands.ready } in
+    tells_on here.ensures.runs
+    (ending_blocks sink.held sink.faults sink.room sink.counts_failures c.end_view.new.self.objects c.args.line c.args.key k.guards left stands
+    (c.end_view.ensures.runs k.guards left stands)) (λ orders runs guards e u.
+    let held = guards_of_view_key c.args.key ++ guards in
+    let first = exec_resolved p orders c.args.body.now held e in
+    let ran = runs held e u in
+    ran_then sink.held sink.faults sink.room sink.counts_failures c.args.sink.now c.run_statements.new.sink c.end_view.new.sink
+    c.end_view.new.self.objects guards first (key_ending c.args.line c.args.key guards) None c.end_view.result (sym here.field-0-is ∙ ran.ended) ran.writes
+    (c.end_view.ensures.runs guards first.after (record { is = ran.after; ready = ready_exec p orders c.args.body.now held e u.ready })))
 
-pub run_element_view-returns-in-Err-NoMemory-clause-runs : goal.run_element_view-returns-in-Err-NoMemory-clause-runs
-run_element_view-returns-in-Err-NoMemory-clause-runs g t c =
+pub run_viewed-returns-in-Ok-None-clause-counts : goal.run_viewed-returns-in-Ok-None-clause-counts
+run_viewed-returns-in-Ok-None-clause-counts g t c =
+    let names = names_of_key c.args.key in
+    c.end_view.ensures.counts
+    ∙ counts_back (guards_of_view_key c.args.key) names (state_of c.run_statements.new.self.objects) (state_of c.args.self.now.objects)
+    (ap (take names) c.in-Ok-None.ensures.leaves.counts)
+
+-- where the body was left
+pub run_viewed-returns-in-Ok-Some-clause-runs : goal.run_viewed-returns-in-Ok-Some-clause-runs
+run_viewed-returns-in-Ok-Some-clause-runs g t c =
     let sink = g.K.Sink in
-    tells_none tt (λ orders guards e u. record {
-      writes = broke_nothing sink.held sink.faults sink.room sink.counts_failures c.args.sink.now _;
-      after = tt;
-      ended = tt;
-    })
+    let here = c.in-Ok-Some in
+    let key = c.args.key in
+    let now = c.run_statements.new.self.objects in
+    tells_on here.ensures.runs (same_count c.drop_view.ensures.left ∙ releasing_count (guards_of_view_key key) (leaving (names_of_key key) (state_of now)))
+    (λ orders runs guards e u.
+    let held = guards_of_view_key key ++ guards in
+    let first = exec_resolved c.args.propagates orders c.args.body.now held e in
+    ran_dropped sink.held sink.faults sink.room sink.counts_failures c.args.sink.now c.run_statements.new.sink now c.drop_view.new.self c.args.line key guards
+    first here.raised c.drop_view.ensures.left
+    (subst (λ (end : End). Ran sink.held sink.faults sink.room sink.counts_failures c.args.sink.now c.run_statements.new.sink now held first (Ok end))
+    here.field-0-is (runs held e u)))
 
--- Updates of a key
+pub run_viewed-returns-in-Ok-Some-clause-counts : goal.run_viewed-returns-in-Ok-Some-clause-counts
+run_viewed-returns-in-Ok-Some-clause-counts g t c =
+    let names = names_of_key c.args.key in
+    ap counts_of c.drop_view.ensures.left
+    ∙ counts_back (guards_of_view_key c.args.key) names (state_of c.run_statements.new.self.objects) (state_of c.args.self.now.objects)
+    (ap (take names) c.in-Ok-Some.ensures.leaves.counts)
 
-pub run_update-run_updated-requires : goal.run_update-run_updated-requires
-run_update-run_updated-requires g t c κs within =
+pub run_viewed-returns-in-Err-clause-runs : goal.run_viewed-returns-in-Err-clause-runs
+run_viewed-returns-in-Err-clause-runs g t c =
+    let sink = g.K.Sink in
+    tells_as c.in-Err.ensures.runs tt (λ orders runs guards e u.
+    let held = guards_of_view_key c.args.key ++ guards in
+    let ran = runs held e u in
+    ran_stopped sink.held sink.faults sink.room sink.counts_failures c.args.sink.now c.run_statements.new.sink c.drop_view-in-Err.new.self guards
+    (exec_resolved c.args.propagates orders c.args.body.now held e) (key_ending c.args.line c.args.key guards) c.in-Err.end ran.writes)
+
+pub run_viewed-returns-in-Err-clause-counts : goal.run_viewed-returns-in-Err-clause-counts
+run_viewed-returns-in-Err-clause-counts g t c =
+    let names = names_of_key c.args.key in
+    ap counts_of c.drop_view-in-Err.ensures.left
+    ∙ counts_back (guards_of_view_key c.args.key) names (state_of c.run_statements.new.self.objects) (state_of c.args.self.now.objects)
+    (ap (take names) c.in-Err.ensures.leaves.counts)
+
+pub run_view-run_viewed-requires : goal.run_view-run_viewed-requires
+run_view-run_viewed-requires g t c κs within =
     let old = c.args.self.now.objects in
     let r = c.requires.ready in
-    let o = taken (state_of old) c.args.object c.requires.object in
+    let head = c.args.head in
+    let o = block_taken (state_of old) head c.object.result c.object.ensures (c.takes_guards.ensures.yes c.if-not-takes_guards.false) in
     let is = c.in-Ok.ensures.opened o.held o.there in
     let key = c.in-Ok.ensures.key in (
       omega arith,
@@ -531,65 +425,67 @@ run_update-run_updated-requires g t c κs within =
           within.1,
           (
             c.requires.sound,
-            updating_begins old c.enter_update.new.self r.guards r.env r.stands c.args.object o.held o.takes o.there c.in-Ok.key
-                (mark_at (state_of old) c.args.at) (copied (state_of old) c.args.at o.held) is.0 is.1 is.2 key.0 key.1 key.2 key.3 c.in-Ok.ensures.guard,
+            block_viewing old c.enter_view.new.self o.held r.guards r.env r.stands c.in-Ok.key head o.takes o.there key.0 key.1 c.in-Ok.ensures.sort is.0 is.1 is.2,
           ),
         ),
       ),
     )
 
-pub run_update-returns-in-Ok-clause-runs : goal.run_update-returns-in-Ok-clause-runs
-run_update-returns-in-Ok-clause-runs g t c =
+pub run_view-returns-in-Ok-clause-runs : goal.run_view-returns-in-Ok-clause-runs
+run_view-returns-in-Ok-clause-runs g t c =
     let sink = g.K.Sink in
     let old = c.args.self.now.objects in
-    let o = taken (state_of old) c.args.object c.requires.object in
+    let now = c.enter_view.new.self in
+    let head = c.args.head in
+    let o = block_taken (state_of old) head c.object.result c.object.ensures (c.takes_guards.ensures.yes c.if-not-takes_guards.false) in
     let is = c.in-Ok.ensures.opened o.held o.there in
     let key = c.in-Ok.ensures.key in
-    let copy = copied (state_of old) c.args.at o.held in
-    tells_before (same_count is.2 ∙ holding_count (guards_of_view UpdateKey o.held) (state_of old)) c.run_updated.ensures.runs (λ orders runs guards e u.
-    let begun = updating_under old c.enter_update.new.self guards e u c.args.object o.held o.there c.in-Ok.key copy is.1 is.2 in
-    ran_as sink.held sink.faults sink.room sink.counts_failures c.args.sink.now c.run_updated.new.sink c.run_updated.new.self.objects guards _ _ c.run_updated.result
-    (update_comes c.args.propagates orders c.args.body.now guards e c.args.line c.args.object c.args.at (state_of old) o.held c.in-Ok.key
-    (ap (λ s. guarded_at s c.args.object) (sym u.is) ∙ o.guarded) u.is is.0 is.1 key.0 (key.1 ∙ many_under old guards e u) key.2)
-    (runs guards (with_name e (binds_value copy)) begun))
+    let guards_begun = guards_of_head head o.held in
+    tells_before
+    (same_count is.2
+    ∙ (viewed_count head (state_of old) (holding guards_begun (state_of old)) o.held ∙ holding_count guards_begun (state_of old)))
+    c.run_viewed.ensures.runs (λ orders runs guards e u.
+    let begun = block_under old now o.held guards e u c.in-Ok.key head o.there is.0 is.1 is.2 in
+    ran_as sink.held sink.faults sink.room sink.counts_failures c.args.sink.now c.run_viewed.new.sink c.run_viewed.new.self.objects guards _ _ c.run_viewed.result
+    (block_comes c.args.propagates orders c.args.body.now guards e c.args.line old o.held u.is c.in-Ok.key head now
+    (ap (λ s. guarded_at s (viewed_object head)) (sym u.is) ∙ o.guarded) c.in-Ok.ensures.sort is.0 is.1 key.0 (key.1 ∙ many_under old guards e u))
+    (runs guards (with_viewed head (state_of old) o.held e) begun))
 
-pub run_update-returns-in-Ok-clause-leaves : goal.run_update-returns-in-Ok-clause-leaves
-run_update-returns-in-Ok-clause-leaves g t c =
+pub run_view-returns-in-Ok-clause-leaves : goal.run_view-returns-in-Ok-clause-leaves
+run_view-returns-in-Ok-clause-leaves g t c =
     let old = c.args.self.now.objects in
-    let now = c.enter_update.new.self in
-    let o = taken (state_of old) c.args.object c.requires.object in
+    let now = c.enter_view.new.self in
+    let head = c.args.head in
+    let o = block_taken (state_of old) head c.object.result c.object.ensures (c.takes_guards.ensures.yes c.if-not-takes_guards.false) in
     let is = c.in-Ok.ensures.opened o.held o.there in
-    let key = c.in-Ok.ensures.key in
-    let names = c.in-Ok.key.names in
-    let copy = copied (state_of old) c.args.at o.held in
+    let names = names_of_key c.in-Ok.key in
     record {
-      persists = λ x known. c.run_updated.ensures.persists x (c.enter_update.ensures.persists x known);
+      persists = λ x known. c.run_viewed.ensures.persists x (c.enter_view.ensures.persists x known);
       counts =
-          c.run_updated.ensures.counts
+          c.run_viewed.ensures.counts
           ∙ (ap (λ m. counts_of (releasing m (leaving names (state_of now)))) is.1
-          ∙ counts_before (guards_of_view UpdateKey o.held) names (state_of old) (state_of now)
-          (ap (leaving names) is.2
-          ∙ leaving_named (guards_of_view UpdateKey o.held) (state_of old) (binds_value copy) names (key.1 ∙ sym (many_names old))));
+          ∙ counts_before (guards_of_head head o.held) names (state_of old) (state_of now)
+          (block_left old now o.held head names c.in-Ok.ensures.key.1 is.2));
     }
 
-pub run_update-returns-in-Err-Raised-clause-runs : goal.run_update-returns-in-Err-Raised-clause-runs
-run_update-returns-in-Err-Raised-clause-runs g t c =
+pub run_view-returns-in-Err-Raised-clause-runs : goal.run_view-returns-in-Err-Raised-clause-runs
+run_view-returns-in-Err-Raised-clause-runs g t c =
     let sink = g.K.Sink in
     let old = c.args.self.now.objects in
-    let now = c.enter_update.new.self in
+    let now = c.enter_view.new.self in
     let here = c.in-Err-Raised in
-    let o = taken (state_of old) c.args.object c.requires.object in
-    let at = mark_at (state_of old) c.args.at in
+    let head = c.args.head in
+    let o = block_taken (state_of old) head c.object.result c.object.ensures (c.takes_guards.ensures.yes c.if-not-takes_guards.false) in
     let some = here.ensures.refused o.held here.reason o.there (ap Err here.field-0-is) in
     tells_none (on_ok_always c.write_refusal.result (same_blocks here.ensures.fault)) (λ orders guards e u.
     ran_line sink.held sink.faults sink.room sink.counts_failures c.args.sink.now c.write_refusal.new.sink now guards c.args.line here.reason e _ c.write_refusal.result
-    (view_refused c.args.propagates orders c.args.body.now guards e c.args.line c.args.object UpdateKey c.args.at at o.held here.reason
-    (ap (λ s. guarded_at s c.args.object) (sym u.is) ∙ o.guarded) (ap (λ s. mark_at s c.args.at) u.is ∙ mark_under guards e c.args.at) some)
+    (block_refused c.args.propagates orders c.args.body.now guards e c.args.line old o.held u.is head here.reason
+    (ap (λ s. guarded_at s (viewed_object head)) (sym u.is) ∙ o.guarded) some)
     (ap state_of here.ensures.fault ∙ u.is)
     c.write_refusal.ensures.writes c.write_refusal.ensures.ended)
 
-pub run_update-returns-in-Err-NoMemory-clause-runs : goal.run_update-returns-in-Err-NoMemory-clause-runs
-run_update-returns-in-Err-NoMemory-clause-runs g t c =
+pub run_view-returns-in-Err-NoMemory-clause-runs : goal.run_view-returns-in-Err-NoMemory-clause-runs
+run_view-returns-in-Err-NoMemory-clause-runs g t c =
     let sink = g.K.Sink in
     tells_none tt (λ orders guards e u. record {
       writes = broke_nothing sink.held sink.faults sink.room sink.counts_failures c.args.sink.now _;
@@ -597,97 +493,13 @@ run_update-returns-in-Err-NoMemory-clause-runs g t c =
       ended = tt;
     })
 
-pub run_updated-end_update-requires : goal.run_updated-end_update-requires
-run_updated-end_update-requires g t c =
-    let k = c.requires.updating in
-    let some = told_by_some c.in-Ok-None.ensures.runs in
-    let ran = some.1 (guards_of_update_key c.args.key ++ k.guards) k.env k.stands in
-    let leaves = c.in-Ok-None.ensures.leaves in
-    record {
-      updating =
-          updating_goes_on c.args.propagates some.0 c.args.body.now c.args.self.now.objects c.run_statements.new.self.objects c.args.key k ran.after leaves.counts
-          (leaves.persists c.args.key.at k.known);
-    }
-
-pub run_updated-drop_update-requires : goal.run_updated-drop_update-requires
-run_updated-drop_update-requires g t c =
-    let k = c.requires.updating in
-    record {
-      inner = k.inner;
-      guard = updating_held c.args.self.now.objects c.run_statements.new.self.objects c.args.key k c.in-Ok-Some.ensures.leaves.counts;
-    }
-
-pub run_updated-drop_update-requires-in-Err : goal.run_updated-drop_update-requires-in-Err
-run_updated-drop_update-requires-in-Err g t c =
-    let k = c.requires.updating in
-    record {
-      inner = k.inner;
-      guard = updating_held c.args.self.now.objects c.run_statements.new.self.objects c.args.key k c.in-Err.ensures.leaves.counts;
-    }
-
-pub run_updated-returns-in-Ok-None-clause-runs : goal.run_updated-returns-in-Ok-None-clause-runs
-run_updated-returns-in-Ok-None-clause-runs g t c =
+pub run_view-returns-then-not-takes_guards-clause-runs : goal.run_view-returns-then-not-takes_guards-clause-runs
+run_view-returns-then-not-takes_guards-clause-runs g t c =
     let sink = g.K.Sink in
-    let p = c.args.propagates in
-    let k = c.requires.updating in
-    let here = c.in-Ok-None in
-    let all = guards_of_update_key c.args.key ++ k.guards in
-    let some = told_by_some here.ensures.runs in
-    let left = (exec_resolved p some.0 c.args.body.now all k.env).after in
-    let so_far = some.1 all k.env k.stands in
-    let stands : IsUnder c.run_statements.new.self.objects all left = record { is = so_far.after; ready = ready_exec p some.0 c.args.body.now all k.env k.stands.ready } in
-    tells_on here.ensures.runs
-    (ending_blocks sink.held sink.faults sink.room sink.counts_failures c.end_update.new.self.objects c.args.line c.args.key k.guards left stands
-    (c.end_update.ensures.runs k.guards left stands)) (λ orders runs guards e u.
-    let held = guards_of_update_key c.args.key ++ guards in
-    let first = exec_resolved p orders c.args.body.now held e in
-    let ran = runs held e u in
-    ran_then sink.held sink.faults sink.room sink.counts_failures c.args.sink.now c.run_statements.new.sink c.end_update.new.sink
-    c.end_update.new.self.objects guards first (key_ending c.args.line c.args.key guards) None c.end_update.result (sym here.field-0-is ∙ ran.ended) ran.writes
-    (c.end_update.ensures.runs guards first.after (record { is = ran.after; ready = ready_exec p orders c.args.body.now held e u.ready })))
-
-pub run_updated-returns-in-Ok-None-clause-counts : goal.run_updated-returns-in-Ok-None-clause-counts
-run_updated-returns-in-Ok-None-clause-counts g t c =
-    c.end_update.ensures.counts
-    ∙ counts_back (guards_of_update_key c.args.key) c.args.key.names (state_of c.run_statements.new.self.objects) (state_of c.args.self.now.objects)
-    (ap (take c.args.key.names) c.in-Ok-None.ensures.leaves.counts)
-
--- where its body was left
-pub run_updated-returns-in-Ok-Some-clause-runs : goal.run_updated-returns-in-Ok-Some-clause-runs
-run_updated-returns-in-Ok-Some-clause-runs g t c =
-    let sink = g.K.Sink in
-    let here = c.in-Ok-Some in
-    let key = c.args.key in
-    let now = c.run_statements.new.self.objects in
-    tells_on here.ensures.runs (same_count c.drop_update.ensures.left ∙ releasing_count (guards_of_update_key key) (leaving key.names (state_of now)))
-    (λ orders runs guards e u.
-    let held = guards_of_update_key key ++ guards in
-    let first = exec_resolved c.args.propagates orders c.args.body.now held e in
-    ran_dropped sink.held sink.faults sink.room sink.counts_failures c.args.sink.now c.run_statements.new.sink now c.drop_update.new.self c.args.line key guards
-    first here.raised c.drop_update.ensures.left
-    (subst (λ (end : End). Ran sink.held sink.faults sink.room sink.counts_failures c.args.sink.now c.run_statements.new.sink now held first (Ok end))
-    here.field-0-is (runs held e u)))
-
-pub run_updated-returns-in-Ok-Some-clause-counts : goal.run_updated-returns-in-Ok-Some-clause-counts
-run_updated-returns-in-Ok-Some-clause-counts g t c =
-    ap counts_of c.drop_update.ensures.left
-    ∙ counts_back (guards_of_update_key c.args.key) c.args.key.names (state_of c.run_statements.new.self.objects) (state_of c.args.self.now.objects)
-    (ap (take c.args.key.names) c.in-Ok-Some.ensures.leaves.counts)
-
-pub run_updated-returns-in-Err-clause-runs : goal.run_updated-returns-in-Err-clause-runs
-run_updated-returns-in-Err-clause-runs g t c =
-    let sink = g.K.Sink in
-    tells_as c.in-Err.ensures.runs tt (λ orders runs guards e u.
-    let held = guards_of_update_key c.args.key ++ guards in
-    let ran = runs held e u in
-    ran_stopped sink.held sink.faults sink.room sink.counts_failures c.args.sink.now c.run_statements.new.sink c.drop_update-in-Err.new.self guards
-    (exec_resolved c.args.propagates orders c.args.body.now held e) (key_ending c.args.line c.args.key guards) c.in-Err.end ran.writes)
-
-pub run_updated-returns-in-Err-clause-counts : goal.run_updated-returns-in-Err-clause-counts
-run_updated-returns-in-Err-clause-counts g t c =
-    ap counts_of c.drop_update-in-Err.ensures.left
-    ∙ counts_back (guards_of_update_key c.args.key) c.args.key.names (state_of c.run_statements.new.self.objects) (state_of c.args.self.now.objects)
-    (ap (take c.args.key.names) c.in-Err.ensures.leaves.counts)
+    let old = c.args.self.now.objects in
+    let none = ap (guarded_at (state_of old)) (sym c.object.ensures) ∙ c.takes_guards.ensures.no c.if-not-takes_guards.true in
+    tells_none refl (λ orders guards e u.
+    block_nowhere c.args.propagates orders c.args.body.now guards e c.args.line sink.held sink.faults sink.room sink.counts_failures c.args.sink.now old u c.args.head none)
 
 -- Declarations
 
@@ -767,9 +579,6 @@ run_loop-returns-then-not-takes_guards-clause-runs = loops.run_loop-returns-then
 
 pub run_loop-returns-in_err-key-clause-runs : goal.run_loop-returns-in_err-key-clause-runs
 run_loop-returns-in_err-key-clause-runs = loops.run_loop-returns-in_err-key-clause-runs
-
-pub run_view-returns-then-not-takes_guards-clause-runs : goal.run_view-returns-then-not-takes_guards-clause-runs
-run_view-returns-then-not-takes_guards-clause-runs = loops.run_view-returns-then-not-takes_guards-clause-runs
 
 pub run_loop-returns-clause-leaves : goal.run_loop-returns-clause-leaves
 run_loop-returns-clause-leaves = loops.run_loop-returns-clause-leaves

@@ -33,19 +33,7 @@ abbrev pub decreases-run_loop : goal.decreases-run_loop
 decreases-run_loop g l = 5 * resolved_size l.body.now + 3
 
 abbrev pub decreases-run_view : goal.decreases-run_view
-decreases-run_view g l = 5 * resolved_size l.body.now + 4
-
-abbrev pub decreases-run_element_view : goal.decreases-run_element_view
-decreases-run_element_view g l = 5 * resolved_size l.body.now + 3
-
-abbrev pub decreases-run_update : goal.decreases-run_update
-decreases-run_update g l = 5 * resolved_size l.body.now + 3
-
-abbrev pub decreases-run_updated : goal.decreases-run_updated
-decreases-run_updated g l = 5 * resolved_size l.body.now + 2
-
-abbrev pub decreases-run_stable : goal.decreases-run_stable
-decreases-run_stable g l = 5 * resolved_size l.body.now + 3
+decreases-run_view g l = 5 * resolved_size l.body.now + 3
 
 abbrev pub decreases-run_declare : goal.decreases-run_declare
 decreases-run_declare g l = 5 * resolved_size l.body.now + 3

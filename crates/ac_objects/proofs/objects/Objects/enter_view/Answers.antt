@@ -1,33 +1,22 @@
-use Rattle.std.proofs.Common.{[], ◌∷◌, sym, ap, ◌∙◌}
-use Rattle.ac_model.specs.Cursors.{plain_mark}
-use Rattle.ac_model.proofs.Reasons.{passed}
-use Rattle.ac_meaning.specs.Environment.{binds_element, mark_at, objects_by, object_at, with_name}
-use Rattle.ac_meaning.specs.Execution.{head_reason, guards_of_view}
-use Rattle.ac_calls.specs.Holdings.{guard_on}
-use Rattle.ac_meaning.specs.UnderGuards.{held_with}
-use Rattle.ac_objects.specs.Blocks.{holding}
+use Rattle.ac_objects.specs.declared.blocks.ViewHead.TheVariants.{Element, Stable}
 use Rattle.ac_objects.specs.World.{state_of}
-use Rattle.ac_objects.proofs.InScope.{named_object, named_by}
+use Rattle.ac_objects.proofs.ByHeads.{opened_as, refused_as}
 use Rattle.ac_objects.proofs.objects.Objects.enter_view.Goals as goal
 
-pub returns-clause-opened : goal.returns-clause-opened
-returns-clause-opened c h at =
-    let e = state_of c.args.self.now in
-    let place = c.args.object in
-    let kind = c.guarded_kind-guarded.result in
-    let mark = plain_mark c.cursor_at-at.result in
-    let guards = c.guarded_kind-guarded.ensures h in
-    let marks = c.cursor_at-at.ensures.mark in
-    let named = c.in_ok-add.ensures.named in
-    let held = c.hold-guard.ensures.held h (ap (λ s. object_at s place) named ∙ named_object e (binds_element place mark) place h at) in
-    let state =
-    held.1
-    ∙ (ap (objects_by (held_with (guard_on h kind))) named
-    ∙ (named_by (held_with (guard_on h kind)) e place mark
-    ∙ (ap (λ gs. with_name (holding gs e) (binds_element place mark)) guards
-    ∙ ap (λ m. with_name (holding (guards_of_view c.args.kind h) e) (binds_element place m)) marks))) in (
-      sym (passed c.refuses_view.result (head_reason c.args.kind h (mark_at e c.args.at)) (sym c.in_ok-allowed.was ∙ c.allowed.ensures)
-          (c.refuses_view.ensures h at ∙ ap (head_reason c.args.kind h) marks)),
-      ap (λ g. g ∷ []) held.0 ∙ guards,
-      state,
-    )
+pub returns-in-Element-clause-opened : goal.returns-in-Element-clause-opened
+returns-in-Element-clause-opened c h there =
+    let here = c.in-Element in
+    opened_as (state_of c.args.self.now) (state_of c.enter_element.new.self) c.enter_element.result h c.args.head (Element here.kind here.object here.at) here.is
+    (c.enter_element.ensures.opened h) there
+
+pub returns-in-Element-clause-refused : goal.returns-in-Element-clause-refused
+returns-in-Element-clause-refused c h reason there told =
+    let here = c.in-Element in
+    refused_as (state_of c.args.self.now) (state_of c.enter_element.new.self) c.enter_element.result h c.args.head (Element here.kind here.object here.at) reason here.is
+    (c.enter_element.ensures.refused h reason) there told
+
+pub returns-in-Stable-clause-opened : goal.returns-in-Stable-clause-opened
+returns-in-Stable-clause-opened c h there =
+    let here = c.in-Stable in
+    opened_as (state_of c.args.self.now) (state_of c.enter_stable.new.self) c.enter_stable.result h c.args.head (Stable here.object) here.is
+    (c.enter_stable.ensures.opened h) there

@@ -1,6 +1,6 @@
 -- What the goals of loops want, and of their turns.
 use Rattle.std.proofs.Common.{◌++◌, ◌∷◌, ◌+◌, take, length, refl, sym, ap, subst, ◌∙◌, arith, None}
-use Rattle.ac_rules.specs.Resolved.{loops_at, views_at}
+use Rattle.ac_rules.specs.Resolved.{loops_at}
 use Rattle.ac_calls.specs.Holdings.{number_of, names_of}
 use Rattle.ac_meaning.specs.Environment.{binds_cursor, leaving, guarded_at, objects_by, with_name}
 use Rattle.ac_meaning.specs.Execution.{exec_resolved, guards_of_loop, in_order, turns, turns_behind, turn_bound, scoped}
@@ -142,14 +142,6 @@ run_loop-returns-in_err-key-clause-runs g t c =
     ran_broke sink.held sink.faults sink.room sink.counts_failures c.args.sink.now c.args.sink.now _ guards
     (block_of c.args.propagates orders c.args.body.now guards e (loops_at c.args.line c.args.elements c.args.backward c.args.object)) NoMemory c.from_residual.result c.from_residual.ensures.1
     (broke_nothing sink.held sink.faults sink.room sink.counts_failures c.args.sink.now _))
-
-pub run_view-returns-then-not-takes_guards-clause-runs : goal.run_view-returns-then-not-takes_guards-clause-runs
-run_view-returns-then-not-takes_guards-clause-runs g t c =
-    let sink = g.K.Sink in
-    let none = c.takes_guards.ensures.no c.if-not-takes_guards.true in
-    tells_none refl (λ orders guards e u.
-    ran_nowhere sink.held sink.faults sink.room sink.counts_failures c.args.sink.now c.args.self.now.objects guards e u (exec_resolved c.args.propagates orders c.args.body.now)
-    (views_at c.args.line c.args.kind c.args.object c.args.at) c.args.object none)
 
 pub run_loop-returns-clause-leaves : goal.run_loop-returns-clause-leaves
 run_loop-returns-clause-leaves g t c =

@@ -1,4 +1,6 @@
-use Rattle.std.proofs.Common.{ap, ◌∙◌}
+use Rattle.std.proofs.Common.{◌≡◌, sym, ap, subst, ◌∙◌}
+use Rattle.std.specs.Prelude.{IfSome}
+use Rattle.ac_base.specs.declared.reason.Reason.TheVariants.{KeyChanged}
 use Rattle.ac_model.specs.Cursors.{plain_mark}
 use Rattle.ac_meaning.specs.Environment.{objects_by, object_at, with_bound, binds_object}
 use Rattle.ac_meaning.specs.UnderGuards.{held_without}
@@ -7,8 +9,9 @@ use Rattle.ac_objects.specs.World.{state_of}
 use Rattle.ac_calls.specs.Elements.{text_in}
 use Rattle.ac_objects.specs.KeyUpdates.{key_ended}
 use Rattle.ac_objects.proofs.Counted.{held_left}
-use Rattle.ac_objects.proofs.Updating.{stands_left, update_ends}
-use Rattle.ac_objects.proofs.objects.Objects.leave_update.Goals as goal
+use Rattle.ac_objects.proofs.InScope.{left_object}
+use Rattle.ac_objects.proofs.Updating.{only_changed, stands_left, update_ends}
+use Rattle.ac_objects.proofs.objects.Objects.close_update.Goals as goal
 
 pub end_update-requires-clause-guard : goal.end_update-requires-clause-guard
 end_update-requires-clause-guard c =
@@ -33,6 +36,15 @@ returns-clause-ended c =
       end.0,
       end.1 ∙ ap (λ e. with_bound (objects_by (held_without key.guard) e) key.object (binds_object (key_ended h (plain_mark key.at) c.keyed_text-copy.result).after)) left,
     ))
+
+pub returns-clause-only : goal.returns-clause-only
+returns-clause-only c =
+    let key = c.args.key in
+    let held = c.requires.guard in
+    let there = ap (λ e. object_at e key.object) c.take_value-value.ensures.left
+    ∙ (left_object (state_of c.args.self.now) key.names key.object c.requires.inner ∙ held.there) in
+    subst (λ r. IfSome r (λ reason. reason ≡ KeyChanged)) (sym (c.end_update.ensures.ended held.held there).0)
+    (only_changed held.held (plain_mark key.at) c.keyed_text-copy.result)
 
 pub returns-clause-persists : goal.returns-clause-persists
 returns-clause-persists c k known = c.end_update.ensures.persists k (c.take_value-value.ensures.persists k known)

@@ -13,7 +13,7 @@ use Rattle.ac_objects.specs.Blocks.{holding}
 use Rattle.ac_objects.specs.World.{state_of}
 use Rattle.ac_objects.proofs.InScope.{named_object, value_named}
 use Rattle.ac_objects.proofs.Updating.{passed_stands, raised_cursors}
-use Rattle.ac_objects.proofs.objects.Objects.enter_update.Goals as goal
+use Rattle.ac_objects.proofs.objects.Objects.open_update.Goals as goal
 
 pub copy_at-requires-clause-element : goal.copy_at-requires-clause-element
 copy_at-requires-clause-element c =
