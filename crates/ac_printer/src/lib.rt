@@ -10,5 +10,5 @@ mod page;
 mod script;
 mod words;
 
-pub use literal::append_literal;
+pub use literal::{append_literal, append_quoted};
 pub use script::print;

@@ -25,7 +25,8 @@ fn append_bytes(text: &mut Vec<u8>, bytes: &[u8]) -> Result<(), AllocError>
     Ok(())
 }
 
-fn append_quoted(text: &mut Vec<u8>, bytes: &[u8]) -> Result<(), AllocError>
+/// Adds a string between quotes, with the escapes of a canonical text.
+pub fn append_quoted(text: &mut Vec<u8>, bytes: &[u8]) -> Result<(), AllocError>
     ensures { OnOk result (text.new.items ≡ text.old.items ++ quoted bytes.now) }
 {
     text.extend_from_slice(b"\"")?;

@@ -22,7 +22,7 @@ mod reserved;
 mod stage;
 mod stop;
 
-pub use ac_printer::{append_literal, print};
+pub use ac_printer::{append_literal, append_quoted, print};
 pub use ac_syntax::{
     Arg, Args, Decl, Decls, ElemKind, Handler, Handlers, Ident, Idents, Kind, RefusalKind, Script,
     ScriptFault, Stmt, Stmts, TaskText, TaskTexts, TypeDef, ViewKind,
