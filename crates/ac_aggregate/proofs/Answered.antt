@@ -1,8 +1,7 @@
 -- The answer to a question, by what stands for it.
-use Rattle.std.specs.Option.{option_map}
-use Rattle.std.proofs.Common.{◌≡◌, ℕ, ℤ, Bool, true, false, List, [], ◌∷◌, map, Option, Some, None, if◌then◌else◌, refl, sym, ap, ◌∙◌}
+use Rattle.std.proofs.Common.{◌≡◌, Bool, true, false, List, [], map, Option, if◌then◌else◌, refl, sym, ap, ◌∙◌}
 use Rattle.ac_base.specs.declared.value.Value.{Value}
-use Rattle.ac_aggregate.specs.declared.plains.Plain.{Plain}
+use Rattle.ac_calls.specs.declared.plains.Plain.{Plain}
 use Rattle.ac_aggregate.specs.Asked.{Asked, literal, text, name, group, product, sum, all_of, each, reduced, always, compares, both, negated}
 use Rattle.ac_aggregate.specs.Plains.{elements}
 use Rattle.ac_aggregate.specs.Settled.{StandsFor}

@@ -4,7 +4,7 @@ use Rattle.ac_base.specs.declared.fault.NoMemory.{NoMemory}
 use Rattle.ac_aggregate.specs.declared.oper.Comparison.{Comparison}
 use Rattle.ac_aggregate.specs.declared.oper.Oper.{Oper}
 use Rattle.ac_aggregate.specs.declared.part.Part.{Part}
-use Rattle.ac_aggregate.specs.declared.plains.Plain.{Plain}
+use Rattle.ac_calls.specs.declared.plains.Plain.{Plain}
 use Rattle.ac_aggregate.specs.Asked.{Asked, group, product, sum, each, reduced, compares, both, negated}
 use Rattle.ac_aggregate.specs.Settled.{StandsFor}
 use Rattle.ac_aggregate.specs.Views.{asked}

@@ -4,7 +4,7 @@ use Rattle.std.proofs.Common.{◌≡◌, ℕ, ℤ, Bool, true, false, List, [], 
 use Rattle.ac_base.specs.declared.value.Value.{Value}
 use Rattle.ac_aggregate.specs.declared.oper.Comparison.{Comparison}
 use Rattle.ac_aggregate.specs.declared.oper.Oper.{Oper}
-use Rattle.ac_aggregate.specs.declared.plains.Plain.{Plain}
+use Rattle.ac_calls.specs.declared.plains.Plain.{Plain}
 use Rattle.ac_aggregate.specs.Asked.{Asked, literal, text, name, group, product, sum, all_of, each, reduced, always, compares, both, negated}
 use Rattle.ac_aggregate.specs.Generators.{Generator, generator}
 use Rattle.ac_aggregate.specs.Plains.{elements}

@@ -8,9 +8,9 @@ use Rattle.ac_syntax.specs.declared.kind.ElemKind.{ElemKind}
 use Rattle.ac_syntax.specs.declared.kind.ElemKind.TheVariants.{Integer, Str}
 use Rattle.ac_aggregate.specs.declared.oper.Comparison.TheVariants.{Less, LessEqual, Greater, GreaterEqual}
 use Rattle.ac_aggregate.specs.declared.oper.Oper.TheVariants.{Sum, Product, Least, Greatest}
-use Rattle.ac_aggregate.specs.declared.plains.Plain.{Plain}
-use Rattle.ac_aggregate.specs.declared.plains.Plain.TheVariants as plain
-use Rattle.ac_aggregate.specs.declared.plains.PlainRow.{PlainRow}
+use Rattle.ac_calls.specs.declared.plains.Plain.{Plain}
+use Rattle.ac_calls.specs.declared.plains.Plain.TheVariants as plain
+use Rattle.ac_calls.specs.declared.plains.PlainRow.{PlainRow}
 use Rattle.ac_aggregate.specs.Asked.{Asked, literal, name, product, sum, all_of, each, reduced, always, compares, both, negated}
 use Rattle.ac_aggregate.specs.Values.{Answer, number, listing, overflow, ask_of}
 

@@ -1,28 +1,11 @@
--- The outermost variables and objects, as a question finds them.
+-- The outermost variables and objects, as a question finds them by name.
 use Rattle.std.specs.Prelude.{ℕ, pos, List, [], map, find, Option, Some, None, unwrap_or, option_and_then}
 use Rattle.std.specs.Str.{bytes_eq}
 use Rattle.ac_base.specs.declared.value.Value.{Value}
 use Rattle.ac_base.specs.declared.value.Value.TheVariants as value
-use Rattle.ac_aggregate.specs.declared.plains.Plain.{Plain}
-use Rattle.ac_aggregate.specs.declared.plains.Plain.TheVariants as plain
-use Rattle.ac_aggregate.specs.declared.plains.PlainRow.{PlainRow}
-
-abbrev pub name_of : Plain → List ℕ
-name_of (plain.Int name z) = name
-name_of (plain.Str name bytes) = name
-name_of (plain.Object name def limit capacity peak rows) = name
-
--- the value of a variable
-abbrev pub variable_of : Plain → Option Value
-variable_of (plain.Int name z) = Some (value.Int z)
-variable_of (plain.Str name bytes) = Some (value.Text bytes)
-variable_of (plain.Object name def limit capacity peak rows) = None
-
--- the rows of an object
-abbrev pub rows_of : Plain → List PlainRow
-rows_of (plain.Int name z) = []
-rows_of (plain.Str name bytes) = []
-rows_of (plain.Object name def limit capacity peak rows) = rows
+use Rattle.ac_calls.specs.Plains.{name_of, variable_of, rows_of}
+use Rattle.ac_calls.specs.declared.plains.Plain.{Plain}
+use Rattle.ac_calls.specs.declared.plains.PlainRow.{PlainRow}
 
 -- what stands where no value does
 abbrev pub blank : Value

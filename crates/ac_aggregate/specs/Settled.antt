@@ -3,7 +3,7 @@ use Rattle.std.specs.Prelude.{◌≡◌, ◌&&◌, ℕ, ℤ, Bool, true, false, 
 use Rattle.std.specs.List.{list_any}
 use Rattle.std.specs.Str.{bytes_eq}
 use Rattle.ac_base.specs.declared.value.Value.{Value}
-use Rattle.ac_aggregate.specs.declared.plains.Plain.{Plain}
+use Rattle.ac_calls.specs.declared.plains.Plain.{Plain}
 use Rattle.ac_aggregate.specs.Asked.{Asked, literal, text, name, group, product, sum, all_of, each, reduced, always, compares, both, negated}
 use Rattle.ac_aggregate.specs.Generators.{Generator}
 use Rattle.ac_aggregate.specs.Values.{spelled_integer, value_of, truth_of, values_of, is_aggregate}

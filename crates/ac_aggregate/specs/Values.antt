@@ -10,7 +10,7 @@ use Rattle.ac_aggregate.specs.declared.oper.Comparison.{Comparison}
 use Rattle.ac_aggregate.specs.declared.oper.Comparison.TheVariants as comparison
 use Rattle.ac_aggregate.specs.declared.oper.Oper.{Oper}
 use Rattle.ac_aggregate.specs.declared.oper.Oper.TheVariants as oper
-use Rattle.ac_aggregate.specs.declared.plains.Plain.{Plain}
+use Rattle.ac_calls.specs.declared.plains.Plain.{Plain}
 use Rattle.ac_aggregate.specs.Asked.{Asked, literal, text, name, group, product, sum, all_of, each, reduced, always, compares, both, negated}
 use Rattle.ac_aggregate.specs.Generators.{Generator, generator, innermost}
 use Rattle.ac_aggregate.specs.Plains.{blank, variable, elements}

@@ -1,7 +1,7 @@
 //! Answers to questions.
 ghost use Rattle.std.specs.Prelude.{◌≡◌, [], map, IfOk, OnOk};
 ghost use Rattle.std.specs.Option.{option_map};
-ghost use Rattle.ac_aggregate.specs.Answers.{val_view, given_view, givens_view, answer_view};
+ghost use Rattle.ac_aggregate.specs.Answers.{val_view, givens_view, answer_view};
 ghost use Rattle.ac_aggregate.specs.Asking.{asked_by};
 ghost use Rattle.ac_aggregate.specs.Plains as specs;
 ghost use Rattle.ac_aggregate.specs.Values as values;
@@ -9,12 +9,12 @@ ghost use Rattle.ac_aggregate.specs.Values.{element_of, object_in, all_kept, ask
 ghost use Rattle.ac_aggregate.specs.Views.{asked};
 
 use crate::part::Part;
-use crate::plains::{Plain, Plains};
 use crate::question::Question;
 use crate::settling::settle;
 use crate::values::{Given, Val, Values, integer_in, keep, val_of};
 use crate::valuing::{element, object_of, rows, value};
 use ac_base::NoMemory;
+use ac_calls::{Plain, Plains};
 use std::alloc::Global;
 
 /// What a question comes to.

@@ -12,11 +12,11 @@ use crate::making::{both, compares, product, sum};
 use crate::names::inside;
 use crate::oper::Oper;
 use crate::part::Part;
-use crate::plains::Plain;
 use crate::tools::spelling;
 use crate::values::{Val, blank, integer_in};
 use crate::valuing::{Bound, value};
 use ac_base::NoMemory;
+use ac_calls::Plain;
 use ac_syntax::Ident;
 use std::alloc::Global;
 

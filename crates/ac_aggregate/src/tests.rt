@@ -1,5 +1,6 @@
 use super::*;
 use ac_base::{NoMemory, Value};
+use ac_calls::{Plain, PlainRow, PlainRows, Plains};
 use ac_syntax::{Decl, Decls, ElemKind, Ident, Kind, RefusalKind, TypeDef};
 use std::alloc::Global;
 use std::test::Fail;

@@ -3,6 +3,7 @@ ghost use Rattle.std.specs.Prelude.{◌≡◌, ◌∷◌, map, None, Some, IfOk,
 ghost use Rattle.std.specs.Option.{option_map};
 ghost use Rattle.ac_aggregate.specs.Answers.{val_view, bounds_view};
 ghost use Rattle.ac_aggregate.specs.Generators.{generator, innermost};
+ghost use Rattle.ac_calls.specs.Plains as of;
 ghost use Rattle.ac_aggregate.specs.Plains as specs;
 ghost use Rattle.ac_aggregate.specs.Values as values;
 ghost use Rattle.ac_aggregate.specs.Values.{value_of, truth_of, values_of, element_of, object_in, all_kept, folded, stepped};
@@ -10,10 +11,10 @@ ghost use Rattle.ac_aggregate.specs.Views.{asked};
 
 use crate::oper::Oper;
 use crate::part::Part;
-use crate::plains::{Plain, PlainRow};
 use crate::tools::{as_value, both, combined, compared, integer, negated, product, sum};
 use crate::values::{Val, blank, integer_in, val_of};
 use ac_base::NoMemory;
+use ac_calls::{Plain, PlainRow};
 use ac_syntax::Ident;
 use std::alloc::Global;
 
@@ -61,7 +62,7 @@ pub fn inside<'a>(
 }
 
 fn name_of(plain: &Plain) -> &[u8]
-    ensures { result.now ≡ specs.name_of plain.now }
+    ensures { result.now ≡ of.name_of plain.now }
 {
     match plain {
         Plain::Int { name, .. } => name.bytes(),
@@ -71,7 +72,7 @@ fn name_of(plain: &Plain) -> &[u8]
 }
 
 fn variable_of(plain: &Plain) -> Option<Val<'_>>
-    ensures { option_map val_view result ≡ specs.variable_of plain.now }
+    ensures { option_map val_view result ≡ of.variable_of plain.now }
 {
     match plain {
         Plain::Int { value, .. } => Some(Val::Int(*value)),
@@ -81,7 +82,7 @@ fn variable_of(plain: &Plain) -> Option<Val<'_>>
 }
 
 fn rows_of(plain: &Plain) -> &[PlainRow]
-    ensures { result.now ≡ specs.rows_of plain.now }
+    ensures { result.now ≡ of.rows_of plain.now }
 {
     match plain {
         Plain::Int { .. } | Plain::Str { .. } => &[],

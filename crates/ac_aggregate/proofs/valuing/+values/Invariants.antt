@@ -1,5 +1,5 @@
 use Rattle.std.proofs.Common.{◌≡◌, List, map, drop}
-use Rattle.ac_aggregate.specs.declared.plains.PlainRow.{PlainRow}
+use Rattle.ac_calls.specs.declared.plains.PlainRow.{PlainRow}
 use Rattle.ac_aggregate.specs.Answers.{bounds_view}
 use Rattle.ac_aggregate.specs.Values.{element_of}
 use Rattle.ac_aggregate.specs.Views.{asked}

@@ -1,6 +1,6 @@
 use Rattle.std.proofs.Common.{◌+◌, map, drop, rules, sym, ap, ◌∙◌, to_z, to_z-of_z, w64}
 use Rattle.ac_rules.proofs.Outcomes.{next_item}
-use Rattle.ac_aggregate.specs.declared.plains.PlainRow.{PlainRow}
+use Rattle.ac_calls.specs.declared.plains.PlainRow.{PlainRow}
 use Rattle.ac_aggregate.specs.Values.{folded}
 use Rattle.ac_aggregate.proofs.Folds.{row_more}
 use Rattle.ac_aggregate.proofs.valuing.fold_all.Goals as goal

@@ -1,5 +1,5 @@
 use Rattle.std.proofs.Common.{◌≡◌, map, drop}
-use Rattle.ac_aggregate.specs.declared.plains.PlainRow.{PlainRow}
+use Rattle.ac_calls.specs.declared.plains.PlainRow.{PlainRow}
 use Rattle.ac_aggregate.specs.Values.{folded}
 use Rattle.ac_aggregate.proofs.valuing.fold_all.Given as goal
 
