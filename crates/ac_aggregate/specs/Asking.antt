@@ -9,11 +9,11 @@ use Rattle.ac_aggregate.specs.declared.fault.AskFault.TheVariants.{Refused, NoMe
 use Rattle.ac_aggregate.specs.declared.question.Question.{Question}
 use Rattle.ac_aggregate.specs.Asked.{Asked}
 use Rattle.ac_aggregate.specs.Refusals.{IsRefused, IsTaken}
-use Rattle.ac_aggregate.specs.Views.{asked}
+use Rattle.ac_aggregate.specs.Views.{asked_in}
 
 -- what a question in memory asks
 abbrev pub asked_by : Question → Asked
-asked_by q = asked q.part
+asked_by q = asked_in q.part
 
 -- the text is this question, or is refused for this, unless memory ran out
 abbrev pub IsAnswer : Scope → (word : List ℕ) → Result Question AskFault → Type 0

@@ -1,4 +1,5 @@
 -- Parts in memory as contracts see them.
+use Rattle.std.specs.Global.{Box}
 use Rattle.ac_aggregate.specs.declared.part.Part.{Part}
 use Rattle.ac_aggregate.specs.declared.part.Part.TheVariants as part
 use Rattle.ac_aggregate.specs.Asked.{Asked, literal, text, name, group, product, sum, all_of, each, reduced, always, compares, both, negated}
@@ -17,3 +18,7 @@ asked part.Always = always
 asked (part.Compares' p l by q r) = compares (asked l) by (asked r)
 asked (part.Both' p l q r) = both (asked l) (asked r)
 asked (part.Negated' p c) = negated (asked c)
+
+-- the same of a part in a box
+abbrev pub asked_in : Box Part → Asked
+asked_in b = asked b.value

@@ -101,11 +101,12 @@ impl Question {
     pub fn answer(&self, alloc: Global, plains: &Plains) -> Result<AskAnswer, NoMemory>
         ensures { IfOk result (λ answer. answer_view answer ≡ ask_of (asked_by self.now) plains.now) }
     {
-        let part = settle(alloc, plains.items(), self.part(), &[])?;
-        if is_aggregate(&part) {
-            Ok(listed(listing(alloc, plains.items(), &part)?))
+        let made = settle(alloc, plains.items(), self.part(), &[])?;
+        let part = &*made;
+        if is_aggregate(part) {
+            Ok(listed(listing(alloc, plains.items(), part)?))
         } else {
-            Ok(numbered(value(alloc, plains.items(), &part, &[])?))
+            Ok(numbered(value(alloc, plains.items(), part, &[])?))
         }
     }
 }

@@ -1,96 +1,106 @@
-//! Parts made of smaller ones, each with the tokens behind it.
+//! Parts made of smaller ones, each in a box of its own and with the tokens behind it. Readers that lead back to each other call them, so none is taken into its caller: that keeps the callers' frames small.
 ghost use Rattle.std.specs.Prelude.{◌≡◌, IfOk};
 ghost use Rattle.ac_syntax.specs.declared.token.Mark.TheVariants as mark;
 ghost use Rattle.ac_aggregate.specs.Asked as what;
-ghost use Rattle.ac_aggregate.specs.Outcomes.{Finds};
+ghost use Rattle.ac_aggregate.specs.Outcomes.{Finds, gives};
 ghost use Rattle.ac_aggregate.specs.Readers as readers;
-ghost use Rattle.ac_aggregate.specs.Views.{asked};
+ghost use Rattle.ac_aggregate.specs.Views.{asked_in};
 
 use crate::oper::Comparison;
-use crate::part::Part;
+use crate::part::{Found, Part};
 use crate::token_reader::{Head, mark, name, number, reducing};
 use ac_base::NoMemory;
 use ac_syntax::{Mark, Token};
 use std::alloc::Global;
 
-pub fn product(alloc: Global, l: Part, r: Part) -> Result<Part, NoMemory>
-    ensures { IfOk result (λ made. asked made ≡ what.product (asked l) (asked r)) }
+#[inline(never)]
+pub fn product(alloc: Global, l: Box<Part>, r: Box<Part>) -> Result<Box<Part>, NoMemory>
+    ensures { IfOk result (λ made. asked_in made ≡ what.product (asked_in l) (asked_in r)) }
 {
-    let l = Box::new(alloc, l)?;
-    Ok(Part::Product(l, Box::new(alloc, r)?))
+    Ok(Box::new(alloc, Part::Product(l, r))?)
 }
 
-pub fn sum(alloc: Global, l: Part, minus: bool, r: Part) -> Result<Part, NoMemory>
-    ensures { IfOk result (λ made. asked made ≡ what.sum (asked l) minus (asked r)) }
+#[inline(never)]
+pub fn sum(alloc: Global, l: Box<Part>, minus: bool, r: Box<Part>) -> Result<Box<Part>, NoMemory>
+    ensures { IfOk result (λ made. asked_in made ≡ what.sum (asked_in l) minus (asked_in r)) }
 {
-    let l = Box::new(alloc, l)?;
-    Ok(Part::Sum(l, minus, Box::new(alloc, r)?))
+    Ok(Box::new(alloc, Part::Sum(l, minus, r))?)
 }
 
-pub fn compares(alloc: Global, l: Part, by: Comparison, r: Part) -> Result<Part, NoMemory>
-    ensures { IfOk result (λ made. asked made ≡ what.compares (asked l) by (asked r)) }
+#[inline(never)]
+pub fn compares(
+    alloc: Global,
+    l: Box<Part>,
+    by: Comparison,
+    r: Box<Part>,
+) -> Result<Box<Part>, NoMemory>
+    ensures { IfOk result (λ made. asked_in made ≡ what.compares (asked_in l) by (asked_in r)) }
 {
-    let l = Box::new(alloc, l)?;
-    Ok(Part::Compares(l, by, Box::new(alloc, r)?))
+    Ok(Box::new(alloc, Part::Compares(l, by, r))?)
 }
 
-pub fn both(alloc: Global, l: Part, r: Part) -> Result<Part, NoMemory>
-    ensures { IfOk result (λ made. asked made ≡ what.both (asked l) (asked r)) }
+#[inline(never)]
+pub fn both(alloc: Global, l: Box<Part>, r: Box<Part>) -> Result<Box<Part>, NoMemory>
+    ensures { IfOk result (λ made. asked_in made ≡ what.both (asked_in l) (asked_in r)) }
 {
-    let l = Box::new(alloc, l)?;
-    Ok(Part::Both(l, Box::new(alloc, r)?))
+    Ok(Box::new(alloc, Part::Both(l, r))?)
 }
 
 /// An expression and its closing parenthesis.
-pub fn group(alloc: Global, e: Part, tokens: &[Token]) -> Result<Option<(Part, &[Token])>, NoMemory>
-    ensures { IfOk result (λ read. Finds asked read (readers.closed mark.Close what.group (asked e) tokens.now)) }
+#[inline(never)]
+pub fn group(alloc: Global, e: Box<Part>, tokens: &[Token]) -> Result<Found<'_>, NoMemory>
+    ensures { IfOk result (λ read. Finds asked_in read (readers.closed mark.Close what.group (asked_in e) tokens.now)) }
 {
     match mark(tokens, Mark::Close) {
-        Some(rest) => Ok(Some((Part::Group(Box::new(alloc, e)?), rest))),
+        Some(rest) => Ok(Some((Box::new(alloc, Part::Group(e))?, rest))),
         None => Ok(None),
     }
 }
 
 /// A condition that is negated, and its closing parenthesis.
-pub fn negated(
-    alloc: Global,
-    c: Part,
-    tokens: &[Token],
-) -> Result<Option<(Part, &[Token])>, NoMemory>
-    ensures { IfOk result (λ read. Finds asked read (readers.closed mark.Close what.negated (asked c) tokens.now)) }
+#[inline(never)]
+pub fn negated(alloc: Global, c: Box<Part>, tokens: &[Token]) -> Result<Found<'_>, NoMemory>
+    ensures { IfOk result (λ read. Finds asked_in read (readers.closed mark.Close what.negated (asked_in c) tokens.now)) }
 {
     match mark(tokens, Mark::Close) {
-        Some(rest) => Ok(Some((Part::Negated(Box::new(alloc, c)?), rest))),
+        Some(rest) => Ok(Some((Box::new(alloc, Part::Negated(c))?, rest))),
         None => Ok(None),
     }
+}
+
+/// The condition of an aggregate that has none.
+#[inline(never)]
+pub fn always(alloc: Global, tokens: &[Token]) -> Result<Found<'_>, NoMemory>
+    ensures { IfOk result (λ read. Finds asked_in read (gives what.always tokens.now)) }
+{
+    Ok(Some((Box::new(alloc, Part::Always)?, tokens)))
 }
 
 /// The aggregate of this heading.
 fn aggregate(
     alloc: Global,
     heading: &Head<'_>,
-    condition: Part,
-    gives: Part,
-) -> Result<Part, NoMemory>
-    ensures { IfOk result (λ made. asked made ≡ what.each heading.now.generator.now heading.now.object.now (asked condition) (asked gives)) }
+    condition: Box<Part>,
+    gives: Box<Part>,
+) -> Result<Box<Part>, NoMemory>
+    ensures { IfOk result (λ made. asked_in made ≡ what.each heading.now.generator.now heading.now.object.now (asked_in condition) (asked_in gives)) }
 {
     let generator = heading.generator.copy(alloc)?;
     let object = heading.object.copy(alloc)?;
-    let condition = Box::new(alloc, condition)?;
-    let gives = Box::new(alloc, gives)?;
-    Ok(Part::Each(generator, object, condition, gives))
+    Ok(Box::new(alloc, Part::Each(generator, object, condition, gives))?)
 }
 
 /// What an aggregate gives, and its closing bracket.
+#[inline(never)]
 pub fn each<'a>(
     alloc: Global,
     heading: &Head<'_>,
-    condition: Part,
-    gives: Part,
+    condition: Box<Part>,
+    gives: Box<Part>,
     tokens: &'a [Token],
-) -> Result<Option<(Part, &'a [Token])>, NoMemory>
-    ensures { IfOk result (λ read. Finds asked read
-        (readers.closed mark.BracketClose (what.each heading.now.generator.now heading.now.object.now (asked condition)) (asked gives) tokens.now)) }
+) -> Result<Found<'a>, NoMemory>
+    ensures { IfOk result (λ read. Finds asked_in read
+        (readers.closed mark.BracketClose (what.each heading.now.generator.now heading.now.object.now (asked_in condition)) (asked_in gives) tokens.now)) }
 {
     match mark(tokens, Mark::BracketClose) {
         Some(rest) => Ok(Some((aggregate(alloc, heading, condition, gives)?, rest))),
@@ -99,105 +109,109 @@ pub fn each<'a>(
 }
 
 /// A number or a string without a minus.
-fn constant(alloc: Global, tokens: &[Token]) -> Result<Option<(Part, &[Token])>, NoMemory>
-    ensures { IfOk result (λ read. Finds asked read (readers.constant tokens.now)) }
+fn constant(alloc: Global, tokens: &[Token]) -> Result<Found<'_>, NoMemory>
+    ensures { IfOk result (λ read. Finds asked_in read (readers.constant tokens.now)) }
 {
     match tokens {
-        [Token::Number(n), rest @ ..] => Ok(Some((Part::Literal(false, *n), rest))),
-        [Token::Text(bytes), rest @ ..] => Ok(Some((Part::Text(bytes.copy(alloc)?), rest))),
+        [Token::Number(n), rest @ ..] => {
+            let made = Box::new(alloc, Part::Literal(false, *n))?;
+            Ok(Some((made, rest)))
+        }
+        [Token::Text(bytes), rest @ ..] => {
+            let made = Box::new(alloc, Part::Text(bytes.copy(alloc)?))?;
+            Ok(Some((made, rest)))
+        }
         _ => Ok(None),
     }
 }
 
 /// A number behind its minus.
-fn negative(tokens: &[Token]) -> Option<(Part, &[Token])>
-    ensures { Finds asked result (readers.negative tokens.now) }
+fn negative(alloc: Global, tokens: &[Token]) -> Result<Found<'_>, NoMemory>
+    ensures { IfOk result (λ read. Finds asked_in read (readers.negative tokens.now)) }
 {
-    let (n, rest) = number(tokens)?;
-    Some((Part::Literal(true, n), rest))
+    match number(tokens) {
+        Some((n, rest)) => Ok(Some((Box::new(alloc, Part::Literal(true, n))?, rest))),
+        None => Ok(None),
+    }
 }
 
 /// A number or a string.
+#[inline(never)]
 #[tactic(auto, unfolding(crate::specs::Readers::spelled))]
-pub fn spelled(alloc: Global, tokens: &[Token]) -> Result<Option<(Part, &[Token])>, NoMemory>
-    ensures { IfOk result (λ read. Finds asked read (readers.spelled tokens.now)) }
+pub fn spelled(alloc: Global, tokens: &[Token]) -> Result<Found<'_>, NoMemory>
+    ensures { IfOk result (λ read. Finds asked_in read (readers.spelled tokens.now)) }
 {
     match mark(tokens, Mark::Minus) {
-        Some(rest) => Ok(negative(rest)),
+        Some(rest) => negative(alloc, rest),
         None => constant(alloc, tokens),
     }
 }
 
 /// An object's name.
-pub fn object(alloc: Global, tokens: &[Token]) -> Result<Option<(Part, &[Token])>, NoMemory>
-    ensures { IfOk result (λ read. Finds asked read (readers.object tokens.now)) }
+#[inline(never)]
+pub fn object(alloc: Global, tokens: &[Token]) -> Result<Found<'_>, NoMemory>
+    ensures { IfOk result (λ read. Finds asked_in read (readers.object tokens.now)) }
 {
     match name(tokens) {
-        Some((word, rest)) => Ok(Some((Part::All(word.copy(alloc)?), rest))),
+        Some((word, rest)) => {
+            let made = Box::new(alloc, Part::All(word.copy(alloc)?))?;
+            Ok(Some((made, rest)))
+        }
         None => Ok(None),
     }
 }
 
 /// A reduction, behind its tick.
-fn reduction(
-    alloc: Global,
-    source: Part,
-    tokens: &[Token],
-) -> Result<Option<(Part, &[Token])>, NoMemory>
-    ensures { IfOk result (λ read. Finds asked read (readers.reduction (asked source) tokens.now)) }
+fn reduction(alloc: Global, source: Box<Part>, tokens: &[Token]) -> Result<Found<'_>, NoMemory>
+    ensures { IfOk result (λ read. Finds asked_in read (readers.reduction (asked_in source) tokens.now)) }
 {
     match reducing(tokens) {
         Some((how, rest)) => {
-            let source = Box::new(alloc, source)?;
-            Ok(Some((Part::Reduced(source, how.by, how.minus, how.number), rest)))
+            let made = Part::Reduced(source, how.by, how.minus, how.number);
+            Ok(Some((Box::new(alloc, made)?, rest)))
         }
         None => Ok(None),
     }
 }
 
 /// What a source is in an expression where no reduction follows.
-fn as_factor(source: Part, tokens: &[Token]) -> Option<(Part, &[Token])>
-    ensures { Finds asked result (readers.as_factor (asked source) tokens.now) }
+fn as_factor(alloc: Global, source: Box<Part>, tokens: &[Token]) -> Result<Found<'_>, NoMemory>
+    ensures { IfOk result (λ read. Finds asked_in read (readers.as_factor (asked_in source) tokens.now)) }
 {
-    match source {
-        Part::All(word) => Some((Part::Name(word), tokens)),
-        _ => None,
+    match Box::into_inner(source) {
+        Part::All(word) => Ok(Some((Box::new(alloc, Part::Name(word))?, tokens))),
+        _ => Ok(None),
     }
 }
 
 /// What a source is as a whole question where no reduction follows.
-fn as_question(source: Part, tokens: &[Token]) -> Option<(Part, &[Token])>
-    ensures { Finds asked result (readers.as_question (asked source) tokens.now) }
+fn as_question(source: Box<Part>, tokens: &[Token]) -> Found<'_>
+    ensures { Finds asked_in result (readers.as_question (asked_in source) tokens.now) }
 {
-    match source {
-        Part::Each(generator, object, condition, gives) => {
-            Some((Part::Each(generator, object, condition, gives), tokens))
-        }
+    match &*source {
+        Part::Each(_, _, _, _) => Some((source, tokens)),
         _ => None,
     }
 }
 
 /// A source in an expression, with the reduction behind it where there is one.
-pub fn factor_of(
-    alloc: Global,
-    source: Part,
-    tokens: &[Token],
-) -> Result<Option<(Part, &[Token])>, NoMemory>
-    ensures { IfOk result (λ read. Finds asked read (readers.reduced_or readers.as_factor (asked source) tokens.now)) }
+#[inline(never)]
+pub fn factor_of(alloc: Global, source: Box<Part>, tokens: &[Token]) -> Result<Found<'_>, NoMemory>
+    ensures { IfOk result (λ read. Finds asked_in read (readers.reduced_or readers.as_factor (asked_in source) tokens.now)) }
 {
     match mark(tokens, Mark::Tick) {
         Some(rest) => reduction(alloc, source, rest),
-        None => Ok(as_factor(source, tokens)),
+        None => as_factor(alloc, source, tokens),
     }
 }
 
 /// The same of a source as a whole question.
 pub fn question_of(
     alloc: Global,
-    source: Part,
+    source: Box<Part>,
     tokens: &[Token],
-) -> Result<Option<(Part, &[Token])>, NoMemory>
-    ensures { IfOk result (λ read. Finds asked read (readers.reduced_or readers.as_question (asked source) tokens.now)) }
+) -> Result<Found<'_>, NoMemory>
+    ensures { IfOk result (λ read. Finds asked_in read (readers.reduced_or readers.as_question (asked_in source) tokens.now)) }
 {
     match mark(tokens, Mark::Tick) {
         Some(rest) => reduction(alloc, source, rest),

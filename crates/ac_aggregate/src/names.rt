@@ -26,6 +26,7 @@ fn is_named(scope: &[Entry<'_>], generators: &[Ident], word: &[u8]) -> bool
 }
 
 /// The generators in scope in an aggregate, whose own one is the innermost.
+#[inline(never)]
 pub fn inside(alloc: Global, own: &Ident, generators: &[Ident]) -> Result<Vec<Ident>, NoMemory>
     ensures { IfOk result (λ made. made.items ≡ own.now ∷ generators.now) }
 {

@@ -1,7 +1,7 @@
 //! Questions in memory.
 
 use crate::oper::{Comparison, Oper};
-use ac_syntax::{Ident, StringBytes};
+use ac_syntax::{Ident, StringBytes, Token};
 
 /// A question, or a part of one.
 #[derive(Drop)]
@@ -26,3 +26,6 @@ pub enum Part {
     Both(Box<Part>, Box<Part>),
     Negated(Box<Part>),
 }
+
+/// A part at the front of tokens and the tokens behind it, where there is one. It is in a box, so that what reads one calls for little stack.
+pub type Found<'a> = Option<(Box<Part>, &'a [Token])>;

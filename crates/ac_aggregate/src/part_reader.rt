@@ -1,14 +1,16 @@
 //! Readers of the parts of a question, which lead back to each other: each answers no part where its tokens begin with none.
 ghost use Rattle.std.specs.Prelude.{IfOk};
-ghost use Rattle.ac_aggregate.specs.Outcomes.{Finds};
+ghost use Rattle.ac_aggregate.specs.Outcomes.{Finds, fork, gives, onward};
+ghost use Rattle.ac_aggregate.specs.Readers as readers;
 ghost use Rattle.ac_aggregate.specs.Reading as reading;
 ghost use Rattle.ac_aggregate.specs.Reading.{read_by};
-ghost use Rattle.ac_aggregate.specs.Views.{asked};
+ghost use Rattle.ac_aggregate.specs.Views.{asked_in};
 
 use crate::making::{
-    both, compares, each, factor_of, group, negated, object, product, question_of, spelled, sum,
+    always, both, compares, each, factor_of, group, negated, object, product, question_of, spelled,
+    sum,
 };
-use crate::part::Part;
+use crate::part::{Found, Part};
 use crate::token_reader::{Head, comparison, heading, mark, negation, sign, word};
 use ac_base::NoMemory;
 use ac_syntax::{Mark, Token};
@@ -16,8 +18,8 @@ use std::alloc::Global;
 
 #[cycle(parts)]
 #[tactic(auto, unfolding(crate::specs::Reading::read_by))]
-fn factor(alloc: Global, tokens: &[Token], steps: u32) -> Result<Option<(Part, &[Token])>, NoMemory>
-    ensures { IfOk result (λ read. Finds asked read (read_by steps reading.factor tokens.now)) }
+fn factor(alloc: Global, tokens: &[Token], steps: u32) -> Result<Found<'_>, NoMemory>
+    ensures { IfOk result (λ read. Finds asked_in read (read_by steps reading.factor tokens.now)) }
 {
     if steps == 0 {
         return Ok(None);
@@ -28,10 +30,20 @@ fn factor(alloc: Global, tokens: &[Token], steps: u32) -> Result<Option<(Part, &
             None => Ok(None),
         };
     }
+    bare(alloc, tokens, steps - 1)
+}
+
+/// A factor without parentheses round it. It is a function of its own, so that parentheses in each other call for little stack.
+#[cycle(parts)]
+#[inline(never)]
+fn bare(alloc: Global, tokens: &[Token], steps: u32) -> Result<Found<'_>, NoMemory>
+    ensures { IfOk result (λ read. Finds asked_in read
+        (fork readers.spelled (λ e. gives e) (λ ts. onward (read_by steps reading.source ts) (readers.reduced_or readers.as_factor)) tokens.now)) }
+{
     if let Some((e, rest)) = spelled(alloc, tokens)? {
         return Ok(Some((e, rest)));
     }
-    match source(alloc, tokens, steps - 1)? {
+    match source(alloc, tokens, steps)? {
         Some((s, rest)) => factor_of(alloc, s, rest),
         None => Ok(None),
     }
@@ -40,13 +52,8 @@ fn factor(alloc: Global, tokens: &[Token], steps: u32) -> Result<Option<(Part, &
 /// What goes on behind a term.
 #[cycle(parts)]
 #[tactic(auto, unfolding(crate::specs::Reading::read_by))]
-fn factors(
-    alloc: Global,
-    l: Part,
-    tokens: &[Token],
-    steps: u32,
-) -> Result<Option<(Part, &[Token])>, NoMemory>
-    ensures { IfOk result (λ read. Finds asked read (read_by steps (reading.factors (asked l)) tokens.now)) }
+fn factors(alloc: Global, l: Box<Part>, tokens: &[Token], steps: u32) -> Result<Found<'_>, NoMemory>
+    ensures { IfOk result (λ read. Finds asked_in read (read_by steps (reading.factors (asked_in l)) tokens.now)) }
 {
     if steps == 0 {
         return Ok(None);
@@ -65,8 +72,8 @@ fn factors(
 
 #[cycle(parts)]
 #[tactic(auto, unfolding(crate::specs::Reading::read_by))]
-fn term(alloc: Global, tokens: &[Token], steps: u32) -> Result<Option<(Part, &[Token])>, NoMemory>
-    ensures { IfOk result (λ read. Finds asked read (read_by steps reading.term tokens.now)) }
+fn term(alloc: Global, tokens: &[Token], steps: u32) -> Result<Found<'_>, NoMemory>
+    ensures { IfOk result (λ read. Finds asked_in read (read_by steps reading.term tokens.now)) }
 {
     if steps == 0 {
         return Ok(None);
@@ -80,13 +87,8 @@ fn term(alloc: Global, tokens: &[Token], steps: u32) -> Result<Option<(Part, &[T
 /// What goes on behind an expression.
 #[cycle(parts)]
 #[tactic(auto, unfolding(crate::specs::Reading::read_by))]
-fn terms(
-    alloc: Global,
-    l: Part,
-    tokens: &[Token],
-    steps: u32,
-) -> Result<Option<(Part, &[Token])>, NoMemory>
-    ensures { IfOk result (λ read. Finds asked read (read_by steps (reading.terms (asked l)) tokens.now)) }
+fn terms(alloc: Global, l: Box<Part>, tokens: &[Token], steps: u32) -> Result<Found<'_>, NoMemory>
+    ensures { IfOk result (λ read. Finds asked_in read (read_by steps (reading.terms (asked_in l)) tokens.now)) }
 {
     if steps == 0 {
         return Ok(None);
@@ -105,8 +107,8 @@ fn terms(
 
 #[cycle(parts)]
 #[tactic(auto, unfolding(crate::specs::Reading::read_by))]
-fn expr(alloc: Global, tokens: &[Token], steps: u32) -> Result<Option<(Part, &[Token])>, NoMemory>
-    ensures { IfOk result (λ read. Finds asked read (read_by steps reading.expr tokens.now)) }
+fn expr(alloc: Global, tokens: &[Token], steps: u32) -> Result<Found<'_>, NoMemory>
+    ensures { IfOk result (λ read. Finds asked_in read (read_by steps reading.expr tokens.now)) }
 {
     if steps == 0 {
         return Ok(None);
@@ -122,11 +124,11 @@ fn expr(alloc: Global, tokens: &[Token], steps: u32) -> Result<Option<(Part, &[T
 #[tactic(auto, unfolding(crate::specs::Reading::read_by))]
 fn compared(
     alloc: Global,
-    l: Part,
+    l: Box<Part>,
     tokens: &[Token],
     steps: u32,
-) -> Result<Option<(Part, &[Token])>, NoMemory>
-    ensures { IfOk result (λ read. Finds asked read (read_by steps (reading.compared (asked l)) tokens.now)) }
+) -> Result<Found<'_>, NoMemory>
+    ensures { IfOk result (λ read. Finds asked_in read (read_by steps (reading.compared (asked_in l)) tokens.now)) }
 {
     if steps == 0 {
         return Ok(None);
@@ -142,8 +144,8 @@ fn compared(
 
 #[cycle(parts)]
 #[tactic(auto, unfolding(crate::specs::Reading::read_by))]
-fn atom(alloc: Global, tokens: &[Token], steps: u32) -> Result<Option<(Part, &[Token])>, NoMemory>
-    ensures { IfOk result (λ read. Finds asked read (read_by steps reading.atom tokens.now)) }
+fn atom(alloc: Global, tokens: &[Token], steps: u32) -> Result<Found<'_>, NoMemory>
+    ensures { IfOk result (λ read. Finds asked_in read (read_by steps reading.atom tokens.now)) }
 {
     if steps == 0 {
         return Ok(None);
@@ -165,11 +167,11 @@ fn atom(alloc: Global, tokens: &[Token], steps: u32) -> Result<Option<(Part, &[T
 #[tactic(auto, unfolding(crate::specs::Reading::read_by))]
 fn conditions(
     alloc: Global,
-    l: Part,
+    l: Box<Part>,
     tokens: &[Token],
     steps: u32,
-) -> Result<Option<(Part, &[Token])>, NoMemory>
-    ensures { IfOk result (λ read. Finds asked read (read_by steps (reading.conditions (asked l)) tokens.now)) }
+) -> Result<Found<'_>, NoMemory>
+    ensures { IfOk result (λ read. Finds asked_in read (read_by steps (reading.conditions (asked_in l)) tokens.now)) }
 {
     if steps == 0 {
         return Ok(None);
@@ -188,12 +190,8 @@ fn conditions(
 
 #[cycle(parts)]
 #[tactic(auto, unfolding(crate::specs::Reading::read_by))]
-fn condition(
-    alloc: Global,
-    tokens: &[Token],
-    steps: u32,
-) -> Result<Option<(Part, &[Token])>, NoMemory>
-    ensures { IfOk result (λ read. Finds asked read (read_by steps reading.condition tokens.now)) }
+fn condition(alloc: Global, tokens: &[Token], steps: u32) -> Result<Found<'_>, NoMemory>
+    ensures { IfOk result (λ read. Finds asked_in read (read_by steps reading.condition tokens.now)) }
 {
     if steps == 0 {
         return Ok(None);
@@ -207,15 +205,15 @@ fn condition(
 /// The condition of an aggregate, where it has one.
 #[cycle(parts)]
 #[tactic(auto, unfolding(crate::specs::Reading::read_by))]
-fn filter(alloc: Global, tokens: &[Token], steps: u32) -> Result<Option<(Part, &[Token])>, NoMemory>
-    ensures { IfOk result (λ read. Finds asked read (read_by steps reading.filter tokens.now)) }
+fn filter(alloc: Global, tokens: &[Token], steps: u32) -> Result<Found<'_>, NoMemory>
+    ensures { IfOk result (λ read. Finds asked_in read (read_by steps reading.filter tokens.now)) }
 {
     if steps == 0 {
         return Ok(None);
     }
     match word(tokens, b"when") {
         Some(rest) => condition(alloc, rest, steps - 1),
-        None => Ok(Some((Part::Always, tokens))),
+        None => always(alloc, tokens),
     }
 }
 
@@ -225,12 +223,12 @@ fn filter(alloc: Global, tokens: &[Token], steps: u32) -> Result<Option<(Part, &
 fn given<'a>(
     alloc: Global,
     heading: &Head<'_>,
-    condition: Part,
+    condition: Box<Part>,
     tokens: &'a [Token],
     steps: u32,
-) -> Result<Option<(Part, &'a [Token])>, NoMemory>
-    ensures { IfOk result (λ read. Finds asked read
-        (read_by steps (reading.given heading.now.generator.now heading.now.object.now (asked condition)) tokens.now)) }
+) -> Result<Found<'a>, NoMemory>
+    ensures { IfOk result (λ read. Finds asked_in read
+        (read_by steps (reading.given heading.now.generator.now heading.now.object.now (asked_in condition)) tokens.now)) }
 {
     if steps == 0 {
         return Ok(None);
@@ -247,12 +245,8 @@ fn given<'a>(
 /// An aggregate, behind its bracket.
 #[cycle(parts)]
 #[tactic(auto, unfolding(crate::specs::Reading::read_by))]
-fn aggregate(
-    alloc: Global,
-    tokens: &[Token],
-    steps: u32,
-) -> Result<Option<(Part, &[Token])>, NoMemory>
-    ensures { IfOk result (λ read. Finds asked read (read_by steps reading.aggregate tokens.now)) }
+fn aggregate(alloc: Global, tokens: &[Token], steps: u32) -> Result<Found<'_>, NoMemory>
+    ensures { IfOk result (λ read. Finds asked_in read (read_by steps reading.aggregate tokens.now)) }
 {
     if steps == 0 {
         return Ok(None);
@@ -269,8 +263,8 @@ fn aggregate(
 /// What a reduction goes over, or an aggregate alone.
 #[cycle(parts)]
 #[tactic(auto, unfolding(crate::specs::Reading::read_by))]
-fn source(alloc: Global, tokens: &[Token], steps: u32) -> Result<Option<(Part, &[Token])>, NoMemory>
-    ensures { IfOk result (λ read. Finds asked read (read_by steps reading.source tokens.now)) }
+fn source(alloc: Global, tokens: &[Token], steps: u32) -> Result<Found<'_>, NoMemory>
+    ensures { IfOk result (λ read. Finds asked_in read (read_by steps reading.source tokens.now)) }
 {
     if steps == 0 {
         return Ok(None);
@@ -283,12 +277,8 @@ fn source(alloc: Global, tokens: &[Token], steps: u32) -> Result<Option<(Part, &
 
 /// A question at the front of its tokens.
 #[tactic(auto, unfolding(crate::specs::Reading::read_by))]
-pub fn whole(
-    alloc: Global,
-    tokens: &[Token],
-    steps: u32,
-) -> Result<Option<(Part, &[Token])>, NoMemory>
-    ensures { IfOk result (λ read. Finds asked read (read_by steps reading.question tokens.now)) }
+pub fn whole(alloc: Global, tokens: &[Token], steps: u32) -> Result<Found<'_>, NoMemory>
+    ensures { IfOk result (λ read. Finds asked_in read (read_by steps reading.question tokens.now)) }
 {
     if steps == 0 {
         return Ok(None);

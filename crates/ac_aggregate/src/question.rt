@@ -9,7 +9,7 @@ ghost use Rattle.ac_aggregate.specs.Asking.{asked_by, IsAnswer, Takes, Refuses};
 ghost use Rattle.ac_aggregate.specs.Grammar.{Derives, questions};
 ghost use Rattle.ac_aggregate.specs.Refusals as refusals;
 ghost use Rattle.ac_aggregate.specs.Refusals.{word_tokens, IsRefused, IsTaken};
-ghost use Rattle.ac_aggregate.specs.Views.{asked};
+ghost use Rattle.ac_aggregate.specs.Views.{asked, asked_in};
 
 use crate::fault::AskFault;
 use crate::limits::{has_long, is_deep};
@@ -31,7 +31,7 @@ const STEPS: u32 = 16_385;
 /// A question to the outermost scope.
 #[derive(Drop)]
 pub struct Question {
-    part: Part,
+    part: Box<Part>,
 }
 
 fn refused(kind: RefusalKind) -> AskFault
@@ -85,8 +85,13 @@ fn first_fault(
 
 /// A question with these tokens, where it has no fault.
 #[tactic(auto, using(crate::proofs::Asking::faulty_by, crate::proofs::Asking::taken_by))]
-fn judged(alloc: Global, tokens: &[Token], decls: &[Decl], part: Part) -> Result<Question, AskFault>
-    requires { Derives questions (asked part) tokens.now }
+fn judged(
+    alloc: Global,
+    tokens: &[Token],
+    decls: &[Decl],
+    part: Box<Part>,
+) -> Result<Question, AskFault>
+    requires { Derives questions (asked_in part) tokens.now }
     ensures { (word : List ℕ) → length word ≤ 4096 → (cut_of word).malformed ≡ None → word_tokens word ≡ tokens.now
         → IsAnswer (refusals.outermost decls.now) word result }
 {

@@ -5,7 +5,7 @@ ghost use Rattle.ac_aggregate.specs.Asked as what;
 ghost use Rattle.ac_aggregate.specs.Settled as settled;
 ghost use Rattle.ac_aggregate.specs.Settled.{names_of, names_none, StandsFor};
 ghost use Rattle.ac_aggregate.specs.Values as values;
-ghost use Rattle.ac_aggregate.specs.Views.{asked};
+ghost use Rattle.ac_aggregate.specs.Views.{asked, asked_in};
 ghost use Rattle.std.specs.Option.{option_map};
 
 use crate::making::{both, compares, product, sum};
@@ -17,7 +17,7 @@ use crate::values::{Val, blank, integer_in};
 use crate::valuing::{Bound, value};
 use ac_base::NoMemory;
 use ac_calls::Plain;
-use ac_syntax::Ident;
+use ac_syntax::{Ident, StringBytes};
 use std::alloc::Global;
 
 fn is_among(generators: &[Ident], word: &[u8]) -> bool
@@ -68,56 +68,105 @@ fn known(value: Option<Val<'_>>) -> Part
     }
 }
 
-fn group(alloc: Global, e: Part) -> Result<Part, NoMemory>
-    ensures { IfOk result (λ made. asked made ≡ what.group (asked e)) }
+#[inline(never)]
+fn literal(alloc: Global, minus: bool, number: u64) -> Result<Box<Part>, NoMemory>
+    ensures { IfOk result (λ made. asked_in made ≡ what.literal minus number) }
 {
-    Ok(Part::Group(Box::new(alloc, e)?))
+    Ok(Box::new(alloc, Part::Literal(minus, number))?)
 }
 
-fn negated(alloc: Global, c: Part) -> Result<Part, NoMemory>
-    ensures { IfOk result (λ made. asked made ≡ what.negated (asked c)) }
+#[inline(never)]
+fn text(alloc: Global, bytes: &StringBytes) -> Result<Box<Part>, NoMemory>
+    ensures { IfOk result (λ made. asked_in made ≡ what.text bytes.now) }
 {
-    Ok(Part::Negated(Box::new(alloc, c)?))
+    let bytes = bytes.copy(alloc)?;
+    Ok(Box::new(alloc, Part::Text(bytes))?)
 }
 
-fn each(alloc: Global, own: &Ident, object: &Ident, c: Part, e: Part) -> Result<Part, NoMemory>
-    ensures { IfOk result (λ made. asked made ≡ what.each own.now object.now (asked c) (asked e)) }
+#[inline(never)]
+fn name(alloc: Global, word: &Ident) -> Result<Box<Part>, NoMemory>
+    ensures { IfOk result (λ made. asked_in made ≡ what.name word.now) }
+{
+    let word = word.copy(alloc)?;
+    Ok(Box::new(alloc, Part::Name(word))?)
+}
+
+#[inline(never)]
+fn all_of(alloc: Global, word: &Ident) -> Result<Box<Part>, NoMemory>
+    ensures { IfOk result (λ made. asked_in made ≡ what.all_of word.now) }
+{
+    let word = word.copy(alloc)?;
+    Ok(Box::new(alloc, Part::All(word))?)
+}
+
+#[inline(never)]
+fn always(alloc: Global) -> Result<Box<Part>, NoMemory>
+    ensures { IfOk result (λ made. asked_in made ≡ what.always) }
+{
+    Ok(Box::new(alloc, Part::Always)?)
+}
+
+#[inline(never)]
+fn group(alloc: Global, e: Box<Part>) -> Result<Box<Part>, NoMemory>
+    ensures { IfOk result (λ made. asked_in made ≡ what.group (asked_in e)) }
+{
+    Ok(Box::new(alloc, Part::Group(e))?)
+}
+
+#[inline(never)]
+fn negated(alloc: Global, c: Box<Part>) -> Result<Box<Part>, NoMemory>
+    ensures { IfOk result (λ made. asked_in made ≡ what.negated (asked_in c)) }
+{
+    Ok(Box::new(alloc, Part::Negated(c))?)
+}
+
+#[inline(never)]
+fn each(
+    alloc: Global,
+    own: &Ident,
+    object: &Ident,
+    c: Box<Part>,
+    e: Box<Part>,
+) -> Result<Box<Part>, NoMemory>
+    ensures { IfOk result (λ made. asked_in made ≡ what.each own.now object.now (asked_in c) (asked_in e)) }
 {
     let own = own.copy(alloc)?;
     let object = object.copy(alloc)?;
-    let c = Box::new(alloc, c)?;
-    Ok(Part::Each(own, object, c, Box::new(alloc, e)?))
+    Ok(Box::new(alloc, Part::Each(own, object, c, e))?)
 }
 
+#[inline(never)]
 fn reduction(
     alloc: Global,
-    source: Part,
+    source: Box<Part>,
     by: Oper,
     minus: bool,
     number: u64,
-) -> Result<Part, NoMemory>
-    ensures { IfOk result (λ made. asked made ≡ what.reduced (asked source) by minus number) }
+) -> Result<Box<Part>, NoMemory>
+    ensures { IfOk result (λ made. asked_in made ≡ what.reduced (asked_in source) by minus number) }
 {
-    Ok(Part::Reduced(Box::new(alloc, source)?, by, minus, number))
+    Ok(Box::new(alloc, Part::Reduced(source, by, minus, number))?)
 }
 
 /// A reduction, or its number where it names none of the generators round it.
+#[inline(never)]
 fn once(
     alloc: Global,
     plains: &[Plain],
     part: &Part,
-    made: Part,
+    made: Box<Part>,
     generators: &[Ident],
-) -> Result<Part, NoMemory>
+) -> Result<Box<Part>, NoMemory>
     requires reduced { settled.is_reduction (asked part.now) ≡ true }
-    requires stands { StandsFor plains.now generators.now (asked made) (asked part.now) }
-    ensures { IfOk result (λ found. StandsFor plains.now generators.now (asked found) (asked part.now)) }
+    requires stands { StandsFor plains.now generators.now (asked_in made) (asked part.now) }
+    ensures { IfOk result (λ found. StandsFor plains.now generators.now (asked_in found) (asked part.now)) }
 {
     if !names_none(part, generators) {
         return Ok(made);
     }
     let blanks = blanks(alloc, generators)?;
-    Ok(known(value(alloc, plains, &made, &blanks)?))
+    let made = known(value(alloc, plains, &made, &blanks)?);
+    Ok(Box::new(alloc, made)?)
 }
 
 /// A part that stands for this one, in which each reduction that names no generator round it is a number.
@@ -127,15 +176,15 @@ pub fn settle(
     plains: &[Plain],
     part: &Part,
     generators: &[Ident],
-) -> Result<Part, NoMemory>
-    ensures { IfOk result (λ made. StandsFor plains.now generators.now (asked made) (asked part.now)) }
+) -> Result<Box<Part>, NoMemory>
+    ensures { IfOk result (λ made. StandsFor plains.now generators.now (asked_in made) (asked part.now)) }
 {
     match part {
-        Part::Literal(minus, number) => Ok(Part::Literal(*minus, *number)),
-        Part::Text(bytes) => Ok(Part::Text(bytes.copy(alloc)?)),
-        Part::Name(word) => Ok(Part::Name(word.copy(alloc)?)),
-        Part::All(word) => Ok(Part::All(word.copy(alloc)?)),
-        Part::Always => Ok(Part::Always),
+        Part::Literal(minus, number) => literal(alloc, *minus, *number),
+        Part::Text(bytes) => text(alloc, bytes),
+        Part::Name(word) => name(alloc, word),
+        Part::All(word) => all_of(alloc, word),
+        Part::Always => always(alloc),
         Part::Group(e) => {
             let e = settle(alloc, plains, e, generators)?;
             group(alloc, e)
