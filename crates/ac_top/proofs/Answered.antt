@@ -13,9 +13,10 @@ use Rattle.ac_top.specs.declared.status.Status.TheVariants.{Done, Refused, Usage
 use Rattle.ac_top.specs.declared.mode.Mode.{Mode}
 use Rattle.ac_top.specs.declared.mode.Mode.TheVariants.{Read}
 use Rattle.ac_top.specs.declared.mode.Task.{Task}
-use Rattle.ac_top.specs.Modes.{Means, read_by}
-use Rattle.ac_top.specs.Status.{IsAnswer}
+use Rattle.ac_top.specs.Modes.{Means, read_by, word_of}
+use Rattle.ac_top.specs.Status.{IsAnswer, Writes}
 use Rattle.ac_top.specs.Answers.{Answers, HasRoom, IfAsked, IsFaulty, Tells}
+use Rattle.ac_top.proofs.Becoming.{each_asking}
 use Rattle.ac_top.proofs.Meant.{each_meaning}
 
 pub if_some_of : {T : Type 0} {P : T → Type 0} (o : Option T) → ((x : T) → P x) → IfSome o P
@@ -29,25 +30,34 @@ refused_means means input line kind short (inl h) = is_refused line kind short h
 refused_means means input line kind short (inr h) = is_faulty h.script line kind short h.spelled h.first refl
 
 pub long_means : (task : Task) (input : List ℕ) → INPUT_LIMIT < length input → Means (Read task) input too_long
-long_means task input long = (no_orders, is_too_long long refl)
+long_means task input long =
+    let a = each_asking (word_of task) input in
+    record { orders = no_orders; asking = a.0; becomes = a.1; means = is_too_long long refl }
 
-nothing_written : (held : Option (List ℕ)) (text : List ℕ) → GrewByFront held held text
+-- the same of an input that is refused
+pub refused_meaning : (task : Task) (input : List ℕ) (line : ℕ) (kind : RefusalKind) → length input ≤ INPUT_LIMIT →
+    IsFirstRefusal input line kind ⊎ IsFaulty input line kind → Means (Read task) input (refused_at line kind)
+refused_meaning task input line kind short h =
+    let a = each_asking (word_of task) input in
+    record { orders = no_orders; asking = a.0; becomes = a.1; means = refused_means _ input line kind short h }
+
+pub nothing_written : (held : Option (List ℕ)) (text : List ℕ) → GrewByFront held held text
 nothing_written None text = tt
 nothing_written (Some h) text = ([], record { rest = text; whole = refl }, ap Some (sym (append-nil h)))
 
 -- an end without an answer, with nothing written of a meaning
+
+pub unwritten : (m : Meaning) (held : Option (List ℕ)) (room : Option ℕ) (s : Status) → (IsAnswer s → ⊥) → s ≢ WriteFault → Writes m held held room s
+unwritten m held room s none wrote = record {
+  whole = λ a. absurd (none a);
+  number = λ a. absurd (none a);
+  front = nothing_written held m.text;
+  within = if_some_of room (λ n fits. wrote);
+}
+
 pub untold_of : {IsOne : Meaning → Type 0} (m : Meaning) → IsOne m → (held : Option (List ℕ)) (room : Option ℕ) (s : Status) → (IsAnswer s → ⊥) → s ≢ WriteFault →
     Tells IsOne held held room s
-untold_of m means held room s none wrote = record {
-  meaning = m;
-  means = means;
-  writes = record {
-    whole = λ a. absurd (none a);
-    number = λ a. absurd (none a);
-    front = nothing_written held m.text;
-    within = if_some_of room (λ n fits. wrote);
-  };
-}
+untold_of m means held room s none wrote = record { meaning = m; means = means; writes = unwritten m held room s none wrote }
 
 pub unanswered : (mode : Mode) (input : List ℕ) (held : Option (List ℕ)) (room : Option ℕ) (s : Status) → (IsAnswer s → ⊥) → s ≢ WriteFault → Answers mode input held held room s
 unanswered mode input held room s none wrote = let m = each_meaning mode input in untold_of m.0 m.1 held room s none wrote

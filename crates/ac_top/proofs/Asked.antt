@@ -51,6 +51,10 @@ unfolding asked_by
 not_asked words e (inl memory) other = absurd (other memory)
 not_asked words e (inr among) other = rw (not_accepted (kind_of e) (fault_of adacont words) among) refl
 
+pub if_err_weaker : {T E : Type 0} (r : Result T E) (P Q : E → Type 0) → ((e : E) → P e → Q e) → IfErr r P → IfErr r Q
+if_err_weaker (Ok x) P Q then h = tt
+if_err_weaker (Err e) P Q then h = then e h
+
 module _ (E : Type 0) where
   flag_of : (t : Text) (o : Option Bool) → ReadsOne (ParsesBool {E = E}) t o → option_eq beq o (Some true) ≡ bytes_eq t (codes "true")
   flag_of t (Some true) is = rw is refl

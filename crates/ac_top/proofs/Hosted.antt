@@ -1,5 +1,5 @@
 -- How a script's run ends, by what the host wrote.
-use Rattle.std.proofs.Common.{◌≡◌, ◌≢◌, ◌-◌, ◌≤◌, ℕ, Bool, List, [], ◌++◌, length, Option, Some, None, refl, subst, append-nil, length-append, arith}
+use Rattle.std.proofs.Common.{◌≡◌, ◌≢◌, ◌-◌, ◌≤◌, ℕ, Bool, List, [], ◌++◌, length, Option, Some, None, refl, subst, append-nil, append_assoc, length-append, ap, sym, ◌∙◌, arith}
 use Rattle.std.specs.Prelude.{IfSome}
 use Rattle.std.proofs.lemmas.Option.{IfSome_then}
 use Rattle.ac_io.specs.Outside.{GrewBy, GrewByFront}
@@ -11,7 +11,7 @@ use Rattle.ac_host.specs.Writing.{Wrote, Broke}
 use Rattle.ac_top.specs.declared.status.Status.{Status}
 use Rattle.ac_top.specs.declared.status.Status.TheVariants.{Done, WriteFault}
 use Rattle.ac_top.specs.Status.{IsAnswer, Writes, Counted}
-use Rattle.ac_top.proofs.Answered.{if_some_of}
+use Rattle.ac_top.proofs.Answered.{if_some_of, nothing_written}
 
 whole_front : (before now : Option (List ℕ)) (text : List ℕ) → GrewBy before now text → GrewByFront before now text
 whole_front None now text grew = tt
@@ -63,6 +63,38 @@ room_behind P (Some n) b text more f g = λ fits.
     let long = length-append text more in
     let then = subst (λ o. IfSome o (λ m. length more ≤ m → P)) (f (omega (arith, long, fits))) g in
     then (omega (arith, long, fits))
+
+-- before anything was written
+
+module _ {K : Type 0} (held : K → Option (List ℕ)) (faults : K → ℕ) (room : K → Option ℕ) (counts_failures : K → Bool) where
+  pub broke_nothing : (a : K) (text : List ℕ) → Broke held faults room counts_failures a a text host.NoMemory
+  broke_nothing a text = record {
+    front = nothing_written (held a) text;
+    rose = λ is. cc is;
+    counted = omega arith;
+    within = if_some_of (room a) (λ n fits is. cc is);
+    counts = λ does. (λ no. refl, does);
+  }
+
+-- what is written of a text is so of a longer one
+
+front_longer : (before now : Option (List ℕ)) (text more : List ℕ) → GrewByFront before now text → GrewByFront before now (text ++ more)
+front_longer None now text more f = tt
+front_longer (Some h) now text more (front, is, grew) =
+    (front, record { rest = is.rest ++ more; whole = sym (append_assoc front is.rest more) ∙ ap (λ t. t ++ more) is.whole }, grew)
+
+module _ {K : Type 0} (held : K → Option (List ℕ)) (faults : K → ℕ) (room : K → Option ℕ) (counts_failures : K → Bool) (old new : K)
+    (text more : List ℕ) where
+  pub broke_before : (end : HostEnd) (s : Status) → (IsAnswer s → ⊥) → (s ≡ WriteFault → end ≡ host.WriteFault)
+      → Broke held faults room counts_failures old new text end → Writes (written (text ++ more)) (held old) (held new) (room old) s
+  broke_before end s none same b = record {
+    whole = λ a. absurd (none a);
+    number = λ a. absurd (none a);
+    front = front_longer (held old) (held new) text more b.front;
+    within =
+        IfSome_then (room old) b.within (λ n f fits e.
+        f (omega (arith, length-append text more, fits)) (same e));
+  }
 
 module _ {K : Type 0} (held : K → Option (List ℕ)) (faults : K → ℕ) (room : K → Option ℕ) (counts_failures : K → Bool) (old mid new : K)
     (text more : List ℕ) (s : Status) where

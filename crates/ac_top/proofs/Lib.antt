@@ -7,3 +7,6 @@ pub mod Asked
 pub mod Sized
 pub mod PastLines
 pub mod Summed
+pub mod Becoming
+pub mod ReadOutput
+pub mod Items

@@ -1,19 +1,22 @@
 -- A script without tasks runs the same by all orders.
-use Rattle.std.proofs.Common.{◌≡◌, ◌||◌, ◌++◌, ℕ, Bool, true, false, List, [], Some, None, refl, sym, ap, ◌∙◌, if◌then◌else◌}
+use Rattle.std.proofs.Common.{◌≡◌, ◌||◌, ◌++◌, ℕ, Bool, true, false, List, [], Some, None, refl, sym, ap, append-nil, ◌∙◌, if◌then◌else◌}
 use Rattle.ac_syntax.specs.declared.script.Script.{Script}
 use Rattle.ac_rules.specs.HasTasks.{begins_tasks, has_tasks}
 use Rattle.ac_rules.specs.Resolved.{ResolvedHead, loops_at, views_at, stables_at, declares_at, gathers_at, works_at, begins_at, tries_at, handles_at, ResolvedCode, no_statement, a_command, a_block, resolve, resolve_script}
 use Rattle.ac_rules.specs.Scopes.{with_decls}
 use Rattle.ac_calls.specs.Answers.{lines_text}
 use Rattle.ac_calls.specs.Holdings.{Guards}
-use Rattle.ac_meaning.specs.Environment.{State, first_state, after_decls, guarded_at, nodes, under}
-use Rattle.ac_meaning.specs.Execution.{End, Outcome, Orders, after_declared, block_on, commanded, passed_on, followed, takes, resolved_behind, no_orders, on_object, run, run_with, text_of, text_with}
+use Rattle.ac_meaning.specs.Environment.{State, first_state, after_decls, at_rest, guarded_at, under}
+use Rattle.ac_meaning.specs.Execution.{End, Outcome, Orders, after_declared, block_on, commanded, passed_on, followed, takes, resolved_behind, no_orders, on_object, run, run_from, run_with, text_of, text_with}
+use Rattle.ac_host.specs.Start.{start_of}
 use Rattle.ac_meaning.specs.Meanings.{Meaning, IsMeaningBy, is_too_long, is_refused, is_faulty, is_sound, ran, written}
 use Rattle.ac_meaning.proofs.Resolved.{script_runs_resolved}
 use Rattle.ac_top.specs.declared.mode.Task.{Task}
-use Rattle.ac_top.specs.declared.mode.Task.TheVariants.{Run, Audit, Check}
-use Rattle.ac_top.specs.Modes.{meant_by, nodes_line}
+use Rattle.ac_top.specs.declared.mode.Task.TheVariants.{Run, Check}
+use Rattle.ac_top.specs.Asks.{Asking, unasked, refuses, asks, BecomesOf}
+use Rattle.ac_top.specs.Modes.{lines_behind, meant_by, ran_to_end}
 use Rattle.ac_top.specs.Settled.{HasNoTasks}
+use Rattle.ac_top.specs.Words.{options}
 
 both_none : (a b : Bool) → (a || b) ≡ false → (a ≡ false) × (b ≡ false)
 both_none true b e = absurd (cc)
@@ -63,26 +66,39 @@ module _ (orders others : Orders) where
 
 -- so what it means is what it means by no orders
 
-text_of_run : (orders : Orders) (script : Script) → text_with orders script ≡ lines_text (run_with orders script).lines
+pub text_of_run : (orders : Orders) (script : Script) → text_with orders script ≡ lines_text (run_with orders script).lines
 unfolding text_with
 text_of_run orders script = refl
 
-meant_same : (orders others : Orders) (task : Task) (script : Script) → run_with orders script ≡ run_with others script →
-    meant_by orders task script ≡ meant_by others task script
-meant_same orders others Run script same =
-    ap written (text_of_run orders script ∙ (ap (λ (r : Outcome). lines_text r.lines) same ∙ sym (text_of_run others script)))
-meant_same orders others Audit script same =
-    let text = text_of_run orders script ∙ (ap (λ (r : Outcome). lines_text r.lines) same ∙ sym (text_of_run others script)) in
-    λ i. written (text i ++ nodes_line (nodes (same i).after))
-meant_same orders others Check script same = refl
+-- from what its outermost declarations leave
 
-pub means_same : (orders others : Orders) (task : Task) (input : List ℕ) (m : Meaning) → HasNoTasks input → IsMeaningBy (meant_by orders task) input m →
-    IsMeaningBy (meant_by others task) input m
-means_same orders others task input m none (is_too_long long e) = is_too_long long e
-means_same orders others task input m none (is_refused line kind short h e) = is_refused line kind short h e
-means_same orders others task input m none (is_faulty script line kind short s h e) = is_faulty script line kind short s h e
-means_same orders others task input m none (is_sound script short s h e) =
-    is_sound script short s h (e ∙ meant_same orders others task script (run_same orders others script (none script s)))
+pub runs_from : (orders : Orders) (script : Script) (e : State) → e ≡ start_of script → run_from orders script e ≡ run_with orders script
+unfolding run_with
+runs_from orders script e is = ap (run_from orders script) is
+
+pub text_from : (orders : Orders) (script : Script) (e : State) → e ≡ start_of script → lines_text (run_from orders script e).lines ≡ text_with orders script
+text_from orders script e is = ap (λ (r : Outcome). lines_text r.lines) (runs_from orders script e is) ∙ sym (text_of_run orders script)
+
+ended_same : (orders others : Orders) (audit : Bool) (asking : Asking) (script : Script) → run_with orders script ≡ run_with others script →
+    ran_to_end orders audit asking script ≡ ran_to_end others audit asking script
+ended_same orders others audit asking script same =
+    let text = text_of_run orders script ∙ (ap (λ (r : Outcome). lines_text r.lines) same ∙ sym (text_of_run others script)) in
+    λ i. written (text i ++ lines_behind audit asking script.decls (at_rest (same i).after))
+
+meant_same : (orders others : Orders) (task : Task) (asking : Asking) (script : Script) → run_with orders script ≡ run_with others script →
+    meant_by orders task asking script ≡ meant_by others task asking script
+meant_same orders others (Run options) unasked script same = ended_same orders others options.audit unasked script same
+meant_same orders others (Run options) (refuses kind) script same = refl
+meant_same orders others (Run options) (asks q) script same = ended_same orders others options.audit (asks q) script same
+meant_same orders others Check asking script same = refl
+
+pub means_same : (orders others : Orders) (task : Task) (asking : Asking) (input : List ℕ) (m : Meaning) → HasNoTasks input →
+    IsMeaningBy (meant_by orders task asking) input m → IsMeaningBy (meant_by others task asking) input m
+means_same orders others task asking input m none (is_too_long long e) = is_too_long long e
+means_same orders others task asking input m none (is_refused line kind short h e) = is_refused line kind short h e
+means_same orders others task asking input m none (is_faulty script line kind short s h e) = is_faulty script line kind short s h e
+means_same orders others task asking input m none (is_sound script short s h e) =
+    is_sound script short s h (e ∙ meant_same orders others task asking script (run_same orders others script (none script s)))
 
 -- by one task
 
@@ -94,8 +110,15 @@ pub serial_run : (script : Script) → run_with no_orders script ≡ run script
 unfolding run
 serial_run script = refl
 
-pub means_serial : (input : List ℕ) (m : Meaning) → IsMeaningBy (meant_by no_orders Run) input m → IsMeaningBy ran input m
-means_serial input m (is_too_long long e) = is_too_long long e
-means_serial input m (is_refused line kind short h e) = is_refused line kind short h e
-means_serial input m (is_faulty script line kind short s h e) = is_faulty script line kind short s h e
-means_serial input m (is_sound script short s h e) = is_sound script short s h (e ∙ ap written (serial_text script))
+-- without a question and a count
+plain_ran : (script : Script) → meant_by no_orders (Run (options false None)) unasked script ≡ ran script
+plain_ran script = ap written (append-nil (text_with no_orders script) ∙ serial_text script)
+
+pub means_serial : (asking : Asking) (input : List ℕ) (m : Meaning) → BecomesOf None input asking →
+    IsMeaningBy (meant_by no_orders (Run (options false None)) asking) input m → IsMeaningBy ran input m
+means_serial asking input m becomes (is_too_long long e) = is_too_long long e
+means_serial asking input m becomes (is_refused line kind short h e) = is_refused line kind short h e
+means_serial asking input m becomes (is_faulty script line kind short s h e) = is_faulty script line kind short s h e
+means_serial asking input m becomes (is_sound script short s h e) =
+    is_sound script short s h
+    (e ∙ (ap (λ a. meant_by no_orders (Run (options false None)) a script) (becomes script s h) ∙ plain_ran script))

@@ -5,9 +5,12 @@ use Rattle.ac_syntax.specs.declared.script.Script.{Script}
 use Rattle.ac_syntax.specs.Refusals.{Spells}
 use Rattle.ac_rules.specs.Faults.{IsFirstFault}
 use Rattle.ac_meaning.specs.Meanings.{Meaning}
+use Rattle.ac_meaning.specs.Execution.{Orders}
 use Rattle.ac_top.specs.declared.mode.Mode.{Mode}
+use Rattle.ac_top.specs.declared.mode.Task.{Task}
 use Rattle.ac_top.specs.declared.status.Status.{Status}
-use Rattle.ac_top.specs.Modes.{Means, read_by}
+use Rattle.ac_top.specs.Asks.{Asking, Becomes}
+use Rattle.ac_top.specs.Modes.{Means, meant_by, read_by, word_of}
 use Rattle.ac_top.specs.Status.{Writes}
 
 -- what is said of a mode and its input, where the words ask for one and the source tells the other
@@ -33,3 +36,10 @@ pub record IsFaulty (text : List ℕ) (line : ℕ) (kind : RefusalKind) : Type 0
   pub script : Script
   pub spelled : Spells script text
   pub first : IsFirstFault script line kind
+
+-- what was written is of what a script means where this is done with it, by some orders of its blocks of tasks
+pub record Says (task : Task) (script : Script) (held held' : Option (List ℕ)) (room : Option ℕ) (status : Status) : Type 0 where
+  pub orders : Orders
+  pub asking : Asking
+  pub becomes : Becomes (word_of task) script asking
+  pub writes : Writes (meant_by orders task asking script) held held' room status

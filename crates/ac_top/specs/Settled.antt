@@ -7,7 +7,7 @@ use Rattle.ac_rules.specs.Resolved.{resolve}
 use Rattle.ac_rules.specs.Scopes.{with_decls}
 use Rattle.ac_top.specs.declared.mode.Mode.{Mode}
 use Rattle.ac_top.specs.declared.mode.Mode.TheVariants.{Read, Generate}
-use Rattle.ac_top.specs.declared.mode.Task.TheVariants.{Run, Audit, Check}
+use Rattle.ac_top.specs.declared.mode.Task.TheVariants.{Run, Check}
 
 -- no script that it spells has a block of tasks
 abbrev pub HasNoTasks : List ℕ → Type 0
@@ -15,7 +15,6 @@ HasNoTasks input = (script : Script) → Spells script input → has_tasks (reso
 
 -- nothing is run of it, or no block of tasks is
 abbrev pub IsSettled : Mode → List ℕ → Type 0
-IsSettled (Read Run) input = HasNoTasks input
-IsSettled (Read Audit) input = HasNoTasks input
+IsSettled (Read (Run options)) input = HasNoTasks input
 IsSettled (Read Check) input = ⊤
 IsSettled (Generate size) input = ⊤

@@ -7,13 +7,14 @@ use Rattle.clap.specs.Faults.{fault_of}
 use Rattle.clap.specs.Simple.{on_top}
 use Rattle.clap.specs.Kinds.{Kinds}
 use Rattle.clap.specs.ValueTests.{accepts}
-use Rattle.clap.specs.Words.{App, Row, Rule, Text, new_app, new_rule, with_rule, matches_of, one_of}
+use Rattle.clap.specs.Words.{App, Row, Rule, Text, new_app, new_rule, with_rule, first_of, matches_of, one_of}
 use Rattle.clap.specs.declared.builder.action.ArgAction.TheVariants.{Set, SetTrue}
 use Rattle.clap.specs.declared.builder.value_parser.ValueParser.TheVariants.{Unsigned}
 use Rattle.ac_top.specs.declared.mode.Mode.{Mode}
 use Rattle.ac_top.specs.declared.mode.Mode.TheVariants.{Read, Generate}
 use Rattle.ac_top.specs.declared.mode.Task.{Task}
-use Rattle.ac_top.specs.declared.mode.Task.TheVariants.{Run, Audit, Check}
+use Rattle.ac_top.specs.declared.mode.Options.{Options}
+use Rattle.ac_top.specs.declared.mode.Task.TheVariants.{Run, Check}
 
 abbrev pub flag_rule : Text → Rule
 flag_rule name = record (new_rule name) { long = Some name; action = Some SetTrue }
@@ -22,10 +23,14 @@ flag_rule name = record (new_rule name) { long = Some name; action = Some SetTru
 abbrev pub number_rule : Text → ℕ → ℕ → Rule
 number_rule name least most = record (new_rule name) { long = Some name; action = Some Set; parser = Some (Unsigned least most) }
 
+-- an option with one text
+abbrev pub text_rule : Text → Rule
+text_rule name = record (new_rule name) { long = Some name; action = Some Set }
+
 -- the command; its words come without the program's name
 unfoldable pub adacont : App
-adacont = with_rule (with_rule (with_rule (on_top (λ s. record s { no_binary_name = true }) (new_app (codes "adacont")))
-    (flag_rule (codes "check"))) (flag_rule (codes "audit"))) (number_rule (codes "generate") 1 200000)
+adacont = with_rule (with_rule (with_rule (with_rule (on_top (λ s. record s { no_binary_name = true }) (new_app (codes "adacont")))
+    (flag_rule (codes "check"))) (flag_rule (codes "audit"))) (number_rule (codes "generate") 1 200000)) (text_rule (codes "ask"))
 
 abbrev pub is_true : Option Text → Bool
 is_true None = false
@@ -41,10 +46,16 @@ number_of_text text = if accepts false (Unsigned 0 (2 ^ 64 - 1)) text then Some 
 abbrev pub number_given : Text → List Row → Option ℕ
 number_given option rows = option_and_then number_of_text (one_of option rows)
 
-abbrev pub task_by : List Row → Task
-task_by rows = if is_set (codes "check") rows then Check else if is_set (codes "audit") rows then Audit else Run
+abbrev pub options : (audit : Bool) → (ask : Option (List ℕ)) → Options
+options audit ask = record { audit = audit; ask = ask }
 
--- what the words that were found come to: `--generate` goes before `--check`, and `--audit` adds nothing to either
+abbrev pub options_by : List Row → Options
+options_by rows = options (is_set (codes "audit") rows) (first_of (codes "ask") rows)
+
+abbrev pub task_by : List Row → Task
+task_by rows = if is_set (codes "check") rows then Check else Run (options_by rows)
+
+-- what the words that were found come to: `--generate` goes before `--check`, and `--audit` and `--ask` add nothing to either
 abbrev pub mode_with : Option ℕ → Task → Mode
 mode_with (Some number) task = Generate number
 mode_with None task = Read task

@@ -24,13 +24,13 @@ use std::thread::Threads;
 fn answer_source<R: Threads + Wait + Sync, S: Source, K: Sink, G: Gate + Sync>(
     rt: &R,
     alloc: Global,
-    task: Task,
+    task: &Task,
     source: &mut S,
     sink: &mut K,
     gate: &G,
 ) -> Status
     ensures answers { IfSome (S.left source.old) (λ input.
-        Answers (Mode.Read task) input (K.held sink.old) (K.held sink.new) (K.room sink.old) result) }
+        Answers (Mode.Read task.now) input (K.held sink.old) (K.held sink.new) (K.room sink.old) result) }
     ensures drained { IsAnswer result → IfSome (S.left source.old) (λ input.
         length input ≤ INPUT_LIMIT → S.left source.new ≡ Some []) }
     ensures read_fault { result ≡ Status.ReadFault → Rose (S.faults source.old) (S.faults source.new) }
@@ -98,7 +98,7 @@ pub fn run<R: Threads + Wait + Sync, S: Source, K: Sink, G: Gate + Sync>(
         IfSome (K.room sink.old) (λ room. HasRoom mode input room → IsAnswer result ⊎ (result ≡ Status.NoMemory))) }
 {
     match asked_for(alloc, words) {
-        Ok(Mode::Read(task)) => answer_source(rt, alloc, task, source, sink, gate),
+        Ok(Mode::Read(task)) => answer_source(rt, alloc, &task, source, sink, gate),
         Ok(Mode::Generate(size)) => answer_size(alloc, size, sink),
         Err(status) => status,
     }

@@ -1,14 +1,16 @@
 //! What holds of the meanings that inputs have, and what some words ask for.
-ghost use Rattle.std.specs.Prelude.{◌≡◌, ℕ, List, [], ◌∷◌, Some, None, codes};
+ghost use Rattle.std.specs.Prelude.{◌≡◌, ℕ, List, [], ◌∷◌, false, true, Option, Some, None, codes};
 ghost use Rattle.ac_meaning.specs.Execution.{Orders};
 ghost use Rattle.ac_meaning.specs.Meanings.{IsMeaningBy, Meaning, ran};
 ghost use Rattle.ac_top.specs.declared.mode.Mode.{Mode};
 ghost use Rattle.ac_top.specs.declared.mode.Mode.TheVariants.{Read, Generate};
 ghost use Rattle.ac_top.specs.declared.mode.Task.{Task};
-ghost use Rattle.ac_top.specs.declared.mode.Task.TheVariants.{Run, Audit, Check};
+ghost use Rattle.ac_top.specs.declared.mode.Task.TheVariants.{Run, Check};
+ghost use Rattle.ac_syntax.specs.declared.script.Script.{Script};
+ghost use Rattle.ac_top.specs.Asks.{Asking, Becomes};
 ghost use Rattle.ac_top.specs.Modes.{Means, meant_by};
 ghost use Rattle.ac_top.specs.Settled.{HasNoTasks, IsSettled};
-ghost use Rattle.ac_top.specs.Words.{asked_by};
+ghost use Rattle.ac_top.specs.Words.{asked_by, options};
 
 /// Each input means something, whatever is done with it: one thing only, but for the orders of blocks of tasks. Where no block of tasks
 /// is run, that is what it means by one task, and where nothing is read, it is the same for all.
@@ -16,15 +18,20 @@ pub fn one_meaning()
     ensures some { (mode : Mode) (input : List ℕ) → (m : Meaning) × Means mode input m }
     ensures one { (mode : Mode) (input : List ℕ) (m other : Meaning) → IsSettled mode input →
         Means mode input m → Means mode input other → m ≡ other }
-    ensures by_orders { (orders : Orders) (task : Task) (input : List ℕ) (m other : Meaning) →
-        IsMeaningBy (meant_by orders task) input m → IsMeaningBy (meant_by orders task) input other → m ≡ other }
-    ensures serial { (input : List ℕ) (m : Meaning) → HasNoTasks input → Means (Read Run) input m → IsMeaningBy ran input m }
+    ensures by_orders { (orders : Orders) (task : Task) (asking : Asking) (input : List ℕ) (m other : Meaning) →
+        IsMeaningBy (meant_by orders task asking) input m → IsMeaningBy (meant_by orders task asking) input other → m ≡ other }
+    ensures serial { (input : List ℕ) (m : Meaning) → HasNoTasks input → Means (Read (Run (options false None))) input m → IsMeaningBy ran input m }
+
+    // A question's text becomes one thing at a script's outermost scope.
+    ensures question { (word : Option (List ℕ)) (script : Script) → (asking : Asking) × Becomes word script asking }
+    ensures one_question { (word : Option (List ℕ)) (script : Script) (asking other : Asking) →
+        Becomes word script asking → Becomes word script other → asking ≡ other }
 {}
 
 /// What some words ask for, as clap takes them.
 pub fn asked_words()
-    ensures none { asked_by [] ≡ Some (Read Run) }
-    ensures audit { asked_by (codes "--audit" ∷ []) ≡ Some (Read Audit) }
+    ensures none { asked_by [] ≡ Some (Read (Run (options false None))) }
+    ensures audit { asked_by (codes "--audit" ∷ []) ≡ Some (Read (Run (options true None))) }
     ensures check { asked_by (codes "--check" ∷ []) ≡ Some (Read Check) }
     ensures generate { asked_by (codes "--generate" ∷ codes "3" ∷ []) ≡ Some (Generate 3) }
 
@@ -33,12 +40,20 @@ pub fn asked_words()
     ensures audited_check { asked_by (codes "--check" ∷ codes "--audit" ∷ []) ≡ Some (Read Check) }
     ensures audited_size { asked_by (codes "--generate" ∷ codes "3" ∷ codes "--audit" ∷ []) ≡ Some (Generate 3) }
 
+    // A question, alone and with `--audit`. `--check` and `--generate` go before it.
+    ensures ask { asked_by (codes "--ask" ∷ codes "A" ∷ []) ≡ Some (Read (Run (options false (Some (codes "A"))))) }
+    ensures audited_ask { asked_by (codes "--audit" ∷ codes "--ask" ∷ codes "A" ∷ []) ≡ Some (Read (Run (options true (Some (codes "A"))))) }
+    ensures checked_ask { asked_by (codes "--ask" ∷ codes "A" ∷ codes "--check" ∷ []) ≡ Some (Read Check) }
+    ensures asked_size { asked_by (codes "--ask" ∷ codes "A" ∷ codes "--generate" ∷ codes "3" ∷ []) ≡ Some (Generate 3) }
+    ensures joined_ask { asked_by (codes "--ask=A" ∷ []) ≡ Some (Read (Run (options false (Some (codes "A"))))) }
+    ensures empty_ask { asked_by (codes "--ask" ∷ [] ∷ []) ≡ Some (Read (Run (options false (Some [])))) }
+
     // How a number may be spelled.
     ensures joined { asked_by (codes "--generate=3" ∷ []) ≡ Some (Generate 3) }
     ensures plus { asked_by (codes "--generate" ∷ codes "+3" ∷ []) ≡ Some (Generate 3) }
     ensures zeros { asked_by (codes "--generate" ∷ codes "003" ∷ []) ≡ Some (Generate 3) }
     ensures most { asked_by (codes "--generate" ∷ codes "200000" ∷ []) ≡ Some (Generate 200000) }
-    ensures trailing { asked_by (codes "--" ∷ []) ≡ Some (Read Run) }
+    ensures trailing { asked_by (codes "--" ∷ []) ≡ Some (Read (Run (options false None))) }
 
     // What isn't accepted.
     ensures too_small { asked_by (codes "--generate" ∷ codes "0" ∷ []) ≡ None }
@@ -46,6 +61,8 @@ pub fn asked_words()
     ensures no_number { asked_by (codes "--generate" ∷ codes "x" ∷ []) ≡ None }
     ensures negative { asked_by (codes "--generate" ∷ codes "-3" ∷ []) ≡ None }
     ensures alone { asked_by (codes "--generate" ∷ []) ≡ None }
+    ensures asked_nothing { asked_by (codes "--ask" ∷ []) ≡ None }
+    ensures asked_twice { asked_by (codes "--ask" ∷ codes "A" ∷ codes "--ask" ∷ codes "B" ∷ []) ≡ None }
     ensures twice { asked_by (codes "--check" ∷ codes "--check" ∷ []) ≡ None }
     ensures valued { asked_by (codes "--check=true" ∷ []) ≡ None }
     ensures help { asked_by (codes "--help" ∷ []) ≡ None }

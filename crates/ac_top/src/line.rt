@@ -1,6 +1,6 @@
 //! Lines and texts that are written of an input, besides those of its script.
 ghost use Rattle.std.specs.Prelude.{◌≡◌, ◌≢◌, ◌++◌, decimal, codes, OnOk, IfOk};
-ghost use Rattle.ac_meaning.specs.Meanings.{Meaning, kind_text, refused_at, written};
+ghost use Rattle.ac_meaning.specs.Meanings.{kind_text, refused_at, written};
 ghost use Rattle.ac_top.specs.Modes.{nodes_line};
 ghost use Rattle.ac_top.specs.Status.{Writes, Counted, refusal_line};
 
@@ -37,6 +37,13 @@ fn kind_text(kind: RefusalKind) -> &'static str
     }
 }
 
+/// Adds the word for why a text is refused.
+pub fn append_kind(text: &mut Vec<u8>, kind: RefusalKind) -> Result<(), AllocError>
+    ensures { OnOk result (text.new.items ≡ text.old.items ++ kind_text kind) }
+{
+    append(text, kind_text(kind))
+}
+
 /// The line that says where and why a text is refused.
 pub fn refusal_line(alloc: Global, line: u64, kind: RefusalKind) -> Result<Vec<u8>, AllocError>
     ensures { IfOk result (λ text. text.items ≡ (refused_at line kind).text) }
@@ -44,20 +51,18 @@ pub fn refusal_line(alloc: Global, line: u64, kind: RefusalKind) -> Result<Vec<u
     let mut text = Vec::new(alloc);
     append(&mut text, "line ")?;
     append_number(&mut text, line)?;
-    append(&mut text, kind_text(kind))?;
+    append_kind(&mut text, kind)?;
     append(&mut text, "\n")?;
     Ok(text)
 }
 
-/// The line that says how many elements there are.
-pub fn nodes_line(alloc: Global, count: u64) -> Result<Vec<u8>, AllocError>
-    ensures { IfOk result (λ text. text.items ≡ nodes_line count) }
+/// Adds the line that says how many elements there are.
+pub fn append_nodes(text: &mut Vec<u8>, count: u64) -> Result<(), AllocError>
+    ensures { OnOk result (text.new.items ≡ text.old.items ++ nodes_line count) }
 {
-    let mut text = Vec::new(alloc);
-    append(&mut text, "nodes ")?;
-    append(&mut text, Buffer::new().format(count))?;
-    append(&mut text, "\n")?;
-    Ok(text)
+    append(text, "nodes ")?;
+    append(text, Buffer::new().format(count))?;
+    append(text, "\n")
 }
 
 /// Writes a text of a script that can run.

@@ -2,12 +2,13 @@
 ghost use Rattle.std.specs.Prelude.{◌≡◌, ◌≢◌, ◌⊎◌, None, Some, [], false, codes, map, string_bytes, IfOk, IfErr};
 ghost use Rattle.clap.specs.Faults.{fault_of};
 ghost use Rattle.clap.specs.Kinds.{HasKind};
-ghost use Rattle.clap.specs.Words.{app_of, found_of, kind_of, matches_of, rows_of, rule_of};
+ghost use Rattle.clap.specs.Words.{app_of, first_of, found_of, kind_of, matches_of, rows_of, rule_of};
 ghost use Rattle.clap.specs.declared.error.kind.ErrorKind.TheVariants.{OutOfMemory};
-ghost use Rattle.ac_top.specs.Words.{adacont, is_set, number_given, task_by, mode_by, mode_of, flag_rule, number_rule};
+ghost use Rattle.ac_top.specs.Words.{adacont, is_set, number_given, options_by, task_by, mode_by, mode_of, flag_rule, number_rule, text_rule};
 
-use crate::mode::{Mode, Task};
+use crate::mode::{Mode, Options, Task};
 use crate::status::Status;
+use ac_syntax::StringBytes;
 use clap::builder::ValueParser;
 use clap::error::ErrorKind;
 use clap::{Arg, ArgAction, ArgMatches, Command, Error};
@@ -18,6 +19,8 @@ const CHECK: &str = "check";
 const AUDIT: &str = "audit";
 
 const GENERATE: &str = "generate";
+
+const ASK: &str = "ask";
 
 /// A flag, which is given by its name.
 fn flag<'a>(alloc: Global, name: &'a str) -> Arg<'a>
@@ -38,14 +41,23 @@ fn generate<'a>(alloc: Global) -> Arg<'a>
         .value_parser(ValueParser::unsigned(1, 200_000))
 }
 
-/// The command, with its flags and its option.
+/// The option that asks a question.
+fn ask<'a>(alloc: Global) -> Arg<'a>
+    ensures rule { rule_of result ≡ text_rule (codes "ask") }
+    ensures local { result.global ≡ false }
+{
+    Arg::new(alloc, ASK).long(ASK).action(ArgAction::Set)
+}
+
+/// The command, with its flags and its options.
 fn command<'a>(alloc: Global) -> Result<Command<'a>, AllocError>
     ensures { IfOk result (λ made. app_of made ≡ adacont) }
 {
     let bare = Command::new(alloc, "adacont").no_binary_name(true);
     let checking = bare.arg(flag(alloc, CHECK))?;
     let auditing = checking.arg(flag(alloc, AUDIT))?;
-    auditing.arg(generate(alloc))
+    let generating = auditing.arg(generate(alloc))?;
+    generating.arg(ask(alloc))
 }
 
 /// What clap finds in the words.
@@ -63,16 +75,36 @@ fn is_set(matches: &ArgMatches<'_>, flag: &str) -> bool
     matches.get_one::<bool>(flag) == Some(true)
 }
 
-fn task_by(matches: &ArgMatches<'_>) -> Task
-    ensures { result ≡ task_by (rows_of (found_of matches.now)) }
+/// The text of the question, if there is one.
+fn question_given(
+    alloc: Global,
+    matches: &ArgMatches<'_>,
+) -> Result<Option<StringBytes>, AllocError>
+    ensures { IfOk result (λ word. word ≡ first_of (codes "ask") (rows_of (found_of matches.now))) }
+{
+    match matches.get_str(ASK) {
+        Some(word) => Ok(Some(StringBytes::new(word.as_bytes().to_vec(alloc)?))),
+        None => Ok(None),
+    }
+}
+
+fn options_by(alloc: Global, matches: &ArgMatches<'_>) -> Result<Options, AllocError>
+    ensures { IfOk result (λ options. options ≡ options_by (rows_of (found_of matches.now))) }
+{
+    let ask = question_given(alloc, matches)?;
+    Ok(Options {
+        audit: is_set(matches, AUDIT),
+        ask,
+    })
+}
+
+fn task_by(alloc: Global, matches: &ArgMatches<'_>) -> Result<Task, AllocError>
+    ensures { IfOk result (λ task. task ≡ task_by (rows_of (found_of matches.now))) }
 {
     if is_set(matches, CHECK) {
-        Task::Check
-    } else if is_set(matches, AUDIT) {
-        Task::Audit
-    } else {
-        Task::Run
+        return Ok(Task::Check);
     }
+    Ok(Task::Run(options_by(alloc, matches)?))
 }
 
 fn size_given(matches: &ArgMatches<'_>) -> Option<u64>
@@ -81,12 +113,23 @@ fn size_given(matches: &ArgMatches<'_>) -> Option<u64>
     matches.get_one::<u64>(GENERATE)
 }
 
-fn mode_by(matches: &ArgMatches<'_>) -> Mode
-    ensures { result ≡ mode_by (rows_of (found_of matches.now)) }
+fn mode_by(alloc: Global, matches: &ArgMatches<'_>) -> Result<Mode, AllocError>
+    ensures { IfOk result (λ mode. mode ≡ mode_by (rows_of (found_of matches.now))) }
 {
     match size_given(matches) {
-        Some(size) => Mode::Generate(size),
-        None => Mode::Read(task_by(matches)),
+        Some(size) => Ok(Mode::Generate(size)),
+        None => Ok(Mode::Read(task_by(alloc, matches)?)),
+    }
+}
+
+/// What the words that clap found come to.
+fn mode_found(alloc: Global, matches: &ArgMatches<'_>) -> Result<Mode, Status>
+    ensures asked { IfOk result (λ mode. mode ≡ mode_by (rows_of (found_of matches.now))) }
+    ensures failed { IfErr result (λ status. status ≡ Status.NoMemory) }
+{
+    match mode_by(alloc, matches) {
+        Ok(mode) => Ok(mode),
+        Err(_) => Err(Status::NoMemory),
     }
 }
 
@@ -106,7 +149,7 @@ pub fn asked_for(alloc: Global, words: &[String]) -> Result<Mode, Status>
     ensures refused { IfErr result (λ status. (status ≡ Status.NoMemory) ⊎ ((status ≡ Status.Usage) × (mode_of words.now ≡ None))) }
 {
     match find(alloc, words) {
-        Ok(matches) => Ok(mode_by(&matches)),
+        Ok(matches) => mode_found(alloc, &matches),
         Err(error) => Err(refusal(&error)),
     }
 }

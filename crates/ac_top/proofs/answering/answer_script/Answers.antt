@@ -1,9 +1,18 @@
-use Rattle.std.proofs.Common.{subst, sym}
-use Rattle.ac_meaning.specs.Execution.{Orders, no_orders}
+use Rattle.std.proofs.Common.{subst, sym, refl}
+use Rattle.ac_meaning.specs.Execution.{no_orders}
 use Rattle.ac_meaning.specs.Meanings.{canonical}
-use Rattle.ac_top.specs.Modes.{meant_by}
+use Rattle.ac_top.specs.declared.mode.Task.TheVariants.{Check}
+use Rattle.ac_top.specs.Answers.{Says}
+use Rattle.ac_top.specs.Asks.{unasked}
 use Rattle.ac_top.specs.Status.{Writes}
 use Rattle.ac_top.proofs.answering.answer_script.Goals as goal
+
+pub returns-in-Run-clause-writes : goal.returns-in-Run-clause-writes
+returns-in-Run-clause-writes g c =
+    let sink = g.K.Sink in
+    subst
+    (λ task. Says task c.args.script.now (sink.held c.args.sink.now) (sink.held c.ask_script.new.sink) (sink.room c.args.sink.now) c.ask_script.result)
+    (sym c.in-Run.is) c.ask_script.ensures.writes
 
 pub returns-in-Check-clause-writes : goal.returns-in-Check-clause-writes
 returns-in-Check-clause-writes g c =
@@ -11,5 +20,10 @@ returns-in-Check-clause-writes g c =
     let held = sink.held c.args.sink.now in
     let now = sink.held c.write_canonical.new.sink in
     let room = sink.room c.args.sink.now in
-    subst (λ task. (orders : Orders) × Writes (meant_by orders task c.args.script.now) held now room c.write_canonical.result) (sym c.in-Check.is)
-    (no_orders, subst (λ script. Writes (canonical script) held now room c.write_canonical.result) c.script.ensures.value c.write_canonical.ensures.writes)
+    subst (λ task. Says task c.args.script.now held now room c.write_canonical.result) (sym c.in-Check.is)
+    (record {
+      orders = no_orders;
+      asking = unasked;
+      becomes = refl;
+      writes = subst (λ script. Writes (canonical script) held now room c.write_canonical.result) c.script.ensures.value c.write_canonical.ensures.writes;
+    })

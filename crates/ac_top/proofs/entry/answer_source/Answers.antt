@@ -12,12 +12,12 @@ returns-in-Ok-clause-drained g c answer =
 pub returns-in-Err-TooLong-clause-answers : goal.returns-in-Err-TooLong-clause-answers
 returns-in-Err-TooLong-clause-answers g c =
     IfSome_then (g.S.Source.left c.args.source.now) (c.in-Err-TooLong.ensures.too_long (ap Err c.in-Err-TooLong.field-0-is)) (λ input long.
-    record { meaning = _; means = long_means c.args.task input long; writes = c.refuse.ensures.writes })
+    record { meaning = _; means = long_means c.args.task.now input long; writes = c.refuse.ensures.writes })
 
 pub returns-in-Err-ReadFault-clause-answers : goal.returns-in-Err-ReadFault-clause-answers
 returns-in-Err-ReadFault-clause-answers g c =
-    if_some_of (g.S.Source.left c.args.source.now) (λ input. unanswered (Read c.args.task) input (g.K.Sink.held c.args.sink.now) (g.K.Sink.room c.args.sink.now) ReadFault (λ a. a) (λ e. cc e))
+    if_some_of (g.S.Source.left c.args.source.now) (λ input. unanswered (Read c.args.task.now) input (g.K.Sink.held c.args.sink.now) (g.K.Sink.room c.args.sink.now) ReadFault (λ a. a) (λ e. cc e))
 
 pub returns-in-Err-NoMemory-clause-answers : goal.returns-in-Err-NoMemory-clause-answers
 returns-in-Err-NoMemory-clause-answers g c =
-    if_some_of (g.S.Source.left c.args.source.now) (λ input. unanswered (Read c.args.task) input (g.K.Sink.held c.args.sink.now) (g.K.Sink.room c.args.sink.now) NoMemory (λ a. a) (λ e. cc e))
+    if_some_of (g.S.Source.left c.args.source.now) (λ input. unanswered (Read c.args.task.now) input (g.K.Sink.held c.args.sink.now) (g.K.Sink.room c.args.sink.now) NoMemory (λ a. a) (λ e. cc e))

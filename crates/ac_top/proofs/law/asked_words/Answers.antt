@@ -86,3 +86,35 @@ returns-clause-help c = refl
 pub returns-clause-other : goal.returns-clause-other
 unfolding asked_by clap_on_literals
 returns-clause-other c = refl
+
+pub returns-clause-ask : goal.returns-clause-ask
+unfolding asked_by clap_on_literals
+returns-clause-ask c = refl
+
+pub returns-clause-audited_ask : goal.returns-clause-audited_ask
+unfolding asked_by clap_on_literals
+returns-clause-audited_ask c = refl
+
+pub returns-clause-checked_ask : goal.returns-clause-checked_ask
+unfolding asked_by clap_on_literals
+returns-clause-checked_ask c = refl
+
+pub returns-clause-asked_size : goal.returns-clause-asked_size
+unfolding asked_by clap_on_literals
+returns-clause-asked_size c = refl
+
+pub returns-clause-joined_ask : goal.returns-clause-joined_ask
+unfolding asked_by clap_on_literals
+returns-clause-joined_ask c = refl
+
+pub returns-clause-empty_ask : goal.returns-clause-empty_ask
+unfolding asked_by clap_on_literals
+returns-clause-empty_ask c = refl
+
+pub returns-clause-asked_nothing : goal.returns-clause-asked_nothing
+unfolding asked_by clap_on_literals
+returns-clause-asked_nothing c = refl
+
+pub returns-clause-asked_twice : goal.returns-clause-asked_twice
+unfolding asked_by clap_on_literals
+returns-clause-asked_twice c = refl

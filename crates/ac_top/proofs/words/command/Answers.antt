@@ -12,4 +12,5 @@ returns c =
     ap app_of_fields c.no_binary_name-bare.ensures ∙ ap (on_top (λ s. record s { no_binary_name = true })) c.new.ensures.app in
     let checking = c.in_ok-checking.ensures.shape c.flag.ensures.local ∙ ap₂ with_rule bare c.flag.ensures.rule in
     let auditing = c.in_ok-auditing.ensures.shape c.flag-2.ensures.local ∙ ap₂ with_rule checking c.flag-2.ensures.rule in
-    IfOk-weaker c.arg-3.result _ _ (λ made added. added.shape c.generate.ensures.local ∙ ap₂ with_rule auditing c.generate.ensures.rule) c.arg-3.ensures
+    let generating = c.in_ok-generating.ensures.shape c.generate.ensures.local ∙ ap₂ with_rule auditing c.generate.ensures.rule in
+    IfOk-weaker c.arg-4.result _ _ (λ made added. added.shape c.ask.ensures.local ∙ ap₂ with_rule generating c.ask.ensures.rule) c.arg-4.ensures
