@@ -23,6 +23,8 @@ mod outcome;
 #[cfg(test)]
 mod prefixes;
 #[cfg(test)]
+mod questions;
+#[cfg(test)]
 mod queues;
 #[cfg(test)]
 mod refusals;

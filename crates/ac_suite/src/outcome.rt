@@ -51,13 +51,24 @@ pub(crate) fn end_of_run<R: Threads + Wait + Sync, G: Gate + Sync>(
     given: &Given,
     gate: &G,
 ) -> Result<Ended, Fail> {
+    let words = words_of(alloc, given.words)?;
+    end_by_words(rt, alloc, &words, given, gate)
+}
+
+/// The same with these words in place of the ones that are given.
+fn end_by_words<R: Threads + Wait + Sync, G: Gate + Sync>(
+    rt: &R,
+    alloc: Global,
+    words: &[String],
+    given: &Given,
+    gate: &G,
+) -> Result<Ended, Fail> {
     let piece = given.piece.max(1);
     let (reads, writes) = given.failing;
-    let words = words_of(alloc, given.words)?;
     let mut source = MemorySource::new(given.script.to_vec(alloc)?, piece, reads.to_vec(alloc)?);
     let made = MemorySink::with_room(alloc, 40_000, piece, writes.to_vec(alloc)?);
     let mut sink = made.ok().ok_or("no memory")?;
-    let status = run(rt, alloc, &words, &mut source, &mut sink, gate).number();
+    let status = run(rt, alloc, words, &mut source, &mut sink, gate).number();
     Ok(Ended {
         status,
         text: sink.bytes().to_vec(alloc)?,
@@ -79,4 +90,23 @@ pub(crate) fn end_of_plain_run<'a, R: Threads + Wait + Sync>(
         failing: (&[], &[]),
     };
     end_of_run(rt, alloc, &given, &FreeGate)
+}
+
+/// The same of a script and a question to its outermost scope.
+pub(crate) fn end_of_asked_run<'a, R: Threads + Wait + Sync>(
+    rt: &R,
+    alloc: Global,
+    question: &'a str,
+    script: &'a [u8],
+) -> Result<Ended, Fail> {
+    let given = Given {
+        words: "",
+        script,
+        piece: WHOLE,
+        failing: (&[], &[]),
+    };
+    let mut words = Vec::new(alloc);
+    words.push(String::from_str(alloc, "--ask")?)?;
+    words.push(String::from_str(alloc, question)?)?;
+    end_by_words(rt, alloc, &words, &given, &FreeGate)
 }
