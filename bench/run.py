@@ -1,7 +1,7 @@
 #!/usr/bin/env python3
 """Times the built programs beside plain Rust programs on the same machine in the same run.
 
-Prints the program's time for each generated script, the ratio to the baseline's, and the growth from half the script to the whole: 2 is linear. Then the time and the memory of long runs, and what `A.Length` costs. Then the time of `--check` on inputs of 1 MiB that are the worst of their sorts, and the growth. Then what the calls of two sets take for each element, in sets of 1,000 to 100,000, in time and, where valgrind is there, in instructions, which no cache changes: n log n is a growth of 1.67. Then the time of a put and a take of the pool, and the ratio; and of an insertion and a removal in the middle of a chain, which stays flat where the chain grows. Then the times of calls of lists and sets, and their growth from 10,000 elements to 1,000,000, and the memory of a slot. Needs rustc; isn't part of the gate.
+Prints the program's time for each generated script, the ratio to the baseline's, and the growth from half the script to the whole: 2 is linear. Then the time and the memory of long runs, and what `A.Length` costs. Then the time of `--check` on inputs of 1 MiB that are the worst of their sorts, and the growth. Then what the calls of two sets take for each element, in sets of 1,000 to 100,000, in time and, where valgrind is there, in instructions, which no cache changes: n log n is a growth of 1.67. Then the time of a put and a take of the pool, and the ratio; and of an insertion and a removal in the middle of a chain, which stays flat where the chain grows. Then the times of calls of lists and sets, and their growth from 10,000 elements to 1,000,000, and the memory of a slot. Then what questions take for each row. Needs rustc; isn't part of the gate.
 
 With `--peer COMMAND` it prints instead the processor times of some scripts, and of the generator's longest, beside those of another interpreter of the same language, and the ratio: below 1 is faster. Then the growth of set algebra with both.
 
@@ -379,6 +379,19 @@ def churn(program, place):
     print(f"{'a put and a take, 1,000 live':<40}{ours * 1e9:>12.1f}{ratio:>8.2f}")
 
 
+def questions(program, place):
+    """The median of some pairs, the plain program over rows of the same shape."""
+    plain = build("ask_baseline.rs", place)
+    print(f"{'question, 1,000,000 rows':<56}{'ns a row':>10}{'ratio':>8}")
+    for name, word in (("V'Reduce (\"+\", 0)", "ask_sum"), ("[for E of V when E > 5 => E * 2]", "ask_kept"), ("[for E of V when E = V'Reduce (\"max\", 0) => E]", "ask_greatest")):
+        pairs = []
+        for _ in range(PAIRS):
+            ours, theirs = (workload(each, word, "1000000", rounds=10) for each in (program, plain))
+            pairs.append((ours / theirs, ours))
+        ratio, ours = sorted(pairs)[PAIRS // 2]
+        print(f"{name:<56}{ours * 1e3:>10.1f}{ratio:>8.2f}")
+
+
 def middle(program):
     for rows in (1_000, 10_000, 100_000, 1_000_000):
         took = workload(program, "chain", str(rows), rounds=5_000_000)
@@ -463,6 +476,7 @@ SECTIONS = [
     ("A chain", "An insertion and a removal in the middle: it stays flat where the chain grows.", lambda place, bench: middle(bench)),
     ("Lists", "Nanoseconds for each element, and the growth from 10,000 elements to 1,000,000.", lambda place, bench: lists(bench)),
     ("Sets", "The same, with what a `HashSet` of plain Rust takes, and what hashed ones take in instructions, which no cache changes.", lambda place, bench: sets(bench, place)),
+    ("Questions", "What an answer takes for each row, and the ratio to a plain Rust program that does the same over rows of the same shape.", lambda place, bench: questions(bench, place)),
     ("Memory", "Bytes of a slot, and the most that 1,000,000 integers take.", lambda place, bench: memory(bench)),
 ]
 

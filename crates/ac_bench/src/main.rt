@@ -1,8 +1,10 @@
 //! Workloads that `bench/` times. The words are a workload and a number of rounds, as `pool 1000000`, or a
 //! workload with a number of rows and one of rounds, as `chain 1000 1000000`. Those of lists are `append`, `walk`,
-//! `ends`, `sort` and `merge`; those of sets are `hashed`, `hashed_row` and `ordered`.
+//! `ends`, `sort` and `merge`; those of sets are `hashed`, `hashed_row` and `ordered`; those of questions about a vector
+//! are `ask_sum`, `ask_kept` and `ask_greatest`.
 #![tactic(auto)]
 
+mod ask;
 mod chain;
 mod list;
 mod pool;
@@ -41,6 +43,11 @@ fn run<R: AllocGlobal>(rt: &R, words: &[String]) -> io::Result<Option<u64>> {
         ("hashed", Some(rounds)) => Ok(sets::hashed(rt.alloc(), first, rounds).ok()),
         ("hashed_row", Some(rounds)) => Ok(sets::hashed_row(rt.alloc(), first, rounds).ok()),
         ("ordered", Some(rounds)) => Ok(sets::ordered(rt.alloc(), first, rounds).ok()),
+        ("ask_sum", Some(rounds)) => Ok(ask::ask(rt.alloc(), ask::SUM, first, rounds).ok()),
+        ("ask_kept", Some(rounds)) => Ok(ask::ask(rt.alloc(), ask::KEPT, first, rounds).ok()),
+        ("ask_greatest", Some(rounds)) => {
+            Ok(ask::ask(rt.alloc(), ask::GREATEST, first, rounds).ok())
+        }
         _ => Ok(None),
     }
 }
@@ -54,7 +61,7 @@ fn main(rt: HostRuntime) -> io::Result<ExitCode> {
         }
         None => {
             eprintln!(rt;
-                "usage: ac_bench pool ROUNDS, or ac_bench chain|append|walk|ends|sort|merge|hashed|hashed_row|ordered ROWS ROUNDS"
+                "usage: ac_bench pool ROUNDS, or ac_bench chain|append|walk|ends|sort|merge|hashed|hashed_row|ordered|ask_sum|ask_kept|ask_greatest ROWS ROUNDS"
             )?;
             Ok(ExitCode::from(2))
         }
