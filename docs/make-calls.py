@@ -1,7 +1,7 @@
 #!/usr/bin/env python3
 """Writes docs/calls.md, the reference of all calls, from the table in docs/calls/*.txt.
 
-In the table a call is some lines `key: value`, and an empty line ends it. `stages.txt` says what the examples of each kind start from. `.ci/check-calls` reads the same table, and compares it with the code and the program.
+In the table a call is some lines `key: value`, and an empty line ends it. `letters.txt` has the letters of arguments, `reasons.txt` when each reason is raised, and `stages.txt` the objects of the examples of each kind. `.ci/check-calls` reads the same table, and compares it with the code and the program.
 """
 import glob
 import os
@@ -59,6 +59,7 @@ REASONS = {
     "count": ["length"],
     "room": ["length", "full", "names spent"],
 }
+TAMPERING = {"none": "nothing"}
 KEYS = ["word", "form", "kinds", "operation", "does", "class", "reasons", "answer", "cost", "definition", "self", "function", "self-function", "on", "script"]
 
 
@@ -78,6 +79,7 @@ class Call:
         self.definitions = [name for name in (fields["definition"], fields.get("self")) if name not in (None, "none")]
         self.functions = [name for name in (fields["function"], fields.get("self-function")) if name not in (None, "none")]
         self.stage = fields.get("on") or next((kind for kind in self.kinds if kind in stages), None)
+        self.named_stage = "on" in fields
         self.script = [(line, said.split(" / ")) for line, said in (example.split(" writes ", 1) for example in scripts)]
 
     def is_scripts(self):
@@ -171,6 +173,10 @@ def read_whens():
     return {fields["reason"]: fields["when"] for fields, _, _ in records(os.path.join(TABLE, "reasons.txt"))}
 
 
+def read_letters():
+    return [fields for fields, _, _ in records(os.path.join(TABLE, "letters.txt"))]
+
+
 def read_stages():
     return {fields["stage"]: Stage(fields) for fields, _, _ in records(os.path.join(TABLE, "stages.txt"))}
 
@@ -239,89 +245,108 @@ def found_function(call, name, of, crate):
     return crate, of, name
 
 
-def link(path, words=None):
-    return f"[{words or os.path.basename(path)}](../{path})"
+def link(path, words):
+    return f"[{words}](../{path})"
 
 
 def in_code(words):
     return f"`{words}`"
 
 
-def told_definition(call):
+def definitions_of(call):
+    """The definition, and a second one for S = A."""
     if not call.definitions:
-        return "none but its contract"
-    said = []
+        return "only its contract"
+    found = []
     for place, name in enumerate(call.definitions):
-        _, path, definition = spec_of(name)
-        said.append(("of A itself " if place else "") + f"{in_code(definition)} in {link(path)}")
-    return ", ".join(said)
+        module = name.rpartition(":")[2]
+        found.append(("for S = A " if place and "_self" not in module else "") + link(spec_of(name)[1], in_code(module)))
+    return ", ".join(found)
 
 
-def told_functions(call):
-    """The functions of each type, with the files where they stand."""
+def functions_in(call):
+    """The functions of each type."""
     if not call.functions:
-        return "none: it is a call of scripts alone"
-    said = []
+        return "none, only scripts have it"
+    found = []
     for of, crate in call.types():
-        names, files = [], []
         for name in call.functions:
             in_crate, its, plain = found_function(call, name, of, crate)
             if (its, plain) in functions_of(in_crate):
-                names.append(in_code(f"{its}::{plain}"))
-                path = functions_of(in_crate)[its, plain][0]
-                if path not in files:
-                    files.append(path)
-        told = " and ".join(names) + " in " + " and ".join(link(path, path.split("crates/")[1]) for path in files)
-        if files and told not in said:
-            said.append(told)
-    return ", ".join(said)
+                each = link(functions_of(in_crate)[its, plain][0], in_code(f"{its}::{plain}"))
+                if each not in found:
+                    found.append(each)
+    return ", ".join(found)
 
 
-def told_script(call):
-    return ", ".join(f"{in_code(line)} writes {' and '.join(in_code(each) for each in said)}" for line, said in call.script)
+def example_of(call):
+    """The lines of script, each with what it writes behind `--`; first the kind, where it isn't the first one that has objects."""
+    width = max(len(line) for line, _ in call.script)
+    kind = [f"-- {KINDS[call.stage][0]}"] if call.named_stage else []
+    return ["", "```ada"] + kind + [f"{line:{width}} -- {' / '.join(said)}" for line, said in call.script] + ["```"]
 
 
-def told(call):
-    """A call's paragraph."""
-    rows = [f"**{in_code(call.form)}** of {of_kinds(call.kinds)}: {call.does}.", ""]
+def title(call):
+    """A call without its object, as the index and its heading have it."""
+    return call.form.removeprefix("A.")
+
+
+def heading(call):
+    return f"{in_code(title(call))} of {of_kinds(call.kinds)}"
+
+
+def entry(call):
+    """A call's section."""
+    rows = [f"## {heading(call)}", "", f"{call.does}.", ""]
     if call.tampering != "none" or call.is_scripts():
-        rows.append(f"- Class: {call.tampering}.")
-    rows.append(f"- Refused as: {', '.join(call.refusals()) or 'nothing'}.")
-    rows.append(f"- Answer: {call.answer}.")
+        rows.append(f"- Tampers with: {TAMPERING.get(call.tampering, call.tampering)}.")
+    rows.append(f"- Raises: {', '.join(call.refusals()) or 'nothing'}.")
+    rows.append(f"- Result: {call.answer}.")
     rows.append(f"- Cost: {call.cost}.")
-    rows.append(f"- Definition: {told_definition(call)}.")
-    rows.append(f"- Function: {told_functions(call)}.")
+    rows.append(f"- Definition: {definitions_of(call)}.")
+    rows.append(f"- Function: {functions_in(call)}.")
     if call.script:
-        rows.append(f"- Script: {told_script(call)}.")
+        rows += example_of(call)
     return rows + [""]
 
 
-HEAD = """# The calls
+HEAD = """<!-- Written by docs/make-calls.py from the table in docs/calls/. -->
+# The calls
 
-Every call of every container, by its name: those of scripts, and those of the library alone. `docs/make-calls.py` writes this page from the table in `docs/calls/`; `.ci/check-calls` holds it against the code and runs each line of script.
+Every call of every container, in alphabetical order: first those of scripts, then those of the Rattle library alone, whose names are in lower case.
+
+## Index
 
 {index}
 
-Of the library alone: {library}
-
-By kind:
-
-{kinds}
-
 ## How to read an entry
 
-- **Arguments.** A is the object before the dot. C is a cursor that must designate an element, B one that may be No_Element besides; W is a cursor at a tree's node, the root too, O the same or No_Element; P is a cursor variable that the call sets, Q one that is read as C and set. E is an element, K a key, N a count in 0 .. 1,000,000, I an index, S another object of the type, or A itself. What stands in brackets may be left out: a count is 1 then, a cursor No_Element.
-- **Class**, of tampering. A call of class cursors is refused while a guard is held on A, a call of class elements while an element guard is held, one of none never; [the language](language.md#blocks) says which blocks hold which guards. A set has cursor guards alone.
-- **Refused as**: [the reasons](#the-reasons), in the order in which they are tried; the first that applies is told. A refused call changes nothing, but for the end of an update whose key changed. Beside these, a call that takes memory may end with want of memory, which its definition says (`takes_some`), and which changes no row.
-- **Cost**, where n is A's length and m S's: how many steps the code makes; `constant` is a few reads and writes, whatever the length. A look-up in a hashed container walks one bucket, which no clause bounds; in an ordered one it compares at most 2h + 2 times, for an h with 2^h at most (n + 1)^2, which is a clause of Find, Contains, Floor and Ceiling. What a call that adds elements makes in slots (8, 16, 32 and so on) isn't counted. Costs but that one are read off the code, and no clause says them; [bench](../bench/README.md) measures some.
-- **Definition**: what the call means. **Function**: the call of the library, whose contract cites the definition, and which is proved against it.
-- **Script**: lines of a script, and what each writes behind its number. They start from this:
+- **Heading**: the call without `A.` before it, and the kinds that have it. Arguments in brackets are optional. Two arguments of one letter are numbered.
+- **Tampers with**: a call that tampers with cursors raises an exception while A has a cursor guard or an element guard; one that tampers with elements, while A has an element guard. `of A and of S` means that the guards on S count too. A set has only cursor guards. [The language](language.md#blocks) says which blocks hold which guards.
+- **Raises**: [the reasons](#the-reasons) in the order in which they are checked; the first that applies is raised. A call that raises changes nothing, except at the end of an update that changed the key. An allocating call (`takes_some` in its definition) may also fail with `NoMemory`, and then changes no element.
+- **Cost**: the number of steps, where n is A's length and m is S's. *Constant* is a few reads and writes at any length. A look-up in a hashed container searches one bucket, whose size no clause bounds; in an ordered container it makes at most 2h + 2 comparisons, for an h with 2^h at most (n + 1)^2, by a clause of Find, Contains, Floor and Ceiling. New slots (8, 16, 32 and so on) that a call creates to add elements aren't counted. The other costs are read off the code; no clause states them. [Bench](../bench/README.md) measures some.
+- **Definition**: what the call means. **Function**: the library's function, which is proved to follow the definition that its contract cites. A name with `_self` is for S = A.
+- **Example**: lines of script, each with its output after `--`, without the line number; `/` separates lines of output.
+
+### The arguments
+
+| Letter | Argument | May be No_Element | Set by the call |
+|---|---|---|---|
+{letters}
+
+If S is A, copies are of A's elements before the call, and guards count even if the call changes nothing. Calls of the library have their functions' parameters.
+
+Each element has a name, a number that its object gives only once. A cursor holds the object's number and the element's name, so that it stays at its element wherever that moves in its object, and is dead once no element has the name.
+
+### The objects of the examples
+
+The names in examples are these variables, not the letters above. Each entry's example starts with the objects of the first kind below that the entry has, unless its first line names another.
 
 {stages}
 
 ## The reasons
 
-Reasons are tried in nine steps, each of them for all objects, the target before the source, or for all cursors from left to right, before the next step. Of one step the call's own order decides, which its entry has. A line tells the exception and the reason: `raised PROGRAM_ERROR (dead cursor)`.
+The checks are made in nine steps. Each step covers all objects, A before S, or all cursors, from left to right, before the next step starts. Within a step the call's entry gives the order. The output has the exception and the reason: `raised PROGRAM_ERROR (dead cursor)`.
 
 | Step | Reason | Exception | When |
 |---|---|---|---|
@@ -330,35 +355,47 @@ Reasons are tried in nine steps, each of them for all objects, the target before
 """
 
 
-def slug(word):
-    return re.sub(r"[^\w-]", "", word.lower().replace(" ", "-"))
+def slug(words):
+    """The anchor of a heading."""
+    return re.sub(r"[^\w\- ]", "", words.lower()).replace(" ", "-")
+
+
+def alphabetical(call):
+    return not call.is_scripts(), call.word.lower()
+
+
+def name_in(call, calls):
+    same = [other for other in calls if other.word == call.word and set(other.kinds) & set(call.kinds)]
+    return title(call) if len(same) > 1 else call.word
+
+
+def index(calls):
+    """Each call once, with the calls of the same kinds. Where a kind has several calls of a name, by their forms."""
+    by_kinds = {}
+    for call in calls:
+        by_kinds.setdefault(tuple(call.kinds), []).append(call)
+    order = list(KINDS)
+    rows = []
+    for kinds, its in sorted(by_kinds.items(), key=lambda each: (order.index(each[0][0]), -len(each[0]))):
+        links = ", ".join(f"[{name_in(call, calls)}](#{slug(heading(call))})" for call in its)
+        said = of_kinds(kinds)
+        rows.append(f"- **{said[0].upper()}{said[1:]}**: {links}")
+    return "\n".join(rows)
 
 
 def page(calls, stages):
-    by_word = {}
-    for call in calls:
-        by_word.setdefault(call.word, []).append(call)
-    scripts = sorted((word for word in by_word if any(call.is_scripts() for call in by_word[word])), key=str.lower)
-    library = sorted(word for word in by_word if word not in scripts)
-    names = {}
-    for word in scripts + library:
-        # a heading that stands twice but for its case has a number behind its anchor
-        same = [other for other in names if slug(other) == slug(word)]
-        names[word] = slug(word) + (f"-{len(same)}" if same else "")
-    kinds = []
-    for kind, (said, _) in KINDS.items():
-        if said:
-            its = sorted({call.word for call in calls if kind in call.kinds}, key=lambda word: (word[0].islower(), word.lower()))
-            kinds.append(f"- {said}: " + ", ".join(f"[{word}](#{names[word]})" for word in its))
+    calls = sorted(calls, key=alphabetical)
+    anchors = [slug(heading(call)) for call in calls]
+    for call, anchor in zip(calls, anchors):
+        if anchors.count(anchor) > 1:
+            raise ValueError(f"{call.where}: another call has the heading {heading(call)}")
     text = HEAD.format(
-        index=", ".join(f"[{word}](#{names[word]})" for word in scripts),
-        library=", ".join(f"[{word}](#{names[word]})" for word in library),
-        kinds="\n".join(kinds),
+        index=index(calls),
+        letters="\n".join(f"| {' | '.join(fields.get(key, '') for key in ('letter', 'argument', 'none', 'set'))} |" for fields in read_letters()),
         reasons="\n".join(f"| {step} | {words} | {exception} | {read_whens().get(words, '')} |" for words, (exception, step) in reasons().items()),
-        stages="\n".join(f"  - {KINDS[kind][0]}: {stage.says}" for kind, stage in stages.items()),
+        stages="\n".join(f"- {KINDS[kind][0]}: {stage.says}" for kind, stage in stages.items()),
     )
-    for word in scripts + library:
-        text += f"## {word}\n\n" + "\n".join(line for call in by_word[word] for line in told(call)) + "\n"
+    text += "\n".join(line for call in calls for line in entry(call))
     return text.rstrip("\n") + "\n"
 
 
