@@ -3,6 +3,7 @@ ghost use Rattle.ac_syntax.specs.Parts as parts;
 
 use ac_syntax::{ElemKind, Kind};
 
+/// The reserved word for a sort of object.
 pub fn kind_word(kind: Kind) -> &'static str
     ensures { result.now ≡ parts.kind_word kind }
 {
@@ -20,6 +21,7 @@ pub fn kind_word(kind: Kind) -> &'static str
     }
 }
 
+/// The reserved word for a sort of element.
 pub fn elem_word(elem: ElemKind) -> &'static str
     ensures { result.now ≡ parts.elem_word elem }
 {

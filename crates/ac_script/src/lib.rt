@@ -18,7 +18,6 @@ mod parser;
 mod piece;
 mod reader;
 mod reading;
-mod reserved;
 mod stage;
 mod stop;
 
@@ -31,4 +30,3 @@ pub use cut_text::{CutText, cut};
 pub use law::{each_text, items_read, one_script, refused_handlers, refused_tasks, refused_texts};
 pub use parser::parse;
 pub use reader::{find_mark, find_number, find_word};
-pub use reserved::{is_among, is_reserved};

@@ -4,7 +4,7 @@ ghost use Rattle.ac_syntax.specs.Limits as limits;
 ghost use Rattle.ac_syntax.specs.Limits.{is_word_of, seen_after, is_past_limit};
 ghost use Rattle.ac_script.specs.Behind.{progress_view, seen_view, StandWithin};
 
-use crate::reserved::is_among;
+use ac_printer::is_among;
 use ac_syntax::{Mark, Placed, Token};
 
 /// The longest name, in bytes.

@@ -4,8 +4,8 @@ ghost use Rattle.std.specs.Str.{bytes_eq};
 ghost use Rattle.ac_script.specs.Outcomes.{Sees, Reads, Finds};
 ghost use Rattle.ac_script.specs.Readers as readers;
 
-use crate::reserved::is_reserved;
 use crate::stop::Stop;
+use ac_printer::is_reserved;
 use ac_syntax::{Ident, Keyword, Mark, Placed, Token};
 
 /// Whether a word is the wanted one.
