@@ -5,7 +5,7 @@ ghost use Rattle.ac_syntax.specs.declared.fault.ScriptFault.TheVariants.{Refused
 ghost use Rattle.ac_syntax.specs.Canonical.{propagates_in};
 ghost use Rattle.ac_rules.specs.Faults.{IsChecked, IsFirstFault};
 ghost use Rattle.ac_rules.specs.HasTasks.{has_tasks};
-ghost use Rattle.ac_rules.specs.Resolved.{resolve_decls, resolve};
+ghost use Rattle.ac_rules.specs.Resolved.{place_of, resolve_decls, resolve};
 ghost use Rattle.ac_rules.specs.Scopes.{with_decls};
 
 use crate::having::has_tasks;
@@ -36,8 +36,11 @@ impl Model for Checked {
     ghost view = { λ checked. checked.script };
 
     ghost use Rattle.ac_rules.specs.Resolved.{IsResolved};
+    ghost use Rattle.std.specs.Prelude.{◌≡◌, []};
+    ghost use Rattle.ac_rules.specs.Scopes.{with_decls};
 
-    ghost invariant = { λ checked. IsChecked checked.script × IsResolved checked.script checked.resolved.decls checked.resolved.stmts };
+    ghost invariant = { λ checked. IsChecked checked.script × IsResolved checked.script checked.resolved.decls checked.resolved.stmts
+        × (checked.resolved.scope ≡ with_decls [] checked.script.decls) };
 }
 
 impl Checked {
@@ -60,6 +63,13 @@ impl Checked {
         ensures { result.now ≡ resolve (with_decls [] self.now.decls) self.now.stmts }
     {
         &self.resolved.stmts
+    }
+
+    /// The place of an outermost name, or how many there are if it is none.
+    pub fn place(&self, name: &[u8]) -> usize
+        ensures { result ≡ place_of (with_decls [] self.now.decls) name.now }
+    {
+        self.resolved.scope.place(name)
     }
 
     /// Whether its exceptions propagate.

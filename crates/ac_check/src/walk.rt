@@ -412,11 +412,12 @@ impl Walk {
     }
 }
 
-/// What a script is resolved to.
+/// What a script is resolved to, and its outermost names.
 #[derive(Drop)]
 pub struct Resolved {
     pub decls: ResolvedDecls,
     pub stmts: ResolvedStmts,
+    pub scope: Scope,
 }
 
 /// Resolves a script up to its first faulty item.
@@ -424,9 +425,14 @@ pub fn walk_script(alloc: Global, script: &Script) -> Result<Resolved, ScriptFau
     ensures ok { OnOk result (IsChecked script.now) }
     ensures refused { (line : ℕ) (kind : RefusalKind) → result ≡ Err (Refused line kind) → IsFirstFault script.now line kind }
     ensures resolved { IfOk result (λ made. IsResolved script.now made.decls made.stmts) }
+    ensures scope { IfOk result (λ made. made.scope ≡ with_decls [] script.now.decls) }
 {
     let mut walk = Walk::new(alloc);
     let decls = walk.walk_decls(None, script.decls.items())?;
     let stmts = walk.walk_statements(None, &script.stmts)?;
-    Ok(Resolved { decls, stmts })
+    Ok(Resolved {
+        decls,
+        stmts,
+        scope: walk.scope,
+    })
 }
