@@ -1,17 +1,21 @@
 //! A hashed or an ordered map. A contract sees its entries and which of the two it is.
 ghost use Rattle.std.specs.Prelude.{◌≡◌, false, true, refl};
 ghost use Rattle.ac_model.specs.Containers.{guards_of};
-ghost use Rattle.ac_calls.specs.KeyedReplies.{of_hashed};
+ghost use Rattle.ac_model.specs.Keyed.{IsValidKeyed};
+ghost use Rattle.ac_model.specs.Maps.{order_of};
+ghost use Rattle.ac_model.specs.Objects.{plain};
+ghost use Rattle.ac_calls.specs.KeyedReplies.{of_hashed, order_by};
 ghost use Rattle.ac_keyed_calls.specs.Maps as maps;
 ghost use Rattle.ac_keyed_calls.specs.Maps.{entries_of, map_kind_of};
 
 mod operated_rows;
 mod row_object;
 
-use crate::map_kind::MapKind;
+use crate::map_kind::{HashedMapKind, MapKind, OrderedMapKind};
 use crate::map_rows::MapRows;
 use ac_calls::ScriptElement;
 use ac_cursor::{GuardKey, GuardKind, Guarded};
+use ac_setwork::Ordered;
 
 /// A hashed map (A.18.5) or an ordered one (A.18.6) of a script, each as rows of its kind.
 #[derive(Drop)]
@@ -28,6 +32,25 @@ impl<H, O> Map<H, O> {
         match self {
             Map::Hashed(_) => true,
             Map::Ordered(_) => false,
+        }
+    }
+}
+
+impl<K, V, H, O> Map<MapRows<K, V, H>, MapRows<K, V, O>>
+where
+    K: ScriptElement,
+    V: ScriptElement,
+    H: HashedMapKind<K, V>,
+    O: OrderedMapKind<K, V>,
+    O::Index: Ordered,
+{
+    /// What holds of the keys of every map, for proofs alone.
+    pub fn keyed_law(&self)
+        ensures { IsValidKeyed (order_of (order_by K.tools (map_kind_of self.now))) (plain (entries_of self.now).object) }
+    {
+        match self {
+            Map::Hashed(map) => map.keyed_law(),
+            Map::Ordered(map) => map.keyed_law(),
         }
     }
 }

@@ -2,8 +2,11 @@
 ghost use Rattle.std.specs.Prelude.{◌≡◌, false, refl, IfOk, IsOk};
 ghost use Rattle.ac_base.specs.Limits.{IsLimit};
 ghost use Rattle.ac_model.specs.Containers.{container, first_spare, guards_of, with_guards};
-ghost use Rattle.ac_model.specs.Objects.{empty_object};
+ghost use Rattle.ac_model.specs.Keyed.{IsValidKeyed};
+ghost use Rattle.ac_model.specs.Maps.{order_of};
+ghost use Rattle.ac_model.specs.Objects.{empty_object, plain};
 ghost use Rattle.ac_calls.specs.Holdings.{is_hashed};
+ghost use Rattle.ac_calls.specs.KeyedReplies.{order_by};
 
 mod capacities;
 mod changes;
@@ -50,6 +53,13 @@ impl<K: ScriptElement, V: ScriptElement, M: MapKind<K, V>> MapRows<K, V, M> {
             Ok(table) => Ok(MapRows { table }),
             Err(fault) => Err(fault),
         }
+    }
+
+    /// What holds of the keys of every map, for proofs alone.
+    pub fn keyed_law(&self)
+        ensures { IsValidKeyed (order_of (order_by K.tools M.which)) (plain self.now.object) }
+    {
+        self.table.law();
     }
 
     pub fn limit(&self) -> Limit

@@ -3,19 +3,22 @@ ghost use Rattle.std.specs.Prelude.{◌≡◌, false, true, refl};
 ghost use Rattle.ac_model.specs.Calls.{Lends};
 ghost use Rattle.ac_model.specs.Containers.{guards_of};
 ghost use Rattle.ac_model.specs.Forms.{Looks, seen_by};
+ghost use Rattle.ac_model.specs.Keyed.{IsValidKeyed};
+ghost use Rattle.ac_model.specs.Objects.{plain};
 ghost use Rattle.ac_model.specs.Sequences as sequences;
-ghost use Rattle.ac_calls.specs.KeyedReplies.{of_hashed};
+ghost use Rattle.ac_calls.specs.KeyedReplies.{of_hashed, order_by};
 ghost use Rattle.ac_keyed_calls.specs.Sets as sets;
 ghost use Rattle.ac_keyed_calls.specs.Sets.{items_of, set_kind_of};
 
 mod operated_rows;
 mod row_object;
 
-use crate::set_kind::SetKind;
+use crate::set_kind::{HashedSetKind, OrderedSetKind, SetKind};
 use crate::set_rows::SetRows;
 use ac_base::Fault;
 use ac_calls::ScriptElement;
 use ac_cursor::{Cursor, GuardKey, GuardKind, Guarded};
+use ac_setwork::Ordered;
 
 /// A hashed set (A.18.8) or an ordered one (A.18.9) of a script, of these two kinds.
 #[derive(Drop)]
@@ -41,6 +44,21 @@ impl<T: ScriptElement, H: SetKind<T>, O: SetKind<T>> Set<T, H, O> {
         match self {
             Set::Hashed(set) => set.element(c),
             Set::Ordered(set) => set.element(c),
+        }
+    }
+}
+
+impl<T: ScriptElement, H: HashedSetKind<T>, O: OrderedSetKind<T>> Set<T, H, O>
+where
+    O::Index: Ordered,
+{
+    /// What holds of the keys of every set, for proofs alone.
+    pub fn keyed_law(&self)
+        ensures { IsValidKeyed (order_by T.tools (set_kind_of self.now)) (plain (items_of self.now).object) }
+    {
+        match self {
+            Set::Hashed(set) => set.keyed_law(),
+            Set::Ordered(set) => set.keyed_law(),
         }
     }
 }

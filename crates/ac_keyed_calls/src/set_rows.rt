@@ -6,6 +6,7 @@ ghost use Rattle.ac_model.specs.Common as common;
 ghost use Rattle.ac_model.specs.Containers.{container, first_spare, guards_of, with_guards};
 ghost use Rattle.ac_model.specs.Cursors.{needs_cursor};
 ghost use Rattle.ac_model.specs.Forms.{Looks, seen_by};
+ghost use Rattle.ac_model.specs.Keyed.{IsValidKeyed};
 ghost use Rattle.ac_model.specs.KeyedSets as by_key;
 ghost use Rattle.ac_model.specs.Objects.{empty_object, plain};
 ghost use Rattle.ac_model.specs.Sequences as sequences;
@@ -61,6 +62,13 @@ where
             Ok(table) => Ok(SetRows { table }),
             Err(_) => Err(NoMemory),
         }
+    }
+
+    /// What holds of the keys of every set, for proofs alone.
+    pub fn keyed_law(&self)
+        ensures { IsValidKeyed I.order (plain self.now.object) }
+    {
+        self.table.law();
     }
 
     pub fn limit(&self) -> Limit
