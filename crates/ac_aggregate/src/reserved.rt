@@ -4,7 +4,7 @@ ghost use Rattle.std.specs.List.{list_any};
 ghost use Rattle.std.specs.Str.{bytes_eq};
 ghost use Rattle.ac_aggregate.specs.Grammar as questions;
 
-use ac_script::{is_among, is_reserved};
+use ac_printer::{is_among, is_reserved};
 
 /// Those that may be names in a script.
 const QUESTION_WORDS: [&[u8]; 4] = [b"when", b"and", b"not", b"reduce"];

@@ -1,9 +1,11 @@
 //! The arguments of a call, read before it.
-ghost use Rattle.std.specs.Prelude.{◌≡◌};
+ghost use Rattle.std.specs.Prelude.{◌≡◌, OnOk};
 ghost use Rattle.ac_calls.specs.Arguments.{argument_of, cursor_in, no_arguments};
 
-use ac_base::Value;
+use crate::values;
+use ac_base::{Elem, NoMemory, Text, Value};
 use ac_cursor::Cursor;
+use std::alloc::Global;
 
 /// An argument as it is read before the call.
 #[derive(Drop)]
@@ -94,6 +96,84 @@ impl Argument {
         match self {
             Argument::Value(value) => std::mem::replace(value, Value::Int(0)),
             Argument::Absent | Argument::Place(_) => Value::Int(0),
+        }
+    }
+}
+
+impl Argument {
+    /// Leaves it out, whatever a command before had there.
+    #[inline(always)]
+    pub fn leave_out(&mut self)
+        ensures { self.new ≡ Argument.Absent }
+    {
+        match self {
+            Argument::Absent => {}
+            _ => self.leave_out_anew(),
+        }
+    }
+
+    #[inline(never)]
+    fn leave_out_anew(&mut self)
+        ensures { self.new ≡ Argument.Absent }
+    {
+        *self = Argument::Absent;
+    }
+
+    /// Puts an argument here, over that of a command before.
+    #[inline(always)]
+    pub fn put(&mut self, argument: Argument)
+        ensures { self.new ≡ argument }
+    {
+        match argument {
+            Argument::Value(Value::Int(number)) => self.put_integer(number),
+            Argument::Place(cursor) => self.put_place(cursor),
+            other => *self = other,
+        }
+    }
+
+    /// Puts a copy of a value here.
+    #[inline(always)]
+    pub fn put_copy(&mut self, alloc: Global, value: &Value) -> Result<(), NoMemory>
+        ensures { OnOk result (self.new ≡ Argument.Value value.now) }
+    {
+        match value {
+            Value::Int(number) => {
+                self.put_integer(*number);
+                Ok(())
+            }
+            Value::Text(text) => self.put_text(alloc, text),
+        }
+    }
+
+    #[inline(never)]
+    fn put_text(&mut self, alloc: Global, text: &Text) -> Result<(), NoMemory>
+        ensures { OnOk result (self.new ≡ Argument.Value (Value.Text text.now)) }
+    {
+        *self = Argument::Value(Value::Text(text.copy(alloc)?));
+        Ok(())
+    }
+
+    /// Puts an integer here, over that of a command before where one stands here.
+    #[inline(always)]
+    pub fn put_integer(&mut self, number: i64)
+        ensures { self.new ≡ Argument.Value (Value.Int number) }
+    {
+        match self {
+            Argument::Value(value) => values::put_integer(number, value),
+            Argument::Absent => *self = Argument::Value(Value::Int(number)),
+            Argument::Place(_) => *self = Argument::Value(Value::Int(number)),
+        }
+    }
+
+    /// Puts a cursor here, over that of a command before where one stands here.
+    #[inline(always)]
+    pub fn put_place(&mut self, cursor: Cursor)
+        ensures { self.new ≡ Argument.Place cursor }
+    {
+        match self {
+            Argument::Place(held) => *held = cursor,
+            Argument::Absent => *self = Argument::Place(cursor),
+            Argument::Value(_) => *self = Argument::Place(cursor),
         }
     }
 }

@@ -16,7 +16,7 @@ mod Commands
 mod Blocks
 mod Updating
 mod Viewing
-mod Starting
+pub mod Starting
 mod Scripts
 mod OneLine
 mod TasksRun

@@ -32,9 +32,9 @@ use Rattle.ac_calls.specs.declared.reply.Said.TheVariants as said
 use Rattle.ac_calls.specs.declared.reply.Placed.{Placed}
 use Rattle.ac_calls.specs.declared.reply.Reply.{Reply}
 use Rattle.ac_calls.specs.Arguments.{SlotAgrees, mark_in}
-use Rattle.ac_objects.specs.Called.{IsFound, Tells, Places, HeldAfter, Called, CalledWith, Lasts, RowsLast, AreValid, WritesTo}
+use Rattle.ac_objects.specs.Called.{IsFound, Tells, Places, HeldAfter, Called, CalledWith, Lasts, RowsLast, WritesTo}
 use Rattle.ac_calls.specs.RowWrites.{WritesIn}
-use Rattle.ac_calls.specs.Replied.{IsOwnName, IsOwnCursor, Says, SetsVariable, SourceAfter, Replied, RepliedWith}
+use Rattle.ac_calls.specs.Replied.{AreValid, IsOwnName, IsOwnCursor, Says, SetsVariable, SourceAfter, Replied, RepliedWith}
 use Rattle.ac_objects.specs.Standing.{held_counts}
 use Rattle.ac_objects.specs.World.{in_rows, memory_of, held_in, held_of, AgreesIn, ObjectAgrees}
 use Rattle.ac_calls.proofs.NoRoot.{no_root}

@@ -17,7 +17,8 @@ use Rattle.ac_calls.specs.Replies as replies
 use Rattle.ac_calls.specs.Arguments.{mark_in}
 use Rattle.ac_calls.specs.declared.argument.Arguments.{Arguments}
 use Rattle.ac_calls.specs.declared.reply.Reply.{Reply}
-use Rattle.ac_objects.specs.Called.{AllAgreeIn, AreValid, Called, Lasts, WritesTo}
+use Rattle.ac_calls.specs.Replied.{AreValid}
+use Rattle.ac_objects.specs.Called.{AllAgreeIn, Called, Lasts, WritesTo}
 use Rattle.ac_objects.specs.Edited.{Edited, edited_rows, edited_holder, edited_queue, EditsIn, Edits, AllAgreeThere, TellsCall, TellsWrite}
 use Rattle.ac_objects.specs.Visited.{visited}
 use Rattle.ac_objects.specs.World.{InMemory, in_rows, in_holder, in_queue, memory_of, held_in, held_of, ObjectAgrees}

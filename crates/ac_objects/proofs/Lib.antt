@@ -21,4 +21,4 @@ pub mod Names
 pub mod Lasting
 pub mod Performing
 pub mod Lent
-pub mod PlainsMade
+pub mod PeaksSet

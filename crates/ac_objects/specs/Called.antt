@@ -4,7 +4,6 @@ use Rattle.ac_base.specs.declared.cursor.Cursor.{Cursor}
 use Rattle.ac_base.specs.declared.cursor.Cursor.TheVariants.{NoElement, At}
 use Rattle.ac_base.specs.declared.fault.Fault.{Fault}
 use Rattle.ac_base.specs.declared.fault.Fault.TheVariants as fault
-use Rattle.ac_model.specs.Objects.{IsValid, plain}
 use Rattle.ac_model.specs.Objects as lists
 use Rattle.ac_model.specs.Calls.{Call, Done, IsAfter}
 use Rattle.ac_model.specs.Cursors.{plain_mark}
@@ -88,10 +87,6 @@ pub record Lasts (old new : Object) : Type 0 where
 pub record RowsLast {V : Type 0} (old new : Container V) : Type 0 where
   pub cursors : (c : Cursor) → SlotAgrees old.object c → SlotAgrees new.object c
   pub counts : guards_of new ≡ guards_of old
-
--- both are valid
-abbrev pub AreValid : {V : Type 0} → Container V → Container V → Type 0
-AreValid old new = IsValid (plain old.object) × IsValid (plain new.object)
 
 -- a write through a name that stands for an element: made, or refused, or out of memory; and then nothing changes
 abbrev pub WritesTo : Written → (old new : Object) → Result Done Fault → Type 0

@@ -18,7 +18,7 @@ use Rattle.ac_calls.specs.Elements.{ElementOf, Tools, tools_of}
 use Rattle.ac_calls.specs.HolderReplies.{holder_reply, holder_write}
 use Rattle.ac_calls.specs.Holdings.{RowKind, RowOf, own_calls, rows_reply, seen_in}
 use Rattle.ac_calls.specs.QueueReplies.{queue_reply}
-use Rattle.ac_calls.specs.Replied.{Replied}
+use Rattle.ac_calls.specs.Replied.{AreValid, Replied}
 use Rattle.ac_calls.specs.Replies.{itself, without, arguments_seen}
 use Rattle.ac_calls.specs.Replies as replies
 use Rattle.ac_calls.specs.RowWrites.{WritesIn}
@@ -27,7 +27,6 @@ use Rattle.ac_calls.specs.declared.argument.Arguments.{Arguments}
 use Rattle.ac_calls.specs.declared.reply.Reply.{Reply}
 use Rattle.ac_holder_calls.specs.HolderCalls.{ChangesHolder, HolderReplied}
 use Rattle.ac_queue_calls.specs.QueueCalls.{QueueReplied}
-use Rattle.ac_objects.specs.Called.{AreValid}
 use Rattle.ac_objects.specs.Visited.{Visited, some_rows, some_holder, some_queue}
 use Rattle.ac_objects.specs.World.{InMemory, in_rows, in_holder, in_queue, memory_of}
 use Rattle.ac_objects.specs.declared.object.Object.{Object}

@@ -15,4 +15,4 @@ pub mod Steps
 pub mod Visited
 pub mod Edited
 pub mod Lent
-pub mod Told
+pub mod Peaks

@@ -33,7 +33,7 @@ impl Objects {
 
     /// Gives a variable the value, or the element that a name stands for. Another name takes none. An integer is never refused.
     #[inline(always)]
-    pub(crate) fn set_value(&mut self, place: usize, value: Value) -> Result<(), Fault>
+    pub fn set_value(&mut self, place: usize, value: Value) -> Result<(), Fault>
         requires { ElementsStand (state_of self.old) }
         ensures set { AssignsTo (value_set (state_of self.old) place value (bound_at (state_of self.old) place)) self.old self.new result }
         ensures integers { (n : ℤ) → value ≡ Value.Int n → NotRaised result }

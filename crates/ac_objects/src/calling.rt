@@ -25,7 +25,7 @@ use std::alloc::Global;
 impl Objects {
     /// Makes a call on the object at this place, with the one at the source's place, if there is one.
     #[inline(always)]
-    pub(crate) fn call_at(
+    pub fn call_at(
         &mut self,
         object: usize,
         source: Option<usize>,

@@ -1,15 +1,13 @@
 //! Calls on an object of any kind and element type.
 ghost use Rattle.std.specs.Prelude.{◌≡◌, None, Some, IfOk};
-ghost use Rattle.ac_model.specs.Objects.{plain};
 ghost use Rattle.ac_model.specs.Cursors.{plain_mark};
-ghost use Rattle.ac_calls.specs.Holdings.{reply_of, number_of, element_value, write, seen_in};
-ghost use Rattle.ac_calls.specs.Replies.{itself, another, arguments_seen};
-ghost use Rattle.ac_calls.specs.Arguments.{AllAgree, SlotAgrees, arguments_of, mark_in};
+ghost use Rattle.ac_calls.specs.Holdings.{reply_of, number_of, element_value, write};
+ghost use Rattle.ac_calls.specs.Arguments.{arguments_of};
 ghost use Rattle.ac_calls.specs.HolderReplies.{holder_reply};
 ghost use Rattle.ac_holder_calls.specs.HolderCalls.{HolderRepliedWith};
-ghost use Rattle.ac_calls.specs.Replied.{Replied, RepliedWith, told};
-ghost use Rattle.ac_objects.specs.Called.{AgreesWith, IsWithinLimit, Called, CalledWith, Lasts, AreValid, WritesTo};
-ghost use Rattle.ac_calls.specs.RowWrites.{WritesIn};
+ghost use Rattle.ac_calls.specs.Replies.{another};
+ghost use Rattle.ac_calls.specs.Replied.{told};
+ghost use Rattle.ac_objects.specs.Called.{AgreesWith, IsWithinLimit, Called, CalledWith, Lasts, WritesTo};
 ghost use Rattle.ac_objects.specs.Edited.{AllAgreeThere, TellsCall, TellsWrite};
 ghost use Rattle.ac_objects.specs.Visited.{AgreesThere, AsksElement, TellsElement};
 ghost use Rattle.ac_objects.specs.World.{held_of, ObjectAgrees};
@@ -17,7 +15,9 @@ ghost use Rattle.ac_objects.specs.World.{held_of, ObjectAgrees};
 use crate::object::Object;
 use crate::visiting::{Editor, Visitor, edit, visit};
 use ac_base::{Fault, NoMemory, Reason, Value};
-use ac_calls::{Frame, OperatedRows, RowObject, ScriptElement};
+use ac_calls::{
+    Frame, OperatedRows, RowObject, ScriptElement, call_own, call_two, element_in, write_in,
+};
 use ac_cursor::Cursor;
 use ac_forms::Holder;
 use ac_holder_calls::{operate_holder, operate_holders, value, write};
@@ -162,93 +162,6 @@ pub fn call_objects(
     }
 }
 
-#[inline(always)]
-fn call_own<C: OperatedRows>(
-    object: &mut C,
-    alloc: Global,
-    operation: Operation,
-    frame: &mut Frame,
-) -> Result<(), Fault>
-    requires agree { AllAgree (C.rows object.old).object frame.old.arguments }
-    ensures replied { let o = plain (C.rows object.old).object in
-        Replied (C.comes_to object.old o itself (arguments_seen (seen_in (C.kind object.old) o) (arguments_of frame.old.arguments)) operation)
-        (C.rows object.old) (C.rows object.new) (told frame.new.reply result) }
-    ensures kind { C.kind object.new ≡ C.kind object.old }
-    ensures valid { AreValid (C.rows object.old) (C.rows object.new) }
-{
-    object.law();
-    let called = object.operate(alloc, operation, &mut frame.arguments, &mut frame.reply);
-    object.law();
-    called
-}
-
-/// The source is none where it is of another kind.
-fn call_two<C: OperatedRows>(
-    object: &mut C,
-    source: &mut C,
-    alloc: Global,
-    operation: Operation,
-    frame: &mut Frame,
-) -> Result<(), Fault>
-    requires agree { AllAgree (C.rows object.old).object frame.old.arguments }
-    requires agree_with_source { AllAgree (C.rows source.old).object frame.old.arguments }
-    ensures alike { let o = plain (C.rows object.old).object in let s = plain (C.rows source.old).object in
-        C.kind source.old ≡ C.kind object.old → let kind = C.kind object.old in
-        RepliedWith (C.comes_to object.old o (another s (arguments_seen (seen_in kind s) (arguments_of frame.old.arguments)))
-        (arguments_seen (seen_in kind o) (arguments_of frame.old.arguments)) operation)
-        (C.rows object.old) (C.rows source.old) (C.rows object.new) (C.rows source.new) (told frame.new.reply result) }
-    ensures unlike { let o = plain (C.rows object.old).object in
-        (C.kind source.old ≡ C.kind object.old → ⊥) →
-        Replied (C.comes_to object.old o itself (arguments_seen (seen_in (C.kind object.old) o) (arguments_of frame.old.arguments)) operation)
-        (C.rows object.old) (C.rows object.new) (told frame.new.reply result) × (source.new ≡ source.old) }
-    ensures kind { C.kind object.new ≡ C.kind object.old }
-    ensures source_kind { C.kind source.new ≡ C.kind source.old }
-    ensures valid { AreValid (C.rows object.old) (C.rows object.new) }
-    ensures source_valid { AreValid (C.rows source.old) (C.rows source.new) }
-{
-    source.law();
-    if object.is_like(source) {
-        call_like(object, source, alloc, operation, frame)
-    } else {
-        call_own(object, alloc, operation, frame)
-    }
-}
-
-/// With a source of the same kind.
-fn call_like<C: OperatedRows>(
-    object: &mut C,
-    source: &mut C,
-    alloc: Global,
-    operation: Operation,
-    frame: &mut Frame,
-) -> Result<(), Fault>
-    requires like { C.kind source.old ≡ C.kind object.old }
-    requires agree { AllAgree (C.rows object.old).object frame.old.arguments }
-    requires agree_with_source { AllAgree (C.rows source.old).object frame.old.arguments }
-    ensures replied { let o = plain (C.rows object.old).object in let s = plain (C.rows source.old).object in
-        let kind = C.kind object.old in
-        RepliedWith (C.comes_to object.old o (another s (arguments_seen (seen_in kind s) (arguments_of frame.old.arguments)))
-        (arguments_seen (seen_in kind o) (arguments_of frame.old.arguments)) operation)
-        (C.rows object.old) (C.rows source.old) (C.rows object.new) (C.rows source.new) (told frame.new.reply result) }
-    ensures kind { C.kind object.new ≡ C.kind object.old }
-    ensures source_kind { C.kind source.new ≡ C.kind source.old }
-    ensures valid { AreValid (C.rows object.old) (C.rows object.new) }
-    ensures source_valid { AreValid (C.rows source.old) (C.rows source.new) }
-{
-    object.law();
-    source.law();
-    let called = object.operate_with(
-        source,
-        alloc,
-        operation,
-        &mut frame.arguments,
-        &mut frame.reply,
-    );
-    object.law();
-    source.law();
-    called
-}
-
 /// A call of a holder with another one of its element type as the source.
 fn call_holders<T: ScriptElement>(
     holder: &mut Holder<T>,
@@ -298,17 +211,6 @@ impl Visitor for ElementCopy {
     }
 }
 
-/// A copy of the element of rows at which the cursor stands.
-fn element_in<C: RowObject>(object: &C, alloc: Global, at: Cursor) -> Result<Value, NoMemory>
-    requires agrees { SlotAgrees (C.rows object.now).object at }
-    requires stands { let o = plain (C.rows object.now).object in
-        ((C.own object.now o).element (seen_in (C.kind object.now) o (plain_mark at))).reason ≡ None }
-    ensures { let o = plain (C.rows object.now).object in
-        IfOk result (λ value. ((C.own object.now o).element (seen_in (C.kind object.now) o (plain_mark at))).answer ≡ Some value) }
-{
-    object.element_value(alloc, at)
-}
-
 /// A copy of the element at which the cursor stands.
 pub fn element_of(object: &Object, alloc: Global, at: Cursor) -> Result<Value, NoMemory>
     requires agree { ObjectAgrees object.now at }
@@ -336,7 +238,7 @@ impl Editor for Write {
     ghost tells = { λ writing old new answer edited. TellsWrite writing.at writing.value answer edited };
 
     fn edit_rows<C: OperatedRows>(self, object: &mut C, _state: &mut ()) -> Result<(), Fault> {
-        written(object, self.alloc, self.at, self.value)
+        write_in(object, self.alloc, self.at, self.value)
     }
 
     fn edit_holder<T: ScriptElement>(
@@ -379,21 +281,4 @@ impl Object {
             _ => {}
         }
     }
-}
-
-fn written<C: RowObject>(
-    object: &mut C,
-    alloc: Global,
-    at: Cursor,
-    value: Value,
-) -> Result<(), Fault>
-    ensures written { WritesIn (λ o. (C.own object.old o).write (mark_in (C.kind object.old) (C.rows object.old).object at) value)
-        (C.rows object.old) (C.rows object.new) result }
-    ensures kind { C.kind object.new ≡ C.kind object.old }
-    ensures valid { AreValid (C.rows object.old) (C.rows object.new) }
-{
-    object.law();
-    let done = object.write_value(alloc, at, value);
-    object.law();
-    done
 }

@@ -8,7 +8,6 @@ mod calling;
 mod giving;
 mod guarding;
 mod held;
-mod keyed_set;
 mod lending;
 mod listing;
 mod loops;
@@ -17,13 +16,12 @@ mod new_objects;
 mod numbered_queue;
 mod object;
 mod objects;
-mod plains;
+mod peaks;
 mod ranking;
 mod reading;
 mod scopes;
 mod sequence;
 mod set;
-mod telling;
 mod updates;
 mod viewing;
 mod views;
@@ -31,15 +29,14 @@ mod visiting;
 mod walking;
 
 pub use ac_calls::{
-    Argument, Arguments, Frame, ListedRows, OperatedRows, Placed, Plain, PlainRow, PlainRows,
-    Plains, Reply, RowObject, Said, ScriptElement,
+    Argument, Arguments, Frame, ListedRows, OperatedRows, Placed, Reply, RowObject, Said,
+    ScriptElement,
 };
 pub use blocks::{DeclareFault, LoopKey, OpenUpdate, OpenView, ViewHead, ViewKey};
 pub use bound::Bound;
-pub use keyed_set::KeyedSet;
 pub use map::{HashedMaps, Map, OrderedMaps};
 pub use numbered_queue::NumberedQueue;
 pub use object::Object;
 pub use objects::Objects;
 pub use sequence::Sequence;
-pub use set::{HashedSets, OrderedSets, Set};
+pub use set::{HashedSets, KeyedSet, OrderedSets, Set};

@@ -13,12 +13,11 @@ ghost use Rattle.ac_objects.specs.Sequences.{rows_of, kind_of};
 ghost use Rattle.ac_keyed_calls.specs.Sets.{items_of, set_kind_of};
 ghost use Rattle.ac_objects.specs.World.{held_of};
 
-use crate::keyed_set::KeyedSet;
 use crate::map::Map;
 use crate::numbered_queue::NumberedQueue;
 use crate::object::Object;
 use crate::sequence::Sequence;
-use crate::set::Set;
+use crate::set::{KeyedSet, Set};
 use ac_base::{Elem, GREATEST_LENGTH, Limit, NoMemory};
 use ac_calls::ScriptElement;
 use ac_cursor::Tag;
@@ -33,13 +32,11 @@ use ac_tree_calls::TreeRows;
 use ac_vector::Vector;
 use std::alloc::Global;
 
+/// What is made, unless memory runs out.
+type Made<T> = Result<T, NoMemory>;
+
 /// An object of this number without elements, and NoMemory where so large a capacity can't be had.
-pub(crate) fn new_object(
-    alloc: Global,
-    def: &TypeDef,
-    tag: Tag,
-    capacity: Option<u64>,
-) -> Result<Object, NoMemory>
+pub fn new_object(alloc: Global, def: &TypeDef, tag: Tag, capacity: Option<u64>) -> Made<Object>
     ensures { IfOk result (λ made. held_of made ≡ new_held def.now tag capacity) }
 {
     let limit = limit_by(capacity)?;
@@ -53,12 +50,7 @@ pub(crate) fn new_object(
     }
 }
 
-fn new_sequence_object(
-    alloc: Global,
-    def: &TypeDef,
-    tag: Tag,
-    limit: Limit,
-) -> Result<Object, NoMemory>
+fn new_sequence_object(alloc: Global, def: &TypeDef, tag: Tag, limit: Limit) -> Made<Object>
     requires { IsLimit limit }
     ensures { IfOk result (λ made. held_of made ≡ new_within def.now tag limit) }
 {
@@ -74,12 +66,7 @@ fn new_sequence_object(
     }
 }
 
-fn new_holder_object(
-    alloc: Global,
-    def: &TypeDef,
-    tag: Tag,
-    limit: Limit,
-) -> Result<Object, NoMemory>
+fn new_holder_object(alloc: Global, def: &TypeDef, tag: Tag, limit: Limit) -> Made<Object>
     requires kind { def.now.kind ≡ Kind.Holder }
     requires limit { IsLimit limit }
     ensures { IfOk result (λ made. held_of made ≡ new_within def.now tag limit) }
@@ -96,7 +83,7 @@ fn new_holder_object(
     }
 }
 
-fn new_tree_object(alloc: Global, def: &TypeDef, tag: Tag, limit: Limit) -> Result<Object, NoMemory>
+fn new_tree_object(alloc: Global, def: &TypeDef, tag: Tag, limit: Limit) -> Made<Object>
     requires kind { def.now.kind ≡ Kind.Tree }
     requires limit { IsLimit limit }
     ensures { IfOk result (λ made. held_of made ≡ new_within def.now tag limit) }
@@ -113,12 +100,7 @@ fn new_tree_object(alloc: Global, def: &TypeDef, tag: Tag, limit: Limit) -> Resu
     }
 }
 
-fn new_queue_object(
-    alloc: Global,
-    def: &TypeDef,
-    tag: Tag,
-    limit: Limit,
-) -> Result<Object, NoMemory>
+fn new_queue_object(alloc: Global, def: &TypeDef, tag: Tag, limit: Limit) -> Made<Object>
     requires kind { is_queue def.now.kind ≡ true }
     requires limit { IsLimit limit }
     ensures { IfOk result (λ made. held_of made ≡ new_within def.now tag limit) }
@@ -127,7 +109,7 @@ fn new_queue_object(
     Ok(Object::Queue(NumberedQueue { tag, queue }))
 }
 
-fn new_set_object(alloc: Global, def: &TypeDef, tag: Tag, limit: Limit) -> Result<Object, NoMemory>
+fn new_set_object(alloc: Global, def: &TypeDef, tag: Tag, limit: Limit) -> Made<Object>
     requires { IsLimit limit }
     ensures { IfOk result (λ made. held_of made ≡ new_within def.now tag limit) }
 {
@@ -138,12 +120,7 @@ fn new_set_object(alloc: Global, def: &TypeDef, tag: Tag, limit: Limit) -> Resul
     }
 }
 
-fn new_plain_set_object(
-    alloc: Global,
-    def: &TypeDef,
-    tag: Tag,
-    limit: Limit,
-) -> Result<Object, NoMemory>
+fn new_plain_set_object(alloc: Global, def: &TypeDef, tag: Tag, limit: Limit) -> Made<Object>
     requires plain { def.now.keyed ≡ false }
     requires limit { IsLimit limit }
     ensures { IfOk result (λ made. held_of made ≡ new_within def.now tag limit) }
@@ -160,12 +137,7 @@ fn new_plain_set_object(
     }
 }
 
-fn new_keyed_set_object(
-    alloc: Global,
-    def: &TypeDef,
-    tag: Tag,
-    limit: Limit,
-) -> Result<Object, NoMemory>
+fn new_keyed_set_object(alloc: Global, def: &TypeDef, tag: Tag, limit: Limit) -> Made<Object>
     requires keyed { def.now.keyed ≡ true }
     requires limit { IsLimit limit }
     ensures { IfOk result (λ made. held_of made ≡ new_within def.now tag limit) }
@@ -174,7 +146,7 @@ fn new_keyed_set_object(
     Ok(Object::KeyedSet(KeyedSet { set }))
 }
 
-fn new_map_object(alloc: Global, def: &TypeDef, tag: Tag, limit: Limit) -> Result<Object, NoMemory>
+fn new_map_object(alloc: Global, def: &TypeDef, tag: Tag, limit: Limit) -> Made<Object>
     requires { IsLimit limit }
     ensures { IfOk result (λ made. held_of made ≡ new_within def.now tag limit) }
 {
@@ -213,12 +185,7 @@ fn element_or(first: ElemKind, second: Option<ElemKind>) -> ElemKind
 }
 
 /// A list or a vector without elements.
-fn new_sequence<T: Drop>(
-    alloc: Global,
-    kind: Kind,
-    tag: Tag,
-    limit: Limit,
-) -> Result<Sequence<T>, NoMemory>
+fn new_sequence<T: Drop>(alloc: Global, kind: Kind, tag: Tag, limit: Limit) -> Made<Sequence<T>>
     requires { IsLimit limit }
     ensures kind { (first : Elements) (second : Option Elements) (keyed : Bool) →
         IfOk result (λ made. kind_by kind first second keyed ≡ a_sequence (kind_of made) first) }
@@ -239,7 +206,7 @@ fn new_sequence<T: Drop>(
 }
 
 /// A holder without an element.
-fn new_holder<T: Elem>(alloc: Global, tag: Tag, limit: Limit) -> Result<Holder<T>, NoMemory>
+fn new_holder<T: Elem>(alloc: Global, tag: Tag, limit: Limit) -> Made<Holder<T>>
     requires { IsLimit limit }
     ensures { IfOk result (λ made. made ≡ empty_holder tag limit) }
 {
@@ -250,7 +217,7 @@ fn new_holder<T: Elem>(alloc: Global, tag: Tag, limit: Limit) -> Result<Holder<T
 }
 
 /// A queue without items.
-fn new_queue(alloc: Global, kind: Kind, limit: Limit) -> Result<AnyQueue, NoMemory>
+fn new_queue(alloc: Global, kind: Kind, limit: Limit) -> Made<AnyQueue>
     requires { IsLimit limit }
     ensures { IfOk result (λ made. shared made ≡ record { discipline = discipline_by kind; queue = empty_queue limit }) }
 {
@@ -268,11 +235,7 @@ fn new_queue(alloc: Global, kind: Kind, limit: Limit) -> Result<AnyQueue, NoMemo
 }
 
 /// A tree without elements.
-fn new_tree<T: ScriptElement>(
-    alloc: Global,
-    tag: Tag,
-    limit: Limit,
-) -> Result<TreeRows<T, Tree<T>>, NoMemory>
+fn new_tree<T: ScriptElement>(alloc: Global, tag: Tag, limit: Limit) -> Made<TreeRows<T, Tree<T>>>
     requires { IsLimit limit }
     ensures { IfOk result (λ made. plain made.object ≡ empty_object false tag limit) }
 {
@@ -283,12 +246,7 @@ fn new_tree<T: ScriptElement>(
 }
 
 /// A set without elements.
-fn new_set<T: ScriptElement>(
-    alloc: Global,
-    kind: Kind,
-    tag: Tag,
-    limit: Limit,
-) -> Result<Set<T>, NoMemory>
+fn new_set<T: ScriptElement>(alloc: Global, kind: Kind, tag: Tag, limit: Limit) -> Made<Set<T>>
     requires { IsLimit limit }
     ensures kind { (first : Elements) (second : Option Elements) →
         IfOk result (λ made. (kind_by kind first second false ≡ a_set (set_kind_of made) first)
@@ -315,7 +273,7 @@ fn new_map<K: ScriptElement, V: ScriptElement>(
     kind: Kind,
     tag: Tag,
     limit: Limit,
-) -> Result<Map<K, V>, NoMemory>
+) -> Made<Map<K, V>>
     requires { IsLimit limit }
     ensures kind { (first : Elements) (second : Option Elements) (keyed : Bool) →
         IfOk result (λ made. kind_by kind first second keyed ≡ a_map (map_kind_of made) first (element_or first second)) }
@@ -336,7 +294,7 @@ fn new_map<K: ScriptElement, V: ScriptElement>(
 }
 
 /// The limit of an object of this capacity.
-fn limit_by(capacity: Option<u64>) -> Result<Limit, NoMemory>
+fn limit_by(capacity: Option<u64>) -> Made<Limit>
     ensures { IfOk result (λ limit. (limit ≡ limit_by capacity) × IsLimit limit) }
 {
     match capacity {

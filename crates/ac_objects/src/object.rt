@@ -1,9 +1,8 @@
 //! An object of a script, of any kind and element type.
-use crate::keyed_set::KeyedSet;
 use crate::map::Map;
 use crate::numbered_queue::NumberedQueue;
 use crate::sequence::Sequence;
-use crate::set::Set;
+use crate::set::{KeyedSet, Set};
 use ac_base::Text;
 use ac_forms::Holder;
 use ac_tree::Tree;

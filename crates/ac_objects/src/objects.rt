@@ -65,6 +65,13 @@ impl Objects {
         self.alloc
     }
 
+    /// What the names in scope hold, by their places.
+    pub fn bounds(&self) -> &[Bound]
+        ensures { result.now ≡ self.now.bounds }
+    {
+        &self.bounds
+    }
+
     /// Drops the objects here, so that no crate above proves their drops again.
     pub fn end(self) {}
 

@@ -16,21 +16,20 @@ ghost use Rattle.ac_objects.specs.World.{World, Counters, state_of, world, IsKno
 use crate::bound::Bound;
 use crate::held::element_of;
 use crate::objects::Objects;
-use ac_base::{Elem, NoMemory, Text, Value};
-use ac_calls::values::{self, copy_value};
+use ac_base::{NoMemory, Value};
+use ac_calls::values::copy_value;
 use ac_calls::{Argument, Arguments, Said};
 use ac_cursor::Cursor;
 use ac_rules::ResolvedArg;
 use std::alloc::Global;
 
+/// What is fetched, unless memory runs out.
+type Fetched<T> = Result<T, NoMemory>;
+
 impl Objects {
     /// Reads the arguments, with copies of the values that they name.
     #[inline(always)]
-    pub(crate) fn read_arguments(
-        &self,
-        args: &[ResolvedArg],
-        read: &mut Arguments,
-    ) -> Result<(), NoMemory>
+    pub(crate) fn read_arguments(&self, args: &[ResolvedArg], read: &mut Arguments) -> Fetched<()>
         requires stand { ElementsStand (state_of self.now) }
         ensures read { OnOk result (arguments_of read.new ≡ arguments (state_of self.now) args.now) }
         ensures known { OnOk result (AllKnown self.now read.new) }
@@ -45,7 +44,7 @@ impl Objects {
 
     /// The argument at the place as a count, which is 1 where it is left out.
     #[inline(always)]
-    fn count_at(&self, args: &[ResolvedArg], place: usize) -> Result<i64, NoMemory>
+    fn count_at(&self, args: &[ResolvedArg], place: usize) -> Fetched<i64>
         requires stand { ElementsStand (state_of self.now) }
         ensures { IfOk result (λ count. count ≡ (argument_at (state_of self.now) (slice_get args.now place)).count) }
     {
@@ -56,7 +55,7 @@ impl Objects {
     }
 
     #[inline(never)]
-    fn count_of(&self, arg: &ResolvedArg) -> Result<i64, NoMemory>
+    fn count_of(&self, arg: &ResolvedArg) -> Fetched<i64>
         requires stand { ElementsStand (state_of self.now) }
         ensures { IfOk result (λ count. count ≡ (argument (state_of self.now) arg.now).count) }
     {
@@ -98,23 +97,18 @@ impl Objects {
     }
 
     #[inline(always)]
-    fn read_at(
-        &self,
-        args: &[ResolvedArg],
-        place: usize,
-        read: &mut Argument,
-    ) -> Result<(), NoMemory>
+    fn read_at(&self, args: &[ResolvedArg], place: usize, read: &mut Argument) -> Fetched<()>
         requires stand { ElementsStand (state_of self.now) }
         ensures read { OnOk result (argument_of read.new ≡ argument_at (state_of self.now) (slice_get args.now place)) }
         ensures known { OnOk result (IsKnown self.now (cursor_in read.new)) }
     {
         match args.get(place) {
             None => {
-                leave_out(read);
+                read.leave_out();
                 Ok(())
             }
             Some(arg) => match self.value_at_hand(arg) {
-                Some(value) => put_copy(self.alloc, value, read),
+                Some(value) => read.put_copy(self.alloc, value),
                 None => self.read_any(arg, read),
             },
         }
@@ -122,19 +116,14 @@ impl Objects {
 
     /// As `read_at`, where few calls have an argument.
     #[inline(always)]
-    fn read_rare(
-        &self,
-        args: &[ResolvedArg],
-        place: usize,
-        read: &mut Argument,
-    ) -> Result<(), NoMemory>
+    fn read_rare(&self, args: &[ResolvedArg], place: usize, read: &mut Argument) -> Fetched<()>
         requires stand { ElementsStand (state_of self.now) }
         ensures read { OnOk result (argument_of read.new ≡ argument_at (state_of self.now) (slice_get args.now place)) }
         ensures known { OnOk result (IsKnown self.now (cursor_in read.new)) }
     {
         match args.get(place) {
             None => {
-                leave_out(read);
+                read.leave_out();
                 Ok(())
             }
             Some(arg) => self.read_any(arg, read),
@@ -143,12 +132,12 @@ impl Objects {
 
     /// Reads an argument of any sort. It stands apart so that the short way is short.
     #[inline(never)]
-    fn read_any(&self, arg: &ResolvedArg, read: &mut Argument) -> Result<(), NoMemory>
+    fn read_any(&self, arg: &ResolvedArg, read: &mut Argument) -> Fetched<()>
         requires stand { ElementsStand (state_of self.now) }
         ensures read { OnOk result (argument_of read.new ≡ argument (state_of self.now) arg.now) }
         ensures known { OnOk result (IsKnown self.now (cursor_in read.new)) }
     {
-        put(self.read(arg)?, read);
+        read.put(self.read(arg)?);
         Ok(())
     }
 
@@ -177,7 +166,7 @@ impl Objects {
     }
 
     #[inline(always)]
-    pub(crate) fn read(&self, arg: &ResolvedArg) -> Result<Argument, NoMemory>
+    pub(crate) fn read(&self, arg: &ResolvedArg) -> Fetched<Argument>
         requires { ElementsStand (state_of self.now) }
         ensures read { IfOk result (λ read. argument_of read ≡ argument (state_of self.now) arg.now) }
         ensures said { IfOk result (λ read. answer_of read ≡ answer_from (state_of self.now) arg.now) }
@@ -191,7 +180,7 @@ impl Objects {
     }
 
     #[inline(always)]
-    pub(crate) fn read_name(&self, place: usize) -> Result<Argument, NoMemory>
+    pub(crate) fn read_name(&self, place: usize) -> Fetched<Argument>
         requires { ElementsStand (state_of self.now) }
         ensures read { IfOk result (λ read. argument_of read ≡ argument_in (state_of self.now) (bound_at (state_of self.now) place)) }
         ensures said { IfOk result (λ read. answer_of read ≡ answer_in (state_of self.now) (bound_at (state_of self.now) place)) }
@@ -211,89 +200,13 @@ impl Objects {
     }
 }
 
-/// Leaves the argument out, whatever a command before had there.
-#[inline(always)]
-fn leave_out(read: &mut Argument)
-    ensures { read.new ≡ Argument.Absent }
-{
-    match read {
-        Argument::Absent => {}
-        _ => leave_out_anew(read),
-    }
-}
-
-#[inline(never)]
-fn leave_out_anew(read: &mut Argument)
-    ensures { read.new ≡ Argument.Absent }
-{
-    *read = Argument::Absent;
-}
-
-/// Puts an argument into its place.
-#[inline(always)]
-fn put(argument: Argument, read: &mut Argument)
-    ensures { read.new ≡ argument }
-{
-    match argument {
-        Argument::Value(Value::Int(number)) => put_integer(number, read),
-        Argument::Place(cursor) => put_place(cursor, read),
-        other => *read = other,
-    }
-}
-
-/// Puts a copy of a value into an argument's place.
-#[inline(always)]
-fn put_copy(alloc: Global, value: &Value, read: &mut Argument) -> Result<(), NoMemory>
-    ensures { OnOk result (read.new ≡ Argument.Value value.now) }
-{
-    match value {
-        Value::Int(number) => {
-            put_integer(*number, read);
-            Ok(())
-        }
-        Value::Text(text) => put_text(alloc, text, read),
-    }
-}
-
-#[inline(never)]
-fn put_text(alloc: Global, text: &Text, read: &mut Argument) -> Result<(), NoMemory>
-    ensures { OnOk result (read.new ≡ Argument.Value (Value.Text text.now)) }
-{
-    *read = Argument::Value(Value::Text(text.copy(alloc)?));
-    Ok(())
-}
-
-/// Puts an integer into an argument's place, over that of a command before where one stands there.
-#[inline(always)]
-fn put_integer(number: i64, read: &mut Argument)
-    ensures { read.new ≡ Argument.Value (Value.Int number) }
-{
-    match read {
-        Argument::Value(value) => values::put_integer(number, value),
-        Argument::Absent => *read = Argument::Value(Value::Int(number)),
-        Argument::Place(_) => *read = Argument::Value(Value::Int(number)),
-    }
-}
-
-/// Puts a cursor into an argument's place, over that of a command before where one stands there.
-#[inline(always)]
-fn put_place(cursor: Cursor, read: &mut Argument)
-    ensures { read.new ≡ Argument.Place cursor }
-{
-    match read {
-        Argument::Place(held) => *held = cursor,
-        Argument::Absent => *read = Argument::Place(cursor),
-        Argument::Value(_) => *read = Argument::Place(cursor),
-    }
-}
-
 /// A copy of the element that a name stands for.
 pub(crate) fn copy_element(
     bounds: &Vec<Bound>,
     alloc: Global,
     object: usize,
     at: Cursor,
-) -> Result<Value, NoMemory>
+) -> Fetched<Value>
     requires { CanRead bounds.now.items object at }
     ensures { (counters : Counters) → IfOk result (λ value.
         value ≡ value_in (state_of (world bounds.now.items counters)) (binds_element object (plain_mark at))) }

@@ -1,6 +1,6 @@
 //! One function by all kinds reads an object and one changes it. Each hands the rows, the holder or the queue to a visitor.
 ghost use Rattle.std.specs.Prelude.{◌≡◌};
-ghost use Rattle.ac_objects.specs.Called.{AreValid};
+ghost use Rattle.ac_calls.specs.Replied.{AreValid};
 ghost use Rattle.ac_objects.specs.Edited.{Edited, Edits, edited_rows, edited_holder, edited_queue};
 ghost use Rattle.ac_objects.specs.Visited.{Visited, visited, some_rows, some_holder, some_queue};
 ghost use Rattle.ac_objects.specs.World.{memory_of};
