@@ -1,10 +1,11 @@
 -- How an input is answered, where nothing is written of it and where something is.
-use Rattle.std.proofs.Common.{◌≡◌, ◌≢◌, ◌<◌, ◌≤◌, ℕ, List, [], length, Option, Some, None, refl, sym, inl, inr, append-nil, ap}
+use Rattle.std.proofs.Common.{◌≡◌, ◌≢◌, ◌<◌, ◌≤◌, ℕ, Bool, List, [], length, Option, Some, None, refl, sym, subst, inl, inr, append-nil, ap}
 use Rattle.std.specs.Prelude.{◌⊎◌, IfSome}
 use Rattle.ac_io.specs.Outside.{GrewByFront}
 use Rattle.ac_syntax.specs.declared.refusal.RefusalKind.{RefusalKind}
 use Rattle.ac_syntax.specs.declared.script.Script.{Script}
 use Rattle.ac_syntax.specs.Refusals.{IsFirstRefusal}
+use Rattle.ac_calls.specs.declared.plains.Plain.{Plain}
 use Rattle.ac_meaning.specs.declared.limits.TheConstants.{INPUT_LIMIT}
 use Rattle.ac_meaning.specs.Execution.{no_orders}
 use Rattle.ac_meaning.specs.Meanings.{Meaning, IsMeaningBy, too_long, refused_at, is_too_long, is_refused, is_faulty}
@@ -13,10 +14,15 @@ use Rattle.ac_top.specs.declared.status.Status.TheVariants.{Done, Refused, Usage
 use Rattle.ac_top.specs.declared.mode.Mode.{Mode}
 use Rattle.ac_top.specs.declared.mode.Mode.TheVariants.{Read}
 use Rattle.ac_top.specs.declared.mode.Task.{Task}
-use Rattle.ac_top.specs.Modes.{Means, read_by, word_of}
+use Rattle.ac_top.specs.Modes.{IsMeaningOn, Means, has_no_script, has_no_state, is_on, is_too_long as is_past, limit_of, meant_by, read_by, resumes, word_of}
+use Rattle.ac_top.specs.Inputs.{IsFaultOf, IsFaultOn, fault_meaning, is_in_script, is_without_script, is_without_state}
+use Rattle.ac_top.specs.declared.start.InputFault.{InputFault}
+use Rattle.ac_top.specs.declared.start.InputFault.TheVariants as fault
+use Rattle.ac_top.specs.declared.start.InputFault.TheVariants.{TooLong, NoScript, State, Script as FaultyScript}
 use Rattle.ac_top.specs.Status.{IsAnswer, Writes}
 use Rattle.ac_top.specs.Answers.{Answers, HasRoom, IfAsked, IsFaulty, Tells}
 use Rattle.ac_top.proofs.Becoming.{each_asking}
+use Rattle.ac_top.proofs.Beginning.{each_beginning}
 use Rattle.ac_top.proofs.Meant.{each_meaning}
 
 pub if_some_of : {T : Type 0} {P : T → Type 0} (o : Option T) → ((x : T) → P x) → IfSome o P
@@ -29,17 +35,36 @@ pub refused_means : (means : Script → Meaning) (input : List ℕ) (line : ℕ)
 refused_means means input line kind short (inl h) = is_refused line kind short h refl
 refused_means means input line kind short (inr h) = is_faulty h.script line kind short h.spelled h.first refl
 
-pub long_means : (task : Task) (input : List ℕ) → INPUT_LIMIT < length input → Means (Read task) input too_long
-long_means task input long =
-    let a = each_asking (word_of task) input in
-    record { orders = no_orders; asking = a.0; becomes = a.1; means = is_too_long long refl }
+pub long_means : (task : Task) (input : List ℕ) → limit_of task < length input → Means (Read task) input too_long
+long_means task input long = is_past long refl
 
--- the same of an input that is refused
-pub refused_meaning : (task : Task) (input : List ℕ) (line : ℕ) (kind : RefusalKind) → length input ≤ INPUT_LIMIT →
-    IsFirstRefusal input line kind ⊎ IsFaulty input line kind → Means (Read task) input (refused_at line kind)
-refused_meaning task input line kind short h =
-    let a = each_asking (word_of task) input in
-    record { orders = no_orders; asking = a.0; becomes = a.1; means = refused_means _ input line kind short h }
+-- the same of an input with a fault
+
+fault_means : (means : Script → Meaning) (text : List ℕ) (fault : InputFault) → IsFaultOn text fault → IsMeaningBy means text (fault_meaning fault)
+fault_means means text TooLong h = is_too_long h refl
+fault_means means text NoScript h = absurd h
+fault_means means text (State line) h = absurd h
+fault_means means text (FaultyScript line kind) h = refused_means means text line kind h.0 h.1
+fault_means means text fault.NoMemory h = absurd h
+
+on_faulty : (task : Task) (s : List Plain) (text : List ℕ) (fault : InputFault) → IsFaultOn text fault → IsMeaningOn task s text (fault_meaning fault)
+on_faulty task s text fault h =
+    let a = each_asking (word_of task) text in
+    let b = each_beginning s text in
+    record { orders = no_orders; asking = a.0; becomes = a.1; beginning = b.0; begins = b.1; means = fault_means (meant_by no_orders task a.0 b.0 s) text fault h }
+
+pub fault_meant : (task : Task) (input : List ℕ) (fault : InputFault) → length input ≤ limit_of task → IsFaultOf (resumes task) input fault →
+    Means (Read task) input (fault_meaning fault)
+fault_meant task input fault short (is_without_script is none) = has_no_script is short none refl
+fault_meant task input fault short (is_without_state at line is first reads) = has_no_state at line is short first reads refl
+fault_meant task input fault short (is_in_script s text of_script split h) = is_on s text short split (on_faulty task s text of_script h)
+
+pub faulty_meant : (task : Task) (input : List ℕ) (resumed : Bool) (text : List ℕ) (why : InputFault) → length input ≤ limit_of task →
+    resumed ≡ resumes task → text ≡ input → (why ≡ fault.NoMemory → ⊥) → (why ≡ fault.NoMemory) ⊎ IsFaultOf resumed text why →
+    Means (Read task) input (fault_meaning why)
+faulty_meant task input resumed text why short is same other (inl none) = absurd (other none)
+faulty_meant task input resumed text why short is same other (inr h) =
+    fault_meant task input why short (subst (λ b. IsFaultOf b input why) is (subst (λ t. IsFaultOf resumed t why) same h))
 
 pub nothing_written : (held : Option (List ℕ)) (text : List ℕ) → GrewByFront held held text
 nothing_written None text = tt

@@ -10,3 +10,9 @@ pub mod Summed
 pub mod Becoming
 pub mod ReadOutput
 pub mod Items
+pub mod EachCut
+pub mod Beginning
+mod LinePlaces
+mod LineTests
+mod Parts
+mod Restarting

@@ -1,20 +1,22 @@
 -- A script without tasks runs the same by all orders.
-use Rattle.std.proofs.Common.{◌≡◌, ◌||◌, ◌++◌, ℕ, Bool, true, false, List, [], Some, None, refl, sym, ap, append-nil, ◌∙◌, if◌then◌else◌}
+use Rattle.std.proofs.Common.{◌≡◌, ◌||◌, ◌++◌, ◌∷◌, ℕ, Bool, true, false, List, [], Some, None, refl, sym, ap, append-nil, ◌∙◌, if◌then◌else◌}
+use Rattle.ac_syntax.specs.Canonical.{propagates_in}
 use Rattle.ac_syntax.specs.declared.script.Script.{Script}
 use Rattle.ac_rules.specs.HasTasks.{begins_tasks, has_tasks}
-use Rattle.ac_rules.specs.Resolved.{ResolvedHead, loops_at, views_at, stables_at, declares_at, gathers_at, works_at, begins_at, tries_at, handles_at, ResolvedCode, no_statement, a_command, a_block, resolve, resolve_script}
+use Rattle.ac_rules.specs.Resolved.{ResolvedHead, loops_at, views_at, stables_at, declares_at, gathers_at, works_at, begins_at, tries_at, handles_at, ResolvedCode, no_statement, a_command, a_block, resolve}
 use Rattle.ac_rules.specs.Scopes.{with_decls}
 use Rattle.ac_calls.specs.Answers.{lines_text}
 use Rattle.ac_calls.specs.Holdings.{Guards}
-use Rattle.ac_meaning.specs.Environment.{State, first_state, after_decls, at_rest, guarded_at, under}
+use Rattle.ac_calls.specs.declared.plains.Plain.{Plain}
+use Rattle.ac_meaning.specs.Environment.{State, after_decls, at_rest, guarded_at, under}
 use Rattle.ac_meaning.specs.Execution.{End, Outcome, Orders, after_declared, block_on, commanded, passed_on, followed, takes, resolved_behind, no_orders, on_object, run, run_from, run_with, text_of, text_with}
-use Rattle.ac_host.specs.Start.{start_of}
 use Rattle.ac_meaning.specs.Meanings.{Meaning, IsMeaningBy, is_too_long, is_refused, is_faulty, is_sound, ran, written}
-use Rattle.ac_meaning.proofs.Resolved.{script_runs_resolved}
+use Rattle.ac_meaning.proofs.Resolved as resolved
 use Rattle.ac_top.specs.declared.mode.Task.{Task}
 use Rattle.ac_top.specs.declared.mode.Task.TheVariants.{Run, Check}
 use Rattle.ac_top.specs.Asks.{Asking, unasked, refuses, asks, BecomesOf}
-use Rattle.ac_top.specs.Modes.{lines_behind, meant_by, ran_to_end}
+use Rattle.ac_top.specs.Beginnings.{Beginning, begins, stops_at, BeginsAs, BeginsOf}
+use Rattle.ac_top.specs.Modes.{begun, lines_behind, meant_by, ran_from, started}
 use Rattle.ac_top.specs.Settled.{HasNoTasks}
 use Rattle.ac_top.specs.Words.{options}
 
@@ -58,47 +60,44 @@ module _ (orders others : Orders) where
       λ i. if takes head raised then exec_same propagates body here.1 guards None e i
       else exec_same propagates rest later.1 guards (Some raised) e i
 
-  pub run_same : (script : Script) → has_tasks (resolve (with_decls [] script.decls) script.stmts) ≡ false → run_with orders script ≡ run_with others script
-  run_same script none =
-      let r = resolve_script script in
-      sym (script_runs_resolved orders script)
-      ∙ (exec_same r.propagates r.stmts none [] None (after_decls r.decls first_state).after ∙ script_runs_resolved others script)
-
--- so what it means is what it means by no orders
+runs_resolved : (orders : Orders) (script : Script) (e : State) →
+    resolved_behind (propagates_in script) orders (resolve (with_decls [] script.decls) script.stmts) [] None e ≡ run_from orders script e
+runs_resolved orders script e = resolved.runs_resolved (propagates_in script) orders script.stmts (with_decls [] script.decls) [] None e
 
 pub text_of_run : (orders : Orders) (script : Script) → text_with orders script ≡ lines_text (run_with orders script).lines
 unfolding text_with
 text_of_run orders script = refl
 
--- from what its outermost declarations leave
+-- on any environment in which its outermost declarations stand
 
-pub runs_from : (orders : Orders) (script : Script) (e : State) → e ≡ start_of script → run_from orders script e ≡ run_with orders script
-unfolding run_with
-runs_from orders script e is = ap (run_from orders script) is
+module _ (orders others : Orders) (script : Script) (none : has_tasks (resolve (with_decls [] script.decls) script.stmts) ≡ false) (e : State) where
+  pub from_same : run_from orders script e ≡ run_from others script e
+  from_same =
+      sym (runs_resolved orders script e)
+      ∙ (exec_same orders others (propagates_in script) (resolve (with_decls [] script.decls) script.stmts) none [] None e ∙ runs_resolved others script e)
 
-pub text_from : (orders : Orders) (script : Script) (e : State) → e ≡ start_of script → lines_text (run_from orders script e).lines ≡ text_with orders script
-text_from orders script e is = ap (λ (r : Outcome). lines_text r.lines) (runs_from orders script e is) ∙ sym (text_of_run orders script)
+  pub ran_same : (audit : Bool) (asking : Asking) (save : Bool) → ran_from orders audit asking save script e ≡ ran_from others audit asking save script e
+  ran_same audit asking save = λ i. written (lines_text (from_same i).lines ++ lines_behind audit asking save script.decls (at_rest (from_same i).after))
 
-ended_same : (orders others : Orders) (audit : Bool) (asking : Asking) (script : Script) → run_with orders script ≡ run_with others script →
-    ran_to_end orders audit asking script ≡ ran_to_end others audit asking script
-ended_same orders others audit asking script same =
-    let text = text_of_run orders script ∙ (ap (λ (r : Outcome). lines_text r.lines) same ∙ sym (text_of_run others script)) in
-    λ i. written (text i ++ lines_behind audit asking script.decls (at_rest (same i).after))
+module _ (orders others : Orders) (s : List Plain) (script : Script) (none : has_tasks (resolve (with_decls [] script.decls) script.stmts) ≡ false) where
+  begun_same : (audit : Bool) (asking : Asking) (save : Bool) (beginning : Beginning) →
+      begun orders audit asking save beginning s script ≡ begun others audit asking save beginning s script
+  begun_same audit asking save begins = ran_same orders others script none (started s script) audit asking save
+  begun_same audit asking save (stops_at line) = refl
 
-meant_same : (orders others : Orders) (task : Task) (asking : Asking) (script : Script) → run_with orders script ≡ run_with others script →
-    meant_by orders task asking script ≡ meant_by others task asking script
-meant_same orders others (Run options) unasked script same = ended_same orders others options.audit unasked script same
-meant_same orders others (Run options) (refuses kind) script same = refl
-meant_same orders others (Run options) (asks q) script same = ended_same orders others options.audit (asks q) script same
-meant_same orders others Check asking script same = refl
+  meant_same : (task : Task) (asking : Asking) (beginning : Beginning) → meant_by orders task asking beginning s script ≡ meant_by others task asking beginning s script
+  meant_same (Run options) unasked beginning = begun_same options.audit unasked options.save beginning
+  meant_same (Run options) (refuses kind) beginning = refl
+  meant_same (Run options) (asks q) beginning = begun_same options.audit (asks q) options.save beginning
+  meant_same Check asking beginning = refl
 
-pub means_same : (orders others : Orders) (task : Task) (asking : Asking) (input : List ℕ) (m : Meaning) → HasNoTasks input →
-    IsMeaningBy (meant_by orders task asking) input m → IsMeaningBy (meant_by others task asking) input m
-means_same orders others task asking input m none (is_too_long long e) = is_too_long long e
-means_same orders others task asking input m none (is_refused line kind short h e) = is_refused line kind short h e
-means_same orders others task asking input m none (is_faulty script line kind short s h e) = is_faulty script line kind short s h e
-means_same orders others task asking input m none (is_sound script short s h e) =
-    is_sound script short s h (e ∙ meant_same orders others task asking script (run_same orders others script (none script s)))
+pub means_same : (orders others : Orders) (task : Task) (asking : Asking) (beginning : Beginning) (s : List Plain) (text : List ℕ) (m : Meaning) → HasNoTasks text →
+    IsMeaningBy (meant_by orders task asking beginning s) text m → IsMeaningBy (meant_by others task asking beginning s) text m
+means_same orders others task asking beginning s text m none (is_too_long long e) = is_too_long long e
+means_same orders others task asking beginning s text m none (is_refused line kind short h e) = is_refused line kind short h e
+means_same orders others task asking beginning s text m none (is_faulty script line kind short spells h e) = is_faulty script line kind short spells h e
+means_same orders others task asking beginning s text m none (is_sound script short spells h e) =
+    is_sound script short spells h (e ∙ meant_same orders others s script (none script spells) task asking beginning)
 
 -- by one task
 
@@ -110,15 +109,33 @@ pub serial_run : (script : Script) → run_with no_orders script ≡ run script
 unfolding run
 serial_run script = refl
 
--- without a question and a count
-plain_ran : (script : Script) → meant_by no_orders (Run (options false None)) unasked script ≡ ran script
-plain_ran script = ap written (append-nil (text_with no_orders script) ∙ serial_text script)
+-- without a state, a question and a count
 
-pub means_serial : (asking : Asking) (input : List ℕ) (m : Meaning) → BecomesOf None input asking →
-    IsMeaningBy (meant_by no_orders (Run (options false None)) asking) input m → IsMeaningBy ran input m
-means_serial asking input m becomes (is_too_long long e) = is_too_long long e
-means_serial asking input m becomes (is_refused line kind short h e) = is_refused line kind short h e
-means_serial asking input m becomes (is_faulty script line kind short s h e) = is_faulty script line kind short s h e
-means_serial asking input m becomes (is_sound script short s h e) =
+on_nothing : (orders : Orders) (script : Script) → run_from orders script (started [] script) ≡ run_with orders script
+unfolding run_with
+on_nothing orders script = refl
+
+plain_ran : (script : Script) → meant_by no_orders (Run (options false None)) unasked begins [] script ≡ ran script
+plain_ran script =
+    ap written
+    (append-nil (lines_text (run_from no_orders script (started [] script)).lines)
+    ∙ (ap (λ (r : Outcome). lines_text r.lines) (on_nothing no_orders script) ∙ (sym (text_of_run no_orders script) ∙ serial_text script)))
+
+no_entry : (before : List Plain) (entry : Plain) (later : List Plain) → [] ≡ before ++ entry ∷ later → ⊥
+no_entry [] entry later is = cc
+no_entry (p ∷ before) entry later is = cc
+
+-- a script begins on no state
+begins_on_nothing : (script : Script) (beginning : Beginning) → BeginsAs [] script beginning → beginning ≡ begins
+begins_on_nothing script begins h = refl
+begins_on_nothing script (stops_at line) h = absurd (no_entry h.before h.entry h.later h.is)
+
+pub means_serial : (asking : Asking) (beginning : Beginning) (text : List ℕ) (m : Meaning) → BecomesOf None text asking → BeginsOf [] text beginning →
+    IsMeaningBy (meant_by no_orders (Run (options false None)) asking beginning []) text m → IsMeaningBy ran text m
+means_serial asking beginning text m becomes starts (is_too_long long e) = is_too_long long e
+means_serial asking beginning text m becomes starts (is_refused line kind short h e) = is_refused line kind short h e
+means_serial asking beginning text m becomes starts (is_faulty script line kind short s h e) = is_faulty script line kind short s h e
+means_serial asking beginning text m becomes starts (is_sound script short s h e) =
     is_sound script short s h
-    (e ∙ (ap (λ a. meant_by no_orders (Run (options false None)) a script) (becomes script s h) ∙ plain_ran script))
+    (e ∙ (λ i. meant_by no_orders (Run (options false None)) (becomes script s h i) (begins_on_nothing script beginning (starts script s h) i) [] script)
+    ∙ plain_ran script)

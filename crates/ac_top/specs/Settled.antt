@@ -5,6 +5,8 @@ use Rattle.ac_syntax.specs.Refusals.{Spells}
 use Rattle.ac_rules.specs.HasTasks.{has_tasks}
 use Rattle.ac_rules.specs.Resolved.{resolve}
 use Rattle.ac_rules.specs.Scopes.{with_decls}
+use Rattle.ac_calls.specs.declared.plains.Plain.{Plain}
+use Rattle.ac_top.specs.Beginnings.{IsSplit}
 use Rattle.ac_top.specs.declared.mode.Mode.{Mode}
 use Rattle.ac_top.specs.declared.mode.Mode.TheVariants.{Read, Generate}
 use Rattle.ac_top.specs.declared.mode.Task.TheVariants.{Run, Check}
@@ -15,6 +17,6 @@ HasNoTasks input = (script : Script) → Spells script input → has_tasks (reso
 
 -- nothing is run of it, or no block of tasks is
 abbrev pub IsSettled : Mode → List ℕ → Type 0
-IsSettled (Read (Run options)) input = HasNoTasks input
+IsSettled (Read (Run options)) input = (s : List Plain) (text : List ℕ) → IsSplit input options.resume s text → HasNoTasks text
 IsSettled (Read Check) input = ⊤
 IsSettled (Generate size) input = ⊤

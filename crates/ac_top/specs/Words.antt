@@ -29,8 +29,9 @@ text_rule name = record (new_rule name) { long = Some name; action = Some Set }
 
 -- the command; its words come without the program's name
 unfoldable pub adacont : App
-adacont = with_rule (with_rule (with_rule (with_rule (on_top (λ s. record s { no_binary_name = true }) (new_app (codes "adacont")))
-    (flag_rule (codes "check"))) (flag_rule (codes "audit"))) (number_rule (codes "generate") 1 200000)) (text_rule (codes "ask"))
+adacont = with_rule (with_rule (with_rule (with_rule (with_rule (with_rule (on_top (λ s. record s { no_binary_name = true }) (new_app (codes "adacont")))
+    (flag_rule (codes "check"))) (flag_rule (codes "audit"))) (number_rule (codes "generate") 1 200000)) (text_rule (codes "ask")))
+    (flag_rule (codes "save"))) (flag_rule (codes "resume"))
 
 abbrev pub is_true : Option Text → Bool
 is_true None = false
@@ -46,16 +47,20 @@ number_of_text text = if accepts false (Unsigned 0 (2 ^ 64 - 1)) text then Some 
 abbrev pub number_given : Text → List Row → Option ℕ
 number_given option rows = option_and_then number_of_text (one_of option rows)
 
+abbrev pub all_options : (resume audit : Bool) → (ask : Option (List ℕ)) → (save : Bool) → Options
+all_options resume audit ask save = record { resume = resume; audit = audit; ask = ask; save = save }
+
+-- without a saved state
 abbrev pub options : (audit : Bool) → (ask : Option (List ℕ)) → Options
-options audit ask = record { audit = audit; ask = ask }
+options audit ask = all_options false audit ask false
 
 abbrev pub options_by : List Row → Options
-options_by rows = options (is_set (codes "audit") rows) (first_of (codes "ask") rows)
+options_by rows = all_options (is_set (codes "resume") rows) (is_set (codes "audit") rows) (first_of (codes "ask") rows) (is_set (codes "save") rows)
 
 abbrev pub task_by : List Row → Task
 task_by rows = if is_set (codes "check") rows then Check else Run (options_by rows)
 
--- what the words that were found come to: `--generate` goes before `--check`, and `--audit` and `--ask` add nothing to either
+-- what the words that were found come to: `--generate` goes before `--check`, and the other options add nothing to either
 abbrev pub mode_with : Option ℕ → Task → Mode
 mode_with (Some number) task = Generate number
 mode_with None task = Read task

@@ -11,13 +11,23 @@ ghost use Rattle.ac_top.specs.Asks.{refuses, Becomes, asking_of, question_refuse
 ghost use Rattle.ac_top.specs.Modes.{nodes_lines, lines_behind};
 
 use crate::line::{append, append_kind, append_nodes};
+use crate::saving::append_saved;
 use ac_aggregate::{AskAnswer, AskFault, Given, Question, Values};
 use ac_base::NoMemory;
 use ac_objects::Objects;
+use ac_plains::plain;
 use ac_script::append_quoted;
 use ac_syntax::{Decls, RefusalKind, Script, StringBytes};
 use itoa::Buffer;
 use std::alloc::{AllocError, Global};
+
+/// What follows the lines of a script that ran to its end.
+#[derive(Drop)]
+pub struct Ends {
+    pub audit: bool,
+    pub question: Option<Question>,
+    pub save: bool,
+}
 
 /// The question with this text, if there is one.
 pub fn question_of(
@@ -131,7 +141,7 @@ fn append_answered(
 {
     match question {
         Some(question) => {
-            let answer = question.answer(alloc, &objects.plain(decls)?)?;
+            let answer = question.answer(alloc, &plain(objects, decls)?)?;
             Ok(append_answer_line(text, &answer)?)
         }
         None => Ok(()),
@@ -152,15 +162,16 @@ fn append_audited(text: &mut Vec<u8>, audit: bool, objects: &Objects) -> Result<
 /// What follows a run's lines, where the end left these objects.
 pub fn lines_behind(
     alloc: Global,
-    audit: bool,
-    question: &Option<Question>,
+    ends: &Ends,
     decls: &Decls,
     objects: &Objects,
 ) -> Result<Vec<u8>, NoMemory>
-    ensures { IfOk result (λ text. text.items ≡ lines_behind audit (asking_of question.now) decls.now (state_of objects.now)) }
+    ensures { IfOk result (λ text. text.items
+        ≡ lines_behind ends.now.audit (asking_of ends.now.question) ends.now.save decls.now (state_of objects.now)) }
 {
     let mut text = Vec::new(alloc);
-    append_audited(&mut text, audit, objects)?;
-    append_answered(alloc, &mut text, question, decls, objects)?;
+    append_audited(&mut text, ends.audit, objects)?;
+    append_answered(alloc, &mut text, &ends.question, decls, objects)?;
+    append_saved(&mut text, ends.save, decls, objects)?;
     Ok(text)
 }

@@ -3,7 +3,7 @@ ghost use Rattle.std.specs.Prelude.{◌≡◌, ◌≢◌, ◌≤◌, ◌⊎◌, 
 ghost use Rattle.ac_io.specs.Outside.{Rose, GrewBy, GrewByFront};
 ghost use Rattle.ac_meaning.specs.Meanings.{Meaning};
 ghost use Rattle.ac_top.specs.Words.{mode_of};
-ghost use Rattle.ac_top.specs.Modes.{Means, asks_to_read};
+ghost use Rattle.ac_top.specs.Modes.{Means, asks_to_read, limit_asked, limit_of};
 ghost use Rattle.ac_top.specs.Status.{number_of, IsAnswer, Counted};
 ghost use Rattle.ac_top.specs.Answers.{Answers, IfAsked, HasRoom};
 
@@ -14,7 +14,6 @@ use crate::mode::{Mode, Task};
 use crate::status::Status;
 use crate::words::asked_for;
 use ac_io::{ReadEnd, Sink, Source, read_all};
-use ac_meaning::INPUT_LIMIT;
 use ac_tasks::Gate;
 use std::alloc::Global;
 use std::sync::Wait;
@@ -32,7 +31,7 @@ fn answer_source<R: Threads + Wait + Sync, S: Source, K: Sink, G: Gate + Sync>(
     ensures answers { IfSome (S.left source.old) (λ input.
         Answers (Mode.Read task.now) input (K.held sink.old) (K.held sink.new) (K.room sink.old) result) }
     ensures drained { IsAnswer result → IfSome (S.left source.old) (λ input.
-        length input ≤ INPUT_LIMIT → S.left source.new ≡ Some []) }
+        length input ≤ limit_of task.now → S.left source.new ≡ Some []) }
     ensures read_fault { result ≡ Status.ReadFault → Rose (S.faults source.old) (S.faults source.new) }
     ensures unwritten { result ≡ Status.ReadFault → sink.new ≡ sink.old }
     ensures counted { Counted (K.counts_failures sink.old) (K.faults sink.old) (K.faults sink.new) result }
@@ -40,8 +39,8 @@ fn answer_source<R: Threads + Wait + Sync, S: Source, K: Sink, G: Gate + Sync>(
     ensures source_counts { S.counts_failures source.old ≡ true → result ≢ Status.ReadFault → S.faults source.new ≡ S.faults source.old }
     ensures kind { result ≢ Status.Usage }
 {
-    match read_all(alloc, source, INPUT_LIMIT) {
-        Ok(input) => answer_input(rt, alloc, task, &input, sink, gate),
+    match read_all(alloc, source, task.limit()) {
+        Ok(input) => answer_input(rt, alloc, task, input, sink, gate),
         Err(ReadEnd::TooLong) => refuse(sink, b"input: limit\n"),
         Err(ReadEnd::ReadFault) => Status::ReadFault,
         Err(ReadEnd::NoMemory) => Status::NoMemory,
@@ -50,11 +49,17 @@ fn answer_source<R: Threads + Wait + Sync, S: Source, K: Sink, G: Gate + Sync>(
 
 /// Runs the script that the source holds, and writes the line of each command to the sink as soon as it has run. `words` are the
 /// words after the program's name. With `--audit` a script that ran to its end is followed by `nodes ` and how many elements its
-/// outermost objects have. With `--check` nothing is run, and the script's canonical text is written. With `--generate N` nothing
-/// is read: a script of that size is run in memory, and the number of its lines and the last four are written; it goes before
-/// `--check`, and `--audit` adds nothing to either. An input that isn't a script that can run gets one line, which says where and
-/// why, as `line 3: wrong type`, and one of more than 1,048,576 bytes gets `input: limit`. Each task of a block runs in a thread of its
-/// own, and the gate looks on: it is called before each round of a task's worker.
+/// outermost objects have. With `--ask TEXT` it is followed by `ask: ` and the answer to this question about its outermost variables
+/// and objects. A question that is refused gets the one line `ask: ` and the reason, and nothing is run. With `--save` the line
+/// `--state` follows, and behind it the state of the outermost variables and objects, a line for each. It comes last, behind what
+/// `--audit` and `--ask` add. With `--resume` the source holds a saved state, the line `--script` and a script, whose outermost
+/// variables and objects hold at the beginning what the state says. Where there is no such line, or a line of the state is refused or
+/// matches none of the script's outermost names, one line says so, as `state line 2: mismatch`, and nothing is run. With `--check`
+/// nothing is run, and the script's canonical text is written. With `--generate N` nothing is read: a script of that size is run in
+/// memory, and the number of its lines and the last four are written; it goes before `--check`, and the other words add nothing to
+/// either. An input that isn't a script that can run gets one line, which says where and why, as `line 3: wrong type`, and one of more
+/// than 1,048,576 bytes, or 67,108,864 with `--resume`, gets `input: limit`. Each task of a block runs in a thread of its own, and the
+/// gate looks on: it is called before each round of a task's worker.
 pub fn run<R: Threads + Wait + Sync, S: Source, K: Sink, G: Gate + Sync>(
     rt: &R,
     alloc: Global,
@@ -74,7 +79,7 @@ pub fn run<R: Threads + Wait + Sync, S: Source, K: Sink, G: Gate + Sync>(
     ensures written { IsAnswer result → IfAsked (mode_of words.now) (S.left source.old) (λ mode input.
         (m : Meaning) × Means mode input m × GrewBy (K.held sink.old) (K.held sink.new) m.text × (number_of result ≡ m.status)) }
     ensures drained { IsAnswer result → asks_to_read (mode_of words.now) ≡ true → IfSome (S.left source.old) (λ input.
-        length input ≤ INPUT_LIMIT → S.left source.new ≡ Some []) }
+        length input ≤ limit_asked (mode_of words.now) → S.left source.new ≡ Some []) }
     ensures unread { asks_to_read (mode_of words.now) ≡ false → source.new ≡ source.old }
 
     // Any other end comes after a front of it, a fault only where a count rose.

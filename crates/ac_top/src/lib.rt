@@ -8,12 +8,16 @@ mod generating;
 mod generator;
 mod law;
 mod line;
+mod line_cut;
 mod mode;
+mod running;
+mod saving;
+mod start;
 mod status;
 mod summary;
 mod words;
 
 pub use ac_tasks::{FreeGate, Gate};
 pub use entry::run;
-pub use law::{asked_words, one_meaning};
+pub use law::{asked_words, lines_found, one_meaning};
 pub use status::Status;

@@ -1,6 +1,7 @@
 //! Lines and texts that are written of an input, besides those of its script.
 ghost use Rattle.std.specs.Prelude.{◌≡◌, ◌≢◌, ◌++◌, decimal, codes, OnOk, IfOk};
 ghost use Rattle.ac_meaning.specs.Meanings.{kind_text, refused_at, written};
+ghost use Rattle.ac_top.specs.Beginnings.{state_line};
 ghost use Rattle.ac_top.specs.Modes.{nodes_line};
 ghost use Rattle.ac_top.specs.Status.{Writes, Counted, refusal_line};
 
@@ -52,6 +53,18 @@ pub fn refusal_line(alloc: Global, line: u64, kind: RefusalKind) -> Result<Vec<u
     append(&mut text, "line ")?;
     append_number(&mut text, line)?;
     append_kind(&mut text, kind)?;
+    append(&mut text, "\n")?;
+    Ok(text)
+}
+
+/// The line that says why an entry of a state is refused, or stands for nothing.
+pub fn state_line(alloc: Global, line: u64, why: &str) -> Result<Vec<u8>, AllocError>
+    ensures { IfOk result (λ text. text.items ≡ (state_line line why.now).text) }
+{
+    let mut text = Vec::new(alloc);
+    append(&mut text, "state line ")?;
+    append_number(&mut text, line)?;
+    append(&mut text, why)?;
     append(&mut text, "\n")?;
     Ok(text)
 }

@@ -22,6 +22,10 @@ const GENERATE: &str = "generate";
 
 const ASK: &str = "ask";
 
+const SAVE: &str = "save";
+
+const RESUME: &str = "resume";
+
 /// A flag, which is given by its name.
 fn flag<'a>(alloc: Global, name: &'a str) -> Arg<'a>
     ensures rule { rule_of result ≡ flag_rule name.now }
@@ -57,7 +61,9 @@ fn command<'a>(alloc: Global) -> Result<Command<'a>, AllocError>
     let checking = bare.arg(flag(alloc, CHECK))?;
     let auditing = checking.arg(flag(alloc, AUDIT))?;
     let generating = auditing.arg(generate(alloc))?;
-    generating.arg(ask(alloc))
+    let asking = generating.arg(ask(alloc))?;
+    let saving = asking.arg(flag(alloc, SAVE))?;
+    saving.arg(flag(alloc, RESUME))
 }
 
 /// What clap finds in the words.
@@ -93,8 +99,10 @@ fn options_by(alloc: Global, matches: &ArgMatches<'_>) -> Result<Options, AllocE
 {
     let ask = question_given(alloc, matches)?;
     Ok(Options {
+        resume: is_set(matches, RESUME),
         audit: is_set(matches, AUDIT),
         ask,
+        save: is_set(matches, SAVE),
     })
 }
 

@@ -1,4 +1,4 @@
-use Rattle.std.proofs.Common.{ap, Err}
+use Rattle.std.proofs.Common.{◌<◌, ap, Err, length, subst}
 use Rattle.std.proofs.lemmas.Option.{IfSome_then}
 use Rattle.ac_top.specs.declared.status.Status.TheVariants.{ReadFault, NoMemory}
 use Rattle.ac_top.specs.declared.mode.Mode.TheVariants.{Read}
@@ -12,7 +12,7 @@ returns-in-Ok-clause-drained g c answer =
 pub returns-in-Err-TooLong-clause-answers : goal.returns-in-Err-TooLong-clause-answers
 returns-in-Err-TooLong-clause-answers g c =
     IfSome_then (g.S.Source.left c.args.source.now) (c.in-Err-TooLong.ensures.too_long (ap Err c.in-Err-TooLong.field-0-is)) (λ input long.
-    record { meaning = _; means = long_means c.args.task.now input long; writes = c.refuse.ensures.writes })
+    record { meaning = _; means = long_means c.args.task.now input (subst (λ n. n < length input) c.limit.ensures long); writes = c.refuse.ensures.writes })
 
 pub returns-in-Err-ReadFault-clause-answers : goal.returns-in-Err-ReadFault-clause-answers
 returns-in-Err-ReadFault-clause-answers g c =

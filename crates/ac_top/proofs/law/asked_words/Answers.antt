@@ -118,3 +118,31 @@ returns-clause-asked_nothing c = refl
 pub returns-clause-asked_twice : goal.returns-clause-asked_twice
 unfolding asked_by clap_on_literals
 returns-clause-asked_twice c = refl
+
+pub returns-clause-save : goal.returns-clause-save
+unfolding asked_by clap_on_literals
+returns-clause-save c = refl
+
+pub returns-clause-resume : goal.returns-clause-resume
+unfolding asked_by clap_on_literals
+returns-clause-resume c = refl
+
+pub returns-clause-resume_all : goal.returns-clause-resume_all
+unfolding asked_by clap_on_literals
+returns-clause-resume_all c = refl
+
+pub returns-clause-checked_resume : goal.returns-clause-checked_resume
+unfolding asked_by clap_on_literals
+returns-clause-checked_resume c = refl
+
+pub returns-clause-saved_size : goal.returns-clause-saved_size
+unfolding asked_by clap_on_literals
+returns-clause-saved_size c = refl
+
+pub returns-clause-saved_twice : goal.returns-clause-saved_twice
+unfolding asked_by clap_on_literals
+returns-clause-saved_twice c = refl
+
+pub returns-clause-valued_resume : goal.returns-clause-valued_resume
+unfolding asked_by clap_on_literals
+returns-clause-valued_resume c = refl

@@ -1,12 +1,8 @@
-use Rattle.std.proofs.Common.{false, None}
-use Rattle.ac_meaning.specs.Execution.{no_orders}
-use Rattle.ac_top.specs.declared.mode.Task.TheVariants.{Run}
 use Rattle.ac_top.specs.Modes.{meant_by}
-use Rattle.ac_top.specs.Words.{options}
 use Rattle.ac_top.proofs.Becoming.{each_becoming, one_becoming}
+use Rattle.ac_top.proofs.Beginning.{each_of_script, one_beginning}
 use Rattle.ac_top.proofs.Checked as checked
 use Rattle.ac_top.proofs.Meant as meant
-use Rattle.ac_top.proofs.WithoutTasks.{means_same, means_serial}
 use Rattle.ac_top.proofs.law.one_meaning.Goals as goal
 
 pub returns-clause-some : goal.returns-clause-some
@@ -16,11 +12,16 @@ pub returns-clause-one : goal.returns-clause-one
 returns-clause-one c = meant.one_meaning
 
 pub returns-clause-by_orders : goal.returns-clause-by_orders
-returns-clause-by_orders c orders task asking = checked.one_meaning (meant_by orders task asking)
+returns-clause-by_orders c orders task asking beginning s = checked.one_meaning (meant_by orders task asking beginning s)
 
 pub returns-clause-serial : goal.returns-clause-serial
-returns-clause-serial c input m none h =
-    means_serial h.asking input m h.becomes (means_same h.orders no_orders (Run (options false None)) h.asking input m none h.means)
+returns-clause-serial c = meant.serial_meaning
+
+pub returns-clause-beginning : goal.returns-clause-beginning
+returns-clause-beginning c = each_of_script
+
+pub returns-clause-one_beginning : goal.returns-clause-one_beginning
+returns-clause-one_beginning c = one_beginning
 
 pub returns-clause-question : goal.returns-clause-question
 returns-clause-question c = each_becoming

@@ -13,4 +13,6 @@ returns c =
     let checking = c.in_ok-checking.ensures.shape c.flag.ensures.local ∙ ap₂ with_rule bare c.flag.ensures.rule in
     let auditing = c.in_ok-auditing.ensures.shape c.flag-2.ensures.local ∙ ap₂ with_rule checking c.flag-2.ensures.rule in
     let generating = c.in_ok-generating.ensures.shape c.generate.ensures.local ∙ ap₂ with_rule auditing c.generate.ensures.rule in
-    IfOk-weaker c.arg-4.result _ _ (λ made added. added.shape c.ask.ensures.local ∙ ap₂ with_rule generating c.ask.ensures.rule) c.arg-4.ensures
+    let asking = c.in_ok-asking.ensures.shape c.ask.ensures.local ∙ ap₂ with_rule generating c.ask.ensures.rule in
+    let saving = c.in_ok-saving.ensures.shape c.flag-3.ensures.local ∙ ap₂ with_rule asking c.flag-3.ensures.rule in
+    IfOk-weaker c.arg-6.result _ _ (λ made added. added.shape c.flag-4.ensures.local ∙ ap₂ with_rule saving c.flag-4.ensures.rule) c.arg-6.ensures

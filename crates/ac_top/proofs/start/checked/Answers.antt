@@ -1,5 +1,5 @@
 use Rattle.std.proofs.Common.{inr}
-use Rattle.ac_top.proofs.answering.checked.Goals as goal
+use Rattle.ac_top.proofs.start.checked.Goals as goal
 
 pub returns-clause-refused : goal.returns-clause-refused
 returns-clause-refused c line kind e =

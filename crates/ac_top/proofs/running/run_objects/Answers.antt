@@ -9,15 +9,15 @@ use Rattle.ac_top.specs.Modes.{lines_behind}
 use Rattle.ac_top.specs.Status.{Writes}
 use Rattle.ac_top.specs.declared.status.Status.TheVariants.{WriteFault, NoMemory}
 use Rattle.ac_top.proofs.Hosted.{wrote_more, broke_before, broke_counted}
-use Rattle.ac_top.proofs.answering.run_script.Goals as goal
+use Rattle.ac_top.proofs.running.run_objects.Goals as goal
 
 pub returns-in-Ok-clause-writes : goal.returns-in-Ok-clause-writes
 returns-in-Ok-clause-writes g c =
     let sink = g.K.Sink in
     let ran = c.in-Ok.ensures in
     let ends = c.args.ends.now in
-    let text : List Decl → State → List ℕ = lines_behind ends.audit (asking_of ends.question) in
-    let wrote : Meaning → Type 0 = λ m. Writes m (sink.held c.run_host.new.sink) (sink.held c.write_behind-status.new.sink) (sink.room c.run_host.new.sink) c.write_behind-status.result in
+    let text : List Decl → State → List ℕ = lines_behind ends.audit (asking_of ends.question) ends.save in
+    let wrote : Meaning → Type 0 = λ m. Writes m (sink.held c.run_on.new.sink) (sink.held c.write_behind-status.new.sink) (sink.room c.run_on.new.sink) c.write_behind-status.result in
     let script = c.args.script.now in (
       ran.0,
       wrote_more _ sink.faults _ sink.counts_failures _ _ _ _ _ _ ran.1
