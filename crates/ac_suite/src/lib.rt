@@ -35,6 +35,8 @@ mod runs;
 #[cfg(test)]
 mod sets;
 #[cfg(test)]
+mod states;
+#[cfg(test)]
 mod tasks;
 #[cfg(test)]
 mod trees;

@@ -160,7 +160,7 @@ fn scripts_are_refused_or_taken(rt: HostRuntime) -> Result<(), Fail> {
 }
 
 /// A front, a piece as often as this, and an end.
-fn repeated(
+pub(crate) fn repeated(
     alloc: Global,
     front: &[u8],
     piece: &[u8],
